@@ -157,7 +157,7 @@ tail-spaces w bytes read e = go (nat_le 2 (length bytes) && (slice_index bytes (
 
 -- ---- the first fields
 
--- the letter is the second field, and so many spaces stand before the rest
+-- the letter is the second field, and this many spaces stand before the rest
 record IsFront (c n : ℕ) (bytes rest : List ℕ) : Type 0 where
   named : letter_in (after_first (λ b. b == 32) bytes) ≡ Some c
   spaces : spaces_in bytes ≡ spaces_in rest + n
@@ -203,7 +203,7 @@ head-front c bytes rest head some apart h3 h4 e =
 
 -- ---- whole lines
 
--- the line has its letter and so many spaces
+-- the line has its letter and this many spaces
 abbrev Has : ℕ → ℕ → List ℕ → Type 0
 Has c n bytes = (letter_in (after_first (λ b. b == 32) bytes) ≡ Some c) × (spaces_in bytes ≡ n)
 

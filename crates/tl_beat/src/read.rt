@@ -49,7 +49,7 @@ fn spaces(bytes: &[u8]) -> usize
     bytes.iter().filter(|b| **b == b' ').count()
 }
 
-/// The line of a channel with this letter, which has so many spaces.
+/// The line of a channel with this letter, which has this many spaces.
 fn line_with<const W: usize>(
     letter: Option<u8>,
     spaces: usize,

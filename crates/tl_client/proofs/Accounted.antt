@@ -27,7 +27,7 @@ use Rattle.tl_params.specs.declared.perm.Perm.TheVariants as perm
 use Rattle.tl_params.specs.declared.rule.Rule.{Rule}
 use Rattle.tl_params.specs.declared.rule.Rule.TheVariants.{L1, A3}
 use Rattle.tl_params.specs.statement.Param.{prune_right, report_code, report_right}
-use Rattle.tl_rules.specs.statement.Agent.{sent, payload_of}
+use Rattle.tl_rules.specs.statement.Admission.{sent, payload_of}
 use Rattle.tl_rules.specs.statement.Conformance.{broken_in_order}
 use Rattle.tl_rules.specs.statement.History.{block_at, ends, is_acquire, is_grant, is_probe_ack, is_release, pending, request_of}
 use Rattle.tl_rules.specs.statement.Legality.{illegal}
@@ -39,8 +39,8 @@ use Rattle.tl_client.specs.declared.verdict.Finish.{Finish}
 use Rattle.tl_client.specs.declared.verdict.Verdict.TheVariants.{Stalled, Taken}
 use Rattle.tl_client.specs.laws.Accounted.{IsAccounted}
 use Rattle.tl_client.specs.statement.Ask.{asked, asked_given, busy, breaks_b1, breaks_b2, breaks_b4, is_access_of, done, load, store, free_request, free_release, source_or_0, whole_grow}
-use Rattle.tl_client.specs.statement.End.{Terms, End, zeros, copy_at, held_at, with_past}
-use Rattle.tl_client.specs.statement.Kept.{IsKept}
+use Rattle.tl_client.specs.statement.Endpoint.{EndConfig, Endpoint, zeros, copy_at, held_at, with_past}
+use Rattle.tl_client.specs.statement.EndpointInvariant.{IsEndpointInvariant}
 use Rattle.tl_client.specs.statement.Offer.{offered, taken, ended, granted, responded, silent, is_sent_on, waits, broken_before, broken_later, judged, judged_later, report_for}
 use Rattle.tl_client.specs.statement.Send.{about, sourced, acquisition, release, probe_ack}
 use Rattle.tl_client.proofs.AccountedSent.{MayAsk, MayRelease, claimed-a, acked-a, claimed-c, acked-c}
@@ -72,17 +72,17 @@ accounted_release prune.TtoN source block copy t is none free a r old =
 accounted_release prune.BtoN source block copy t is none free a r old =
     accounted_c (about c.Release 2 source block zeros) t is none (record { releases = refl; free = free; unacquired = rw (same_block block) a; unreleased = rw (same_block block) r }) old
 
-accounted_load : {w : ℕ} (address size : ℕ) (p : Perm) (e : End w) → IsAccounted e.past → IsAccounted (load address size p e).after.past
+accounted_load : {w : ℕ} (address size : ℕ) (p : Perm) (e : Endpoint w) → IsAccounted e.past → IsAccounted (load address size p e).after.past
 accounted_load address size perm.None e old = old
 accounted_load address size perm.Branch e old = old
 accounted_load address size perm.Trunk e old = old
 
-accounted_store : {w : ℕ} (address size value : ℕ) (p : Perm) (e : End w) → IsAccounted e.past → IsAccounted (store address size value p e).after.past
+accounted_store : {w : ℕ} (address size value : ℕ) (p : Perm) (e : Endpoint w) → IsAccounted e.past → IsAccounted (store address size value p e).after.past
 accounted_store address size value perm.None e old = old
 accounted_store address size value perm.Branch e old = old
 accounted_store address size value perm.Trunk e old = old
 
-accounted_done : {w : ℕ} (terms : Terms) (op : Op w) (e : End w) → IsWidth w → IsKept e → breaks_b4 terms.level op ≡ false → breaks_b2 op e.past ≡ false → breaks_b1 terms op e.past ≡ false
+accounted_done : {w : ℕ} (terms : EndConfig) (op : Op w) (e : Endpoint w) → IsWidth w → IsEndpointInvariant e → breaks_b4 terms.level op ≡ false → breaks_b2 op e.past ≡ false → breaks_b1 terms op e.past ≡ false
     → IsAccounted e.past → IsAccounted (done terms op e).after.past
 accounted_done terms (Load address size) e is kept four two one old = accounted_load address size (held_at e (block_at address)) e old
 accounted_done terms (Store address size value) e is kept four two one old = accounted_store address size value (held_at e (block_at address)) e old
@@ -113,12 +113,12 @@ accounted_done terms (Access (C m)) e is kept four two one old = old
 accounted_done terms (Access (D m)) e is kept four two one old = old
 accounted_done terms (Access (E m)) e is kept four two one old = old
 
-accounted_given : {w : ℕ} (o : Option Busy) (terms : Terms) (op : Op w) (e : End w) → IsWidth w → IsKept e → (o ≡ None → NotBusy terms op e) → IsAccounted e.past
+accounted_given : {w : ℕ} (o : Option Busy) (terms : EndConfig) (op : Op w) (e : Endpoint w) → IsWidth w → IsEndpointInvariant e → (o ≡ None → NotBusy terms op e) → IsAccounted e.past
     → IsAccounted (asked_given o terms op e).after.past
 accounted_given (Some b) terms op e is kept free old = old
 accounted_given None terms op e is kept free old = let n = free refl in accounted_done terms op e is kept n.b4 n.b2 n.b1 old
 
-pub accounted-asked : {w : ℕ} (terms : Terms) (op : Op w) (e : End w) → IsWidth w → IsKept e → IsAccounted e.past → IsAccounted (asked terms op e).after.past
+pub accounted-asked : {w : ℕ} (terms : EndConfig) (op : Op w) (e : Endpoint w) → IsWidth w → IsEndpointInvariant e → IsAccounted e.past → IsAccounted (asked terms op e).after.past
 unfolding asked
 accounted-asked terms op e is kept old = accounted_given (busy terms op e) terms op e is kept (not_busy terms op e) old
 
@@ -150,7 +150,7 @@ accounted_probe {w} opcode p r copy x t is none old = go opcode p
     go b.Get q = without_data
     go b.Intent q = without_data
 
-accounted_probed : {w : ℕ} (x : BeatB w) (e : End w) → IsWidth w → IsKept e → IsAccounted e.past → IsAccounted (taken (beat.B x) e).after.past
+accounted_probed : {w : ℕ} (x : BeatB w) (e : Endpoint w) → IsWidth w → IsEndpointInvariant e → IsAccounted e.past → IsAccounted (taken (beat.B x) e).after.past
 accounted_probed x e is kept old =
     let block = block_at x.address in
     let p = held_at e block in
@@ -169,7 +169,7 @@ accounted_last : {w : ℕ} (x : BeatD w) (t : History w) → IsFit x t → ends 
 accounted_last x t fits last other old = record { claimed = claimed-d x t fits old.claimed; acked = acked-last x t fits last other old.acked }
 
 -- f is the end without the GrantAck
-accounted_ended : {w : ℕ} (opcode : OpD) (x : BeatD w) (finish : Finish) (t : History w) (f : End w) → IsWidth w → x.opcode ≡ opcode → f.past ≡ (beat.D x ∷ t) → IsFit x t
+accounted_ended : {w : ℕ} (opcode : OpD) (x : BeatD w) (finish : Finish) (t : History w) (f : Endpoint w) → IsWidth w → x.opcode ≡ opcode → f.past ≡ (beat.D x ∷ t) → IsFit x t
     → ends (beat.D x) t ≡ true → unfinished channel.E t ≡ [] → IsAccounted t → IsAccounted (ended opcode x finish f).after.past
 accounted_ended d.Grant x finish t f is code past fits last none old = rw past (accounted_grant x t is fits last none old)
 accounted_ended d.GrantData x finish t f is code past fits last none old = rw past (accounted_grant x t is fits last none old)
@@ -178,7 +178,7 @@ accounted_ended d.AccessAckData x finish t f is code past fits last none old = r
 accounted_ended d.HintAck x finish t f is code past fits last none old = rw past (accounted_last x t fits last (rw code refl) old)
 accounted_ended d.ReleaseAck x finish t f is code past fits last none old = rw past (accounted_last x t fits last (rw code refl) old)
 
-accounted_d : {w : ℕ} (x : BeatD w) (e : End w) → IsWidth w → IsFit x e.past → unfinished channel.E e.past ≡ [] → IsAccounted e.past → IsAccounted (taken (beat.D x) e).after.past
+accounted_d : {w : ℕ} (x : BeatD w) (e : Endpoint w) → IsWidth w → IsFit x e.past → unfinished channel.E e.past ≡ [] → IsAccounted e.past → IsAccounted (taken (beat.D x) e).after.past
 accounted_d {w} x e is fits none old = go (ends (beat.D x) e.past) refl
   where
     go : (b : Bool) → ends (beat.D x) e.past ≡ b
@@ -189,7 +189,7 @@ accounted_d {w} x e is fits none old = go (ends (beat.D x) e.past) refl
 
 -- ---- any beat
 
-accounted_taken : {w : ℕ} (terms : Terms) (ch : Channel) (x : Beat w) (e : End w) → IsWidth w → IsKept e → is_sent_on ch ≡ false → illegal terms.level ch x ≡ None
+accounted_taken : {w : ℕ} (terms : EndConfig) (ch : Channel) (x : Beat w) (e : Endpoint w) → IsWidth w → IsEndpointInvariant e → is_sent_on ch ≡ false → illegal terms.level ch x ≡ None
     → broken_in_order terms.profile x e.past ≡ None → IsAccounted e.past → IsAccounted (taken x e).after.past
 accounted_taken terms ch (beat.A x) e is kept way legal none old = absurd (incoming_only terms.level ch (beat.A x) way legal)
 accounted_taken terms ch (beat.B x) e is kept way legal none old = accounted_probed x e is kept old
@@ -197,11 +197,11 @@ accounted_taken terms ch (beat.C x) e is kept way legal none old = absurd (incom
 accounted_taken terms ch (beat.D x) e is kept way legal none old = accounted_d x e is (fit terms.profile x e.past old.acked none) kept.e_whole old
 accounted_taken terms ch (beat.E x) e is kept way legal none old = absurd (incoming_only terms.level ch (beat.E x) way legal)
 
-accounted_later : {w : ℕ} (o : Option Rule) (x : Beat w) (e : End w) → IsAccounted e.past → (o ≡ None → IsAccounted (taken x e).after.past) → IsAccounted (judged_later o x e).after.past
+accounted_later : {w : ℕ} (o : Option Rule) (x : Beat w) (e : Endpoint w) → IsAccounted e.past → (o ≡ None → IsAccounted (taken x e).after.past) → IsAccounted (judged_later o x e).after.past
 accounted_later (Some r) x e old more = old
 accounted_later None x e old more = more refl
 
-accounted_judged : {w : ℕ} (o : Option Rule) (terms : Terms) (x : Beat w) (e : End w) → IsAccounted e.past → (o ≡ None → broken_later terms x e ≡ None → IsAccounted (taken x e).after.past)
+accounted_judged : {w : ℕ} (o : Option Rule) (terms : EndConfig) (x : Beat w) (e : Endpoint w) → IsAccounted e.past → (o ≡ None → broken_later terms x e ≡ None → IsAccounted (taken x e).after.past)
     → IsAccounted (judged o terms x e).after.past
 accounted_judged (Some r) terms x e old more = old
 accounted_judged {w} None terms x e old more = go (waits x e.past)
@@ -210,7 +210,7 @@ accounted_judged {w} None terms x e old more = go (waits x e.past)
     go true = old
     go false = accounted_later (broken_later terms x e) x e old (more refl)
 
-pub accounted-offered : {w : ℕ} (terms : Terms) (ch : Channel) (x : Beat w) (e : End w) → IsWidth w → IsKept e → IsAccounted e.past → IsAccounted (offered terms ch x e).after.past
+pub accounted-offered : {w : ℕ} (terms : EndConfig) (ch : Channel) (x : Beat w) (e : Endpoint w) → IsWidth w → IsEndpointInvariant e → IsAccounted e.past → IsAccounted (offered terms ch x e).after.past
 unfolding offered
 accounted-offered terms ch x e is kept old = accounted_judged (broken_before terms ch x e) terms x e old (λ before later.
     let live = next_rule e.closed A3 _ before in

@@ -20,14 +20,14 @@ use Rattle.tl_burst.specs.statement.Part.{completes}
 use Rattle.tl_burst.proofs.Splitting.{beats-positive}
 use Rattle.tl_params.specs.declared.key.Key.{Key}
 use Rattle.tl_params.specs.declared.key.Key.TheVariants.{RequestSource, ReleaseSource, AcquireOf, ReleaseOf, GrantSink, GrantAckOf, ProbeOf}
-use Rattle.tl_rules.specs.statement.Agent.{sent}
+use Rattle.tl_rules.specs.statement.Admission.{sent}
 use Rattle.tl_rules.specs.statement.Conformance.{admits, answers, comes_in_grant}
 use Rattle.tl_rules.specs.laws.Handed.{pending_with}
 use Rattle.tl_rules.specs.statement.History.{block_at, is_acquire, is_grant, is_release_ack, asks_for, ends, grants, grant_sink, is_sink, pending, releases, request_of, release_of}
 use Rattle.tl_rules.proofs.Handed.{pending-whole, unfinished-whole, release_of-whole}
 use Rattle.tl_rules.proofs.Sent.{pending-quiet, pending-closed}
 use Rattle.tl_client.specs.laws.Accounted.{IsClaimed, IsAcked, comes_granting, sink_coming}
-use Rattle.tl_client.specs.statement.Kept.{acquires}
+use Rattle.tl_client.specs.statement.EndpointInvariant.{acquires}
 use Rattle.tl_client.specs.statement.Requests.{open_beat, open_release}
 use Rattle.tl_client.proofs.AccountedSent.{releases_live}
 use Rattle.tl_client.proofs.AccountedTaken.{GoesOn, IsFit, claimed_same}

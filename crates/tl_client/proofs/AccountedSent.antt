@@ -17,13 +17,13 @@ use Rattle.tl_burst.specs.statement.Messages.{History, unfinished}
 use Rattle.tl_burst.proofs.Splitting.{beats-positive}
 use Rattle.tl_params.specs.declared.key.Key.{Key}
 use Rattle.tl_params.specs.declared.key.Key.TheVariants.{RequestSource, ReleaseSource, AcquireOf, ReleaseOf, GrantSink, GrantAckOf, ProbeOf}
-use Rattle.tl_rules.specs.statement.Agent.{sent}
+use Rattle.tl_rules.specs.statement.Admission.{sent}
 use Rattle.tl_rules.specs.statement.Conformance.{admits}
 use Rattle.tl_rules.specs.laws.Handed.{pending_with}
 use Rattle.tl_rules.specs.statement.History.{block_at, is_acquire, is_probe_ack, is_release, grant_sink, pending, releases, request_of, release_of}
 use Rattle.tl_rules.proofs.Handed.{pending-whole, unfinished-whole, request_of-whole, release_of-whole, grant_sink-whole}
 use Rattle.tl_client.specs.laws.Accounted.{IsClaimed, IsAcked, IsAnswering, comes_granting}
-use Rattle.tl_client.specs.statement.Kept.{acquires}
+use Rattle.tl_client.specs.statement.EndpointInvariant.{acquires}
 use Rattle.tl_client.specs.statement.Requests.{open_beat, open_release}
 use Rattle.tl_client.proofs.Opens.{open_beat-a, open_beat-c}
 

@@ -23,7 +23,7 @@ use Rattle.tl_params.specs.declared.key.Key.{Key}
 use Rattle.tl_params.specs.declared.key.Key.TheVariants.{RequestSource, ReleaseSource, AcquireOf, ReleaseOf, GrantSink, GrantAckOf, ProbeOf}
 use Rattle.tl_params.specs.declared.profile.Profile.{Profile}
 use Rattle.tl_params.specs.declared.rule.Rule.TheVariants.{S1, H2}
-use Rattle.tl_rules.specs.statement.Agent.{sent}
+use Rattle.tl_rules.specs.statement.Admission.{sent}
 use Rattle.tl_rules.specs.statement.Conformance.{admits, answers, has_request, broken_order, broken_in_order}
 use Rattle.tl_rules.specs.laws.Handed.{pending_with, release_with}
 use Rattle.tl_rules.specs.statement.History.{block_at, is_probe, is_probe_ack, is_release, is_release_ack, ends, grant_sink, pending, request_of, release_of}

@@ -17,7 +17,7 @@ use Rattle.tl_burst.specs.statement.Messages.{History, unfinished}
 use Rattle.tl_params.specs.declared.perm.Perm.{Perm}
 use Rattle.tl_params.specs.declared.perm.Perm.TheVariants as perm
 use Rattle.tl_params.specs.statement.Param.{prune_right, report_right}
-use Rattle.tl_rules.specs.statement.Agent.{payload_of}
+use Rattle.tl_rules.specs.statement.Admission.{payload_of}
 use Rattle.tl_rules.specs.statement.History.{block_at, ends, request_of}
 use Rattle.tl_rules.specs.laws.Typed.{IsTyped, AreTyped}
 use Rattle.tl_rules.proofs.Sizes.{response-small}
@@ -27,8 +27,8 @@ use Rattle.tl_client.specs.declared.verdict.Verdict.TheVariants.{Taken}
 use Rattle.tl_client.specs.laws.After.{heard, copy_granted, waiting_granted}
 use Rattle.tl_client.specs.statement.Ask.{asked, done, load, store, copy_stored, is_word}
 use Rattle.tl_client.specs.laws.Bytes.{IsLong, IsTypedOp, IsShort, HasBytes}
-use Rattle.tl_client.specs.statement.End.{Terms, End, fresh, zeros, copy_at, held_at, kept_for, with_past}
-use Rattle.tl_client.specs.statement.Kept.{IsKept, holds, is_acquire_perm}
+use Rattle.tl_client.specs.statement.Endpoint.{EndConfig, Endpoint, fresh, zeros, copy_at, held_at, kept_for, with_past}
+use Rattle.tl_client.specs.statement.EndpointInvariant.{IsEndpointInvariant, holds, is_acquire_perm}
 use Rattle.tl_client.specs.statement.Offer.{Offered, offered, taken, granted, responded, silent, report_for}
 use Rattle.tl_client.proofs.AfterAsked.{kept_copies}
 use Rattle.tl_client.proofs.KeptAsked.{kept_waiting}
@@ -43,7 +43,7 @@ use Rattle.tl_client.proofs.Stores.{word_room, length-stored}
 -- ---- bytes
 
 -- copies and waiting bytes
-abbrev AreLong : {w : ℕ} → End w → Type 0
+abbrev AreLong : {w : ℕ} → Endpoint w → Type 0
 AreLong e = ((k : ℕ) → IsLong (e.copies k)) × ((k : ℕ) → IsLong (e.waiting k))
 
 one_of_two : (b : Bool) (x y : Option (List ℕ)) → IsLong x → IsLong y → IsLong (cond b x y)
@@ -54,7 +54,7 @@ pub long_or_zeros : (o : Option (List ℕ)) → IsLong o → length (unwrap_or o
 long_or_zeros None e = refl
 long_or_zeros (Some bytes) e = e
 
-long_kept_for : {w : ℕ} (block : ℕ) (p : Perm) (f : End w) → AreLong f → AreLong (kept_for block p f)
+long_kept_for : {w : ℕ} (block : ℕ) (p : Perm) (f : Endpoint w) → AreLong f → AreLong (kept_for block p f)
 long_kept_for block p f long = (
   λ k. subst (λ o. IsLong o) (sym (kept_copies block p f k)) (one_of_two ((k == block) && not (holds p)) None (f.copies k) tt (long.0 k)),
   λ k. subst (λ o. IsLong o) (sym (kept_waiting block p f k)) (long.1 k),
@@ -62,12 +62,12 @@ long_kept_for block p f long = (
 
 -- ---- operations
 
-long_load : {w : ℕ} (address size : ℕ) (p : Perm) (e : End w) → AreLong e → AreLong (load address size p e).after
+long_load : {w : ℕ} (address size : ℕ) (p : Perm) (e : Endpoint w) → AreLong e → AreLong (load address size p e).after
 long_load address size perm.None e long = long
 long_load address size perm.Branch e long = long
 long_load address size perm.Trunk e long = long
 
-long_store : {w : ℕ} (address size value : ℕ) (p : Perm) (e : End w) → is_word address size ≡ true → AreLong e → AreLong (store address size value p e).after
+long_store : {w : ℕ} (address size value : ℕ) (p : Perm) (e : Endpoint w) → is_word address size ≡ true → AreLong e → AreLong (store address size value p e).after
 long_store address size value perm.None e word long = long
 long_store address size value perm.Branch e word long = long
 long_store address size value perm.Trunk e word long = (
@@ -76,7 +76,7 @@ long_store address size value perm.Trunk e word long = (
   long.1,
 )
 
-long_done : {w : ℕ} (terms : Terms) (op : Op w) (e : End w) → NotBusy terms op e → IsTypedOp op → AreLong e → AreLong (done terms op e).after
+long_done : {w : ℕ} (terms : EndConfig) (op : Op w) (e : Endpoint w) → NotBusy terms op e → IsTypedOp op → AreLong e → AreLong (done terms op e).after
 long_done terms (Load address size) e free typed long = long_load address size (held_at e (block_at address)) e long
 long_done terms (Store address size value) e free typed long =
     let formed = (or_parts (leb terms.blocks (block_at address)) (not (is_word address size)) free.b5).1 in
@@ -90,7 +90,7 @@ long_done terms (Access (C m)) e free typed long = long
 long_done terms (Access (D m)) e free typed long = long
 long_done terms (Access (E m)) e free typed long = long
 
-pub bytes-asked : {w : ℕ} (terms : Terms) (op : Op w) (e : End w) → IsWidth w → IsKept e → IsTypedOp op → HasBytes e → HasBytes (asked terms op e).after
+pub bytes-asked : {w : ℕ} (terms : EndConfig) (op : Op w) (e : Endpoint w) → IsWidth w → IsEndpointInvariant e → IsTypedOp op → HasBytes e → HasBytes (asked terms op e).after
 bytes-asked {w} terms op e is kept typed old =
     let long : AreLong (asked terms op e).after = asked-cases terms op e (λ o. AreLong o.after) (λ b. (old.long_copies, old.long_waiting))
     (λ free. long_done terms op e free typed (old.long_copies, old.long_waiting)) in
@@ -104,7 +104,7 @@ bytes-asked {w} terms op e is kept typed old =
 
 -- ---- beats
 
-long_granted : {w : ℕ} (opcode : OpD) (r : Option (BeatA w)) (payload : List ℕ) (k : ℕ) (e : End w) → length payload ≡ 64 → AreLong e
+long_granted : {w : ℕ} (opcode : OpD) (r : Option (BeatA w)) (payload : List ℕ) (k : ℕ) (e : Endpoint w) → length payload ≡ 64 → AreLong e
     → IsLong (copy_granted opcode r payload k e) × IsLong (waiting_granted opcode r k (e.waiting k))
 long_granted d.Grant None payload k e whole long = (long.0 k, long.1 k)
 long_granted d.GrantData None payload k e whole long = (long.0 k, long.1 k)
@@ -118,10 +118,10 @@ long_granted d.AccessAckData r payload k e whole long = (long.0 k, long.1 k)
 long_granted d.HintAck r payload k e whole long = (long.0 k, long.1 k)
 long_granted d.ReleaseAck r payload k e whole long = (long.0 k, long.1 k)
 
-long_responded : {w : ℕ} (x : BeatD w) (r : Option (BeatA w)) (payload : List ℕ) (e : End w) → length payload ≡ 64 → AreLong e → AreLong (responded x r payload e).after
+long_responded : {w : ℕ} (x : BeatD w) (r : Option (BeatA w)) (payload : List ℕ) (e : Endpoint w) → length payload ≡ 64 → AreLong e → AreLong (responded x r payload e).after
 long_responded {w} x r payload e whole long = ended-cases x.opcode x _ f (λ o. AreLong o.after) (λ grant. now) (λ other. now)
   where
-    f : End w
+    f : Endpoint w
     f = granted x.opcode r payload (with_past (beat.D x ∷ e.past) e)
 
     now : AreLong (granted x.opcode r payload (with_past (beat.D x ∷ e.past) e))
@@ -130,7 +130,7 @@ long_responded {w} x r payload e whole long = ended-cases x.opcode x _ f (λ o. 
         let parts = λ (k : ℕ). long_granted x.opcode r payload k (with_past (beat.D x ∷ e.past) e) whole long in
         (λ k. subst (λ o. IsLong o) (sym (g.new_copies k)) (parts k).0, λ k. subst (λ o. IsLong o) (sym (g.new_waiting k)) (parts k).1)
 
-long_taken : {w : ℕ} (terms : Terms) (ch : Channel) (x : Beat w) (e : End w) → IsWidth w → IsTyped x → IsPassed terms ch x e → HasBytes e → AreLong (taken x e).after
+long_taken : {w : ℕ} (terms : EndConfig) (ch : Channel) (x : Beat w) (e : Endpoint w) → IsWidth w → IsTyped x → IsPassed terms ch x e → HasBytes e → AreLong (taken x e).after
 long_taken terms ch (beat.A x) e is typed passed old = absurd (incoming_only terms.level ch (beat.A x) passed.comes passed.lawful)
 long_taken terms ch (beat.C x) e is typed passed old = absurd (incoming_only terms.level ch (beat.C x) passed.comes passed.lawful)
 long_taken terms ch (beat.E x) e is typed passed old = absurd (incoming_only terms.level ch (beat.E x) passed.comes passed.lawful)
@@ -152,7 +152,7 @@ pub burst_b : {w : ℕ} (x : BeatB w) (t : History w) → unfinished channel.D (
 unfolding unfinished
 burst_b x t = refl
 
-burst_d : {w : ℕ} (terms : Terms) (ch : Channel) (x : BeatD w) (e : End w) → IsWidth w → IsTyped (beat.D x) → IsPassed terms ch (beat.D x) e → HasBytes e
+burst_d : {w : ℕ} (terms : EndConfig) (ch : Channel) (x : BeatD w) (e : Endpoint w) → IsWidth w → IsTyped (beat.D x) → IsPassed terms ch (beat.D x) e → HasBytes e
     → IsBurstKept (unfinished channel.D (beat.D x ∷ e.past))
 burst_d {w} terms ch x e is typed passed old =
     subst (λ t. IsBurstKept t) (sym (unfinished-d x e.past).4) (go (ends (beat.D x) e.past) refl)
@@ -161,14 +161,14 @@ burst_d {w} terms ch x e is typed passed old =
     go true last = (tt, tt)
     go false more = ((typed, old.typed_burst), short-part x e.past (response-small terms.level ch x is passed.lawful) (fewer-before terms.profile x e.past is passed.order old.short_burst) more)
 
-burst_heard : {w : ℕ} (terms : Terms) (ch : Channel) (x : Beat w) (e : End w) → IsWidth w → IsTyped x → IsPassed terms ch x e → HasBytes e → IsBurstKept (unfinished channel.D (x ∷ e.past))
+burst_heard : {w : ℕ} (terms : EndConfig) (ch : Channel) (x : Beat w) (e : Endpoint w) → IsWidth w → IsTyped x → IsPassed terms ch x e → HasBytes e → IsBurstKept (unfinished channel.D (x ∷ e.past))
 burst_heard terms ch (beat.A x) e is typed passed old = absurd (incoming_only terms.level ch (beat.A x) passed.comes passed.lawful)
 burst_heard terms ch (beat.C x) e is typed passed old = absurd (incoming_only terms.level ch (beat.C x) passed.comes passed.lawful)
 burst_heard terms ch (beat.E x) e is typed passed old = absurd (incoming_only terms.level ch (beat.E x) passed.comes passed.lawful)
 burst_heard terms ch (beat.B x) e is typed passed old = subst (λ t. IsBurstKept t) (sym (burst_b x e.past)) (old.typed_burst, old.short_burst)
 burst_heard terms ch (beat.D x) e is typed passed old = burst_d terms ch x e is typed passed old
 
-heard_taken : {w : ℕ} (x : Beat w) (e : End w) → heard (taken x e).answer x e.past ≡ (x ∷ e.past)
+heard_taken : {w : ℕ} (x : Beat w) (e : Endpoint w) → heard (taken x e).answer x e.past ≡ (x ∷ e.past)
 heard_taken (beat.A x) e = refl
 heard_taken (beat.B x) e = refl
 heard_taken (beat.C x) e = refl
@@ -180,7 +180,7 @@ heard_taken {w} (beat.D x) e = go (ends (beat.D x) e.past) _ (ended-cases x.opco
     go true o h = h
     go false o h = refl
 
-pub bytes-offered : {w : ℕ} (terms : Terms) (ch : Channel) (x : Beat w) (e : End w) → IsWidth w → IsKept e → IsTyped x → HasBytes e → HasBytes (offered terms ch x e).after
+pub bytes-offered : {w : ℕ} (terms : EndConfig) (ch : Channel) (x : Beat w) (e : Endpoint w) → IsWidth w → IsEndpointInvariant e → IsTyped x → HasBytes e → HasBytes (offered terms ch x e).after
 bytes-offered {w} terms ch x e is kept typed old =
     let long : AreLong (offered terms ch x e).after = offered-cases terms ch x e (λ o. AreLong o.after) (λ r. (old.long_copies, old.long_waiting))
     (old.long_copies, old.long_waiting) (λ passed. long_taken terms ch x e is typed passed old) in

@@ -14,7 +14,7 @@ use Rattle.tl_burst.proofs.ControlFields.{control_d}
 use Rattle.tl_burst.proofs.Splitting.{some_data_beats}
 use Rattle.tl_params.specs.declared.profile.Profile.{Profile}
 use Rattle.tl_params.specs.declared.rule.Rule.TheVariants.{S1}
-use Rattle.tl_rules.specs.statement.Agent.{payload_of}
+use Rattle.tl_rules.specs.statement.Admission.{payload_of}
 use Rattle.tl_rules.specs.statement.Conformance.{broken_in_order}
 use Rattle.tl_rules.specs.statement.History.{ends}
 use Rattle.tl_rules.specs.laws.Typed.{IsTyped, AreTyped}

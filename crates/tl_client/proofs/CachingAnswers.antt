@@ -25,8 +25,8 @@ use Rattle.tl_client.specs.declared.reply.Reply.{Reply}
 use Rattle.tl_client.specs.declared.reply.Reply.TheVariants as reply
 use Rattle.tl_client.specs.statement.Ask.{asked, busy, breaks_b1, op_block, done, only, least_free, free_request, free_release, source_or_0, loaded, whole_grow, load, store}
 use Rattle.tl_client.specs.code.Caching.{busy_by, busy_in, answer_by, free_in, release_with, bytes_in}
-use Rattle.tl_client.specs.statement.End.{Terms, End, copy_at, held_at, zeros}
-use Rattle.tl_client.specs.statement.Kept.{holds}
+use Rattle.tl_client.specs.statement.Endpoint.{EndConfig, Endpoint, copy_at, held_at, zeros}
+use Rattle.tl_client.specs.statement.EndpointInvariant.{holds}
 use Rattle.tl_client.specs.code.KnowsCaching.{KnowsCaching, terms_of}
 use Rattle.tl_client.specs.statement.Requests.{open_beat, open_release, fields_of, release_fields, start_with}
 use Rattle.tl_client.specs.statement.Send.{access, acquisition, release}
@@ -46,18 +46,18 @@ four false false true s rest = refl
 four false false false true rest = refl
 four false false false false rest = refl
 
-pub busy-known : {w : ℕ} (c : Caching w) (op : Op w) (e : End w) → KnowsCaching c e → busy (terms_of c) op e ≡ busy_or (busy_by c op) (first_if (breaks_b1 (terms_of c) op e.past) B1 None)
+pub busy-known : {w : ℕ} (c : Caching w) (op : Op w) (e : Endpoint w) → KnowsCaching c e → busy (terms_of c) op e ≡ busy_or (busy_by c op) (first_if (breaks_b1 (terms_of c) op e.past) B1 None)
 unfolding busy
 busy-known c op e knows =
     rw (← acquiring c e (op_block op) knows, ← releasing c e (op_block op) knows, ← knows.held_is (op_block op)) (four _ _ _ _ (first_if (breaks_b1 (terms_of c) op e.past) B1 None))
 
-pub asked-busy : {w : ℕ} (c : Caching w) (op : Op w) (e : End w) (b : Busy) → KnowsCaching c e → Some b ≡ busy_by c op → asked (terms_of c) op e ≡ only (reply.Busy b) e
+pub asked-busy : {w : ℕ} (c : Caching w) (op : Op w) (e : Endpoint w) (b : Busy) → KnowsCaching c e → Some b ≡ busy_by c op → asked (terms_of c) op e ≡ only (reply.Busy b) e
 unfolding asked
 asked-busy c op e b knows is =
     let because : busy (terms_of c) op e ≡ Some b = rw (busy-known c op e knows, ← is) refl in
     rw because refl
 
-busy-free : {w : ℕ} (c : Caching w) (op : Op w) (e : End w) → KnowsCaching c e → busy_by c op ≡ None → busy (terms_of c) op e ≡ first_if (breaks_b1 (terms_of c) op e.past) B1 None
+busy-free : {w : ℕ} (c : Caching w) (op : Op w) (e : Endpoint w) → KnowsCaching c e → busy_by c op ≡ None → busy (terms_of c) op e ≡ first_if (breaks_b1 (terms_of c) op e.past) B1 None
 busy-free c op e knows is = rw (busy-known c op e knows, is) refl
 
 -- ---- the source that is free
@@ -83,57 +83,57 @@ is_some-release {w} s t = go (pending (ReleaseSource s) t) (release_of s t) (rel
     go true None some = some refl
     go true (Some x) some = refl
 
-free_request-known : {w : ℕ} (c : Caching w) (e : End w) → KnowsCaching c e → free_request (terms_of c) e.past ≡ free_in c.requests c.config.sources
+free_request-known : {w : ℕ} (c : Caching w) (e : Endpoint w) → KnowsCaching c e → free_request (terms_of c) e.past ≡ free_in c.requests c.config.sources
 free_request-known c e knows = least_free-same _ _ 0 c.config.sources (λ s. sym (ap is_some (knows.requests_are s) ∙ is_some-request s e.past))
 
-free_release-known : {w : ℕ} (c : Caching w) (e : End w) → KnowsCaching c e → free_release (terms_of c) e.past ≡ free_in c.releases c.config.sources
+free_release-known : {w : ℕ} (c : Caching w) (e : Endpoint w) → KnowsCaching c e → free_release (terms_of c) e.past ≡ free_in c.releases c.config.sources
 free_release-known c e knows = least_free-same _ _ 0 c.config.sources (λ s. sym (ap is_some (knows.releases_are s) ∙ is_some-release s e.past))
 
 -- ---- the answer
 
-pub record IsAnswered {w : ℕ} (terms : Terms) (op : Op w) (e : End w) (r : Reply × Option (Message w)) : Type 0 where
+pub record IsAnswered {w : ℕ} (terms : EndConfig) (op : Op w) (e : Endpoint w) (r : Reply × Option (Message w)) : Type 0 where
   pub busy_is : busy terms op e ≡ busy_in r.0
   pub reply_is : (asked terms op e).reply ≡ r.0
   pub message_is : (asked terms op e).message ≡ r.1
 
-answered_busy : {w : ℕ} (terms : Terms) (op : Op w) (e : End w) (b : Busy) → busy terms op e ≡ Some b → IsAnswered terms op e (reply.Busy b, None)
+answered_busy : {w : ℕ} (terms : EndConfig) (op : Op w) (e : Endpoint w) (b : Busy) → busy terms op e ≡ Some b → IsAnswered terms op e (reply.Busy b, None)
 unfolding asked
 answered_busy terms op e b is = record { busy_is = is; reply_is = rw is refl; message_is = rw is refl }
 
-answered_done : {w : ℕ} (terms : Terms) (op : Op w) (e : End w) (r : Reply × Option (Message w)) → busy terms op e ≡ None → busy_in r.0 ≡ None → (done terms op e).reply ≡ r.0
+answered_done : {w : ℕ} (terms : EndConfig) (op : Op w) (e : Endpoint w) (r : Reply × Option (Message w)) → busy terms op e ≡ None → busy_in r.0 ≡ None → (done terms op e).reply ≡ r.0
     → (done terms op e).message ≡ r.1 → IsAnswered terms op e r
 unfolding asked
 answered_done terms op e r free started replies messages = record { busy_is = free ∙ sym started; reply_is = rw free replies; message_is = rw free messages }
 
-answered_request : {w : ℕ} (terms : Terms) (op : Op w) (e : End w) (m : MessageA w) (free : Option ℕ) → busy terms op e ≡ first_if (is_none free) B1 None
+answered_request : {w : ℕ} (terms : EndConfig) (op : Op w) (e : Endpoint w) (m : MessageA w) (free : Option ℕ) → busy terms op e ≡ first_if (is_none free) B1 None
     → (done terms op e).reply ≡ reply.Started (source_or_0 free) → (done terms op e).message ≡ Some (access (source_or_0 free) m) → IsAnswered terms op e (start_with free m)
 answered_request terms op e m None because replies messages = answered_busy terms op e B1 because
 answered_request terms op e m (Some s) because replies messages = answered_done terms op e _ because refl replies messages
 
-answered_release : {w : ℕ} (terms : Terms) (op : Op w) (e : End w) (prune : Prune) (block : ℕ) (copy : List ℕ) (free : Option ℕ) → busy terms op e ≡ first_if (is_none free) B1 None
+answered_release : {w : ℕ} (terms : EndConfig) (op : Op w) (e : Endpoint w) (prune : Prune) (block : ℕ) (copy : List ℕ) (free : Option ℕ) → busy terms op e ≡ first_if (is_none free) B1 None
     → (done terms op e).reply ≡ reply.Started (source_or_0 free) → (done terms op e).message ≡ Some (release prune (source_or_0 free) block copy)
     → IsAnswered terms op e (release_with free prune block copy)
 answered_release terms op e prune block copy None because replies messages = answered_busy terms op e B1 because
 answered_release terms op e prune block copy (Some s) because replies messages = answered_done terms op e _ because refl replies messages
 
-load_answer : {w : ℕ} (address size : ℕ) (p : Perm) (e : End w) (bytes : List ℕ) → copy_at e (block_at address) ≡ bytes
+load_answer : {w : ℕ} (address size : ℕ) (p : Perm) (e : Endpoint w) (bytes : List ℕ) → copy_at e (block_at address) ≡ bytes
     → ((load address size p e).reply ≡ cond (holds p) (reply.Value (loaded address size bytes)) reply.Miss) × ((load address size p e).message ≡ None)
     × (busy_in (cond (holds p) (reply.Value (loaded address size bytes)) reply.Miss) ≡ None)
 load_answer address size perm.None e bytes is = (refl, refl, refl)
 load_answer address size perm.Branch e bytes is = (rw is refl, refl, refl)
 load_answer address size perm.Trunk e bytes is = (rw is refl, refl, refl)
 
-store_answer : {w : ℕ} (address size value : ℕ) (p : Perm) (e : End w)
+store_answer : {w : ℕ} (address size value : ℕ) (p : Perm) (e : Endpoint w)
     → ((store address size value p e).reply ≡ cond (same_perm perm.Trunk p) reply.Stored reply.Miss) × ((store address size value p e).message ≡ None)
     × (busy_in (cond (same_perm perm.Trunk p) reply.Stored reply.Miss) ≡ None)
 store_answer address size value perm.None e = (refl, refl, refl)
 store_answer address size value perm.Branch e = (refl, refl, refl)
 store_answer address size value perm.Trunk e = (refl, refl, refl)
 
-pub copy-known : {w : ℕ} (c : Caching w) (e : End w) (k : ℕ) → KnowsCaching c e → copy_at e k ≡ bytes_in c k
+pub copy-known : {w : ℕ} (c : Caching w) (e : Endpoint w) (k : ℕ) → KnowsCaching c e → copy_at e k ≡ bytes_in c k
 copy-known c e k knows = ap (λ o. unwrap_or o zeros) (sym (knows.copies_are k))
 
-pub answered : {w : ℕ} (c : Caching w) (op : Op w) (e : End w) → KnowsCaching c e → busy_by c op ≡ None → IsAnswered (terms_of c) op e (answer_by c op)
+pub answered : {w : ℕ} (c : Caching w) (op : Op w) (e : Endpoint w) → KnowsCaching c e → busy_by c op ≡ None → IsAnswered (terms_of c) op e (answer_by c op)
 answered c (Load address size) e knows free =
     let replies = load_answer address size (held_at e (block_at address)) e (bytes_in c (block_at address)) (copy-known c e (block_at address) knows) in
     rw (knows.held_is (block_at address)) (answered_done (terms_of c) (Load address size) e _ (busy-free c (Load address size) e knows free) replies.2 replies.0 replies.1)

@@ -19,7 +19,7 @@ use Rattle.tl_client.specs.declared.reply.Reply.TheVariants as reply
 use Rattle.tl_client.specs.laws.After.{IsStarted}
 use Rattle.tl_client.specs.statement.Ask.{asked}
 use Rattle.tl_client.specs.code.Caching.{Does, busy_by}
-use Rattle.tl_client.specs.statement.End.{End}
+use Rattle.tl_client.specs.statement.Endpoint.{Endpoint}
 use Rattle.tl_client.specs.laws.Inside.{IsInside}
 use Rattle.tl_client.specs.code.KnowsCaching.{KnowsCaching, terms_of, is_granting, has_sink}
 use Rattle.tl_client.specs.statement.Requests.{open_beat, open_release, fields_of, release_fields, fields_in, release_in, opened_by, released_by}
@@ -75,7 +75,7 @@ ack_unsaid k reply.Stored (Some (message.E m)) t started = absurd started
 ack_unsaid k reply.Miss (Some (message.E m)) t started = absurd started
 ack_unsaid k (reply.Busy b) (Some (message.E m)) t started = absurd started
 
-pub knows-asked : {w : ℕ} (c d : Caching w) (op : Op w) (e : End w) (r : Reply × Option (Message w)) → KnowsCaching c e → busy_by c op ≡ None → Does c d op r
+pub knows-asked : {w : ℕ} (c d : Caching w) (op : Op w) (e : Endpoint w) (r : Reply × Option (Message w)) → KnowsCaching c e → busy_by c op ≡ None → Does c d op r
     → KnowsCaching d (asked (terms_of c) op e).after
 knows-asked {w} c d op e r knows free does =
     let said : IsAnswered (terms_of c) op e r = rw (does.answer) (answered c op e knows free) in
@@ -105,7 +105,7 @@ knows-asked {w} c d op e r knows free does =
       inside = subst (λ terms. IsInside terms after.past) (sym does.terms) (inside-asked (terms_of c) op e c.width knows.kept knows.inside);
     }
 
-pub answers-asked : {w : ℕ} (c d : Caching w) (op : Op w) (e : End w) (r : Reply × Option (Message w)) → KnowsCaching c e → busy_by c op ≡ None → Does c d op r
+pub answers-asked : {w : ℕ} (c d : Caching w) (op : Op w) (e : Endpoint w) (r : Reply × Option (Message w)) → KnowsCaching c e → busy_by c op ≡ None → Does c d op r
     → (r.0 ≡ (asked (terms_of c) op e).reply) × (r.1 ≡ (asked (terms_of c) op e).message)
 answers-asked c d op e r knows free does =
     let said : IsAnswered (terms_of c) op e r = rw (does.answer) (answered c op e knows free) in

@@ -18,7 +18,7 @@ use Rattle.tl_rules.proofs.Bursts.{both_none}
 use Rattle.tl_client.specs.declared.caching.Caching.{Caching}
 use Rattle.tl_client.specs.declared.verdict.Verdict.{Verdict}
 use Rattle.tl_client.specs.declared.verdict.Verdict.TheVariants.{Stalled}
-use Rattle.tl_client.specs.statement.End.{Terms, End}
+use Rattle.tl_client.specs.statement.Endpoint.{EndConfig, Endpoint}
 use Rattle.tl_client.specs.code.KnowsCaching.{KnowsCaching, terms_of}
 use Rattle.tl_client.specs.statement.Offer.{offered, refused, silent, is_sent_on, stalls, waits, broken_before, broken_later}
 use Rattle.tl_client.specs.code.Takes.{Takes, IsJudged}
@@ -28,26 +28,26 @@ use Rattle.tl_client.proofs.CachingResponded.{grants_inside, knows-goes, knows-e
 use Rattle.tl_client.proofs.Cases.{takes}
 use Rattle.tl_client.proofs.HeldAfter.{incoming}
 
-before-known : {w : ℕ} (c : Caching w) (ch : Channel) (x : Beat w) (e : End w) → KnowsCaching c e
+before-known : {w : ℕ} (c : Caching w) (ch : Channel) (x : Beat w) (e : Endpoint w) → KnowsCaching c e
     → broken_before (terms_of c) ch x e ≡ first_if c.closed A3 (first_if (is_sent_on ch) L1 (illegal c.config.level ch x))
 before-known c ch x e knows = rw (knows.closed_is) refl
 
-pub passes_alone : {w : ℕ} (c : Caching w) (ch : Channel) (x : Beat w) (e : End w) → KnowsCaching c e
+pub passes_alone : {w : ℕ} (c : Caching w) (ch : Channel) (x : Beat w) (e : Endpoint w) → KnowsCaching c e
     → Ok tt ≡ ok_unless (first_if c.closed A3 (first_if (is_sent_on ch) L1 (illegal c.config.level ch x))) → broken_before (terms_of c) ch x e ≡ None
 passes_alone c ch x e knows ok = before-known c ch x e knows ∙ none_broken _ ok
 
-pub refused_alone : {w : ℕ} (c : Caching w) (ch : Channel) (x : Beat w) (e : End w) (rule : Rule) → KnowsCaching c e
+pub refused_alone : {w : ℕ} (c : Caching w) (ch : Channel) (x : Beat w) (e : Endpoint w) (rule : Rule) → KnowsCaching c e
     → Err rule ≡ ok_unless (first_if c.closed A3 (first_if (is_sent_on ch) L1 (illegal c.config.level ch x))) → offered (terms_of c) ch x e ≡ refused rule e
 unfolding offered
 refused_alone c ch x e rule knows broken =
     let before : broken_before (terms_of c) ch x e ≡ Some rule = before-known c ch x e knows ∙ some_broken _ rule broken in
     rw before refl
 
-pub stalled : {w : ℕ} (c : Caching w) (ch : Channel) (x : Beat w) (e : End w) → broken_before (terms_of c) ch x e ≡ None → waits x e.past ≡ true → offered (terms_of c) ch x e ≡ silent Stalled e
+pub stalled : {w : ℕ} (c : Caching w) (ch : Channel) (x : Beat w) (e : Endpoint w) → broken_before (terms_of c) ch x e ≡ None → waits x e.past ≡ true → offered (terms_of c) ch x e ≡ silent Stalled e
 unfolding offered
 stalled c ch x e before waiting = rw (before, waiting) refl
 
-pub refused_order : {w : ℕ} (c : Caching w) (ch : Channel) (x : Beat w) (e : End w) (rule : Rule) → broken_before (terms_of c) ch x e ≡ None → waits x e.past ≡ false
+pub refused_order : {w : ℕ} (c : Caching w) (ch : Channel) (x : Beat w) (e : Endpoint w) (rule : Rule) → broken_before (terms_of c) ch x e ≡ None → waits x e.past ≡ false
     → Err rule ≡ ok_unless (broken_later (terms_of c) x e) → offered (terms_of c) ch x e ≡ refused rule e
 unfolding offered
 refused_order c ch x e rule before moves broken =
@@ -55,7 +55,7 @@ refused_order c ch x e rule before moves broken =
     rw (before, moves, later) refl
 
 -- what is answered to a beat that was taken, and what is known afterwards
-pub knows-took : {w : ℕ} (c d : Caching w) (ch : Channel) (x : Beat w) (e : End w) (r : Verdict × Option (Message w)) → KnowsCaching c e → IsJudged (terms_of c) ch x e (Ok false) → Takes c d x r
+pub knows-took : {w : ℕ} (c d : Caching w) (ch : Channel) (x : Beat w) (e : Endpoint w) (r : Verdict × Option (Message w)) → KnowsCaching c e → IsJudged (terms_of c) ch x e (Ok false) → Takes c d x r
     → ((offered (terms_of c) ch x e).answer ≡ Ok r) × KnowsCaching d (offered (terms_of c) ch x e).after
 knows-took c d ch (beat.A x) e r knows judged took = absurd (incoming (terms_of c) ch (beat.A x) e judged.0)
 knows-took c d ch (beat.C x) e r knows judged took = absurd (incoming (terms_of c) ch (beat.C x) e judged.0)
@@ -88,14 +88,14 @@ never_if None b moves = moves
 never_if (Some rule) b moves = refl
 
 -- whether a beat is stalled: one that waits, by whether it breaks no rule
-pub stalls-waiting : {w : ℕ} (c : Caching w) (ch : Channel) (x : Beat w) (e : End w) (b : Bool) → KnowsCaching c e → waits x e.past ≡ true
+pub stalls-waiting : {w : ℕ} (c : Caching w) (ch : Channel) (x : Beat w) (e : Endpoint w) (b : Bool) → KnowsCaching c e → waits x e.past ≡ true
     → b ≡ is_ok (ok_unless (first_if c.closed A3 (first_if (is_sent_on ch) L1 (illegal c.config.level ch x)))) → b ≡ stalls (terms_of c) ch x e
 unfolding stalls
 stalls-waiting c ch x e b knows waiting ok = ok ∙ stalls_if _ _ waiting ∙ sym (ap (λ o. is_none o && waits x e.past) (before-known c ch x e knows))
 
-pub stalls-moving : {w : ℕ} (c : Caching w) (ch : Channel) (x : Beat w) (e : End w) (b : Bool) → b ≡ waits x e.past → b ≡ false → b ≡ stalls (terms_of c) ch x e
+pub stalls-moving : {w : ℕ} (c : Caching w) (ch : Channel) (x : Beat w) (e : Endpoint w) (b : Bool) → b ≡ waits x e.past → b ≡ false → b ≡ stalls (terms_of c) ch x e
 unfolding stalls
 stalls-moving c ch x e b is moving = moving ∙ sym (never_if _ _ (sym is ∙ moving))
 
-pub lawful : {w : ℕ} (terms : Terms) (ch : Channel) (x : Beat w) (e : End w) (o : Result Bool Rule) → IsJudged terms ch x e o → o ≡ Ok false → IsJudged terms ch x e (Ok false)
+pub lawful : {w : ℕ} (terms : EndConfig) (ch : Channel) (x : Beat w) (e : Endpoint w) (o : Result Bool Rule) → IsJudged terms ch x e o → o ≡ Ok false → IsJudged terms ch x e (Ok false)
 lawful terms ch x e o judged is = subst (λ (r : Result Bool Rule). IsJudged terms ch x e r) is judged

@@ -4,7 +4,7 @@ use Rattle.tl_params.specs.declared.perm.Perm.TheVariants as perm
 use Rattle.tl_rules.specs.statement.History.{held, pending}
 use Rattle.tl_burst.specs.statement.Messages.{unfinished}
 use Rattle.tl_client.specs.declared.caching.Caching.{Caching}
-use Rattle.tl_client.specs.statement.End.{fresh}
+use Rattle.tl_client.specs.statement.Endpoint.{fresh}
 use Rattle.tl_client.specs.code.KnowsCaching.{KnowsCaching, terms_of}
 use Rattle.tl_client.specs.statement.Requests.{open_beat, open_release, fields_of, release_fields}
 use Rattle.tl_client.specs.code.Sources.{open_at}

@@ -12,7 +12,7 @@ use Rattle.tl_rules.specs.statement.History.{block_at, is_probe, pending}
 use Rattle.tl_client.specs.declared.caching.Caching.{Caching}
 use Rattle.tl_client.specs.code.KnowsCaching.{KnowsCaching, KnowsPast}
 use Rattle.tl_client.specs.statement.Offer.{waits}
-use Rattle.tl_client.specs.statement.End.{End}
+use Rattle.tl_client.specs.statement.Endpoint.{Endpoint}
 use Rattle.tl_client.specs.statement.Requests.{acquires_block, releases_block}
 use Rattle.tl_client.specs.code.Sources.{open_at}
 use Rattle.tl_client.proofs.CachingAnswers.{is_some-request, is_some-release}
@@ -33,6 +33,6 @@ pub release_of_pending : {w : ℕ} (c : Caching w) (t : History w) (key : Key) (
 release_of_pending c t key k b knows of is = is ∙ releasing c knows.0 k knows.1 ∙ rw (of, knows.2) refl
 
 -- a Probe waits where a Release of its block is open
-pub waits_known : {w : ℕ} (c : Caching w) (e : End w) (x : Beat w) (p : BeatB w) (b : Bool) → KnowsCaching c e → x ≡ beat.B p → is_probe p.opcode ≡ true
+pub waits_known : {w : ℕ} (c : Caching w) (e : Endpoint w) (x : Beat w) (p : BeatB w) (b : Bool) → KnowsCaching c e → x ≡ beat.B p → is_probe p.opcode ≡ true
     → b ≡ list_any (releases_block (block_at p.address)) c.releases.with_source → b ≡ waits x e.past
 waits_known c e x p b knows own probe is = is ∙ releasing c e (block_at p.address) knows ∙ rw (own, probe) refl

@@ -10,7 +10,7 @@ use Rattle.tl_rules.specs.statement.History.{block_at}
 use Rattle.tl_client.specs.declared.caching.Caching.{Caching}
 use Rattle.tl_client.specs.declared.verdict.Verdict.{Verdict}
 use Rattle.tl_client.specs.laws.Accounted.{comes_granting}
-use Rattle.tl_client.specs.statement.End.{End, copy_at, held_at}
+use Rattle.tl_client.specs.statement.Endpoint.{Endpoint, copy_at, held_at}
 use Rattle.tl_client.specs.code.KnowsCaching.{KnowsCaching, terms_of, is_granting, has_sink}
 use Rattle.tl_client.specs.statement.Offer.{offered, taken, report_for}
 use Rattle.tl_client.specs.statement.Send.{probe_ack}
@@ -20,11 +20,11 @@ use Rattle.tl_client.proofs.CachingAnswers.{copy-known}
 use Rattle.tl_client.proofs.CachingTaken.{Follows, taking, knows-after}
 use Rattle.tl_client.proofs.Bytes.{burst_b}
 
-pub answer-probed : {w : ℕ} (c d : Caching w) (x : BeatB w) (e : End w) (r : Verdict × Option (Message w)) → KnowsCaching c e → Probes c d x r → (taken (beat.B x) e).answer ≡ Ok r
+pub answer-probed : {w : ℕ} (c d : Caching w) (x : BeatB w) (e : Endpoint w) (r : Verdict × Option (Message w)) → KnowsCaching c e → Probes c d x r → (taken (beat.B x) e).answer ≡ Ok r
 answer-probed c d x e r knows probes =
     rw (probes.answer, knows.held_is (block_at x.address), ← copy-known c e (block_at x.address) knows) refl
 
-follows-probed : {w : ℕ} (c d : Caching w) (x : BeatB w) (e : End w) (r : Verdict × Option (Message w)) → KnowsCaching c e → Probes c d x r → Follows c d (beat.B x) e
+follows-probed : {w : ℕ} (c d : Caching w) (x : BeatB w) (e : Endpoint w) (r : Verdict × Option (Message w)) → KnowsCaching c e → Probes c d x r → Follows c d (beat.B x) e
 follows-probed c d x e r knows probes = record {
   closed = probes.closed;
   terms = probes.terms;
@@ -38,7 +38,7 @@ follows-probed c d x e r knows probes = record {
   sink = λ s. ap (has_sink s) probes.granting ∙ knows.sink_is s ∙ ap (comes_in_grant s) (sym (burst_b x e.past));
 }
 
-pub knows-probed : {w : ℕ} (c d : Caching w) (ch : Channel) (x : BeatB w) (e : End w) (r : Verdict × Option (Message w)) → KnowsCaching c e → Probes c d x r
+pub knows-probed : {w : ℕ} (c d : Caching w) (ch : Channel) (x : BeatB w) (e : Endpoint w) (r : Verdict × Option (Message w)) → KnowsCaching c e → Probes c d x r
     → offered (terms_of c) ch (beat.B x) e ≡ taken (beat.B x) e → KnowsCaching d (offered (terms_of c) ch (beat.B x) e).after
 knows-probed c d ch x e r knows probes is =
     knows-after c d ch (beat.B x) e _ knows (ap (λ o. o.answer) is)

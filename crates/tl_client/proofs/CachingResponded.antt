@@ -14,7 +14,7 @@ use Rattle.tl_beat.specs.declared.opcode.OpD.TheVariants as d
 use Rattle.tl_burst.specs.declared.message.Message.{Message}
 use Rattle.tl_burst.specs.statement.Messages.{History, unfinished}
 use Rattle.tl_params.specs.declared.key.Key.TheVariants.{RequestSource}
-use Rattle.tl_rules.specs.statement.Agent.{payload_of}
+use Rattle.tl_rules.specs.statement.Admission.{payload_of}
 use Rattle.tl_rules.specs.statement.Conformance.{admits, broken_in_order, comes_in_grant}
 use Rattle.tl_rules.specs.statement.History.{block_at, asks_for, ends, grants, is_grant, is_release_ack, pending, request_of}
 use Rattle.tl_client.specs.declared.caching.Caching.{Caching}
@@ -23,8 +23,8 @@ use Rattle.tl_client.specs.declared.verdict.Verdict.{Verdict}
 use Rattle.tl_client.specs.declared.verdict.Verdict.TheVariants.{Taken, Done}
 use Rattle.tl_client.specs.laws.Accounted.{comes_granting}
 use Rattle.tl_client.specs.laws.After.{copy_granted, waiting_granted}
-use Rattle.tl_client.specs.statement.End.{End}
-use Rattle.tl_client.specs.statement.Kept.{acquires, is_acquire_beat}
+use Rattle.tl_client.specs.statement.Endpoint.{Endpoint}
+use Rattle.tl_client.specs.statement.EndpointInvariant.{acquires, is_acquire_beat}
 use Rattle.tl_client.specs.code.KnowsCaching.{KnowsCaching, terms_of, is_granting, has_sink}
 use Rattle.tl_client.specs.statement.Offer.{offered, taken, ended, address_asked, finish_of}
 use Rattle.tl_client.specs.code.Plain.{address_in}
@@ -53,7 +53,7 @@ named {w} x t fits answer = go (pending (RequestSource x.source) t) (request_of 
 burst_part : {w : ℕ} (x : BeatD w) (t : History w) → ends (beat.D x) t ≡ false → unfinished channel.D (beat.D x ∷ t) ≡ beat.D x ∷ unfinished channel.D t
 burst_part x t more = (unfinished-d x t).4 ∙ rw more refl
 
-answer-goes : {w : ℕ} (x : BeatD w) (e : End w) → ends (beat.D x) e.past ≡ false → (taken (beat.D x) e).answer ≡ Ok (Taken, None)
+answer-goes : {w : ℕ} (x : BeatD w) (e : Endpoint w) → ends (beat.D x) e.past ≡ false → (taken (beat.D x) e).answer ≡ Ok (Taken, None)
 answer-goes x e more = rw more refl
 
 granting-to : {w : ℕ} (k : ℕ) (x : BeatD w) (o : Option (BeatA w)) → is_granting k (granting_to x (fields_of o)) ≡ asks_for k o
@@ -64,7 +64,7 @@ sink-to : {w : ℕ} (s : ℕ) (x : BeatD w) (o : Option (BeatA w)) → admits x.
 sink-to s x None is = absurd cc
 sink-to s x (Some r) is = refl
 
-granting-goes : {w : ℕ} (c : Caching w) (x : BeatD w) (e : End w) (k : ℕ) → KnowsCaching c e → IsFit x e.past → is_granting k (granting_by c x) ≡ grants k x e.past
+granting-goes : {w : ℕ} (c : Caching w) (x : BeatD w) (e : Endpoint w) (k : ℕ) → KnowsCaching c e → IsFit x e.past → is_granting k (granting_by c x) ≡ grants k x e.past
 granting-goes {w} c x e k knows fits = go (is_grant x.opcode) refl
   where
     go : (b : Bool) → is_grant x.opcode ≡ b → is_granting k (cond b (granting_to x (open_at c.requests x.source)) None) ≡ (b && asks_for k (request_of x.source e.past))
@@ -73,14 +73,14 @@ granting-goes {w} c x e k knows fits = go (is_grant x.opcode) refl
         ap (λ o. is_granting k (granting_to x o)) (knows.requests_are x.source) ∙ granting-to k x (open_beat x.source e.past)
         ∙ ap (asks_for k) (sym (named x e.past fits (not_release_ack x.opcode is)))
 
-sink-goes : {w : ℕ} (c : Caching w) (x : BeatD w) (e : End w) (s : ℕ) → KnowsCaching c e → IsFit x e.past → has_sink s (granting_by c x) ≡ (is_grant x.opcode && (x.sink == s))
+sink-goes : {w : ℕ} (c : Caching w) (x : BeatD w) (e : Endpoint w) (s : ℕ) → KnowsCaching c e → IsFit x e.past → has_sink s (granting_by c x) ≡ (is_grant x.opcode && (x.sink == s))
 sink-goes {w} c x e s knows fits = go (is_grant x.opcode) refl
   where
     go : (b : Bool) → is_grant x.opcode ≡ b → has_sink s (cond b (granting_to x (open_at c.requests x.source)) None) ≡ (b && (x.sink == s))
     go false is = refl
     go true is = rw (knows.requests_are x.source) (sink-to s x (open_beat x.source e.past) (fits.answers (not_release_ack x.opcode is)))
 
-follows-goes : {w : ℕ} (c d : Caching w) (x : BeatD w) (e : End w) (r : Verdict × Option (Message w)) → KnowsCaching c e → IsFit x e.past → ends (beat.D x) e.past ≡ false → Goes c d x r
+follows-goes : {w : ℕ} (c d : Caching w) (x : BeatD w) (e : Endpoint w) (r : Verdict × Option (Message w)) → KnowsCaching c e → IsFit x e.past → ends (beat.D x) e.past ≡ false → Goes c d x r
     → Follows c d (beat.D x) e
 follows-goes c d x e r knows fits more goes =
     let burst = burst_part x e.past more in
@@ -102,7 +102,7 @@ follows-goes c d x e r knows fits more goes =
 burst_done : {w : ℕ} (x : BeatD w) (t : History w) → ends (beat.D x) t ≡ true → unfinished channel.D (beat.D x ∷ t) ≡ []
 burst_done x t last = (unfinished-d x t).4 ∙ rw last refl
 
-ended-answer : {w : ℕ} (opcode : OpD) (x : BeatD w) (f : Finish) (e : End w) → (ended opcode x f e).answer ≡ Ok (Done x.source f, ack_after opcode x.sink)
+ended-answer : {w : ℕ} (opcode : OpD) (x : BeatD w) (f : Finish) (e : Endpoint w) → (ended opcode x f e).answer ≡ Ok (Done x.source f, ack_after opcode x.sink)
 ended-answer d.AccessAck x f e = refl
 ended-answer d.AccessAckData x f e = refl
 ended-answer d.HintAck x f e = refl
@@ -126,7 +126,7 @@ finish-known w d.ReleaseAck param size a b payload same = refl
 abbrev done_by : {w : ℕ} → Caching w → BeatD w → Finish
 done_by {w} c x = finish_of w x.opcode x.param x.size (address_in (open_at c.requests x.source)) (payload_of (beat.D x ∷ c.responses))
 
-answer-ends : {w : ℕ} (c : Caching w) (x : BeatD w) (e : End w) → KnowsCaching c e → IsFit x e.past → ends (beat.D x) e.past ≡ true
+answer-ends : {w : ℕ} (c : Caching w) (x : BeatD w) (e : Endpoint w) → KnowsCaching c e → IsFit x e.past → ends (beat.D x) e.past ≡ true
     → (taken (beat.D x) e).answer ≡ Ok (Done x.source (done_by c x), ack_after x.opcode x.sink)
 answer-ends {w} c x e knows fits last =
     let finish : finish_of w x.opcode x.param x.size (address_asked (request_of x.source e.past)) (payload_of (beat.D x ∷ unfinished channel.D e.past)) ≡ done_by c x =
@@ -139,14 +139,14 @@ for-fields : {w : ℕ} (k : ℕ) (o : Option (BeatA w)) → is_for k (fields_of 
 for-fields k None = refl
 for-fields k (Some r) = swapped k (block_at r.address)
 
-grants-known : {w : ℕ} (c : Caching w) (x : BeatD w) (e : End w) (k : ℕ) → KnowsCaching c e → IsFit x e.past → (is_grant x.opcode && is_for k (open_at c.requests x.source)) ≡ grants k x e.past
+grants-known : {w : ℕ} (c : Caching w) (x : BeatD w) (e : Endpoint w) (k : ℕ) → KnowsCaching c e → IsFit x e.past → (is_grant x.opcode && is_for k (open_at c.requests x.source)) ≡ grants k x e.past
 grants-known {w} c x e k knows fits = go (is_grant x.opcode) refl
   where
     go : (b : Bool) → is_grant x.opcode ≡ b → (b && is_for k (open_at c.requests x.source)) ≡ (b && asks_for k (request_of x.source e.past))
     go false is = refl
     go true is = ap (is_for k) (knows.requests_are x.source) ∙ for-fields k (open_beat x.source e.past) ∙ ap (asks_for k) (sym (named x e.past fits (not_release_ack x.opcode is)))
 
-copy-known : {w : ℕ} (opcode : OpD) (o p : Option (BeatA w)) (payload : List ℕ) (k : ℕ) (e : End w) → (is_release_ack opcode ≡ false → o ≡ p)
+copy-known : {w : ℕ} (opcode : OpD) (o p : Option (BeatA w)) (payload : List ℕ) (k : ℕ) (e : Endpoint w) → (is_release_ack opcode ≡ false → o ≡ p)
     → copy_after opcode (fields_of p) payload k (e.copies k) (e.waiting k) ≡ copy_granted opcode o payload k e
 copy-known d.AccessAck o p payload k e same = refl
 copy-known d.AccessAckData o p payload k e same = refl
@@ -176,7 +176,7 @@ closed-release : {w : ℕ} (b : Bool) (o : Option (BeatC w)) → cond b None (re
 closed-release true o = refl
 closed-release false o = refl
 
-follows-ends : {w : ℕ} (c d : Caching w) (x : BeatD w) (e : End w) (r : Verdict × Option (Message w)) → KnowsCaching c e → IsFit x e.past → ends (beat.D x) e.past ≡ true → Ends c d x r
+follows-ends : {w : ℕ} (c d : Caching w) (x : BeatD w) (e : Endpoint w) (r : Verdict × Option (Message w)) → KnowsCaching c e → IsFit x e.past → ends (beat.D x) e.past ≡ true → Ends c d x r
     → Follows c d (beat.D x) e
 follows-ends c d x e r knows fits last done =
     let burst = burst_done x e.past last in
@@ -199,7 +199,7 @@ below : (blocks k : ℕ) → not (nat_le blocks k) ≡ true → k < blocks
 below blocks k is = grind (arith, nat_tests)
 
 -- a Grant answers an Acquire, which is for a block of the map
-pub grants_inside : {w : ℕ} (c : Caching w) (x : BeatD w) (e : End w) → KnowsCaching c e → broken_in_order c.profile (beat.D x) e.past ≡ None → GrantsInside c (in_beats x c.responses)
+pub grants_inside : {w : ℕ} (c : Caching w) (x : BeatD w) (e : Endpoint w) → KnowsCaching c e → broken_in_order c.profile (beat.D x) e.past ≡ None → GrantsInside c (in_beats x c.responses)
 grants_inside {w} c x e knows order = λ g. rw (knows.requests_are x.source) (go (open_beat x.source e.past) refl ((good_beat c.profile e x knows.kept order).good g).answers_acquire)
   where
     go : (o : Option (BeatA w)) → open_beat x.source e.past ≡ o → is_acquire_beat o ≡ true → IfSome (fields_of o) (λ r. block_at r.address < c.blocks)
@@ -210,14 +210,14 @@ grants_inside {w} c x e knows order = λ g. rw (knows.requests_are x.source) (go
 
 -- ---- any beat of it
 
-pub knows-goes : {w : ℕ} (c d : Caching w) (ch : Channel) (x : BeatD w) (e : End w) (r : Verdict × Option (Message w)) → KnowsCaching c e → IsFit x e.past → ends (beat.D x) e.past ≡ false
+pub knows-goes : {w : ℕ} (c d : Caching w) (ch : Channel) (x : BeatD w) (e : Endpoint w) (r : Verdict × Option (Message w)) → KnowsCaching c e → IsFit x e.past → ends (beat.D x) e.past ≡ false
     → Goes c d x r → offered (terms_of c) ch (beat.D x) e ≡ taken (beat.D x) e
     → ((offered (terms_of c) ch (beat.D x) e).answer ≡ Ok r) × KnowsCaching d (offered (terms_of c) ch (beat.D x) e).after
 knows-goes c d ch x e r knows fits more goes is =
     let answer = ap (λ o. o.answer) is ∙ answer-goes x e more in
     (answer ∙ rw (goes.answer) refl, knows-after c d ch (beat.D x) e _ knows answer (taking None (beat.D x)) (follows-goes c d x e r knows fits more goes))
 
-pub knows-ends : {w : ℕ} (c d : Caching w) (ch : Channel) (x : BeatD w) (e : End w) (r : Verdict × Option (Message w)) → KnowsCaching c e → IsFit x e.past → ends (beat.D x) e.past ≡ true
+pub knows-ends : {w : ℕ} (c d : Caching w) (ch : Channel) (x : BeatD w) (e : Endpoint w) (r : Verdict × Option (Message w)) → KnowsCaching c e → IsFit x e.past → ends (beat.D x) e.past ≡ true
     → Ends c d x r → offered (terms_of c) ch (beat.D x) e ≡ taken (beat.D x) e
     → ((offered (terms_of c) ch (beat.D x) e).answer ≡ Ok r) × KnowsCaching d (offered (terms_of c) ch (beat.D x) e).after
 knows-ends c d ch x e r knows fits last done is =

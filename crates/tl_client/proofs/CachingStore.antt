@@ -13,7 +13,7 @@ use Rattle.tl_client.specs.declared.reply.Reply.TheVariants as reply
 use Rattle.tl_client.specs.statement.Ask.{low_bytes, copy_stored}
 use Rattle.tl_client.specs.code.Caching.{Does, bytes_in}
 use Rattle.tl_client.specs.code.KnowsCaching.{terms_of}
-use Rattle.tl_client.specs.statement.End.{zeros}
+use Rattle.tl_client.specs.statement.Endpoint.{zeros}
 use Rattle.tl_client.specs.code.Sources.{open_at}
 use Rattle.tl_client.specs.code.Table.{held_in, copy_in, waiting_in}
 

@@ -16,7 +16,7 @@ use Rattle.tl_client.specs.declared.verdict.Verdict.{Verdict}
 use Rattle.tl_client.specs.declared.verdict.Verdict.TheVariants.{Taken, Done}
 use Rattle.tl_client.specs.laws.Accounted.{comes_granting}
 use Rattle.tl_client.specs.laws.After.{heard, is_refused, copy_by, copy_with, waiting_by, waiting_with, open_by, open_heard, release_by, release_heard}
-use Rattle.tl_client.specs.statement.End.{End}
+use Rattle.tl_client.specs.statement.Endpoint.{Endpoint}
 use Rattle.tl_client.specs.laws.Held.{held_by, held_with}
 use Rattle.tl_client.specs.laws.Inside.{IsInside}
 use Rattle.tl_client.specs.code.KnowsCaching.{KnowsCaching, terms_of, is_granting, has_sink}
@@ -35,8 +35,8 @@ use Rattle.tl_client.proofs.Outstanding.{request-offered, unfinished-offered}
 -- the answer is one to a beat that is taken
 pub record IsTaking {w : ℕ} (a : Result (Verdict × Option (Message w)) Rule) (x : Beat w) : Type 0 where
   pub holdings : (t : History w) (k : ℕ) → held_by a x t k ≡ held_with x t k
-  pub copies : (k : ℕ) (e : End w) → copy_by a x k e ≡ copy_with x k e
-  pub waiting : (k : ℕ) (e : End w) → waiting_by a x k e ≡ waiting_with x k e
+  pub copies : (k : ℕ) (e : Endpoint w) → copy_by a x k e ≡ copy_with x k e
+  pub waiting : (k : ℕ) (e : Endpoint w) → waiting_by a x k e ≡ waiting_with x k e
   pub opens : (s : ℕ) (t : History w) → open_by s a x t ≡ open_heard s x t
   pub opens_release : (s : ℕ) (t : History w) → release_by s a x t ≡ release_heard s x t
   pub hears : (t : History w) → heard a x t ≡ x ∷ t
@@ -61,7 +61,7 @@ unrefused true refused is = refl
 unrefused false refused is = is
 
 -- what is kept is what the beat leaves
-pub record Follows {w : ℕ} (c d : Caching w) (x : Beat w) (e : End w) : Type 0 where
+pub record Follows {w : ℕ} (c d : Caching w) (x : Beat w) (e : Endpoint w) : Type 0 where
   pub closed : d.closed ≡ c.closed
   pub terms : terms_of d ≡ terms_of c
   pub holdings : (k : ℕ) → held_in d.table k ≡ held_with x e.past k
@@ -73,7 +73,7 @@ pub record Follows {w : ℕ} (c d : Caching w) (x : Beat w) (e : End w) : Type 0
   pub granting : (k : ℕ) → is_granting k d.granting ≡ comes_granting k (unfinished channel.D (x ∷ e.past)) e.past
   pub sink : (s : ℕ) → has_sink s d.granting ≡ comes_in_grant s (unfinished channel.D (x ∷ e.past))
 
-pub knows-after : {w : ℕ} (c d : Caching w) (ch : Channel) (x : Beat w) (e : End w) (a : Result (Verdict × Option (Message w)) Rule) → KnowsCaching c e
+pub knows-after : {w : ℕ} (c d : Caching w) (ch : Channel) (x : Beat w) (e : Endpoint w) (a : Result (Verdict × Option (Message w)) Rule) → KnowsCaching c e
     → (offered (terms_of c) ch x e).answer ≡ a → IsTaking a x → Follows c d x e → KnowsCaching d (offered (terms_of c) ch x e).after
 knows-after {w} c d ch x e a knows is takes follows =
     let after = (offered (terms_of c) ch x e).after in

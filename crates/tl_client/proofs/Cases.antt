@@ -17,7 +17,7 @@ use Rattle.tl_params.specs.declared.perm.Perm.TheVariants as perm
 use Rattle.tl_params.specs.statement.Param.{prune_code, report_code}
 use Rattle.tl_params.specs.declared.rule.Rule.{Rule}
 use Rattle.tl_params.specs.declared.rule.Rule.TheVariants.{L1, A1, A2, A3}
-use Rattle.tl_rules.specs.statement.Agent.{is_outside, is_spoiled}
+use Rattle.tl_rules.specs.statement.Admission.{is_outside, is_spoiled}
 use Rattle.tl_rules.specs.statement.Conformance.{broken_in_order}
 use Rattle.tl_rules.specs.statement.History.{is_grant}
 use Rattle.tl_rules.specs.statement.Legality.{illegal}
@@ -29,20 +29,20 @@ use Rattle.tl_client.specs.declared.reply.Reply.TheVariants as reply
 use Rattle.tl_client.specs.declared.verdict.Finish.{Finish}
 use Rattle.tl_client.specs.declared.verdict.Verdict.TheVariants.{Stalled, Done}
 use Rattle.tl_client.specs.statement.Ask.{Asked, asked, asked_given, busy, breaks_b1, breaks_b2, breaks_b3, breaks_b4, breaks_b5, op_block, done, only}
-use Rattle.tl_client.specs.statement.End.{Terms, End, held_at, zeros}
+use Rattle.tl_client.specs.statement.Endpoint.{EndConfig, Endpoint, held_at, zeros}
 use Rattle.tl_client.specs.statement.Offer.{Offered, offered, taken, ended, refused, silent, answered, is_sent_on, waits, broken_before, broken_later, judged, judged_later}
 use Rattle.tl_client.specs.statement.Send.{on_c, release, probe_ack, grant_ack}
 
 -- ---- operations
 
-pub record NotBusy {w : ℕ} (terms : Terms) (op : Op w) (e : End w) : Type 0 where
+pub record NotBusy {w : ℕ} (terms : EndConfig) (op : Op w) (e : Endpoint w) : Type 0 where
   pub b4 : breaks_b4 terms.level op ≡ false
   pub b5 : breaks_b5 terms op ≡ false
   pub b2 : breaks_b2 op e.past ≡ false
   pub b3 : breaks_b3 op (held_at e (op_block op)) ≡ false
   pub b1 : breaks_b1 terms op e.past ≡ false
 
-pub not_busy : {w : ℕ} (terms : Terms) (op : Op w) (e : End w) → busy terms op e ≡ None → NotBusy terms op e
+pub not_busy : {w : ℕ} (terms : EndConfig) (op : Op w) (e : Endpoint w) → busy terms op e ≡ None → NotBusy terms op e
 unfolding busy
 not_busy terms op e none =
     let four = next_rule (breaks_b4 terms.level op) B4 _ none in
@@ -53,7 +53,7 @@ not_busy terms op e none =
     record { b4 = four.0; b5 = five.0; b2 = two.0; b3 = three.0; b1 = one.0 }
 
 -- what holds of an answer where the client is busy and where it isn't holds of the answer
-pub asked-cases : {w : ℕ} (terms : Terms) (op : Op w) (e : End w) (P : Asked w → Type 0) → ((b : Busy) → P (only (reply.Busy b) e)) → (NotBusy terms op e → P (done terms op e)) → P (asked terms op e)
+pub asked-cases : {w : ℕ} (terms : EndConfig) (op : Op w) (e : Endpoint w) (P : Asked w → Type 0) → ((b : Busy) → P (only (reply.Busy b) e)) → (NotBusy terms op e → P (done terms op e)) → P (asked terms op e)
 unfolding asked
 asked-cases {w} terms op e P busies dones = go (busy terms op e) (λ none. dones (not_busy terms op e none))
   where
@@ -63,7 +63,7 @@ asked-cases {w} terms op e P busies dones = go (busy terms op e) (λ none. dones
 
 -- ---- beats
 
-pub record IsPassed {w : ℕ} (terms : Terms) (ch : Channel) (x : Beat w) (e : End w) : Type 0 where
+pub record IsPassed {w : ℕ} (terms : EndConfig) (ch : Channel) (x : Beat w) (e : Endpoint w) : Type 0 where
   pub live : e.closed ≡ false
   pub comes : is_sent_on ch ≡ false
   pub lawful : illegal terms.level ch x ≡ None
@@ -72,7 +72,7 @@ pub record IsPassed {w : ℕ} (terms : Terms) (ch : Channel) (x : Beat w) (e : E
   pub inside : is_outside terms.blocks x ≡ false
   pub clean : is_spoiled x ≡ false
 
-passed : {w : ℕ} (terms : Terms) (ch : Channel) (x : Beat w) (e : End w) → broken_before terms ch x e ≡ None → waits x e.past ≡ false → broken_later terms x e ≡ None → IsPassed terms ch x e
+passed : {w : ℕ} (terms : EndConfig) (ch : Channel) (x : Beat w) (e : Endpoint w) → broken_before terms ch x e ≡ None → waits x e.past ≡ false → broken_later terms x e ≡ None → IsPassed terms ch x e
 passed terms ch x e before moves later =
     let live = next_rule e.closed A3 _ before in
     let way = next_rule (is_sent_on ch) L1 _ live.1 in
@@ -82,7 +82,7 @@ passed terms ch x e before moves later =
     record { live = live.0; comes = way.0; lawful = way.1; moves = moves; order = order.0; inside = inside.0; clean = clean.0 }
 
 -- what holds of an answer where the beat is refused, stalled and taken holds of the answer
-pub offered-cases : {w : ℕ} (terms : Terms) (ch : Channel) (x : Beat w) (e : End w) (P : Offered w → Type 0) → ((r : Rule) → P (refused r e)) → P (silent Stalled e)
+pub offered-cases : {w : ℕ} (terms : EndConfig) (ch : Channel) (x : Beat w) (e : Endpoint w) (P : Offered w → Type 0) → ((r : Rule) → P (refused r e)) → P (silent Stalled e)
     → (IsPassed terms ch x e → P (taken x e)) → P (offered terms ch x e)
 unfolding offered
 offered-cases {w} terms ch x e P refusals stall takes = before (broken_before terms ch x e) refl
@@ -100,7 +100,7 @@ offered-cases {w} terms ch x e P refusals stall takes = before (broken_before te
     before None is = stalled (waits x e.past) refl is
 
 -- the last beat of a response
-pub ended-cases : {w : ℕ} (opcode : OpD) (x : BeatD w) (f : Finish) (e : End w) (P : Offered w → Type 0) → (is_grant opcode ≡ true → P (answered (Done x.source f) (grant_ack x.sink) e))
+pub ended-cases : {w : ℕ} (opcode : OpD) (x : BeatD w) (f : Finish) (e : Endpoint w) (P : Offered w → Type 0) → (is_grant opcode ≡ true → P (answered (Done x.source f) (grant_ack x.sink) e))
     → (is_grant opcode ≡ false → P (silent (Done x.source f) e)) → P (ended opcode x f e)
 ended-cases d.Grant x f e P grant other = grant refl
 ended-cases d.GrantData x f e P grant other = grant refl
@@ -133,7 +133,7 @@ release-cases prune.BtoN source block copy P with_data bare = bare
 -- ---- what is taken
 
 -- a beat that breaks no rule and doesn't wait is taken
-pub takes : {w : ℕ} (terms : Terms) (ch : Channel) (x : Beat w) (e : End w) → broken_before terms ch x e ≡ None → waits x e.past ≡ false → broken_later terms x e ≡ None
+pub takes : {w : ℕ} (terms : EndConfig) (ch : Channel) (x : Beat w) (e : Endpoint w) → broken_before terms ch x e ≡ None → waits x e.past ≡ false → broken_later terms x e ≡ None
     → offered terms ch x e ≡ taken x e
 unfolding offered
 takes {w} terms ch x e passed moves lawful = judged_none (broken_before terms ch x e) passed ∙ unstalled (waits x e.past) moves ∙ later (broken_later terms x e) lawful
@@ -148,5 +148,5 @@ takes {w} terms ch x e passed moves lawful = judged_none (broken_before terms ch
     later o f = rw f refl
 
 -- the rules before a stall and after it, one by one
-pub passes_before : {w : ℕ} (terms : Terms) (ch : Channel) (x : Beat w) (e : End w) → e.closed ≡ false → is_sent_on ch ≡ false → illegal terms.level ch x ≡ None → broken_before terms ch x e ≡ None
+pub passes_before : {w : ℕ} (terms : EndConfig) (ch : Channel) (x : Beat w) (e : Endpoint w) → e.closed ≡ false → is_sent_on ch ≡ false → illegal terms.level ch x ≡ None → broken_before terms ch x e ≡ None
 passes_before terms ch x e live comes lawful = rw (live, comes, lawful) refl

@@ -8,8 +8,8 @@ use Rattle.tl_beat.specs.declared.beat.BeatC.{BeatC}
 use Rattle.tl_params.specs.declared.key.Key.TheVariants.{AcquireOf, ReleaseOf}
 use Rattle.tl_rules.specs.statement.History.{pending, releases}
 use Rattle.tl_client.specs.declared.caching.Caching.{Caching}
-use Rattle.tl_client.specs.statement.End.{End}
-use Rattle.tl_client.specs.statement.Kept.{acquires}
+use Rattle.tl_client.specs.statement.Endpoint.{Endpoint}
+use Rattle.tl_client.specs.statement.EndpointInvariant.{acquires}
 use Rattle.tl_client.specs.code.KnowsCaching.{KnowsCaching}
 use Rattle.tl_client.specs.statement.Requests.{open_beat, open_release, fields_of, release_fields, acquires_block, releases_block}
 use Rattle.std.specs.Cmp.{both_ways}
@@ -41,7 +41,7 @@ releases-fields k None = refl
 releases-fields k (Some r) = refl
 
 -- an Acquire of the block is open exactly where one is pending
-pub acquiring : {w : ℕ} (c : Caching w) (e : End w) (k : ℕ) → KnowsCaching c e → list_any (acquires_block k) c.requests.with_source ≡ pending (AcquireOf k) e.past
+pub acquiring : {w : ℕ} (c : Caching w) (e : Endpoint w) (k : ℕ) → KnowsCaching c e → list_any (acquires_block k) c.requests.with_source ≡ pending (AcquireOf k) e.past
 acquiring c e k knows = both_ways _ _
     (λ any. let found = at-any (acquires_block k) c.requests.with_source any in
     knows.kept.outstanding found.0 k (sym (acquires-fields k (open_beat found.0 e.past)) ∙ sym (ap (acquires_block k) (knows.requests_are found.0)) ∙ found.1))
@@ -49,7 +49,7 @@ acquiring c e k knows = both_ways _ _
     any-at (acquires_block k) c.requests.with_source found.0 refl (ap (acquires_block k) (knows.requests_are found.0) ∙ acquires-fields k (open_beat found.0 e.past) ∙ found.1))
 
 -- and a Release likewise
-pub releasing : {w : ℕ} (c : Caching w) (e : End w) (k : ℕ) → KnowsCaching c e → list_any (releases_block k) c.releases.with_source ≡ pending (ReleaseOf k) e.past
+pub releasing : {w : ℕ} (c : Caching w) (e : Endpoint w) (k : ℕ) → KnowsCaching c e → list_any (releases_block k) c.releases.with_source ≡ pending (ReleaseOf k) e.past
 releasing c e k knows = both_ways _ _
     (λ any. let found = at-any (releases_block k) c.releases.with_source any in
     knows.accounted.claimed.releasing found.0 k (sym (releases-fields k (open_release found.0 e.past)) ∙ sym (ap (releases_block k) (knows.releases_are found.0)) ∙ found.1))

@@ -23,7 +23,7 @@ use Rattle.tl_params.specs.declared.rule.Rule.TheVariants.{S1, H2, H3, H6}
 use Rattle.tl_rules.specs.statement.Conformance.{answers, admits, fits_grow, has_request, misgrants, same_perm, is_acquire_block, is_grant_without_data, size_asked, broken_order, broken_in_order}
 use Rattle.tl_rules.specs.statement.History.{block_at, is_acquire, is_grant, capped, pending, request_of, held}
 use Rattle.tl_rules.proofs.Bursts.{next_rule}
-use Rattle.tl_client.specs.statement.Kept.{IsGranting, holds, is_acquire_beat}
+use Rattle.tl_client.specs.statement.EndpointInvariant.{IsGranting, holds, is_acquire_beat}
 use Rattle.tl_client.specs.statement.Requests.{open_beat}
 use Rattle.tl_rules.proofs.Open.{not_release_ack}
 

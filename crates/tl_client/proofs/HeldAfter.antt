@@ -30,7 +30,7 @@ use Rattle.tl_params.specs.declared.perm.Perm.TheVariants as perm
 use Rattle.tl_params.specs.declared.level.Level.{Level}
 use Rattle.tl_params.specs.declared.rule.Rule.{Rule}
 use Rattle.tl_params.specs.declared.rule.Rule.TheVariants.{L1, A3}
-use Rattle.tl_rules.specs.statement.Agent.{sent, payload_of}
+use Rattle.tl_rules.specs.statement.Admission.{sent, payload_of}
 use Rattle.tl_rules.specs.statement.History.{block_at, is_probe_ack, is_release, ends, grants, capped, reported, request_of, held}
 use Rattle.tl_params.specs.statement.Param.{prune_right, report_code, report_right}
 use Rattle.tl_rules.specs.statement.Legality.{illegal, breaks_l1}
@@ -41,7 +41,7 @@ use Rattle.tl_client.specs.declared.operation.Op.TheVariants.{Load, Store, Acqui
 use Rattle.tl_client.specs.declared.verdict.Finish.{Finish}
 use Rattle.tl_client.specs.declared.verdict.Verdict.TheVariants.{Stalled, Taken}
 use Rattle.tl_client.specs.statement.Ask.{asked, asked_given, busy, done, load, store, source_or_0, free_request, free_release, whole_grow}
-use Rattle.tl_client.specs.statement.End.{Terms, End, zeros, copy_at, held_at, kept_for, with_past}
+use Rattle.tl_client.specs.statement.Endpoint.{EndConfig, Endpoint, zeros, copy_at, held_at, kept_for, with_past}
 use Rattle.tl_client.specs.laws.Held.{left_by, held_with, held_by}
 use Rattle.tl_client.specs.statement.Send.{about, access, acquire, on_c, release, probe_ack, grant_ack}
 use Rattle.tl_client.specs.statement.Offer.{Offered, offered, taken, ended, granted, granted_perm, responded, silent, is_sent_on, waits, broken_before, broken_later, judged, judged_later, report_for}
@@ -102,22 +102,22 @@ held-probe_ack k opcode p r block copy t is none = go opcode p
     go b.Get q = without_data
     go b.Intent q = without_data
 
-pub kept_past : {w : ℕ} (block : ℕ) (p : Perm) (e : End w) → (kept_for block p e).past ≡ e.past
+pub kept_past : {w : ℕ} (block : ℕ) (p : Perm) (e : Endpoint w) → (kept_for block p e).past ≡ e.past
 kept_past block perm.None e = refl
 kept_past block perm.Branch e = refl
 kept_past block perm.Trunk e = refl
 
-held-load : {w : ℕ} (k address size : ℕ) (p : Perm) (e : End w) → held k (load address size p e).after.past ≡ held k e.past
+held-load : {w : ℕ} (k address size : ℕ) (p : Perm) (e : Endpoint w) → held k (load address size p e).after.past ≡ held k e.past
 held-load k address size perm.None e = refl
 held-load k address size perm.Branch e = refl
 held-load k address size perm.Trunk e = refl
 
-held-store : {w : ℕ} (k address size value : ℕ) (p : Perm) (e : End w) → held k (store address size value p e).after.past ≡ held k e.past
+held-store : {w : ℕ} (k address size value : ℕ) (p : Perm) (e : Endpoint w) → held k (store address size value p e).after.past ≡ held k e.past
 held-store k address size value perm.None e = refl
 held-store k address size value perm.Branch e = refl
 held-store k address size value perm.Trunk e = refl
 
-held-done : {w : ℕ} (terms : Terms) (op : Op w) (e : End w) (k : ℕ) → IsWidth w → unfinished channel.C e.past ≡ [] → held k (done terms op e).after.past ≡ left_by None op k (held k e.past)
+held-done : {w : ℕ} (terms : EndConfig) (op : Op w) (e : Endpoint w) (k : ℕ) → IsWidth w → unfinished channel.C e.past ≡ [] → held k (done terms op e).after.past ≡ left_by None op k (held k e.past)
 held-done terms (Load address size) e k is none = held-load k address size (held_at e (block_at address)) e
 held-done terms (Store address size value) e k is none = held-store k address size value (held_at e (block_at address)) e
 held-done terms (Acquire block grow) e k is none = held-sent_unsaid k (acquire a.AcquireBlock grow (source_or_0 (free_request terms e.past)) block) e.past (λ i t. refl)
@@ -131,13 +131,13 @@ held-done terms (Access (message.C m)) e k is none = refl
 held-done terms (Access (message.D m)) e k is none = refl
 held-done terms (Access (message.E m)) e k is none = refl
 
-held-asked_given : {w : ℕ} (b : Option Busy) (terms : Terms) (op : Op w) (e : End w) (k : ℕ) → IsWidth w → unfinished channel.C e.past ≡ []
+held-asked_given : {w : ℕ} (b : Option Busy) (terms : EndConfig) (op : Op w) (e : Endpoint w) (k : ℕ) → IsWidth w → unfinished channel.C e.past ≡ []
     → held k (asked_given b terms op e).after.past ≡ left_by b op k (held k e.past)
 held-asked_given None terms op e k is none = held-done terms op e k is none
 held-asked_given (Some b) terms op e k is none = refl
 
 -- what is held after an operation
-pub held-asked : {w : ℕ} (terms : Terms) (op : Op w) (e : End w) (k : ℕ) → IsWidth w → unfinished channel.C e.past ≡ []
+pub held-asked : {w : ℕ} (terms : EndConfig) (op : Op w) (e : Endpoint w) (k : ℕ) → IsWidth w → unfinished channel.C e.past ≡ []
     → held k (asked terms op e).after.past ≡ left_by (busy terms op e) op k (held k e.past)
 unfolding asked
 held-asked terms op e k is none = held-asked_given (busy terms op e) terms op e k is none
@@ -151,7 +151,7 @@ pub still_whole : {w : ℕ} (x : BeatB w) (t : History w) → unfinished channel
 unfolding unfinished
 still_whole x t = refl
 
-held-probed : {w : ℕ} (x : BeatB w) (e : End w) (k : ℕ) → IsWidth w → unfinished channel.C e.past ≡ [] → held k (taken (beat.B x) e).after.past ≡ held_with (beat.B x) e.past k
+held-probed : {w : ℕ} (x : BeatB w) (e : Endpoint w) (k : ℕ) → IsWidth w → unfinished channel.C e.past ≡ [] → held k (taken (beat.B x) e).after.past ≡ held_with (beat.B x) e.past k
 held-probed x e k is none =
     let p = held_at e (block_at x.address) in
     ap (λ t. held k t) (kept_past (block_at x.address) (report_right (report_for x p)) _)
@@ -167,7 +167,7 @@ held-beat_d k x t = go (ends (beat.D x) t) (grants k x t)
     go true false = refl
     go false b = refl
 
-perm_past : {w : ℕ} (opcode : OpA) (block : ℕ) (e : End w) → (granted_perm opcode block e).past ≡ e.past
+perm_past : {w : ℕ} (opcode : OpA) (block : ℕ) (e : Endpoint w) → (granted_perm opcode block e).past ≡ e.past
 perm_past a.PutFullData block e = refl
 perm_past a.PutPartialData block e = refl
 perm_past a.ArithmeticData block e = refl
@@ -177,7 +177,7 @@ perm_past a.Intent block e = refl
 perm_past a.AcquireBlock block e = refl
 perm_past a.AcquirePerm block e = refl
 
-pub granted_past : {w : ℕ} (opcode : OpD) (r : Option (BeatA w)) (payload : List ℕ) (e : End w) → (granted opcode r payload e).past ≡ e.past
+pub granted_past : {w : ℕ} (opcode : OpD) (r : Option (BeatA w)) (payload : List ℕ) (e : Endpoint w) → (granted opcode r payload e).past ≡ e.past
 granted_past d.AccessAck r payload e = refl
 granted_past d.AccessAckData r payload e = refl
 granted_past d.HintAck r payload e = refl
@@ -187,7 +187,7 @@ granted_past d.GrantData None payload e = refl
 granted_past d.GrantData (Some r) payload e = refl
 granted_past d.ReleaseAck r payload e = refl
 
-held-ended : {w : ℕ} (opcode : OpD) (x : BeatD w) (f : Finish) (e : End w) (k : ℕ) → held k (ended opcode x f e).after.past ≡ held k e.past
+held-ended : {w : ℕ} (opcode : OpD) (x : BeatD w) (f : Finish) (e : Endpoint w) (k : ℕ) → held k (ended opcode x f e).after.past ≡ held k e.past
 held-ended d.AccessAck x f e k = refl
 held-ended d.AccessAckData x f e k = refl
 held-ended d.HintAck x f e k = refl
@@ -195,7 +195,7 @@ held-ended d.Grant x f e k = held-sent_unsaid k (grant_ack x.sink) e.past (λ i 
 held-ended d.GrantData x f e k = held-sent_unsaid k (grant_ack x.sink) e.past (λ i t. refl)
 held-ended d.ReleaseAck x f e k = refl
 
-held-responded : {w : ℕ} (x : BeatD w) (r : Option (BeatA w)) (payload : List ℕ) (e : End w) (k : ℕ) → held k (responded x r payload e).after.past ≡ held k (beat.D x ∷ e.past)
+held-responded : {w : ℕ} (x : BeatD w) (r : Option (BeatA w)) (payload : List ℕ) (e : Endpoint w) (k : ℕ) → held k (responded x r payload e).after.past ≡ held k (beat.D x ∷ e.past)
 held-responded x r payload e k = held-ended x.opcode x _ _ k ∙ ap (λ t. held k t) (granted_past x.opcode r payload (with_past (beat.D x ∷ e.past) e))
 
 -- ---- any beat
@@ -204,7 +204,7 @@ held-responded x r payload e k = held-ended x.opcode x _ _ k ∙ ap (λ t. held 
 abbrev IsHeldBy : {w : ℕ} → Offered w → Beat w → History w → ℕ → Type 0
 IsHeldBy o x t k = held k o.after.past ≡ held_by o.answer x t k
 
-answered_done : {w : ℕ} (opcode : OpD) (x : BeatD w) (f : Finish) (e : End w) (y : Beat w) (t : History w) (k : ℕ) → held_by (ended opcode x f e).answer y t k ≡ held_with y t k
+answered_done : {w : ℕ} (opcode : OpD) (x : BeatD w) (f : Finish) (e : Endpoint w) (y : Beat w) (t : History w) (k : ℕ) → held_by (ended opcode x f e).answer y t k ≡ held_with y t k
 answered_done d.AccessAck x f e y t k = refl
 answered_done d.AccessAckData x f e y t k = refl
 answered_done d.HintAck x f e y t k = refl
@@ -212,7 +212,7 @@ answered_done d.Grant x f e y t k = refl
 answered_done d.GrantData x f e y t k = refl
 answered_done d.ReleaseAck x f e y t k = refl
 
-held-taken_d : {w : ℕ} (x : BeatD w) (e : End w) (k : ℕ) → IsHeldBy (taken (beat.D x) e) (beat.D x) e.past k
+held-taken_d : {w : ℕ} (x : BeatD w) (e : Endpoint w) (k : ℕ) → IsHeldBy (taken (beat.D x) e) (beat.D x) e.past k
 held-taken_d {w} x e k = go (ends (beat.D x) e.past)
   where
     r : Option (BeatA w)
@@ -246,7 +246,7 @@ comes l channel.D (beat.C x) e f = absurd cc
 comes l channel.D (beat.D x) e f = tt
 comes l channel.D (beat.E x) e f = absurd cc
 
-pub incoming : {w : ℕ} (terms : Terms) (ch : Channel) (x : Beat w) (e : End w) → broken_before terms ch x e ≡ None → IsIncoming x
+pub incoming : {w : ℕ} (terms : EndConfig) (ch : Channel) (x : Beat w) (e : Endpoint w) → broken_before terms ch x e ≡ None → IsIncoming x
 unfolding illegal
 incoming terms ch x e none =
     let live = next_rule e.closed A3 _ none in
@@ -254,18 +254,18 @@ incoming terms ch x e none =
     let named = next_rule (breaks_l1 terms.level ch x) L1 _ way.1 in
     comes terms.level ch x way.0 named.0
 
-held-taken : {w : ℕ} (x : Beat w) (e : End w) (k : ℕ) → IsWidth w → unfinished channel.C e.past ≡ [] → IsIncoming x → IsHeldBy (taken x e) x e.past k
+held-taken : {w : ℕ} (x : Beat w) (e : Endpoint w) (k : ℕ) → IsWidth w → unfinished channel.C e.past ≡ [] → IsIncoming x → IsHeldBy (taken x e) x e.past k
 held-taken (beat.A x) e k is none comes_in = absurd comes_in
 held-taken (beat.B x) e k is none comes_in = held-probed x e k is none
 held-taken (beat.C x) e k is none comes_in = absurd comes_in
 held-taken (beat.D x) e k is none comes_in = held-taken_d x e k
 held-taken (beat.E x) e k is none comes_in = absurd comes_in
 
-held-judged_later : {w : ℕ} (o : Option Rule) (x : Beat w) (e : End w) (k : ℕ) → IsWidth w → unfinished channel.C e.past ≡ [] → IsIncoming x → IsHeldBy (judged_later o x e) x e.past k
+held-judged_later : {w : ℕ} (o : Option Rule) (x : Beat w) (e : Endpoint w) (k : ℕ) → IsWidth w → unfinished channel.C e.past ≡ [] → IsIncoming x → IsHeldBy (judged_later o x e) x e.past k
 held-judged_later (Some r) x e k is none comes_in = refl
 held-judged_later None x e k is none comes_in = held-taken x e k is none comes_in
 
-held-judged : {w : ℕ} (o : Option Rule) (terms : Terms) (x : Beat w) (e : End w) (k : ℕ) → IsWidth w → unfinished channel.C e.past ≡ [] → (o ≡ None → IsIncoming x)
+held-judged : {w : ℕ} (o : Option Rule) (terms : EndConfig) (x : Beat w) (e : Endpoint w) (k : ℕ) → IsWidth w → unfinished channel.C e.past ≡ [] → (o ≡ None → IsIncoming x)
     → IsHeldBy (judged o terms x e) x e.past k
 held-judged (Some r) terms x e k is none comes_in = refl
 held-judged {w} None terms x e k is none comes_in = go (waits x e.past)
@@ -275,7 +275,7 @@ held-judged {w} None terms x e k is none comes_in = go (waits x e.past)
     go false = held-judged_later (broken_later terms x e) x e k is none (comes_in refl)
 
 -- what is held after a beat
-pub held-offered : {w : ℕ} (terms : Terms) (ch : Channel) (x : Beat w) (e : End w) (k : ℕ) → IsWidth w → unfinished channel.C e.past ≡ []
+pub held-offered : {w : ℕ} (terms : EndConfig) (ch : Channel) (x : Beat w) (e : Endpoint w) (k : ℕ) → IsWidth w → unfinished channel.C e.past ≡ []
     → held k (offered terms ch x e).after.past ≡ held_by (offered terms ch x e).answer x e.past k
 unfolding offered
 held-offered terms ch x e k is none = held-judged (broken_before terms ch x e) terms x e k is none (incoming terms ch x e)

@@ -46,8 +46,8 @@ use Rattle.tl_client.specs.declared.verdict.Verdict.TheVariants.{Stalled, Taken,
 use Rattle.tl_client.specs.laws.Accounted.{IsAccounted}
 use Rattle.tl_client.specs.laws.After.{heard, handed}
 use Rattle.tl_client.specs.statement.Ask.{asked, done, load, store, free_request, free_release, is_access_of, source_or_0, whole_grow}
-use Rattle.tl_client.specs.statement.End.{Terms, End, zeros, copy_at, held_at, with_past}
-use Rattle.tl_client.specs.statement.Kept.{IsKept}
+use Rattle.tl_client.specs.statement.Endpoint.{EndConfig, Endpoint, zeros, copy_at, held_at, with_past}
+use Rattle.tl_client.specs.statement.EndpointInvariant.{IsEndpointInvariant}
 use Rattle.tl_client.specs.statement.Offer.{Offered, offered, taken, silent, report_for}
 use Rattle.tl_client.specs.statement.Send.{sourced, acquisition, on_c, release, probe_ack, grant_ack}
 use Rattle.tl_client.specs.laws.Sound.{IsSoundIfAny, IsSoundAnswer, IsInOrder, IsLegalAfter}
@@ -113,17 +113,17 @@ in_order_release {w} profile p source block copy t none free before released lef
 
 -- ---- operations
 
-in_order_load : {w : ℕ} (profile : Profile) (address size : ℕ) (p : Perm) (e : End w) → IsInOrder profile (load address size p e).message e.past
+in_order_load : {w : ℕ} (profile : Profile) (address size : ℕ) (p : Perm) (e : Endpoint w) → IsInOrder profile (load address size p e).message e.past
 in_order_load profile address size perm.None e = tt
 in_order_load profile address size perm.Branch e = tt
 in_order_load profile address size perm.Trunk e = tt
 
-in_order_store : {w : ℕ} (profile : Profile) (address size value : ℕ) (p : Perm) (e : End w) → IsInOrder profile (store address size value p e).message e.past
+in_order_store : {w : ℕ} (profile : Profile) (address size value : ℕ) (p : Perm) (e : Endpoint w) → IsInOrder profile (store address size value p e).message e.past
 in_order_store profile address size value perm.None e = tt
 in_order_store profile address size value perm.Branch e = tt
 in_order_store profile address size value perm.Trunk e = tt
 
-in_order_done : {w : ℕ} (terms : Terms) (op : Op w) (e : End w) → IsKept e → NotBusy terms op e → IsInOrder terms.profile (done terms op e).message e.past
+in_order_done : {w : ℕ} (terms : EndConfig) (op : Op w) (e : Endpoint w) → IsEndpointInvariant e → NotBusy terms op e → IsInOrder terms.profile (done terms op e).message e.past
 in_order_done terms (Load address size) e kept free = in_order_load terms.profile address size (held_at e (block_at address)) e
 in_order_done terms (Store address size value) e kept free = in_order_store terms.profile address size value (held_at e (block_at address)) e
 in_order_done {w} terms (Acquire block grow) e kept free =
@@ -152,7 +152,7 @@ in_order_done terms (Access (C m)) e kept free = tt
 in_order_done terms (Access (D m)) e kept free = tt
 in_order_done terms (Access (E m)) e kept free = tt
 
-pub asked-in_order : {w : ℕ} (terms : Terms) (op : Op w) (e : End w) → IsKept e → IsInOrder terms.profile (asked terms op e).message e.past
+pub asked-in_order : {w : ℕ} (terms : EndConfig) (op : Op w) (e : Endpoint w) → IsEndpointInvariant e → IsInOrder terms.profile (asked terms op e).message e.past
 asked-in_order terms op e kept = asked-cases terms op e (λ o. IsInOrder terms.profile o.message e.past) (λ b. tt) (λ free. in_order_done terms op e kept free)
 
 -- ---- a ProbeAck: H10, H11 and H12
@@ -232,7 +232,7 @@ waits_not : (kind late : Bool) → kind ≡ true → (kind && late) ≡ false �
 waits_not true late e f = f
 waits_not false late e f = absurd cc
 
-probed_so : {w : ℕ} (terms : Terms) (ch : Channel) (x : BeatB w) (e : End w) → IsKept e → IsPassed terms ch (beat.B x) e → IsProbed x (held_at e (block_at x.address)) (beat.B x ∷ e.past)
+probed_so : {w : ℕ} (terms : EndConfig) (ch : Channel) (x : BeatB w) (e : Endpoint w) → IsEndpointInvariant e → IsPassed terms ch (beat.B x) e → IsProbed x (held_at e (block_at x.address)) (beat.B x ∷ e.past)
 probed_so {w} terms ch x e kept passed =
     let block = block_at x.address in
     let lawful = lawful_probe terms.level ch x passed.lawful in
@@ -260,7 +260,7 @@ in_order_grant_ack {w} profile x t none last grants fits sinks =
 
 -- ---- beats
 
-in_order_taken : {w : ℕ} (terms : Terms) (ch : Channel) (x : Beat w) (e : End w) → IsKept e → IsAccounted e.past → IsPassed terms ch x e
+in_order_taken : {w : ℕ} (terms : EndConfig) (ch : Channel) (x : Beat w) (e : Endpoint w) → IsEndpointInvariant e → IsAccounted e.past → IsPassed terms ch x e
     → IsInOrder terms.profile (handed (taken x e).answer) (heard (taken x e).answer x e.past)
 in_order_taken terms ch (beat.A x) e kept account passed = tt
 in_order_taken terms ch (beat.C x) e kept account passed = tt
@@ -278,7 +278,7 @@ in_order_taken {w} terms ch (beat.D x) e kept account passed =
     go true last o h = h last
     go false more o h = tt
 
-pub offered-in_order : {w : ℕ} (terms : Terms) (ch : Channel) (x : Beat w) (e : End w) → IsKept e → IsAccounted e.past
+pub offered-in_order : {w : ℕ} (terms : EndConfig) (ch : Channel) (x : Beat w) (e : Endpoint w) → IsEndpointInvariant e → IsAccounted e.past
     → IsInOrder terms.profile (handed (offered terms ch x e).answer) (heard (offered terms ch x e).answer x e.past)
 offered-in_order terms ch x e kept account =
     offered-cases terms ch x e (λ o. IsInOrder terms.profile (handed o.answer) (heard o.answer x e.past)) (λ r. tt) tt (λ passed. in_order_taken terms ch x e kept account passed)
@@ -289,7 +289,7 @@ legal_after : {w : ℕ} (l : Level) (p : Profile) (o : Option (Message w)) (t : 
 legal_after l p None t sound order free = tt
 legal_after l p (Some m) t sound order free = λ i lt. message-legal l p m i t sound.is_legal order free lt
 
-pub asked-legal : {w : ℕ} (terms : Terms) (op : Op w) (e : End w) → IsWidth w → IsKept e → IsLegalAfter terms.level terms.profile (asked terms op e).message e.past
+pub asked-legal : {w : ℕ} (terms : EndConfig) (op : Op w) (e : Endpoint w) → IsWidth w → IsEndpointInvariant e → IsLegalAfter terms.level terms.profile (asked terms op e).message e.past
 asked-legal terms op e is kept = legal_after terms.level terms.profile (asked terms op e).message e.past (asked-sound terms op e is) (asked-in_order terms op e kept) (free_asked terms op e kept)
 
 sound_handed : {w : ℕ} (l : Level) (r : Result (Verdict × Option (Message w)) Rule) → IsSoundAnswer l r → IsSoundIfAny l (handed r)
@@ -298,7 +298,7 @@ sound_handed l (Ok (Stalled, m)) sound = tt
 sound_handed l (Ok (Taken, m)) sound = sound
 sound_handed l (Ok (Done s f, m)) sound = sound
 
-pub offered-legal : {w : ℕ} (terms : Terms) (ch : Channel) (x : Beat w) (e : End w) → IsKept e → IsAccounted e.past
+pub offered-legal : {w : ℕ} (terms : EndConfig) (ch : Channel) (x : Beat w) (e : Endpoint w) → IsEndpointInvariant e → IsAccounted e.past
     → IsLegalAfter terms.level terms.profile (handed (offered terms ch x e).answer) (heard (offered terms ch x e).answer x e.past)
 offered-legal terms ch x e kept account =
     legal_after terms.level terms.profile (handed (offered terms ch x e).answer) (heard (offered terms ch x e).answer x e.past)

@@ -25,7 +25,7 @@ use Rattle.tl_params.specs.declared.param.Prune.{Prune}
 use Rattle.tl_params.specs.declared.perm.Perm.{Perm}
 use Rattle.tl_params.specs.declared.perm.Perm.TheVariants as perm
 use Rattle.tl_params.specs.statement.Param.{cap_of, prune_code, prune_left, prune_right, report_code, report_right}
-use Rattle.tl_rules.specs.statement.Agent.{sent, payload_of}
+use Rattle.tl_rules.specs.statement.Admission.{sent, payload_of}
 use Rattle.tl_rules.specs.statement.Conformance.{same_perm, broken_in_order}
 use Rattle.tl_rules.specs.statement.History.{block_at, is_acquire, is_release, is_grant, asks_for, ends, grants, capped, closes, pending, request_of, held}
 use Rattle.tl_rules.specs.statement.Legality.{has_transfers}
@@ -35,9 +35,9 @@ use Rattle.tl_client.specs.declared.operation.Op.{Op}
 use Rattle.tl_client.specs.declared.operation.Op.TheVariants.{Load, Store, Acquire, AcquireWhole, Release, Access}
 use Rattle.tl_client.specs.declared.verdict.Verdict.TheVariants.{Taken}
 use Rattle.tl_client.specs.statement.Ask.{asked, done, load, store, free_request, free_release, is_access_of, source_or_0, whole_grow}
-use Rattle.tl_client.specs.statement.End.{Terms, End, zeros, copy_at, held_at, with_past}
+use Rattle.tl_client.specs.statement.Endpoint.{EndConfig, Endpoint, zeros, copy_at, held_at, with_past}
 use Rattle.tl_client.specs.laws.Inside.{IsInside, is_holdable}
-use Rattle.tl_client.specs.statement.Kept.{IsKept, acquires, holds, is_acquire_beat}
+use Rattle.tl_client.specs.statement.EndpointInvariant.{IsEndpointInvariant, acquires, holds, is_acquire_beat}
 use Rattle.tl_client.specs.statement.Offer.{offered, taken, granted, responded, silent, report_for}
 use Rattle.tl_client.specs.statement.Requests.{open_beat}
 use Rattle.tl_client.specs.statement.Send.{about, sourced, acquisition, release}
@@ -61,7 +61,7 @@ own_block : {w : ℕ} (k : ℕ) (b : Bool) (m : MessageA w) (o : Option (BeatA w
 own_block k true m o e = inl e
 own_block k false m o e = inr e
 
-inside_a : {w : ℕ} (terms : Terms) (m : MessageA w) (t : History w) → IsWidth w → unfinished channel.A t ≡ [] → m.source < terms.sources
+inside_a : {w : ℕ} (terms : EndConfig) (m : MessageA w) (t : History w) → IsWidth w → unfinished channel.A t ≡ [] → m.source < terms.sources
     → (is_acquire m.opcode ≡ true → is_holdable terms (block_at m.address) ≡ true) → IsInside terms t → IsInside terms (sent (A m) t)
 inside_a {w} terms m t is none below maps old = record {
   acquires_inside = λ s k e. asked_for s k (own_block k (m.source == s) m (open_beat s t) (rw (open_beat-a s m t is none) at e));
@@ -78,7 +78,7 @@ inside_a {w} terms m t is none below maps old = record {
         let parts = and_parts (is_acquire m.opcode) (block_at m.address == k) new in
         rw (eqb-true (block_at m.address) k parts.1) at (maps parts.0)
 
-inside_c : {w : ℕ} (terms : Terms) (m : MessageC w) (t : History w) → IsWidth w → unfinished channel.C t ≡ [] → (is_release m.opcode ≡ true → m.source < terms.sources)
+inside_c : {w : ℕ} (terms : EndConfig) (m : MessageC w) (t : History w) → IsWidth w → unfinished channel.C t ≡ [] → (is_release m.opcode ≡ true → m.source < terms.sources)
     → ((k : ℕ) → holds (held k (sent (C m) t)) ≡ true → holds (held k t) ≡ true) → IsInside terms t → IsInside terms (sent (C m) t)
 inside_c {w} terms m t is none below falls old = record {
   acquires_inside = λ s k e. old.acquires_inside s k (rw (open_beat-c s m t is none) at e);
@@ -90,7 +90,7 @@ inside_c {w} terms m t is none below falls old = record {
       (sym (pending-whole (ReleaseSource s) (C m) t none (beats-positive (C m) is)) ∙ e);
 }
 
-inside_e : {w : ℕ} (terms : Terms) (m : MessageE) (t : History w) → IsWidth w → unfinished channel.E t ≡ [] → IsInside terms t → IsInside terms (sent (E m) t)
+inside_e : {w : ℕ} (terms : EndConfig) (m : MessageE) (t : History w) → IsWidth w → unfinished channel.E t ≡ [] → IsInside terms t → IsInside terms (sent (E m) t)
 inside_e {w} terms m t is none old = record {
   acquires_inside = λ s k e. old.acquires_inside s k (rw (open_beat-e s m t is none) at e);
   holds_inside = λ k e. old.holds_inside k (rw (held-sent_unsaid k (E m) t (λ i u. refl)) at e);
@@ -100,23 +100,23 @@ inside_e {w} terms m t is none old = record {
 
 -- ---- operations
 
-inside_load : {w : ℕ} (terms : Terms) (address size : ℕ) (p : Perm) (e : End w) → IsInside terms e.past → IsInside terms (load address size p e).after.past
+inside_load : {w : ℕ} (terms : EndConfig) (address size : ℕ) (p : Perm) (e : Endpoint w) → IsInside terms e.past → IsInside terms (load address size p e).after.past
 inside_load terms address size perm.None e old = old
 inside_load terms address size perm.Branch e old = old
 inside_load terms address size perm.Trunk e old = old
 
-inside_store : {w : ℕ} (terms : Terms) (address size value : ℕ) (p : Perm) (e : End w) → IsInside terms e.past → IsInside terms (store address size value p e).after.past
+inside_store : {w : ℕ} (terms : EndConfig) (address size value : ℕ) (p : Perm) (e : Endpoint w) → IsInside terms e.past → IsInside terms (store address size value p e).after.past
 inside_store terms address size value perm.None e old = old
 inside_store terms address size value perm.Branch e old = old
 inside_store terms address size value perm.Trunk e old = old
 
-own_source : {w : ℕ} (terms : Terms) (t : History w) → is_none (free_request terms t) ≡ false → source_or_0 (free_request terms t) < terms.sources
+own_source : {w : ℕ} (terms : EndConfig) (t : History w) → is_none (free_request terms t) ≡ false → source_or_0 (free_request terms t) < terms.sources
 own_source terms t one = let below = (least_free-some (λ s. pending (RequestSource s) t) 0 terms.sources one).1 in omega (arith, below)
 
-own_release : {w : ℕ} (terms : Terms) (t : History w) → is_none (free_release terms t) ≡ false → source_or_0 (free_release terms t) < terms.sources
+own_release : {w : ℕ} (terms : EndConfig) (t : History w) → is_none (free_release terms t) ≡ false → source_or_0 (free_release terms t) < terms.sources
 own_release terms t one = let below = (least_free-some (λ s. pending (ReleaseSource s) t) 0 terms.sources one).1 in omega (arith, below)
 
-holdable : (terms : Terms) (block : ℕ) → not (has_transfers terms.level) ≡ false → (leb terms.blocks block || false) ≡ false → is_holdable terms (block_at (64 * block)) ≡ true
+holdable : (terms : EndConfig) (block : ℕ) → not (has_transfers terms.level) ≡ false → (leb terms.blocks block || false) ≡ false → is_holdable terms (block_at (64 * block)) ≡ true
 holdable terms block four five =
     let inside : leb terms.blocks block ≡ false = (or_parts (leb terms.blocks block) false five).0 in
     rw (same_block block, not-false (has_transfers terms.level) four, inside) refl
@@ -125,7 +125,7 @@ falls_from : (b : Bool) (p q : Perm) → (holds p ≡ true → b ≡ true → ho
 falls_from true p q from e = from e refl
 falls_from false p q from e = e
 
-inside_release : {w : ℕ} (terms : Terms) (p : Prune) (source block : ℕ) (copy : List ℕ) (t : History w) → IsWidth w → unfinished channel.C t ≡ [] → source < terms.sources
+inside_release : {w : ℕ} (terms : EndConfig) (p : Prune) (source block : ℕ) (copy : List ℕ) (t : History w) → IsWidth w → unfinished channel.C t ≡ [] → source < terms.sources
     → same_perm (prune_left p) (held block t) ≡ true → IsInside terms t → IsInside terms (sent (release p source block copy) t)
 inside_release {w} terms p source block copy t is none below left old =
     release-cases p source block copy (λ m. ((k : ℕ) → holds (held k (sent m t)) ≡ true → holds (held k t) ≡ true) → IsInside terms (sent m t))
@@ -133,7 +133,7 @@ inside_release {w} terms p source block copy t is none below left old =
     (λ falls. inside_c terms (about c.Release (prune_code p) source block zeros) t is none (λ r. below) falls old)
     (λ k e. falls_from (k == block) (prune_right p) (held k t) (λ h same. rw (eqb-true k block same) (falls_to p (held block t) left)) (rw (held-release k p source block copy t is none) at e))
 
-inside_done : {w : ℕ} (terms : Terms) (op : Op w) (e : End w) → IsWidth w → IsKept e → NotBusy terms op e → IsInside terms e.past → IsInside terms (done terms op e).after.past
+inside_done : {w : ℕ} (terms : EndConfig) (op : Op w) (e : Endpoint w) → IsWidth w → IsEndpointInvariant e → NotBusy terms op e → IsInside terms e.past → IsInside terms (done terms op e).after.past
 inside_done terms (Load address size) e is kept free old = inside_load terms address size (held_at e (block_at address)) e old
 inside_done terms (Store address size value) e is kept free old = inside_store terms address size value (held_at e (block_at address)) e old
 inside_done terms (Acquire block grow) e is kept free old =
@@ -155,12 +155,12 @@ inside_done terms (Access (C m)) e is kept free old = old
 inside_done terms (Access (D m)) e is kept free old = old
 inside_done terms (Access (E m)) e is kept free old = old
 
-pub inside-asked : {w : ℕ} (terms : Terms) (op : Op w) (e : End w) → IsWidth w → IsKept e → IsInside terms e.past → IsInside terms (asked terms op e).after.past
+pub inside-asked : {w : ℕ} (terms : EndConfig) (op : Op w) (e : Endpoint w) → IsWidth w → IsEndpointInvariant e → IsInside terms e.past → IsInside terms (asked terms op e).after.past
 inside-asked terms op e is kept old = asked-cases terms op e (λ o. IsInside terms o.after.past) (λ b. old) (λ free. inside_done terms op e is kept free old)
 
 -- ---- beats
 
-inside_b : {w : ℕ} (terms : Terms) (x : BeatB w) (t : History w) → IsInside terms t → IsInside terms (beat.B x ∷ t)
+inside_b : {w : ℕ} (terms : EndConfig) (x : BeatB w) (t : History w) → IsInside terms t → IsInside terms (beat.B x ∷ t)
 inside_b terms x t old = record {
   acquires_inside = λ s k e. old.acquires_inside s k (rw (open_beat-b s x t) at e);
   holds_inside = λ k e. old.holds_inside k (rw (held_unsaid k (beat.B x) t refl) at e);
@@ -168,7 +168,7 @@ inside_b terms x t old = record {
   releases_below = λ s e. old.releases_below s (sym (pending-quiet (ReleaseSource s) (beat.B x) t refl refl) ∙ e);
 }
 
-inside_probed : {w : ℕ} (terms : Terms) (x : BeatB w) (e : End w) → IsWidth w → IsKept e → IsInside terms e.past → IsInside terms (taken (beat.B x) e).after.past
+inside_probed : {w : ℕ} (terms : EndConfig) (x : BeatB w) (e : Endpoint w) → IsWidth w → IsEndpointInvariant e → IsInside terms e.past → IsInside terms (taken (beat.B x) e).after.past
 inside_probed {w} terms x e is kept old =
     let block = block_at x.address in
     let p = held_at e block in
@@ -188,7 +188,7 @@ held_more : (b : Bool) (p q : Perm) → holds (cond b p q) ≡ true → (b ≡ t
 held_more true p q e = inl refl
 held_more false p q e = inr e
 
-inside_d : {w : ℕ} (terms : Terms) (x : BeatD w) (t : History w) → (is_grant x.opcode ≡ true → is_acquire_beat (open_beat x.source t) ≡ true) → IsInside terms t → IsInside terms (beat.D x ∷ t)
+inside_d : {w : ℕ} (terms : EndConfig) (x : BeatD w) (t : History w) → (is_grant x.opcode ≡ true → is_acquire_beat (open_beat x.source t) ≡ true) → IsInside terms t → IsInside terms (beat.D x ∷ t)
 inside_d {w} terms x t acquired old = record {
   acquires_inside = λ s k e. old.acquires_inside s k (still_acquires k (closes_source x t s) (open_beat s t) (rw (open_beat-d s x t) at e)).1;
   holds_inside = λ k e. gives k (held_more (ends (beat.D x) t && grants k x t) (capped x.param) (held k t) (rw (held-beat_d k x t) at e));
@@ -205,7 +205,7 @@ inside_d {w} terms x t acquired old = record {
         let kind = and_parts (is_grant x.opcode) (asks_for k (request_of x.source t)) parts.1 in
         old.acquires_inside x.source k (acquires_granted x t k (acquired kind.0) kind.1)
 
-inside_taken_d : {w : ℕ} (terms : Terms) (x : BeatD w) (e : End w) → IsWidth w → IsKept e → broken_in_order terms.profile (beat.D x) e.past ≡ None → IsInside terms e.past
+inside_taken_d : {w : ℕ} (terms : EndConfig) (x : BeatD w) (e : Endpoint w) → IsWidth w → IsEndpointInvariant e → broken_in_order terms.profile (beat.D x) e.past ≡ None → IsInside terms e.past
     → IsInside terms (taken (beat.D x) e).after.past
 inside_taken_d {w} terms x e is kept order old = go (ends (beat.D x) e.past)
   where
@@ -225,17 +225,17 @@ inside_taken_d {w} terms x e is kept order old = go (ends (beat.D x) e.past)
         (inside_e terms (record { sink = x.sink }) (beat.D x ∷ e.past) is ((unfinished-d x e.past).3 ∙ kept.e_whole) now))
         (λ other. subst (λ t. IsInside terms t) (sym same) now)
 
-inside_taken : {w : ℕ} (terms : Terms) (ch : Channel) (x : Beat w) (e : End w) → IsWidth w → IsKept e → IsPassed terms ch x e → IsInside terms e.past → IsInside terms (taken x e).after.past
+inside_taken : {w : ℕ} (terms : EndConfig) (ch : Channel) (x : Beat w) (e : Endpoint w) → IsWidth w → IsEndpointInvariant e → IsPassed terms ch x e → IsInside terms e.past → IsInside terms (taken x e).after.past
 inside_taken terms ch (beat.A x) e is kept passed old = absurd (incoming_only terms.level ch (beat.A x) passed.comes passed.lawful)
 inside_taken terms ch (beat.B x) e is kept passed old = inside_probed terms x e is kept old
 inside_taken terms ch (beat.C x) e is kept passed old = absurd (incoming_only terms.level ch (beat.C x) passed.comes passed.lawful)
 inside_taken terms ch (beat.D x) e is kept passed old = inside_taken_d terms x e is kept passed.order old
 inside_taken terms ch (beat.E x) e is kept passed old = absurd (incoming_only terms.level ch (beat.E x) passed.comes passed.lawful)
 
-pub inside-offered : {w : ℕ} (terms : Terms) (ch : Channel) (x : Beat w) (e : End w) → IsWidth w → IsKept e → IsInside terms e.past → IsInside terms (offered terms ch x e).after.past
+pub inside-offered : {w : ℕ} (terms : EndConfig) (ch : Channel) (x : Beat w) (e : Endpoint w) → IsWidth w → IsEndpointInvariant e → IsInside terms e.past → IsInside terms (offered terms ch x e).after.past
 inside-offered terms ch x e is kept old = offered-cases terms ch x e (λ o. IsInside terms o.after.past) (λ r. old) old (λ passed. inside_taken terms ch x e is kept passed old)
 
-pub inside-fresh : (w : ℕ) (terms : Terms) → IsInside {w = w} terms []
+pub inside-fresh : (w : ℕ) (terms : EndConfig) → IsInside {w = w} terms []
 unfolding pending held
 inside-fresh w terms = record {
   acquires_inside = λ s k e. absurd (let bad : false ≡ true = e in cc);

@@ -14,10 +14,10 @@ use Rattle.tl_burst.specs.statement.Burst.{a_beat_of}
 use Rattle.tl_burst.specs.statement.Messages.{History, unfinished}
 use Rattle.tl_burst.proofs.Splitting.{beats-positive}
 use Rattle.tl_params.specs.declared.key.Key.TheVariants.{RequestSource, AcquireOf}
-use Rattle.tl_rules.specs.statement.Agent.{sent}
+use Rattle.tl_rules.specs.statement.Admission.{sent}
 use Rattle.tl_rules.specs.statement.History.{block_at, is_acquire, pending, held}
-use Rattle.tl_client.specs.statement.End.{End}
-use Rattle.tl_client.specs.statement.Kept.{IsKept, IsGranting, holds, acquires, stores_whole, is_acquire_perm, is_acquire_beat}
+use Rattle.tl_client.specs.statement.Endpoint.{Endpoint}
+use Rattle.tl_client.specs.statement.EndpointInvariant.{IsEndpointInvariant, IsGranting, holds, acquires, stores_whole, is_acquire_perm, is_acquire_beat}
 use Rattle.tl_client.specs.statement.Requests.{open_beat}
 use Rattle.tl_client.proofs.Opens.{open_beat-a, open_beat-c, open_beat-e, acquire_of-a, acquire_of-c, acquire_of-e}
 use Rattle.tl_rules.proofs.Sent.{unfinished-sent, unfinished-sent_other, held-sent_unsaid}
@@ -49,7 +49,7 @@ granting_a {w} (beat.D x ∷ burst) m t is none free g = λ e. ((g e).0, (g e).1
         absurd (let bad : false ≡ true = rw none_open at live in cc)
     go (inr other) live = rw other live
 
-awaited_a : {w : ℕ} (e f : End w) (m : MessageA w) (s k : ℕ) (b : Bool) → IsKept e → (m.source == s) ≡ b → ((j : ℕ) → is_some (e.waiting j) ≡ true → is_some (f.waiting j) ≡ true)
+awaited_a : {w : ℕ} (e f : Endpoint w) (m : MessageA w) (s k : ℕ) (b : Bool) → IsEndpointInvariant e → (m.source == s) ≡ b → ((j : ℕ) → is_some (e.waiting j) ≡ true → is_some (f.waiting j) ≡ true)
     → (is_acquire_perm m.opcode ≡ true → is_some (f.waiting (block_at m.address)) ≡ true) → stores_whole k (cond b (Some (a_beat_of m 0)) (open_beat s e.past)) ≡ true → is_some (f.waiting k) ≡ true
 awaited_a e f m s k true kept is more new h =
     let parts = and_parts (is_acquire_perm m.opcode) (block_at m.address == k) h in
@@ -57,20 +57,20 @@ awaited_a e f m s k true kept is more new h =
     rw block at (new parts.0)
 awaited_a e f m s k false kept is more new h = more k (kept.awaited s k h)
 
-no_other : {w : ℕ} (e : End w) (m : MessageA w) (r k : ℕ) → IsKept e → MayStart m e.past → (is_acquire m.opcode && (block_at m.address == k)) ≡ true → acquires k (open_beat r e.past) ≡ true → ⊥
+no_other : {w : ℕ} (e : Endpoint w) (m : MessageA w) (r k : ℕ) → IsEndpointInvariant e → MayStart m e.past → (is_acquire m.opcode && (block_at m.address == k)) ≡ true → acquires k (open_beat r e.past) ≡ true → ⊥
 no_other e m r k kept may new old =
     let parts = and_parts (is_acquire m.opcode) (block_at m.address == k) new in
     let block : block_at m.address ≡ k = eqb-true (block_at m.address) k parts.1 in
     both_ways (pending (AcquireOf k) e.past) (rw block at (may.alone parts.0)) (kept.outstanding r k old)
 
-once_a : {w : ℕ} (e : End w) (m : MessageA w) (s r k : ℕ) (a b : Bool) → IsKept e → MayStart m e.past → (m.source == s) ≡ a → (m.source == r) ≡ b
+once_a : {w : ℕ} (e : Endpoint w) (m : MessageA w) (s r k : ℕ) (a b : Bool) → IsEndpointInvariant e → MayStart m e.past → (m.source == s) ≡ a → (m.source == r) ≡ b
     → acquires k (cond a (Some (a_beat_of m 0)) (open_beat s e.past)) ≡ true → acquires k (cond b (Some (a_beat_of m 0)) (open_beat r e.past)) ≡ true → s ≡ r
 once_a e m s r k true true kept may p q h i = sym (eqb-true m.source s p) ∙ eqb-true m.source r q
 once_a e m s r k true false kept may p q h i = absurd (no_other e m r k kept may h i)
 once_a e m s r k false true kept may p q h i = absurd (no_other e m s k kept may i h)
 once_a e m s r k false false kept may p q h i = kept.once s r k h i
 
-outstanding_a : {w : ℕ} (e : End w) (m : MessageA w) (s k : ℕ) (a : Bool) → IsKept e → acquires k (cond a (Some (a_beat_of m 0)) (open_beat s e.past)) ≡ true
+outstanding_a : {w : ℕ} (e : Endpoint w) (m : MessageA w) (s k : ℕ) (a : Bool) → IsEndpointInvariant e → acquires k (cond a (Some (a_beat_of m 0)) (open_beat s e.past)) ≡ true
     → cond (is_acquire m.opcode && (block_at m.address == k)) true (pending (AcquireOf k) e.past) ≡ true
 outstanding_a e m s k true kept h = rw h refl
 outstanding_a e m s k false kept h = rw (kept.outstanding s k h) (both (is_acquire m.opcode && (block_at m.address == k)))
@@ -79,8 +79,8 @@ outstanding_a e m s k false kept h = rw (kept.outstanding s k h) (both (is_acqui
     both true = refl
     both false = refl
 
-pub kept-a : {w : ℕ} (e f : End w) (m : MessageA w) → IsWidth w → IsKept e → MayStart m e.past → f.past ≡ sent (A m) e.past → ((k : ℕ) → f.copies k ≡ e.copies k)
-    → ((k : ℕ) → is_some (e.waiting k) ≡ true → is_some (f.waiting k) ≡ true) → (is_acquire_perm m.opcode ≡ true → is_some (f.waiting (block_at m.address)) ≡ true) → IsKept f
+pub kept-a : {w : ℕ} (e f : Endpoint w) (m : MessageA w) → IsWidth w → IsEndpointInvariant e → MayStart m e.past → f.past ≡ sent (A m) e.past → ((k : ℕ) → f.copies k ≡ e.copies k)
+    → ((k : ℕ) → is_some (e.waiting k) ≡ true → is_some (f.waiting k) ≡ true) → (is_acquire_perm m.opcode ≡ true → is_some (f.waiting (block_at m.address)) ≡ true) → IsEndpointInvariant f
 kept-a e f m is kept may past copies more new = record {
   a_whole = rw past (unfinished-sent (A m) e.past kept.a_whole (beats-positive (A m) is));
   b_whole = rw past (unfinished-sent_other channel.B (A m) e.past refl ∙ kept.b_whole);
@@ -110,9 +110,9 @@ granting_same (beat.E x ∷ burst) t u same g = tt
 granting_same (beat.D x ∷ burst) t u same g = λ e. ((g e).0, (g e).1, rw (same.same_open x.source) (g e).2)
 
 -- all but the copies
-pub kept-same : {w : ℕ} (e f : End w) → IsKept e → SameRequests f.past e.past → unfinished channel.A f.past ≡ [] → unfinished channel.B f.past ≡ [] → unfinished channel.C f.past ≡ []
+pub kept-same : {w : ℕ} (e f : Endpoint w) → IsEndpointInvariant e → SameRequests f.past e.past → unfinished channel.A f.past ≡ [] → unfinished channel.B f.past ≡ [] → unfinished channel.C f.past ≡ []
     → unfinished channel.E f.past ≡ []
-    → unfinished channel.D f.past ≡ unfinished channel.D e.past → ((k : ℕ) → f.waiting k ≡ e.waiting k) → ((k : ℕ) → is_some (f.copies k) ≡ holds (held k f.past)) → IsKept f
+    → unfinished channel.D f.past ≡ unfinished channel.D e.past → ((k : ℕ) → f.waiting k ≡ e.waiting k) → ((k : ℕ) → is_some (f.copies k) ≡ holds (held k f.past)) → IsEndpointInvariant f
 kept-same e f kept same a b c d_none d waiting copies = record {
   a_whole = a;
   b_whole = b;
@@ -125,8 +125,8 @@ kept-same e f kept same a b c d_none d waiting copies = record {
   granting = rw d (granting_same (unfinished channel.D e.past) f.past e.past same kept.granting);
 }
 
-pub kept-c : {w : ℕ} (e f : End w) (m : MessageC w) → IsWidth w → IsKept e → f.past ≡ sent (C m) e.past → ((k : ℕ) → f.waiting k ≡ e.waiting k)
-    → ((k : ℕ) → is_some (f.copies k) ≡ holds (held k f.past)) → IsKept f
+pub kept-c : {w : ℕ} (e f : Endpoint w) (m : MessageC w) → IsWidth w → IsEndpointInvariant e → f.past ≡ sent (C m) e.past → ((k : ℕ) → f.waiting k ≡ e.waiting k)
+    → ((k : ℕ) → is_some (f.copies k) ≡ holds (held k f.past)) → IsEndpointInvariant f
 kept-c e f m is kept past waiting copies = kept-same e f kept
     (record { same_open = λ s. rw past (open_beat-c s m e.past is kept.c_whole); same_acquires = λ k. rw past (acquire_of-c k m e.past is kept.c_whole) })
     (rw past (unfinished-sent_other channel.A (C m) e.past refl ∙ kept.a_whole))
@@ -135,7 +135,7 @@ kept-c e f m is kept past waiting copies = kept-same e f kept
     (rw past (unfinished-sent_other channel.E (C m) e.past refl ∙ kept.e_whole))
     (rw past (unfinished-sent_other channel.D (C m) e.past refl)) waiting copies
 
-pub kept-e : {w : ℕ} (e f : End w) (m : MessageE) → IsWidth w → IsKept e → f.past ≡ sent (E m) e.past → ((k : ℕ) → f.waiting k ≡ e.waiting k) → ((k : ℕ) → f.copies k ≡ e.copies k) → IsKept f
+pub kept-e : {w : ℕ} (e f : Endpoint w) (m : MessageE) → IsWidth w → IsEndpointInvariant e → f.past ≡ sent (E m) e.past → ((k : ℕ) → f.waiting k ≡ e.waiting k) → ((k : ℕ) → f.copies k ≡ e.copies k) → IsEndpointInvariant f
 kept-e e f m is kept past waiting copies = kept-same e f kept
     (record { same_open = λ s. rw past (open_beat-e s m e.past is kept.e_whole); same_acquires = λ k. rw past (acquire_of-e k m e.past is kept.e_whole) })
     (rw past (unfinished-sent_other channel.A (E m) e.past refl ∙ kept.a_whole))

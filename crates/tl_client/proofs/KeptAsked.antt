@@ -9,7 +9,7 @@ use Rattle.tl_beat.specs.declared.opcode.OpC.TheVariants as c
 use Rattle.tl_burst.specs.declared.message.Message.TheVariants.{A, B, C, D, E}
 use Rattle.tl_burst.specs.declared.message.MessageA.{MessageA}
 use Rattle.tl_burst.specs.declared.message.MessageC.{MessageC}
-use Rattle.tl_rules.specs.statement.Agent.{sent}
+use Rattle.tl_rules.specs.statement.Admission.{sent}
 use Rattle.tl_params.specs.declared.level.Level.{Level}
 use Rattle.tl_params.specs.declared.key.Key.TheVariants.{RequestSource, ReleaseSource, AcquireOf, ReleaseOf}
 use Rattle.tl_params.specs.declared.param.Prune.{Prune}
@@ -24,8 +24,8 @@ use Rattle.tl_client.specs.declared.operation.Op.{Op}
 use Rattle.tl_client.specs.declared.operation.Op.TheVariants.{Load, Store, Acquire, AcquireWhole, Release, Access}
 use Rattle.tl_client.specs.declared.reply.Reply.TheVariants as reply
 use Rattle.tl_client.specs.statement.Ask.{asked, asked_given, busy, breaks_b1, breaks_b2, breaks_b3, breaks_b4, op_block, is_access_of, done, load, store, free_request, free_release, source_or_0, whole_grow}
-use Rattle.tl_client.specs.statement.End.{Terms, End, copy_at, held_at, kept_for, sending, set_at, with_copy, with_waiting, zeros}
-use Rattle.tl_client.specs.statement.Kept.{IsKept, holds, is_acquire_perm}
+use Rattle.tl_client.specs.statement.Endpoint.{EndConfig, Endpoint, copy_at, held_at, kept_for, sending, set_at, with_copy, with_waiting, zeros}
+use Rattle.tl_client.specs.statement.EndpointInvariant.{IsEndpointInvariant, holds, is_acquire_perm}
 use Rattle.tl_client.specs.statement.Send.{about, sourced, acquisition, release}
 use Rattle.tl_client.proofs.Cases.{NotBusy, not_busy}
 use Rattle.tl_client.proofs.Free.{least_free-some}
@@ -34,7 +34,7 @@ use Rattle.tl_client.proofs.Kept.{kept-a, kept-c}
 
 -- ---- copies
 
-copy_set : {w : ℕ} (e : End w) (block k : ℕ) (bytes : List ℕ) → IsKept e → holds (held block e.past) ≡ true → is_some (set_at block (Some bytes) e.copies k) ≡ holds (held k e.past)
+copy_set : {w : ℕ} (e : Endpoint w) (block k : ℕ) (bytes : List ℕ) → IsEndpointInvariant e → holds (held block e.past) ≡ true → is_some (set_at block (Some bytes) e.copies k) ≡ holds (held k e.past)
 copy_set e block k bytes kept held_is = go (cases_Bool (k == block))
   where
     go : ((k == block) ≡ true) ⊎ ((k == block) ≡ false) → is_some (set_at block (Some bytes) e.copies k) ≡ holds (held k e.past)
@@ -42,7 +42,7 @@ copy_set e block k bytes kept held_is = go (cases_Bool (k == block))
     go (inr other) = rw other (kept.copies_held k)
 
 -- what falls to this permission loses its copy where that is None
-pub copies_kept_for : {w : ℕ} (e f : End w) (block k : ℕ) (p : Perm) → IsKept e → ((j : ℕ) → f.copies j ≡ e.copies j) → (holds p ≡ true → holds (held block e.past) ≡ true)
+pub copies_kept_for : {w : ℕ} (e f : Endpoint w) (block k : ℕ) (p : Perm) → IsEndpointInvariant e → ((j : ℕ) → f.copies j ≡ e.copies j) → (holds p ≡ true → holds (held block e.past) ≡ true)
     → is_some ((kept_for block p f).copies k) ≡ holds (cond (k == block) p (held k e.past))
 copies_kept_for e f block k perm.None kept same falls = rw (same k) (go (k == block))
   where
@@ -60,19 +60,19 @@ copies_kept_for e f block k perm.Trunk kept same falls = rw (same k) (kept.copie
     go (inl at_block) = rw (at_block, eqb-true k block at_block) (falls refl)
     go (inr other) = rw other refl
 
-pub kept_waiting : {w : ℕ} (block : ℕ) (p : Perm) (f : End w) (k : ℕ) → (kept_for block p f).waiting k ≡ f.waiting k
+pub kept_waiting : {w : ℕ} (block : ℕ) (p : Perm) (f : Endpoint w) (k : ℕ) → (kept_for block p f).waiting k ≡ f.waiting k
 kept_waiting block perm.None f k = refl
 kept_waiting block perm.Branch f k = refl
 kept_waiting block perm.Trunk f k = refl
 
 -- ---- Load and Store
 
-kept_load : {w : ℕ} (address size : ℕ) (p : Perm) (e : End w) → IsKept e → IsKept (load address size p e).after
+kept_load : {w : ℕ} (address size : ℕ) (p : Perm) (e : Endpoint w) → IsEndpointInvariant e → IsEndpointInvariant (load address size p e).after
 kept_load address size perm.None e kept = kept
 kept_load address size perm.Branch e kept = kept
 kept_load address size perm.Trunk e kept = kept
 
-stored_copy : {w : ℕ} (e : End w) (block : ℕ) (bytes : List ℕ) → IsKept e → held block e.past ≡ perm.Trunk → IsKept (with_copy block (Some bytes) e)
+stored_copy : {w : ℕ} (e : Endpoint w) (block : ℕ) (bytes : List ℕ) → IsEndpointInvariant e → held block e.past ≡ perm.Trunk → IsEndpointInvariant (with_copy block (Some bytes) e)
 stored_copy e block bytes kept trunk = record {
   a_whole = kept.a_whole;
   b_whole = kept.b_whole;
@@ -85,7 +85,7 @@ stored_copy e block bytes kept trunk = record {
   granting = kept.granting;
 }
 
-kept_store : {w : ℕ} (address size value : ℕ) (p : Perm) (e : End w) → IsKept e → held (block_at address) e.past ≡ p → IsKept (store address size value p e).after
+kept_store : {w : ℕ} (address size value : ℕ) (p : Perm) (e : Endpoint w) → IsEndpointInvariant e → held (block_at address) e.past ≡ p → IsEndpointInvariant (store address size value p e).after
 kept_store address size value perm.None e kept is = kept
 kept_store address size value perm.Branch e kept is = kept
 kept_store address size value perm.Trunk e kept is = stored_copy e (block_at address) _ kept is
@@ -114,8 +114,8 @@ release_is prune.TtoB source block copy = (about c.ReleaseData 0 source block co
 release_is prune.TtoN source block copy = (about c.ReleaseData 1 source block copy, refl)
 release_is prune.BtoN source block copy = (about c.Release 2 source block zeros, refl)
 
-kept_release : {w : ℕ} (e : End w) (p : Prune) (source block : ℕ) (copy : List ℕ) → IsWidth w → IsKept e → same_perm (prune_left p) (held block e.past) ≡ true
-    → IsKept (kept_for block (prune_right p) (sending (release p source block copy) e))
+kept_release : {w : ℕ} (e : Endpoint w) (p : Prune) (source block : ℕ) (copy : List ℕ) → IsWidth w → IsEndpointInvariant e → same_perm (prune_left p) (held block e.past) ≡ true
+    → IsEndpointInvariant (kept_for block (prune_right p) (sending (release p source block copy) e))
 kept_release e p source block copy is kept left =
     let m = release_is p source block copy in
     let f = sending (release p source block copy) e in
@@ -135,8 +135,8 @@ set_more block j bytes blocks some = go (j == block)
 set_here : (block j : ℕ) (bytes : List ℕ) (blocks : ℕ → Option (List ℕ)) → j ≡ block → is_some (set_at block (Some bytes) blocks j) ≡ true
 set_here block j bytes blocks e = rw (eq-eqb j block e) refl
 
-kept_done : {w : ℕ} (terms : Terms) (op : Op w) (e : End w) → IsWidth w → IsKept e → breaks_b4 terms.level op ≡ false → breaks_b2 op e.past ≡ false
-    → breaks_b3 op (held_at e (op_block op)) ≡ false → breaks_b1 terms op e.past ≡ false → IsKept (done terms op e).after
+kept_done : {w : ℕ} (terms : EndConfig) (op : Op w) (e : Endpoint w) → IsWidth w → IsEndpointInvariant e → breaks_b4 terms.level op ≡ false → breaks_b2 op e.past ≡ false
+    → breaks_b3 op (held_at e (op_block op)) ≡ false → breaks_b1 terms op e.past ≡ false → IsEndpointInvariant (done terms op e).after
 kept_done terms (Load address size) e is kept four two three one = kept_load address size (held_at e (block_at address)) e kept
 kept_done terms (Store address size value) e is kept four two three one = kept_store address size value (held_at e (block_at address)) e kept refl
 kept_done {w} terms (Acquire block grow) e is kept four two three one =
@@ -164,24 +164,24 @@ kept_done terms (Access (C m)) e is kept four two three one = kept
 kept_done terms (Access (D m)) e is kept four two three one = kept
 kept_done terms (Access (E m)) e is kept four two three one = kept
 
-no_start : {w : ℕ} (address size : ℕ) (p : Perm) (e : End w) (s : ℕ) → (load address size p e).reply ≡ reply.Started s → ⊥
+no_start : {w : ℕ} (address size : ℕ) (p : Perm) (e : Endpoint w) (s : ℕ) → (load address size p e).reply ≡ reply.Started s → ⊥
 no_start address size perm.None e s is = absurd cc
 no_start address size perm.Branch e s is = absurd cc
 no_start address size perm.Trunk e s is = absurd cc
 
-no_start_stored : {w : ℕ} (address size value : ℕ) (p : Perm) (e : End w) (s : ℕ) → (store address size value p e).reply ≡ reply.Started s → ⊥
+no_start_stored : {w : ℕ} (address size value : ℕ) (p : Perm) (e : Endpoint w) (s : ℕ) → (store address size value p e).reply ≡ reply.Started s → ⊥
 no_start_stored address size value perm.None e s is = absurd cc
 no_start_stored address size value perm.Branch e s is = absurd cc
 no_start_stored address size value perm.Trunk e s is = absurd cc
 
-request_below : {w : ℕ} (terms : Terms) (e : End w) (s : ℕ) → is_none (free_request terms e.past) ≡ false → reply.Started (source_or_0 (free_request terms e.past)) ≡ reply.Started s
+request_below : {w : ℕ} (terms : EndConfig) (e : Endpoint w) (s : ℕ) → is_none (free_request terms e.past) ≡ false → reply.Started (source_or_0 (free_request terms e.past)) ≡ reply.Started s
     → s < terms.sources
 request_below terms e s one is =
     let same : source_or_0 (free_request terms e.past) ≡ s = cc in
     let below = (least_free-some (λ k. pending (RequestSource k) e.past) 0 terms.sources one).1 in
     omega (arith, below, same)
 
-release_below : {w : ℕ} (terms : Terms) (e : End w) (s : ℕ) → is_none (free_release terms e.past) ≡ false → reply.Started (source_or_0 (free_release terms e.past)) ≡ reply.Started s
+release_below : {w : ℕ} (terms : EndConfig) (e : Endpoint w) (s : ℕ) → is_none (free_release terms e.past) ≡ false → reply.Started (source_or_0 (free_release terms e.past)) ≡ reply.Started s
     → s < terms.sources
 release_below terms e s one is =
     let same : source_or_0 (free_release terms e.past) ≡ s = cc in
@@ -189,7 +189,7 @@ release_below terms e s one is =
     omega (arith, below, same)
 
 -- the source of what starts
-below_done : {w : ℕ} (terms : Terms) (op : Op w) (e : End w) (s : ℕ) → breaks_b1 terms op e.past ≡ false → (done terms op e).reply ≡ reply.Started s → s < terms.sources
+below_done : {w : ℕ} (terms : EndConfig) (op : Op w) (e : Endpoint w) (s : ℕ) → breaks_b1 terms op e.past ≡ false → (done terms op e).reply ≡ reply.Started s → s < terms.sources
 below_done terms (Load address size) e s one is = absurd (no_start address size (held_at e (block_at address)) e s is)
 below_done terms (Store address size value) e s one is = absurd (no_start_stored address size value (held_at e (block_at address)) e s is)
 below_done terms (Acquire block grow) e s one is = request_below terms e s one is
@@ -201,20 +201,20 @@ below_done terms (Access (C m)) e s one is = absurd cc
 below_done terms (Access (D m)) e s one is = absurd cc
 below_done terms (Access (E m)) e s one is = absurd cc
 
-below_given : {w : ℕ} (o : Option Busy) (terms : Terms) (op : Op w) (e : End w) (s : ℕ) → (o ≡ None → NotBusy terms op e) → (asked_given o terms op e).reply ≡ reply.Started s → s < terms.sources
+below_given : {w : ℕ} (o : Option Busy) (terms : EndConfig) (op : Op w) (e : Endpoint w) (s : ℕ) → (o ≡ None → NotBusy terms op e) → (asked_given o terms op e).reply ≡ reply.Started s → s < terms.sources
 below_given (Some b) terms op e s free is = absurd cc
 below_given None terms op e s free is = below_done terms op e s (free refl).b1 is
 
 -- the source of what starts is one of the client's
-pub started-below : {w : ℕ} (terms : Terms) (op : Op w) (e : End w) (s : ℕ) → (asked terms op e).reply ≡ reply.Started s → s < terms.sources
+pub started-below : {w : ℕ} (terms : EndConfig) (op : Op w) (e : Endpoint w) (s : ℕ) → (asked terms op e).reply ≡ reply.Started s → s < terms.sources
 unfolding asked
 started-below terms op e s is = below_given (busy terms op e) terms op e s (not_busy terms op e) is
 
-kept_given : {w : ℕ} (o : Option Busy) (terms : Terms) (op : Op w) (e : End w) → IsWidth w → IsKept e → (o ≡ None → NotBusy terms op e) → IsKept (asked_given o terms op e).after
+kept_given : {w : ℕ} (o : Option Busy) (terms : EndConfig) (op : Op w) (e : Endpoint w) → IsWidth w → IsEndpointInvariant e → (o ≡ None → NotBusy terms op e) → IsEndpointInvariant (asked_given o terms op e).after
 kept_given (Some b) terms op e is kept free = kept
 kept_given None terms op e is kept free = let n = free refl in kept_done terms op e is kept n.b4 n.b2 n.b3 n.b1
 
 -- asking keeps what is kept
-pub kept-asked : {w : ℕ} (terms : Terms) (op : Op w) (e : End w) → IsWidth w → IsKept e → IsKept (asked terms op e).after
+pub kept-asked : {w : ℕ} (terms : EndConfig) (op : Op w) (e : Endpoint w) → IsWidth w → IsEndpointInvariant e → IsEndpointInvariant (asked terms op e).after
 unfolding asked
 kept-asked terms op e is kept = kept_given (busy terms op e) terms op e is kept (not_busy terms op e)

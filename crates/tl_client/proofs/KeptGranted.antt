@@ -17,13 +17,13 @@ use Rattle.tl_burst.specs.statement.Part.{completes}
 use Rattle.tl_params.specs.declared.key.Key.TheVariants.{RequestSource}
 use Rattle.tl_rules.specs.statement.Conformance.{is_acquire_block, is_grant_without_data}
 use Rattle.tl_rules.specs.statement.History.{block_at, is_acquire, is_grant, ends, grants, asks_for, capped, pending, request_of, held}
-use Rattle.tl_rules.specs.statement.Agent.{payload_of}
+use Rattle.tl_rules.specs.statement.Admission.{payload_of}
 use Rattle.tl_client.specs.declared.verdict.Finish.{Finish}
 use Rattle.tl_client.specs.declared.verdict.Verdict.{Verdict}
 use Rattle.tl_client.specs.declared.verdict.Verdict.TheVariants.{Taken, Done}
 use Rattle.tl_client.specs.statement.Send.{grant_ack}
-use Rattle.tl_client.specs.statement.End.{End, sending, set_at, with_past, with_copy, with_waiting}
-use Rattle.tl_client.specs.statement.Kept.{IsKept, IsGranting, holds, acquires, stores_whole, is_acquire_perm, is_acquire_beat}
+use Rattle.tl_client.specs.statement.Endpoint.{Endpoint, sending, set_at, with_past, with_copy, with_waiting}
+use Rattle.tl_client.specs.statement.EndpointInvariant.{IsEndpointInvariant, IsGranting, holds, acquires, stores_whole, is_acquire_perm, is_acquire_beat}
 use Rattle.tl_client.specs.statement.Requests.{open_beat}
 use Rattle.tl_client.specs.statement.Offer.{answered, silent, taken, ended, granted, granted_perm, responded}
 use Rattle.tl_client.proofs.Grants.{IsGoodGrant}
@@ -57,7 +57,7 @@ closes_own : {w : ℕ} (x : BeatD w) (t : History w) (s : ℕ) → is_grant x.op
 closes_own x t s g last is = rw (last, not_release_ack x.opcode g) (eq-eqb x.source s (sym is))
 
 -- no Acquire stays open whose block is granted
-none_left : {w : ℕ} (e : End w) (x : BeatD w) (s k : ℕ) → IsKept e → (is_grant x.opcode ≡ true → is_acquire_beat (open_beat x.source e.past) ≡ true) → closes_source x e.past s ≡ false
+none_left : {w : ℕ} (e : Endpoint w) (x : BeatD w) (s k : ℕ) → IsEndpointInvariant e → (is_grant x.opcode ≡ true → is_acquire_beat (open_beat x.source e.past) ≡ true) → closes_source x e.past s ≡ false
     → acquires k (open_beat s e.past) ≡ true
     → (ends (beat.D x) e.past && grants k x e.past) ≡ false
 none_left e x s k kept acquired closed live = elim (cases_Bool (ends (beat.D x) e.past && grants k x e.past)) [
@@ -69,10 +69,10 @@ none_left e x s k kept acquired closed live = elim (cases_Bool (ends (beat.D x) 
       absurd (both_ways (closes_source x e.past s) closed (closes_own x e.past s kind.0 parts.0 (kept.once s x.source k live own)))
 ]
 
-kept-d : {w : ℕ} (e f : End w) (x : BeatD w) → IsKept e → f.past ≡ (beat.D x ∷ e.past) → (is_grant x.opcode ≡ true → is_acquire_beat (open_beat x.source e.past) ≡ true)
+kept-d : {w : ℕ} (e f : Endpoint w) (x : BeatD w) → IsEndpointInvariant e → f.past ≡ (beat.D x ∷ e.past) → (is_grant x.opcode ≡ true → is_acquire_beat (open_beat x.source e.past) ≡ true)
     → IsGranting (grown (beat.D x) (unfinished channel.D e.past)) (beat.D x ∷ e.past)
     → ((s k : ℕ) → closes_source x e.past s ≡ false → stores_whole k (open_beat s e.past) ≡ true → is_some (f.waiting k) ≡ true)
-    → ((k : ℕ) → is_some (f.copies k) ≡ holds (cond (ends (beat.D x) e.past && grants k x e.past) (capped x.param) (held k e.past))) → IsKept f
+    → ((k : ℕ) → is_some (f.copies k) ≡ holds (cond (ends (beat.D x) e.past && grants k x e.past) (capped x.param) (held k e.past))) → IsEndpointInvariant f
 kept-d e f x kept past acquired next waiting copies =
     let others = unfinished-d x e.past in
     record {
@@ -113,10 +113,10 @@ pub record IsGoodBeat {w : ℕ} (x : BeatD w) (t : History w) : Type 0 where
   pub next : IsGranting (grown (beat.D x) (unfinished channel.D t)) (beat.D x ∷ t)
 
 -- the end after a beat, but for copies and waiting bytes
-abbrev after_d : {w : ℕ} → BeatD w → End w → End w
+abbrev after_d : {w : ℕ} → BeatD w → Endpoint w → Endpoint w
 after_d x e = with_past (beat.D x ∷ e.past) e
 
-kept_plain : {w : ℕ} (e : End w) (x : BeatD w) → IsKept e → IsGoodBeat x e.past → ((k : ℕ) → (ends (beat.D x) e.past && grants k x e.past) ≡ false) → IsKept (after_d x e)
+kept_plain : {w : ℕ} (e : Endpoint w) (x : BeatD w) → IsEndpointInvariant e → IsGoodBeat x e.past → ((k : ℕ) → (ends (beat.D x) e.past && grants k x e.past) ≡ false) → IsEndpointInvariant (after_d x e)
 kept_plain e x kept good none =
     kept-d e (after_d x e) x kept refl (λ g. (good.good g).answers_acquire) good.next (λ s k closed live. kept.awaited s k live) (λ k. rw (none k) (kept.copies_held k))
 
@@ -135,7 +135,7 @@ grants_block : {w : ℕ} (x : BeatD w) (t : History w) (r : BeatA w) (k : ℕ) �
     → (ends (beat.D x) t && grants k x t) ≡ (k == block_at r.address)
 grants_block x t r k g last is = rw (g, last, is) (swapped (block_at r.address) k)
 
-granted_copy : {w : ℕ} (e f : End w) (x : BeatD w) (r : BeatA w) (bytes : Option (List ℕ)) → IsKept e → is_some bytes ≡ true → holds (capped x.param) ≡ true → (k : ℕ)
+granted_copy : {w : ℕ} (e f : Endpoint w) (x : BeatD w) (r : BeatA w) (bytes : Option (List ℕ)) → IsEndpointInvariant e → is_some bytes ≡ true → holds (capped x.param) ≡ true → (k : ℕ)
     → is_some (set_at (block_at r.address) bytes e.copies k) ≡ holds (cond (k == block_at r.address) (capped x.param) (held k e.past))
 granted_copy e f x r bytes kept some gives k = go (k == block_at r.address)
   where
@@ -144,15 +144,15 @@ granted_copy e f x r bytes kept some gives k = go (k == block_at r.address)
     go false = kept.copies_held k
 
 -- GrantData
-kept_data : {w : ℕ} (e : End w) (x : BeatD w) (r : BeatA w) (payload : List ℕ) → IsKept e → IsGoodBeat x e.past → is_grant x.opcode ≡ true → ends (beat.D x) e.past ≡ true
-    → request_of x.source e.past ≡ Some r → IsKept (with_copy (block_at r.address) (Some payload) (after_d x e))
+kept_data : {w : ℕ} (e : Endpoint w) (x : BeatD w) (r : BeatA w) (payload : List ℕ) → IsEndpointInvariant e → IsGoodBeat x e.past → is_grant x.opcode ≡ true → ends (beat.D x) e.past ≡ true
+    → request_of x.source e.past ≡ Some r → IsEndpointInvariant (with_copy (block_at r.address) (Some payload) (after_d x e))
 kept_data e x r payload kept good g last is =
     kept-d e (with_copy (block_at r.address) (Some payload) (after_d x e)) x kept refl (λ h. (good.good h).answers_acquire) good.next (λ s k closed live. kept.awaited s k live)
     (λ k. rw (grants_block x e.past r k g last is) (granted_copy e e x r (Some payload) kept refl (good.good g).gives k))
 
 -- Grant for an AcquireBlock
-kept_block : {w : ℕ} (e : End w) (x : BeatD w) (r : BeatA w) → IsKept e → IsGoodBeat x e.past → is_grant x.opcode ≡ true → is_grant_without_data x.opcode ≡ true
-    → is_acquire_block r.opcode ≡ true → ends (beat.D x) e.past ≡ true → request_of x.source e.past ≡ Some r → IsKept (after_d x e)
+kept_block : {w : ℕ} (e : Endpoint w) (x : BeatD w) (r : BeatA w) → IsEndpointInvariant e → IsGoodBeat x e.past → is_grant x.opcode ≡ true → is_grant_without_data x.opcode ≡ true
+    → is_acquire_block r.opcode ≡ true → ends (beat.D x) e.past ≡ true → request_of x.source e.past ≡ Some r → IsEndpointInvariant (after_d x e)
 kept_block e x r kept good g bare block last is =
     kept-d e (after_d x e) x kept refl (λ h. (good.good h).answers_acquire) good.next (λ s k closed live. kept.awaited s k live)
     (λ k. rw (grants_block x e.past r k g last is) (kept.copies_held k ∙ go k (cases_Bool (k == block_at r.address))))
@@ -188,9 +188,9 @@ open_is {w} s t r live is = go (pending (RequestSource s) t) (request_of s t) li
     go true o h i = i
 
 -- Grant for an AcquirePerm
-kept_perm : {w : ℕ} (e : End w) (x : BeatD w) (r : BeatA w) → IsKept e → IsGoodBeat x e.past → is_grant x.opcode ≡ true → is_acquire_perm r.opcode ≡ true → ends (beat.D x) e.past ≡ true
+kept_perm : {w : ℕ} (e : Endpoint w) (x : BeatD w) (r : BeatA w) → IsEndpointInvariant e → IsGoodBeat x e.past → is_grant x.opcode ≡ true → is_acquire_perm r.opcode ≡ true → ends (beat.D x) e.past ≡ true
     → request_of x.source e.past ≡ Some r
-    → IsKept (with_waiting (block_at r.address) None (with_copy (block_at r.address) (e.waiting (block_at r.address)) (after_d x e)))
+    → IsEndpointInvariant (with_waiting (block_at r.address) None (with_copy (block_at r.address) (e.waiting (block_at r.address)) (after_d x e)))
 kept_perm {w} e x r kept good g perm last is =
     kept-d e (with_waiting (block_at r.address) None (with_copy (block_at r.address) (e.waiting (block_at r.address)) (after_d x e))) x kept refl (λ h. (good.good h).answers_acquire) good.next
     (λ s k closed live. keeps s k closed live (cases_Bool (k == block_at r.address)))
@@ -215,9 +215,9 @@ kept_perm {w} e x r kept good g perm last is =
 
 -- ---- the last beat
 
-kept_granted : {w : ℕ} (e : End w) (x : BeatD w) (r : BeatA w) (opcode : OpA) → IsKept e → IsGoodBeat x e.past → r.opcode ≡ opcode → is_acquire opcode ≡ true → is_grant x.opcode ≡ true
+kept_granted : {w : ℕ} (e : Endpoint w) (x : BeatD w) (r : BeatA w) (opcode : OpA) → IsEndpointInvariant e → IsGoodBeat x e.past → r.opcode ≡ opcode → is_acquire opcode ≡ true → is_grant x.opcode ≡ true
     → is_grant_without_data x.opcode ≡ true → ends (beat.D x) e.past ≡ true → request_of x.source e.past ≡ Some r
-    → IsKept (granted_perm opcode (block_at r.address) (after_d x e))
+    → IsEndpointInvariant (granted_perm opcode (block_at r.address) (after_d x e))
 kept_granted e x r a.AcquirePerm kept good is acquire g bare last asked = kept_perm e x r kept good g (rw is refl) last asked
 kept_granted e x r a.AcquireBlock kept good is acquire g bare last asked = kept_block e x r kept good g bare (rw is refl) last asked
 kept_granted e x r a.PutFullData kept good is acquire g bare last asked = absurd (let no : false ≡ true = acquire in cc)
@@ -227,7 +227,7 @@ kept_granted e x r a.LogicalData kept good is acquire g bare last asked = absurd
 kept_granted e x r a.Get kept good is acquire g bare last asked = absurd (let no : false ≡ true = acquire in cc)
 kept_granted e x r a.Intent kept good is acquire g bare last asked = absurd (let no : false ≡ true = acquire in cc)
 
-acks_too : {w : ℕ} (sink : ℕ) (v : Verdict) (g : End w) → IsWidth w → IsKept g → IsKept (answered v (grant_ack sink) g).after
+acks_too : {w : ℕ} (sink : ℕ) (v : Verdict) (g : Endpoint w) → IsWidth w → IsEndpointInvariant g → IsEndpointInvariant (answered v (grant_ack sink) g).after
 acks_too sink v g is kept = kept-e g (sending (grant_ack sink) g) (record { sink = sink }) is kept refl (λ k. refl) (λ k. refl)
 
 nothing_asked : {w : ℕ} (x : BeatD w) (t : History w) → is_acquire_beat (open_beat x.source t) ≡ true → request_of x.source t ≡ None → ⊥
@@ -238,9 +238,9 @@ nothing_asked {w} x t live none = go (pending (RequestSource x.source) t) (reque
     go true None h i = absurd cc
     go true (Some r) h i = absurd cc
 
-kept_ended : {w : ℕ} (e : End w) (x : BeatD w) (opcode : OpD) (o : Option (BeatA w)) (payload : List ℕ) (f : Finish) → IsWidth w → IsKept e → IsGoodBeat x e.past → x.opcode ≡ opcode
+kept_ended : {w : ℕ} (e : Endpoint w) (x : BeatD w) (opcode : OpD) (o : Option (BeatA w)) (payload : List ℕ) (f : Finish) → IsWidth w → IsEndpointInvariant e → IsGoodBeat x e.past → x.opcode ≡ opcode
     → ends (beat.D x) e.past ≡ true → request_of x.source e.past ≡ o
-    → IsKept (ended opcode x f (granted opcode o payload (after_d x e))).after
+    → IsEndpointInvariant (ended opcode x f (granted opcode o payload (after_d x e))).after
 kept_ended e x d.AccessAck o payload f is kept good code last asked = kept_plain e x kept good (λ k. grants_none x e.past k (rw code refl))
 kept_ended e x d.AccessAckData o payload f is kept good code last asked = kept_plain e x kept good (λ k. grants_none x e.past k (rw code refl))
 kept_ended e x d.HintAck o payload f is kept good code last asked = kept_plain e x kept good (λ k. grants_none x e.past k (rw code refl))
@@ -254,12 +254,12 @@ kept_ended e x d.Grant (Some r) payload f is kept good code last asked =
 kept_ended e x d.GrantData (Some r) payload f is kept good code last asked =
     acks_too x.sink (Done x.source f) _ is (kept_data e x r payload kept good (rw code refl) last asked)
 
-pub kept_taken_d : {w : ℕ} (e : End w) (x : BeatD w) → IsWidth w → IsKept e → IsGoodBeat x e.past → IsKept (taken (beat.D x) e).after
+pub kept_taken_d : {w : ℕ} (e : Endpoint w) (x : BeatD w) → IsWidth w → IsEndpointInvariant e → IsGoodBeat x e.past → IsEndpointInvariant (taken (beat.D x) e).after
 kept_taken_d {w} e x is kept good = go (ends (beat.D x) e.past) refl
   where
     payload : List ℕ
     payload = payload_of (beat.D x ∷ unfinished channel.D e.past)
 
-    go : (b : Bool) → ends (beat.D x) e.past ≡ b → IsKept (cond b (responded x (request_of x.source e.past) payload e) (silent Taken (after_d x e))).after
+    go : (b : Bool) → ends (beat.D x) e.past ≡ b → IsEndpointInvariant (cond b (responded x (request_of x.source e.past) payload e) (silent Taken (after_d x e))).after
     go true last = kept_ended e x x.opcode (request_of x.source e.past) payload _ is kept good refl last refl
     go false more = kept_plain e x kept good (λ k. ends_none x e.past k more)

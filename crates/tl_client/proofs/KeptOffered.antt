@@ -26,15 +26,15 @@ use Rattle.tl_params.specs.declared.perm.Perm.{Perm}
 use Rattle.tl_params.specs.declared.perm.Perm.TheVariants as perm
 use Rattle.tl_params.specs.declared.rule.Rule.{Rule}
 use Rattle.tl_params.specs.declared.rule.Rule.TheVariants.{L1, L7, A3}
-use Rattle.tl_rules.specs.statement.Agent.{sent}
+use Rattle.tl_rules.specs.statement.Admission.{sent}
 use Rattle.tl_rules.specs.statement.Legality.{illegal, breaks_l1, is_forwarded}
 use Rattle.tl_params.specs.statement.Param.{cap_of, report_at, report_code, report_right}
 use Rattle.tl_rules.proofs.Bursts.{next_rule, both_none}
 use Rattle.tl_client.specs.declared.verdict.Verdict.TheVariants.{Stalled}
 use Rattle.tl_client.specs.statement.Send.{about, probe_ack}
 use Rattle.tl_client.proofs.KeptAsked.{copies_kept_for, kept_waiting}
-use Rattle.tl_client.specs.statement.End.{Terms, End, fresh, zeros, copy_at, held_at, kept_for, sending, shut, with_past}
-use Rattle.tl_client.specs.statement.Kept.{IsKept, holds}
+use Rattle.tl_client.specs.statement.Endpoint.{EndConfig, Endpoint, fresh, zeros, copy_at, held_at, kept_for, sending, shut, with_past}
+use Rattle.tl_client.specs.statement.EndpointInvariant.{IsEndpointInvariant, holds}
 use Rattle.tl_client.specs.statement.Offer.{offered, silent, taken, is_sent_on, waits, broken_before, broken_later, judged, judged_later, report_for}
 use Rattle.tl_client.proofs.Grants.{good_grant}
 use Rattle.tl_client.proofs.HeldAfter.{IsIncoming, comes, held-probe_ack, kept_past}
@@ -56,7 +56,7 @@ other_b : {w : ℕ} (x : BeatB w) (t : History w)
 unfolding unfinished
 other_b x t = (refl, refl, refl, refl)
 
-kept_b : {w : ℕ} (e : End w) (x : BeatB w) → b_carries_data x.opcode ≡ false → IsKept e → IsKept (with_past (beat.B x ∷ e.past) e)
+kept_b : {w : ℕ} (e : Endpoint w) (x : BeatB w) → b_carries_data x.opcode ≡ false → IsEndpointInvariant e → IsEndpointInvariant (with_past (beat.B x ∷ e.past) e)
 kept_b e x bare kept =
     let others = other_b x e.past in
     kept-same e (with_past (beat.B x ∷ e.past) e) kept (record { same_open = λ s. open_beat-b s x e.past; same_acquires = λ k. acquire_of-b k x e.past })
@@ -82,7 +82,7 @@ reports_held cap.ToT perm.None e = e
 reports_held cap.ToB perm.None e = e
 reports_held cap.ToN perm.None e = e
 
-kept_probed : {w : ℕ} (e : End w) (x : BeatB w) → IsWidth w → b_carries_data x.opcode ≡ false → IsKept e → IsKept (taken (beat.B x) e).after
+kept_probed : {w : ℕ} (e : Endpoint w) (x : BeatB w) → IsWidth w → b_carries_data x.opcode ≡ false → IsEndpointInvariant e → IsEndpointInvariant (taken (beat.B x) e).after
 kept_probed {w} e x is bare kept =
     let block = block_at x.address in
     let p = held_at e block in
@@ -107,7 +107,7 @@ legal_probe l ch x e =
 
 -- ---- any beat
 
-pub good_beat : {w : ℕ} (p : Profile) (e : End w) (x : BeatD w) → IsKept e → broken_in_order p (beat.D x) e.past ≡ None → IsGoodBeat x e.past
+pub good_beat : {w : ℕ} (p : Profile) (e : Endpoint w) (x : BeatD w) → IsEndpointInvariant e → broken_in_order p (beat.D x) e.past ≡ None → IsGoodBeat x e.past
 good_beat p e x kept none =
     let good = λ (g : is_grant x.opcode ≡ true). good_grant p x e.past (unfinished channel.D e.past) refl kept.granting g none in
     record { good = λ g. (good g).0; next = next_burst x e.past (unfinished channel.D e.past) refl good }
@@ -116,15 +116,15 @@ pub incoming_only : {w : ℕ} (l : Level) (ch : Channel) (x : Beat w) → is_sen
 unfolding illegal
 incoming_only l ch x way legal = comes l ch x way (next_rule (breaks_l1 l ch x) L1 _ legal).0
 
-kept_taken : {w : ℕ} (terms : Terms) (ch : Channel) (x : Beat w) (e : End w) → IsWidth w → IsKept e → is_sent_on ch ≡ false → illegal terms.level ch x ≡ None
-    → broken_in_order terms.profile x e.past ≡ None → IsKept (taken x e).after
+kept_taken : {w : ℕ} (terms : EndConfig) (ch : Channel) (x : Beat w) (e : Endpoint w) → IsWidth w → IsEndpointInvariant e → is_sent_on ch ≡ false → illegal terms.level ch x ≡ None
+    → broken_in_order terms.profile x e.past ≡ None → IsEndpointInvariant (taken x e).after
 kept_taken terms ch (beat.A x) e is kept way legal none = absurd (incoming_only terms.level ch (beat.A x) way legal)
 kept_taken terms ch (beat.B x) e is kept way legal none = kept_probed e x is (legal_probe terms.level ch x legal) kept
 kept_taken terms ch (beat.C x) e is kept way legal none = absurd (incoming_only terms.level ch (beat.C x) way legal)
 kept_taken terms ch (beat.D x) e is kept way legal none = kept_taken_d e x is kept (good_beat terms.profile e x kept none)
 kept_taken terms ch (beat.E x) e is kept way legal none = absurd (incoming_only terms.level ch (beat.E x) way legal)
 
-kept_shut : {w : ℕ} (e : End w) → IsKept e → IsKept (shut e)
+kept_shut : {w : ℕ} (e : Endpoint w) → IsEndpointInvariant e → IsEndpointInvariant (shut e)
 kept_shut e kept =
     record {
       a_whole = kept.a_whole;
@@ -139,20 +139,20 @@ kept_shut e kept =
       granting = kept.granting;
     }
 
-kept_later : {w : ℕ} (o : Option Rule) (x : Beat w) (e : End w) → IsKept e → (o ≡ None → IsKept (taken x e).after) → IsKept (judged_later o x e).after
+kept_later : {w : ℕ} (o : Option Rule) (x : Beat w) (e : Endpoint w) → IsEndpointInvariant e → (o ≡ None → IsEndpointInvariant (taken x e).after) → IsEndpointInvariant (judged_later o x e).after
 kept_later (Some r) x e kept more = kept_shut e kept
 kept_later None x e kept more = more refl
 
-kept_judged : {w : ℕ} (o : Option Rule) (terms : Terms) (x : Beat w) (e : End w) → IsKept e → (o ≡ None → broken_later terms x e ≡ None → IsKept (taken x e).after) → IsKept (judged o terms x e).after
+kept_judged : {w : ℕ} (o : Option Rule) (terms : EndConfig) (x : Beat w) (e : Endpoint w) → IsEndpointInvariant e → (o ≡ None → broken_later terms x e ≡ None → IsEndpointInvariant (taken x e).after) → IsEndpointInvariant (judged o terms x e).after
 kept_judged (Some r) terms x e kept more = kept_shut e kept
 kept_judged {w} None terms x e kept more = go (waits x e.past)
   where
-    go : (b : Bool) → IsKept (cond b (silent Stalled e) (judged_later (broken_later terms x e) x e)).after
+    go : (b : Bool) → IsEndpointInvariant (cond b (silent Stalled e) (judged_later (broken_later terms x e) x e)).after
     go true = kept
     go false = kept_later (broken_later terms x e) x e kept (more refl)
 
 -- a beat keeps what is kept
-pub kept-offered : {w : ℕ} (terms : Terms) (ch : Channel) (x : Beat w) (e : End w) → IsWidth w → IsKept e → IsKept (offered terms ch x e).after
+pub kept-offered : {w : ℕ} (terms : EndConfig) (ch : Channel) (x : Beat w) (e : Endpoint w) → IsWidth w → IsEndpointInvariant e → IsEndpointInvariant (offered terms ch x e).after
 unfolding offered
 kept-offered terms ch x e is kept = kept_judged (broken_before terms ch x e) terms x e kept (λ before later.
     let live = next_rule e.closed A3 _ before in
@@ -161,7 +161,7 @@ kept-offered terms ch x e is kept = kept_judged (broken_before terms ch x e) ter
     kept_taken terms ch x e is kept way.0 way.1 order.0)
 
 -- and a new client has it
-pub kept-fresh : (w : ℕ) → IsKept (fresh {w = w})
+pub kept-fresh : (w : ℕ) → IsEndpointInvariant (fresh {w = w})
 unfolding unfinished pending held
 kept-fresh w = record {
   a_whole = refl;

@@ -20,7 +20,7 @@ use Rattle.tl_params.specs.declared.key.Key.TheVariants.{ReleaseSource}
 use Rattle.tl_params.specs.declared.perm.Perm.{Perm}
 use Rattle.tl_params.specs.declared.perm.Perm.TheVariants as perm
 use Rattle.tl_params.specs.statement.Param.{prune_code, prune_right, report_code, report_right}
-use Rattle.tl_rules.specs.statement.Agent.{sent, payload_of}
+use Rattle.tl_rules.specs.statement.Admission.{sent, payload_of}
 use Rattle.tl_rules.specs.laws.Handed.{pending_with, release_with, request_if_any, release_if_any}
 use Rattle.tl_rules.specs.statement.History.{block_at, ends, is_release, pending, request_of, release_of}
 use Rattle.tl_rules.proofs.Handed.{pending-whole, release_of-whole}
@@ -30,8 +30,8 @@ use Rattle.tl_client.specs.declared.operation.Op.TheVariants.{Load, Store, Acqui
 use Rattle.tl_client.specs.declared.verdict.Verdict.TheVariants.{Taken}
 use Rattle.tl_client.specs.laws.After.{open_heard, open_by, release_heard, release_by}
 use Rattle.tl_client.specs.statement.Ask.{asked, done, load, store, free_request, free_release, source_or_0, whole_grow}
-use Rattle.tl_client.specs.statement.End.{Terms, End, zeros, copy_at, held_at, with_past}
-use Rattle.tl_client.specs.statement.Kept.{IsKept}
+use Rattle.tl_client.specs.statement.Endpoint.{EndConfig, Endpoint, zeros, copy_at, held_at, with_past}
+use Rattle.tl_client.specs.statement.EndpointInvariant.{IsEndpointInvariant}
 use Rattle.tl_client.specs.statement.Offer.{Offered, offered, taken, granted, responded, silent, report_for}
 use Rattle.tl_client.specs.statement.Requests.{open_beat, open_release}
 use Rattle.tl_client.specs.statement.Send.{about, sourced, acquisition, release}
@@ -49,12 +49,12 @@ use Rattle.tl_client.proofs.Opens.{open_beat-a, open_beat-b, open_beat-c, open_b
 abbrev OpensBy : {w : ℕ} → ℕ → Option (Message w) → History w → History w → Type 0
 OpensBy s m t u = (open_beat s u ≡ request_if_any s m (open_beat s t)) × (open_release s u ≡ release_if_any s m (open_release s t))
 
-opens_load : {w : ℕ} (s address size : ℕ) (p : Perm) (e : End w) → OpensBy s (load address size p e).message e.past (load address size p e).after.past
+opens_load : {w : ℕ} (s address size : ℕ) (p : Perm) (e : Endpoint w) → OpensBy s (load address size p e).message e.past (load address size p e).after.past
 opens_load s address size perm.None e = (refl, refl)
 opens_load s address size perm.Branch e = (refl, refl)
 opens_load s address size perm.Trunk e = (refl, refl)
 
-opens_store : {w : ℕ} (s address size value : ℕ) (p : Perm) (e : End w) → OpensBy s (store address size value p e).message e.past (store address size value p e).after.past
+opens_store : {w : ℕ} (s address size value : ℕ) (p : Perm) (e : Endpoint w) → OpensBy s (store address size value p e).message e.past (store address size value p e).after.past
 opens_store s address size value perm.None e = (refl, refl)
 opens_store s address size value perm.Branch e = (refl, refl)
 opens_store s address size value perm.Trunk e = (refl, refl)
@@ -62,7 +62,7 @@ opens_store s address size value perm.Trunk e = (refl, refl)
 opens_a : {w : ℕ} (s : ℕ) (m : MessageA w) (t : History w) → IsWidth w → unfinished channel.A t ≡ [] → OpensBy s (Some (A m)) t (sent (A m) t)
 opens_a s m t is none = (open_beat-a s m t is none, open_release-a s m t is none)
 
-opens_done : {w : ℕ} (terms : Terms) (op : Op w) (e : End w) (s : ℕ) → IsWidth w → IsKept e → OpensBy s (done terms op e).message e.past (done terms op e).after.past
+opens_done : {w : ℕ} (terms : EndConfig) (op : Op w) (e : Endpoint w) (s : ℕ) → IsWidth w → IsEndpointInvariant e → OpensBy s (done terms op e).message e.past (done terms op e).after.past
 opens_done terms (Load address size) e s is kept = opens_load s address size (held_at e (block_at address)) e
 opens_done terms (Store address size value) e s is kept = opens_store s address size value (held_at e (block_at address)) e
 opens_done terms (Acquire block grow) e s is kept = opens_a s (acquisition a.AcquireBlock grow (source_or_0 (free_request terms e.past)) block) e.past is kept.a_whole
@@ -83,14 +83,14 @@ opens_done terms (Access (C m)) e s is kept = (refl, refl)
 opens_done terms (Access (D m)) e s is kept = (refl, refl)
 opens_done terms (Access (E m)) e s is kept = (refl, refl)
 
-opens_asked : {w : ℕ} (terms : Terms) (op : Op w) (e : End w) (s : ℕ) → IsWidth w → IsKept e → OpensBy s (asked terms op e).message e.past (asked terms op e).after.past
+opens_asked : {w : ℕ} (terms : EndConfig) (op : Op w) (e : Endpoint w) (s : ℕ) → IsWidth w → IsEndpointInvariant e → OpensBy s (asked terms op e).message e.past (asked terms op e).after.past
 opens_asked terms op e s is kept = asked-cases terms op e (λ o. OpensBy s o.message e.past o.after.past) (λ b. (refl, refl)) (λ free. opens_done terms op e s is kept)
 
-pub open-asked : {w : ℕ} (terms : Terms) (op : Op w) (e : End w) (s : ℕ) → IsWidth w → IsKept e
+pub open-asked : {w : ℕ} (terms : EndConfig) (op : Op w) (e : Endpoint w) (s : ℕ) → IsWidth w → IsEndpointInvariant e
     → open_beat s (asked terms op e).after.past ≡ request_if_any s (asked terms op e).message (open_beat s e.past)
 open-asked terms op e s is kept = (opens_asked terms op e s is kept).0
 
-pub open_release-asked : {w : ℕ} (terms : Terms) (op : Op w) (e : End w) (s : ℕ) → IsWidth w → IsKept e
+pub open_release-asked : {w : ℕ} (terms : EndConfig) (op : Op w) (e : Endpoint w) (s : ℕ) → IsWidth w → IsEndpointInvariant e
     → open_release s (asked terms op e).after.past ≡ release_if_any s (asked terms op e).message (open_release s e.past)
 open_release-asked terms op e s is kept = (opens_asked terms op e s is kept).1
 
@@ -127,7 +127,7 @@ opens_c {w} s m x t is none kind =
     same : open_release s (sent (C m) (beat.B x ∷ t)) ≡ open_release s (beat.B x ∷ t)
     same = rw (same_pending, same_release) refl
 
-opens_probed : {w : ℕ} (s : ℕ) (x : BeatB w) (e : End w) → IsWidth w → IsKept e → OpensAs s (taken (beat.B x) e) (beat.B x) e.past
+opens_probed : {w : ℕ} (s : ℕ) (x : BeatB w) (e : Endpoint w) → IsWidth w → IsEndpointInvariant e → OpensAs s (taken (beat.B x) e) (beat.B x) e.past
 opens_probed {w} s x e is kept =
     let block = block_at x.address in
     let p = held_at e block in
@@ -150,7 +150,7 @@ opens_e {w} s m x t u is none before = (
   ) before.1,
 )
 
-opens_answered : {w : ℕ} (s : ℕ) (x : BeatD w) (e : End w) → IsWidth w → IsKept e → OpensAs s (taken (beat.D x) e) (beat.D x) e.past
+opens_answered : {w : ℕ} (s : ℕ) (x : BeatD w) (e : Endpoint w) → IsWidth w → IsEndpointInvariant e → OpensAs s (taken (beat.D x) e) (beat.D x) e.past
 opens_answered {w} s x e is kept = go (ends (beat.D x) e.past)
   where
     payload : List ℕ
@@ -170,20 +170,20 @@ opens_answered {w} s x e is kept = go (ends (beat.D x) e.past)
     go true = ended-cases x.opcode x _ (granted x.opcode (request_of x.source e.past) payload (with_past (beat.D x ∷ e.past) e)) (λ o. OpensAs s o (beat.D x) e.past)
         (λ grant. opens_e s (record { sink = x.sink }) (beat.D x) e.past _ is none now) (λ other. now)
 
-opens_taken : {w : ℕ} (terms : Terms) (ch : Channel) (x : Beat w) (e : End w) (s : ℕ) → IsWidth w → IsKept e → IsPassed terms ch x e → OpensAs s (taken x e) x e.past
+opens_taken : {w : ℕ} (terms : EndConfig) (ch : Channel) (x : Beat w) (e : Endpoint w) (s : ℕ) → IsWidth w → IsEndpointInvariant e → IsPassed terms ch x e → OpensAs s (taken x e) x e.past
 opens_taken terms ch (beat.A x) e s is kept passed = absurd (incoming_only terms.level ch (beat.A x) passed.comes passed.lawful)
 opens_taken terms ch (beat.B x) e s is kept passed = opens_probed s x e is kept
 opens_taken terms ch (beat.C x) e s is kept passed = absurd (incoming_only terms.level ch (beat.C x) passed.comes passed.lawful)
 opens_taken terms ch (beat.D x) e s is kept passed = opens_answered s x e is kept
 opens_taken terms ch (beat.E x) e s is kept passed = absurd (incoming_only terms.level ch (beat.E x) passed.comes passed.lawful)
 
-opens_offered : {w : ℕ} (terms : Terms) (ch : Channel) (x : Beat w) (e : End w) (s : ℕ) → IsWidth w → IsKept e → OpensAs s (offered terms ch x e) x e.past
+opens_offered : {w : ℕ} (terms : EndConfig) (ch : Channel) (x : Beat w) (e : Endpoint w) (s : ℕ) → IsWidth w → IsEndpointInvariant e → OpensAs s (offered terms ch x e) x e.past
 opens_offered terms ch x e s is kept = offered-cases terms ch x e (λ o. OpensAs s o x e.past) (λ r. (refl, refl)) (refl, refl) (λ passed. opens_taken terms ch x e s is kept passed)
 
-pub open-offered : {w : ℕ} (terms : Terms) (ch : Channel) (x : Beat w) (e : End w) (s : ℕ) → IsWidth w → IsKept e
+pub open-offered : {w : ℕ} (terms : EndConfig) (ch : Channel) (x : Beat w) (e : Endpoint w) (s : ℕ) → IsWidth w → IsEndpointInvariant e
     → open_beat s (offered terms ch x e).after.past ≡ open_by s (offered terms ch x e).answer x e.past
 open-offered terms ch x e s is kept = (opens_offered terms ch x e s is kept).0
 
-pub open_release-offered : {w : ℕ} (terms : Terms) (ch : Channel) (x : Beat w) (e : End w) (s : ℕ) → IsWidth w → IsKept e
+pub open_release-offered : {w : ℕ} (terms : EndConfig) (ch : Channel) (x : Beat w) (e : Endpoint w) (s : ℕ) → IsWidth w → IsEndpointInvariant e
     → open_release s (offered terms ch x e).after.past ≡ release_by s (offered terms ch x e).answer x e.past
 open_release-offered terms ch x e s is kept = (opens_offered terms ch x e s is kept).1

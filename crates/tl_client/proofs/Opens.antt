@@ -17,7 +17,7 @@ use Rattle.tl_burst.specs.statement.Messages.{History, channel_in, unfinished, g
 use Rattle.tl_burst.proofs.Splitting.{beats-positive}
 use Rattle.tl_params.specs.declared.key.Key.{Key}
 use Rattle.tl_params.specs.declared.key.Key.TheVariants.{RequestSource, AcquireOf}
-use Rattle.tl_rules.specs.statement.Agent.{sent}
+use Rattle.tl_rules.specs.statement.Admission.{sent}
 use Rattle.tl_rules.specs.statement.History.{ends, opens, grants, is_acquire, is_release_ack, block_at, pending, request_of}
 use Rattle.tl_client.specs.statement.Requests.{open_beat}
 use Rattle.tl_rules.proofs.Sent.{pending-sent, request_of-sent, request_closes_nothing, ClosesNothing, pending-quiet, pending-closed}

@@ -26,7 +26,7 @@ use Rattle.tl_params.specs.declared.param.Report.{Report}
 use Rattle.tl_params.specs.declared.perm.Perm.{Perm}
 use Rattle.tl_params.specs.declared.perm.Perm.TheVariants as perm
 use Rattle.tl_params.specs.statement.Param.{report_code, report_right}
-use Rattle.tl_rules.specs.statement.Agent.{sent, sent_if_any, payload_of}
+use Rattle.tl_rules.specs.statement.Admission.{sent, sent_if_any, payload_of}
 use Rattle.tl_rules.specs.laws.Handed.{pending_if_any, release_with, request_if_any, release_if_any}
 use Rattle.tl_rules.specs.statement.History.{block_at, ends, is_release, pending, request_of, release_of}
 use Rattle.tl_rules.proofs.Handed.{pending-whole, unfinished-whole, request_of-whole, release_of-whole}
@@ -36,8 +36,8 @@ use Rattle.tl_client.specs.declared.verdict.Finish.{Finish}
 use Rattle.tl_client.specs.declared.verdict.Verdict.TheVariants.{Taken}
 use Rattle.tl_client.specs.laws.After.{heard, handed}
 use Rattle.tl_client.specs.statement.Ask.{asked, done, load, store, source_or_0, free_release}
-use Rattle.tl_client.specs.statement.End.{Terms, End, zeros, copy_at, held_at, with_past}
-use Rattle.tl_client.specs.statement.Kept.{IsKept}
+use Rattle.tl_client.specs.statement.Endpoint.{EndConfig, Endpoint, zeros, copy_at, held_at, with_past}
+use Rattle.tl_client.specs.statement.EndpointInvariant.{IsEndpointInvariant}
 use Rattle.tl_client.specs.statement.Offer.{Offered, offered, taken, ended, granted, responded, silent, report_for}
 use Rattle.tl_client.specs.statement.Send.{about, release, probe_ack}
 use Rattle.tl_client.proofs.AccountedResponse.{release_of-d}
@@ -56,12 +56,12 @@ IsFree (Some m) t = unfinished (channel_in m) t ≡ []
 
 -- ---- operations
 
-free_load : {w : ℕ} (address size : ℕ) (p : Perm) (e : End w) → IsFree (load address size p e).message e.past
+free_load : {w : ℕ} (address size : ℕ) (p : Perm) (e : Endpoint w) → IsFree (load address size p e).message e.past
 free_load address size perm.None e = tt
 free_load address size perm.Branch e = tt
 free_load address size perm.Trunk e = tt
 
-free_store : {w : ℕ} (address size value : ℕ) (p : Perm) (e : End w) → IsFree (store address size value p e).message e.past
+free_store : {w : ℕ} (address size value : ℕ) (p : Perm) (e : Endpoint w) → IsFree (store address size value p e).message e.past
 free_store address size value perm.None e = tt
 free_store address size value perm.Branch e = tt
 free_store address size value perm.Trunk e = tt
@@ -71,7 +71,7 @@ free_release_c prune.TtoB source block copy t none = none
 free_release_c prune.TtoN source block copy t none = none
 free_release_c prune.BtoN source block copy t none = none
 
-free_done : {w : ℕ} (terms : Terms) (op : Op w) (e : End w) → IsKept e → IsFree (done terms op e).message e.past
+free_done : {w : ℕ} (terms : EndConfig) (op : Op w) (e : Endpoint w) → IsEndpointInvariant e → IsFree (done terms op e).message e.past
 free_done terms (Load address size) e kept = free_load address size (held_at e (block_at address)) e
 free_done terms (Store address size value) e kept = free_store address size value (held_at e (block_at address)) e
 free_done terms (Acquire block grow) e kept = kept.a_whole
@@ -83,7 +83,7 @@ free_done terms (Access (C m)) e kept = tt
 free_done terms (Access (D m)) e kept = tt
 free_done terms (Access (E m)) e kept = tt
 
-pub free_asked : {w : ℕ} (terms : Terms) (op : Op w) (e : End w) → IsKept e → IsFree (asked terms op e).message e.past
+pub free_asked : {w : ℕ} (terms : EndConfig) (op : Op w) (e : Endpoint w) → IsEndpointInvariant e → IsFree (asked terms op e).message e.past
 free_asked terms op e kept = asked-cases terms op e (λ o. IsFree o.message e.past) (λ b. tt) (λ not_busy. free_done terms op e kept)
 
 -- ---- beats
@@ -103,7 +103,7 @@ free_probe_ack b.LogicalData p r block copy t none = none
 free_probe_ack b.Get p r block copy t none = none
 free_probe_ack b.Intent p r block copy t none = none
 
-free_ended : {w : ℕ} (opcode : OpD) (x : BeatD w) (f : Finish) (g : End w) (t : History w) → unfinished channel.E (beat.D x ∷ t) ≡ [] → IsFreeAfter (ended opcode x f g) (beat.D x) t
+free_ended : {w : ℕ} (opcode : OpD) (x : BeatD w) (f : Finish) (g : Endpoint w) (t : History w) → unfinished channel.E (beat.D x ∷ t) ≡ [] → IsFreeAfter (ended opcode x f g) (beat.D x) t
 free_ended d.Grant x f g t none = none
 free_ended d.GrantData x f g t none = none
 free_ended d.AccessAck x f g t none = tt
@@ -111,7 +111,7 @@ free_ended d.AccessAckData x f g t none = tt
 free_ended d.HintAck x f g t none = tt
 free_ended d.ReleaseAck x f g t none = tt
 
-free_taken : {w : ℕ} (x : Beat w) (e : End w) → IsKept e → IsFreeAfter (taken x e) x e.past
+free_taken : {w : ℕ} (x : Beat w) (e : Endpoint w) → IsEndpointInvariant e → IsFreeAfter (taken x e) x e.past
 free_taken (beat.A x) e kept = tt
 free_taken (beat.B x) e kept =
     free_probe_ack x.opcode (held_at e (block_at x.address)) (report_for x (held_at e (block_at x.address))) (block_at x.address)
@@ -124,7 +124,7 @@ free_taken {w} (beat.D x) e kept = go (ends (beat.D x) e.past) _ (free_ended x.o
     go false o free = tt
 free_taken (beat.E x) e kept = tt
 
-pub free_offered : {w : ℕ} (terms : Terms) (ch : Channel) (x : Beat w) (e : End w) → IsKept e → IsFreeAfter (offered terms ch x e) x e.past
+pub free_offered : {w : ℕ} (terms : EndConfig) (ch : Channel) (x : Beat w) (e : Endpoint w) → IsEndpointInvariant e → IsFreeAfter (offered terms ch x e) x e.past
 free_offered terms ch x e kept = offered-cases terms ch x e (λ o. IsFreeAfter o x e.past) (λ r. tt) tt (λ passed. free_taken x e kept)
 
 -- ---- what is said after a message, if there is one
@@ -147,29 +147,29 @@ unfinished_after ch (Some m) t is free = unfinished-whole ch m t free (beats-pos
 
 -- ---- after an operation
 
-pub pending-asked : {w : ℕ} (terms : Terms) (op : Op w) (e : End w) (k : Key) → IsWidth w → IsKept e → pending k (asked terms op e).after.past ≡ pending_if_any k (asked terms op e).message e.past
+pub pending-asked : {w : ℕ} (terms : EndConfig) (op : Op w) (e : Endpoint w) (k : Key) → IsWidth w → IsEndpointInvariant e → pending k (asked terms op e).after.past ≡ pending_if_any k (asked terms op e).message e.past
 pending-asked terms op e k is kept = ap (λ t. pending k t) (past-asked terms op e) ∙ pending_after k (asked terms op e).message e.past is (free_asked terms op e kept)
 
-pub request-asked : {w : ℕ} (terms : Terms) (op : Op w) (e : End w) (s : ℕ) → IsWidth w → IsKept e
+pub request-asked : {w : ℕ} (terms : EndConfig) (op : Op w) (e : Endpoint w) (s : ℕ) → IsWidth w → IsEndpointInvariant e
     → request_of s (asked terms op e).after.past ≡ request_if_any s (asked terms op e).message (request_of s e.past)
 request-asked terms op e s is kept = ap (λ t. request_of s t) (past-asked terms op e) ∙ request_after s (asked terms op e).message e.past is (free_asked terms op e kept)
 
-pub release-asked : {w : ℕ} (terms : Terms) (op : Op w) (e : End w) (s : ℕ) → IsWidth w → IsKept e
+pub release-asked : {w : ℕ} (terms : EndConfig) (op : Op w) (e : Endpoint w) (s : ℕ) → IsWidth w → IsEndpointInvariant e
     → release_of s (asked terms op e).after.past ≡ release_if_any s (asked terms op e).message (release_of s e.past)
 release-asked terms op e s is kept = ap (λ t. release_of s t) (past-asked terms op e) ∙ release_after s (asked terms op e).message e.past is (free_asked terms op e kept)
 
-pub unfinished-asked : {w : ℕ} (terms : Terms) (op : Op w) (e : End w) (ch : Channel) → IsWidth w → IsKept e → unfinished ch (asked terms op e).after.past ≡ unfinished ch e.past
+pub unfinished-asked : {w : ℕ} (terms : EndConfig) (op : Op w) (e : Endpoint w) (ch : Channel) → IsWidth w → IsEndpointInvariant e → unfinished ch (asked terms op e).after.past ≡ unfinished ch e.past
 unfinished-asked terms op e ch is kept = ap (λ t. unfinished ch t) (past-asked terms op e) ∙ unfinished_after ch (asked terms op e).message e.past is (free_asked terms op e kept)
 
 -- ---- after a beat
 
-pub pending-offered : {w : ℕ} (terms : Terms) (ch : Channel) (x : Beat w) (e : End w) (k : Key) → IsWidth w → IsKept e
+pub pending-offered : {w : ℕ} (terms : EndConfig) (ch : Channel) (x : Beat w) (e : Endpoint w) (k : Key) → IsWidth w → IsEndpointInvariant e
     → pending k (offered terms ch x e).after.past ≡ pending_if_any k (handed (offered terms ch x e).answer) (heard (offered terms ch x e).answer x e.past)
 pending-offered terms ch x e k is kept =
     ap (λ t. pending k t) (past-offered terms ch x e)
     ∙ pending_after k (handed (offered terms ch x e).answer) (heard (offered terms ch x e).answer x e.past) is (free_offered terms ch x e kept)
 
-pub unfinished-offered : {w : ℕ} (terms : Terms) (ch : Channel) (x : Beat w) (e : End w) (at : Channel) → IsWidth w → IsKept e
+pub unfinished-offered : {w : ℕ} (terms : EndConfig) (ch : Channel) (x : Beat w) (e : Endpoint w) (at : Channel) → IsWidth w → IsEndpointInvariant e
     → unfinished at (offered terms ch x e).after.past ≡ unfinished at (heard (offered terms ch x e).answer x e.past)
 unfinished-offered terms ch x e at is kept =
     ap (λ t. unfinished at t) (past-offered terms ch x e)
@@ -194,7 +194,7 @@ names_c s m x t is none kind = (
     unnamed : is_release m.opcode ≡ false → release_with s (C m) (release_of s (beat.B x ∷ t)) ≡ release_of s (beat.B x ∷ t)
     unnamed e = rw e refl
 
-names_probed : {w : ℕ} (s : ℕ) (x : BeatB w) (e : End w) → IsWidth w → IsKept e → HasSameNames s e.past (taken (beat.B x) e).after.past
+names_probed : {w : ℕ} (s : ℕ) (x : BeatB w) (e : Endpoint w) → IsWidth w → IsEndpointInvariant e → HasSameNames s e.past (taken (beat.B x) e).after.past
 names_probed {w} s x e is kept =
     let block = block_at x.address in
     let p = held_at e block in
@@ -208,7 +208,7 @@ names_probed {w} s x e is kept =
 names_e : {w : ℕ} (s : ℕ) (m : MessageE) (t u : History w) → IsWidth w → unfinished channel.E u ≡ [] → HasSameNames s t u → HasSameNames s t (sent (E m) u)
 names_e {w} s m t u is none same = (request_of-whole s (E m) u none (beats-positive {w = w} (E m) is) ∙ same.0, release_of-whole s (E m) u none (beats-positive {w = w} (E m) is) ∙ same.1)
 
-names_answered : {w : ℕ} (s : ℕ) (x : BeatD w) (e : End w) → IsWidth w → IsKept e → HasSameNames s e.past (taken (beat.D x) e).after.past
+names_answered : {w : ℕ} (s : ℕ) (x : BeatD w) (e : Endpoint w) → IsWidth w → IsEndpointInvariant e → HasSameNames s e.past (taken (beat.D x) e).after.past
 names_answered {w} s x e is kept = go (ends (beat.D x) e.past)
   where
     payload : List ℕ
@@ -228,18 +228,18 @@ names_answered {w} s x e is kept = go (ends (beat.D x) e.past)
     go true = ended-cases x.opcode x _ (granted x.opcode (request_of x.source e.past) payload (with_past (beat.D x ∷ e.past) e)) (λ o. HasSameNames s e.past o.after.past)
         (λ grant. names_e s (record { sink = x.sink }) e.past _ is none now) (λ other. now)
 
-names_taken : {w : ℕ} (terms : Terms) (ch : Channel) (x : Beat w) (e : End w) (s : ℕ) → IsWidth w → IsKept e → IsPassed terms ch x e → HasSameNames s e.past (taken x e).after.past
+names_taken : {w : ℕ} (terms : EndConfig) (ch : Channel) (x : Beat w) (e : Endpoint w) (s : ℕ) → IsWidth w → IsEndpointInvariant e → IsPassed terms ch x e → HasSameNames s e.past (taken x e).after.past
 names_taken terms ch (beat.A x) e s is kept passed = absurd (incoming_only terms.level ch (beat.A x) passed.comes passed.lawful)
 names_taken terms ch (beat.B x) e s is kept passed = names_probed s x e is kept
 names_taken terms ch (beat.C x) e s is kept passed = absurd (incoming_only terms.level ch (beat.C x) passed.comes passed.lawful)
 names_taken terms ch (beat.D x) e s is kept passed = names_answered s x e is kept
 names_taken terms ch (beat.E x) e s is kept passed = absurd (incoming_only terms.level ch (beat.E x) passed.comes passed.lawful)
 
-names_offered : {w : ℕ} (terms : Terms) (ch : Channel) (x : Beat w) (e : End w) (s : ℕ) → IsWidth w → IsKept e → HasSameNames s e.past (offered terms ch x e).after.past
+names_offered : {w : ℕ} (terms : EndConfig) (ch : Channel) (x : Beat w) (e : Endpoint w) (s : ℕ) → IsWidth w → IsEndpointInvariant e → HasSameNames s e.past (offered terms ch x e).after.past
 names_offered terms ch x e s is kept = offered-cases terms ch x e (λ o. HasSameNames s e.past o.after.past) (λ r. (refl, refl)) (refl, refl) (λ passed. names_taken terms ch x e s is kept passed)
 
-pub request-offered : {w : ℕ} (terms : Terms) (ch : Channel) (x : Beat w) (e : End w) (s : ℕ) → IsWidth w → IsKept e → request_of s (offered terms ch x e).after.past ≡ request_of s e.past
+pub request-offered : {w : ℕ} (terms : EndConfig) (ch : Channel) (x : Beat w) (e : Endpoint w) (s : ℕ) → IsWidth w → IsEndpointInvariant e → request_of s (offered terms ch x e).after.past ≡ request_of s e.past
 request-offered terms ch x e s is kept = (names_offered terms ch x e s is kept).0
 
-pub release-offered : {w : ℕ} (terms : Terms) (ch : Channel) (x : Beat w) (e : End w) (s : ℕ) → IsWidth w → IsKept e → release_of s (offered terms ch x e).after.past ≡ release_of s e.past
+pub release-offered : {w : ℕ} (terms : EndConfig) (ch : Channel) (x : Beat w) (e : Endpoint w) (s : ℕ) → IsWidth w → IsEndpointInvariant e → release_of s (offered terms ch x e).after.past ≡ release_of s e.past
 release-offered terms ch x e s is kept = (names_offered terms ch x e s is kept).1

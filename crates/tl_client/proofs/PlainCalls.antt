@@ -11,7 +11,7 @@ use Rattle.tl_burst.specs.statement.Burst.{beats_of, beat_of, begun, d_beat_of, 
 use Rattle.tl_burst.specs.statement.Part.{IsTakeable, completes}
 use Rattle.tl_burst.proofs.Begun.{length-begun}
 use Rattle.tl_params.specs.declared.rule.Rule.{Rule}
-use Rattle.tl_rules.specs.statement.Agent.{payload_of}
+use Rattle.tl_rules.specs.statement.Admission.{payload_of}
 use Rattle.tl_rules.proofs.Sent.{is_last}
 use Rattle.tl_rules.proofs.Payload.{payload-d}
 

@@ -22,7 +22,7 @@ use Rattle.tl_params.specs.declared.rule.Rule.{Rule}
 use Rattle.tl_params.specs.declared.rule.Rule.TheVariants.{L1, S1, A3}
 use Rattle.tl_params.specs.statement.Refusal.{ok_unless}
 use Rattle.tl_params.proofs.Refusals.{some_broken, none_broken}
-use Rattle.tl_rules.specs.statement.Agent.{payload_of}
+use Rattle.tl_rules.specs.statement.Admission.{payload_of}
 use Rattle.tl_rules.specs.statement.History.{ends, closes, opens, says_held, pending, request_of}
 use Rattle.tl_rules.specs.statement.Legality.{illegal, has_transfers}
 use Rattle.tl_rules.proofs.Bursts.{next_rule, both_none}
@@ -30,7 +30,7 @@ use Rattle.tl_client.specs.declared.plain.Plain.{Plain}
 use Rattle.tl_client.specs.declared.request.Request.{Request}
 use Rattle.tl_client.specs.declared.verdict.Finish.{Finish}
 use Rattle.tl_client.specs.declared.verdict.Verdict.TheVariants.{Done, Taken}
-use Rattle.tl_client.specs.statement.End.{Terms, End, with_past}
+use Rattle.tl_client.specs.statement.Endpoint.{EndConfig, Endpoint, with_past}
 use Rattle.tl_client.specs.code.KnowsPlain.{KnowsPlain, terms_of, answers_pending}
 use Rattle.tl_client.specs.statement.Offer.{offered, judged_later, refused, silent, taken, ended, granted, responded, finish_of, address_asked, stalls, is_sent_on}
 use Rattle.tl_client.specs.code.Plain.{response_rule, order_rule, plain_rule, address_in, plain_verdict, ends_request}
@@ -92,7 +92,7 @@ pending_here x (D z ∷ burst) t answer e =
 
 -- ---- the answer
 
-access_ended : {w : ℕ} (opcode : OpD) (x : BeatD w) (f : Finish) (r : Option (BeatA w)) (payload : List ℕ) (e : End w) → IsAccessAnswer opcode
+access_ended : {w : ℕ} (opcode : OpD) (x : BeatD w) (f : Finish) (r : Option (BeatA w)) (payload : List ℕ) (e : Endpoint w) → IsAccessAnswer opcode
     → ended opcode x f (granted opcode r payload e) ≡ silent (Done x.source f) e
 access_ended d.AccessAck x f r payload e answer = refl
 access_ended d.AccessAckData x f r payload e answer = refl
@@ -108,7 +108,7 @@ address_of_open {w} s t e = rw e (go (request_of s t))
     go None = refl
     go (Some r) = refl
 
-response_taken : {w : ℕ} (x : BeatD w) (e : End w) (asked : ℕ → Option Request) (burst : List (Beat w)) → IsAccessAnswer x.opcode → pending (RequestSource x.source) e.past ≡ true
+response_taken : {w : ℕ} (x : BeatD w) (e : Endpoint w) (asked : ℕ → Option Request) (burst : List (Beat w)) → IsAccessAnswer x.opcode → pending (RequestSource x.source) e.past ≡ true
     → asked x.source ≡ open_request x.source e.past → burst ≡ unfinished channel.D e.past → taken (D x) e ≡ silent (plain_verdict asked burst (D x)) (with_past (D x ∷ e.past) e)
 response_taken {w} x e asked burst answer live asked_is burst_is = rw (asked_is, burst_is) (go (completes (D x) (unfinished channel.D e.past)))
   where
@@ -160,7 +160,7 @@ alone-response {w} key x t answer e = pending-closed key (D x) t (opens_none key
 grants_nothing : {w : ℕ} (k : ℕ) (x : BeatD w) (t : History w) → IsAccessAnswer x.opcode → says_held k (D x) t ≡ None
 grants_nothing k x t answer = rw answer.0 refl
 
-response_known : {w : ℕ} (p q : Plain w) (e : End w) (x : BeatD w) → KnowsPlain p e → IsAccessAnswer x.opcode → pending (RequestSource x.source) e.past ≡ true → q.closed ≡ p.closed
+response_known : {w : ℕ} (p q : Plain w) (e : Endpoint w) (x : BeatD w) → KnowsPlain p e → IsAccessAnswer x.opcode → pending (RequestSource x.source) e.past ≡ true → q.closed ≡ p.closed
     → q.responses ≡ grown (D x) p.responses
     → ((s : ℕ) → open_at q.requests s ≡ cond (ends_request p.responses (D x) s) None (open_at p.requests s)) → KnowsPlain q (with_past (D x ∷ e.past) e)
 response_known p q e x k answer live closed responses requests = record {
@@ -180,14 +180,14 @@ response_known p q e x k answer live closed responses requests = record {
 abbrev pub rule_at : {w : ℕ} → Plain w → Channel → Beat w → Option Rule
 rule_at p ch x = plain_rule p.config.level (open_at p.requests) p.responses p.closed ch x
 
-offered-plain : {w : ℕ} (p : Plain w) (e : End w) (ch : Channel) (x : Beat w) → KnowsPlain p e → offered (terms_of p) ch x e ≡ judged_later (rule_at p ch x) x e
+offered-plain : {w : ℕ} (p : Plain w) (e : Endpoint w) (ch : Channel) (x : Beat w) → KnowsPlain p e → offered (terms_of p) ch x e ≡ judged_later (rule_at p ch x) x e
 offered-plain p e ch x k = rw k.closed_is (judged (terms_of p) ch x e (open_at p.requests) p.responses p.accesses k.sent_whole k.requests_are k.response_is)
 
 -- a beat that breaks a rule
-pub offered-refused : {w : ℕ} (p : Plain w) (e : End w) (ch : Channel) (x : Beat w) (r : Rule) → KnowsPlain p e → Err r ≡ ok_unless (rule_at p ch x) → offered (terms_of p) ch x e ≡ refused r e
+pub offered-refused : {w : ℕ} (p : Plain w) (e : Endpoint w) (ch : Channel) (x : Beat w) (r : Rule) → KnowsPlain p e → Err r ≡ ok_unless (rule_at p ch x) → offered (terms_of p) ch x e ≡ refused r e
 offered-refused p e ch x r k broken = offered-plain p e ch x k ∙ rw (some_broken (rule_at p ch x) r broken) refl
 
-pub knows-refused : {w : ℕ} (p q : Plain w) (e : End w) (ch : Channel) (x : Beat w) (r : Rule) → KnowsPlain p e → Err r ≡ ok_unless (rule_at p ch x) → q.closed ≡ true
+pub knows-refused : {w : ℕ} (p q : Plain w) (e : Endpoint w) (ch : Channel) (x : Beat w) (r : Rule) → KnowsPlain p e → Err r ≡ ok_unless (rule_at p ch x) → q.closed ≡ true
     → q.requests ≡ p.requests → q.responses ≡ p.responses
     → KnowsPlain q (offered (terms_of p) ch x e).after
 knows-refused p q e ch x r k broken closed requests responses = rw (offered-refused p e ch x r k broken) (record {
@@ -202,14 +202,14 @@ knows-refused p q e ch x r k broken closed requests responses = rw (offered-refu
 })
 
 -- a beat that breaks none
-good_source : {w : ℕ} (p : Plain w) (e : End w) (x : BeatD w) → KnowsPlain p e → IsGoodResponse p.config.level x (open_at p.requests x.source) p.responses
+good_source : {w : ℕ} (p : Plain w) (e : Endpoint w) (x : BeatD w) → KnowsPlain p e → IsGoodResponse p.config.level x (open_at p.requests x.source) p.responses
     → pending (RequestSource x.source) e.past ≡ true
 good_source p e x k good = pending_here x (unfinished channel.D e.past) e.past k.answers_open (rw (k.requests_are x.source, k.response_is) at good.in_order)
 
 good_answer : {w : ℕ} (p : Plain w) (x : BeatD w) → IsGoodResponse p.config.level x (open_at p.requests x.source) p.responses → IsAccessAnswer x.opcode
 good_answer p x good = legal_answer p.config.level x p.accesses good.is_legal
 
-pub offered-taken : {w : ℕ} (p : Plain w) (e : End w) (ch : Channel) (x : Beat w) → KnowsPlain p e → Ok tt ≡ ok_unless (rule_at p ch x)
+pub offered-taken : {w : ℕ} (p : Plain w) (e : Endpoint w) (ch : Channel) (x : Beat w) → KnowsPlain p e → Ok tt ≡ ok_unless (rule_at p ch x)
     → offered (terms_of p) ch x e ≡ silent (plain_verdict (open_at p.requests) p.responses x) (with_past (x ∷ e.past) e)
 offered-taken {w} p e ch x k none =
     offered-plain p e ch x k ∙ rw (none_broken (rule_at p ch x) none) (go (good_response p.config.level (open_at p.requests) p.responses p.closed ch x (none_broken (rule_at p ch x) none)))
@@ -218,7 +218,7 @@ offered-taken {w} p e ch x k none =
         → taken x e ≡ silent (plain_verdict (open_at p.requests) p.responses x) (with_past (x ∷ e.past) e)
     go (y, is, good) = rw is (response_taken y e (open_at p.requests) p.responses (good_answer p y good) (good_source p e y k good) (k.requests_are y.source) k.response_is)
 
-pub knows-taken : {w : ℕ} (p q : Plain w) (e : End w) (ch : Channel) (x : Beat w) → KnowsPlain p e → Ok tt ≡ ok_unless (rule_at p ch x) → q.closed ≡ p.closed → q.responses ≡ grown x p.responses
+pub knows-taken : {w : ℕ} (p q : Plain w) (e : Endpoint w) (ch : Channel) (x : Beat w) → KnowsPlain p e → Ok tt ≡ ok_unless (rule_at p ch x) → q.closed ≡ p.closed → q.responses ≡ grown x p.responses
     → ((s : ℕ) → open_at q.requests s ≡ cond (ends_request p.responses x s) None (open_at p.requests s)) → KnowsPlain q (offered (terms_of p) ch x e).after
 knows-taken {w} p q e ch x k none closed responses requests =
     rw (offered-taken p e ch x k none) (go (good_response p.config.level (open_at p.requests) p.responses p.closed ch x (none_broken (rule_at p ch x) none)))
@@ -238,7 +238,7 @@ waits_for_nothing l channel.D x false low = refl
 waits_for_nothing l channel.E x false low = refl
 
 -- no beat waits
-pub stalls-plain : {w : ℕ} (terms : Terms) (ch : Channel) (x : Beat w) (e : End w) → has_transfers terms.level ≡ false → stalls terms ch x e ≡ false
+pub stalls-plain : {w : ℕ} (terms : EndConfig) (ch : Channel) (x : Beat w) (e : Endpoint w) → has_transfers terms.level ≡ false → stalls terms ch x e ≡ false
 unfolding stalls
 stalls-plain terms ch (A x) e low = and_right _ false refl
 stalls-plain terms ch (B x) e low = and_left _ _ (waits_for_nothing terms.level ch x e.closed low)

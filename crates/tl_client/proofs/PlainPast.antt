@@ -15,12 +15,12 @@ use Rattle.tl_params.specs.declared.key.Key.TheVariants.{RequestSource}
 use Rattle.tl_params.specs.declared.rule.Rule.{Rule}
 use Rattle.tl_params.specs.declared.rule.Rule.TheVariants.{S1, A2}
 use Rattle.tl_params.specs.statement.Refusal.{ok_unless}
-use Rattle.tl_rules.specs.statement.Agent.{is_spoiled}
+use Rattle.tl_rules.specs.statement.Admission.{is_spoiled}
 use Rattle.tl_rules.specs.statement.Conformance.{broken_in_order}
 use Rattle.tl_rules.specs.statement.History.{pending}
 use Rattle.tl_rules.specs.statement.Legality.{illegal}
 use Rattle.tl_client.specs.declared.plain.Plain.{Plain}
-use Rattle.tl_client.specs.statement.End.{End}
+use Rattle.tl_client.specs.statement.Endpoint.{Endpoint}
 use Rattle.tl_client.specs.code.KnowsPlain.{KnowsPlain, KnowsPast}
 use Rattle.tl_client.specs.code.Plain.{response_rule, order_rule}
 use Rattle.tl_client.specs.code.Sources.{open_at}
@@ -38,7 +38,7 @@ in_order p y = cond (is_empty p.responses) (response_rule y (open_at p.requests 
 abbrev pub JudgesOrder : {w : ℕ} → Plain w → Beat w → Result Part Broken → Option Rule → Type 0
 JudgesOrder {w} p x part o = (t : History w) → KnowsPast p t → part ≡ part_of x (unfinished (channel_of x) t) → o ≡ broken_in_order p.profile x t
 
-agreed : {w : ℕ} (p : Plain w) (e : End w) (x : Beat w) (y : BeatD w) (part : Result Part Broken) (o : Option Rule) → x ≡ D y → KnowsPlain p e → illegal p.config.level channel.D x ≡ None
+agreed : {w : ℕ} (p : Plain w) (e : Endpoint w) (x : Beat w) (y : BeatD w) (part : Result Part Broken) (o : Option Rule) → x ≡ D y → KnowsPlain p e → illegal p.config.level channel.D x ≡ None
     → part ≡ part_of x p.responses → JudgesOrder p x part o → o ≡ in_order p y
 agreed p e x y part o own k legal peeked judges =
     let here : part ≡ part_of x (unfinished (channel_of x) e.past) = peeked ∙ rw (own, k.response_is) refl in
@@ -46,13 +46,13 @@ agreed p e x y part o own k legal peeked judges =
     judges e.past (e, k, refl) here ∙ ap (λ z. broken_in_order p.profile z e.past) own
     ∙ order_agrees p.profile y e.past (open_at p.requests y.source) p.responses answer k.sent_whole (k.requests_are y.source) k.response_is
 
-pub refused_in_order : {w : ℕ} (p : Plain w) (e : End w) (x : Beat w) (y : BeatD w) (part : Result Part Broken) (rule : Rule) → x ≡ D y → KnowsPlain p e → illegal p.config.level channel.D x ≡ None
+pub refused_in_order : {w : ℕ} (p : Plain w) (e : Endpoint w) (x : Beat w) (y : BeatD w) (part : Result Part Broken) (rule : Rule) → x ≡ D y → KnowsPlain p e → illegal p.config.level channel.D x ≡ None
     → part ≡ part_of x p.responses → JudgesOrder p x part (Some rule) → Err rule ≡ ok_unless (order_rule y (open_at p.requests y.source) p.responses)
 refused_in_order p e x y part rule own k legal peeked judges =
     let broken : in_order p y ≡ Some rule = sym (agreed p e x y part (Some rule) own k legal peeked judges) in
     rw broken refl
 
-pub judged_by_bits : {w : ℕ} (p : Plain w) (e : End w) (x : Beat w) (y : BeatD w) (part : Result Part Broken) (b : Bool) → x ≡ D y → KnowsPlain p e → illegal p.config.level channel.D x ≡ None
+pub judged_by_bits : {w : ℕ} (p : Plain w) (e : Endpoint w) (x : Beat w) (y : BeatD w) (part : Result Part Broken) (b : Bool) → x ≡ D y → KnowsPlain p e → illegal p.config.level channel.D x ≡ None
     → part ≡ part_of x p.responses → JudgesOrder p x part None → b ≡ is_spoiled x → ok_unless (first_if b A2 None) ≡ ok_unless (order_rule y (open_at p.requests y.source) p.responses)
 judged_by_bits p e x y part b own k legal peeked judges bits =
     let passes : in_order p y ≡ None = sym (agreed p e x y part None own k legal peeked judges) in

@@ -26,7 +26,7 @@ use Rattle.tl_rules.proofs.Bursts.{next_rule}
 use Rattle.tl_client.specs.declared.request.Request.{Request}
 use Rattle.tl_client.specs.statement.Requests.{fields_of, open_request}
 use Rattle.tl_client.specs.code.Plain.{response_rule, plain_rule}
-use Rattle.tl_client.specs.statement.End.{Terms, End}
+use Rattle.tl_client.specs.statement.Endpoint.{EndConfig, Endpoint}
 use Rattle.tl_client.specs.statement.Offer.{offered, judged_later, is_sent_on}
 
 -- ---- what a legal response is
@@ -73,10 +73,10 @@ order_agrees p x t request burst answer sent asked_is burst_is = rw (asked_is, b
 -- ---- the whole order
 
 -- a client that keeps these open requests and this burst judges as its end of the link is judged
-abbrev pub Judges : {w : ℕ} → Terms → Channel → Beat w → End w → (ℕ → Option Request) → List (Beat w) → Type 0
+abbrev pub Judges : {w : ℕ} → EndConfig → Channel → Beat w → Endpoint w → (ℕ → Option Request) → List (Beat w) → Type 0
 Judges terms ch x e asked burst = offered terms ch x e ≡ judged_later (plain_rule terms.level asked burst e.closed ch x) x e
 
-response_judged : {w : ℕ} (terms : Terms) (x : BeatD w) (e : End w) (asked : ℕ → Option Request) (burst : List (Beat w)) → e.closed ≡ false → has_transfers terms.level ≡ false
+response_judged : {w : ℕ} (terms : EndConfig) (x : BeatD w) (e : Endpoint w) (asked : ℕ → Option Request) (burst : List (Beat w)) → e.closed ≡ false → has_transfers terms.level ≡ false
     → unfinished channel.A e.past ≡ []
     → asked x.source ≡ open_request x.source e.past → burst ≡ unfinished channel.D e.past → Judges terms channel.D (D x) e asked burst
 unfolding offered
@@ -87,17 +87,17 @@ response_judged {w} terms x e asked burst live low sent asked_is burst_is = go (
     go None is = rw (live, is, order_agrees terms.profile x e.past (asked x.source) burst (legal_answer terms.level x low is) sent asked_is burst_is) refl
 
 -- a beat that doesn't come to a plain client
-wrong_way : {w : ℕ} (terms : Terms) (ch : Channel) (x : Beat w) (e : End w) (asked : ℕ → Option Request) (burst : List (Beat w)) → e.closed ≡ false → is_sent_on ch ≡ true
+wrong_way : {w : ℕ} (terms : EndConfig) (ch : Channel) (x : Beat w) (e : Endpoint w) (asked : ℕ → Option Request) (burst : List (Beat w)) → e.closed ≡ false → is_sent_on ch ≡ true
     → plain_rule terms.level asked burst false ch x ≡ Some L1 → Judges terms ch x e asked burst
 unfolding offered
 wrong_way terms ch x e asked burst live sends rule = rw (live, sends, rule) refl
 
-wrong_beat : {w : ℕ} (terms : Terms) (ch : Channel) (x : Beat w) (e : End w) (asked : ℕ → Option Request) (burst : List (Beat w)) → e.closed ≡ false → is_sent_on ch ≡ false
+wrong_beat : {w : ℕ} (terms : EndConfig) (ch : Channel) (x : Beat w) (e : Endpoint w) (asked : ℕ → Option Request) (burst : List (Beat w)) → e.closed ≡ false → is_sent_on ch ≡ false
     → breaks_l1 terms.level ch x ≡ true → plain_rule terms.level asked burst false ch x ≡ Some L1 → Judges terms ch x e asked burst
 unfolding offered illegal
 wrong_beat terms ch x e asked burst live comes broken rule = rw (live, comes, broken, rule) refl
 
-live_judged : {w : ℕ} (terms : Terms) (ch : Channel) (x : Beat w) (e : End w) (asked : ℕ → Option Request) (burst : List (Beat w)) → e.closed ≡ false → has_transfers terms.level ≡ false
+live_judged : {w : ℕ} (terms : EndConfig) (ch : Channel) (x : Beat w) (e : Endpoint w) (asked : ℕ → Option Request) (burst : List (Beat w)) → e.closed ≡ false → has_transfers terms.level ≡ false
     → unfinished channel.A e.past ≡ []
     → ((s : ℕ) → asked s ≡ open_request s e.past) → burst ≡ unfinished channel.D e.past → Judges terms ch x e asked burst
 live_judged terms channel.A x e asked burst live low sent asked_is burst_is = wrong_way terms channel.A x e asked burst live refl refl
@@ -114,11 +114,11 @@ live_judged terms channel.D (C x) e asked burst live low sent asked_is burst_is 
 live_judged terms channel.D (D x) e asked burst live low sent asked_is burst_is = response_judged terms x e asked burst live low sent (asked_is x.source) burst_is
 live_judged terms channel.D (E x) e asked burst live low sent asked_is burst_is = wrong_beat terms channel.D (E x) e asked burst live refl refl refl
 
-shut_judged : {w : ℕ} (terms : Terms) (ch : Channel) (x : Beat w) (e : End w) (asked : ℕ → Option Request) (burst : List (Beat w)) → e.closed ≡ true → Judges terms ch x e asked burst
+shut_judged : {w : ℕ} (terms : EndConfig) (ch : Channel) (x : Beat w) (e : Endpoint w) (asked : ℕ → Option Request) (burst : List (Beat w)) → e.closed ≡ true → Judges terms ch x e asked burst
 unfolding offered
 shut_judged terms ch x e asked burst closed = rw closed refl
 
-pub judged : {w : ℕ} (terms : Terms) (ch : Channel) (x : Beat w) (e : End w) (asked : ℕ → Option Request) (burst : List (Beat w)) → has_transfers terms.level ≡ false → unfinished channel.A e.past ≡ []
+pub judged : {w : ℕ} (terms : EndConfig) (ch : Channel) (x : Beat w) (e : Endpoint w) (asked : ℕ → Option Request) (burst : List (Beat w)) → has_transfers terms.level ≡ false → unfinished channel.A e.past ≡ []
     → ((s : ℕ) → asked s ≡ open_request s e.past) → burst ≡ unfinished channel.D e.past → Judges terms ch x e asked burst
 judged terms ch x e asked burst low sent asked_is burst_is = elim (cases_Bool e.closed) [
   | inl shut ↦ shut_judged terms ch x e asked burst shut

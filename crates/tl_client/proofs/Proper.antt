@@ -27,7 +27,7 @@ use Rattle.tl_client.specs.declared.operation.Op.TheVariants.{Load, Store, Acqui
 use Rattle.tl_client.specs.declared.verdict.Verdict.TheVariants.{Taken}
 use Rattle.tl_client.specs.statement.Ask.{asked, done, load, store, is_clean, free_request, free_release, source_or_0, whole_grow}
 use Rattle.tl_client.specs.laws.Bytes.{IsTypedOp, HasBytes}
-use Rattle.tl_client.specs.statement.End.{Terms, End, zeros, copy_at, held_at, with_past}
+use Rattle.tl_client.specs.statement.Endpoint.{EndConfig, Endpoint, zeros, copy_at, held_at, with_past}
 use Rattle.tl_client.specs.statement.Offer.{Offered, offered, taken, silent, report_for}
 use Rattle.tl_client.specs.statement.Send.{acquire, on_c, grant_ack}
 use Rattle.tl_client.specs.laws.Sound.{IsProper, IsProperIfAny, IsProperAnswer}
@@ -82,23 +82,23 @@ proper_grant_ack blocks sink = record { has_block = tt; is_blank = tt; is_inside
 
 -- ---- operations
 
-copy_long : {w : ℕ} (e : End w) (block : ℕ) → HasBytes e → length (copy_at e block) ≡ 64
+copy_long : {w : ℕ} (e : Endpoint w) (block : ℕ) → HasBytes e → length (copy_at e block) ≡ 64
 copy_long e block old = long_or_zeros (e.copies block) (old.long_copies block)
 
 inside_map : (blocks block : ℕ) (formed : Bool) → (leb blocks block || not formed) ≡ false → leb blocks block ≡ false
 inside_map blocks block formed e = (or_parts (leb blocks block) (not formed) e).0
 
-proper_load : {w : ℕ} (blocks address size : ℕ) (p : Perm) (e : End w) → IsProperIfAny blocks (load address size p e).message
+proper_load : {w : ℕ} (blocks address size : ℕ) (p : Perm) (e : Endpoint w) → IsProperIfAny blocks (load address size p e).message
 proper_load blocks address size perm.None e = tt
 proper_load blocks address size perm.Branch e = tt
 proper_load blocks address size perm.Trunk e = tt
 
-proper_store : {w : ℕ} (blocks address size value : ℕ) (p : Perm) (e : End w) → IsProperIfAny blocks (store address size value p e).message
+proper_store : {w : ℕ} (blocks address size value : ℕ) (p : Perm) (e : Endpoint w) → IsProperIfAny blocks (store address size value p e).message
 proper_store blocks address size value perm.None e = tt
 proper_store blocks address size value perm.Branch e = tt
 proper_store blocks address size value perm.Trunk e = tt
 
-proper_done : {w : ℕ} (terms : Terms) (op : Op w) (e : End w) → IsWidth w → NotBusy terms op e → IsTypedOp op → HasBytes e → IsProperIfAny terms.blocks (done terms op e).message
+proper_done : {w : ℕ} (terms : EndConfig) (op : Op w) (e : Endpoint w) → IsWidth w → NotBusy terms op e → IsTypedOp op → HasBytes e → IsProperIfAny terms.blocks (done terms op e).message
 proper_done terms (Load address size) e is free typed old = proper_load terms.blocks address size (held_at e (block_at address)) e
 proper_done terms (Store address size value) e is free typed old = proper_store terms.blocks address size value (held_at e (block_at address)) e
 proper_done terms (Acquire block grow) e is free typed old =
@@ -124,12 +124,12 @@ proper_done terms (Access (C m)) e is free typed old = tt
 proper_done terms (Access (D m)) e is free typed old = tt
 proper_done terms (Access (E m)) e is free typed old = tt
 
-pub asked-proper : {w : ℕ} (terms : Terms) (op : Op w) (e : End w) → IsWidth w → IsTypedOp op → HasBytes e → IsProperIfAny terms.blocks (asked terms op e).message
+pub asked-proper : {w : ℕ} (terms : EndConfig) (op : Op w) (e : Endpoint w) → IsWidth w → IsTypedOp op → HasBytes e → IsProperIfAny terms.blocks (asked terms op e).message
 asked-proper terms op e is typed old = asked-cases terms op e (λ o. IsProperIfAny terms.blocks o.message) (λ b. tt) (λ free. proper_done terms op e is free typed old)
 
 -- ---- beats
 
-proper_taken : {w : ℕ} (terms : Terms) (ch : Channel) (x : Beat w) (e : End w) → IsWidth w → IsPassed terms ch x e → HasBytes e → IsProperAnswer terms.blocks (taken x e).answer
+proper_taken : {w : ℕ} (terms : EndConfig) (ch : Channel) (x : Beat w) (e : Endpoint w) → IsWidth w → IsPassed terms ch x e → HasBytes e → IsProperAnswer terms.blocks (taken x e).answer
 proper_taken terms ch (beat.A x) e is passed old = tt
 proper_taken terms ch (beat.C x) e is passed old = tt
 proper_taken terms ch (beat.E x) e is passed old = tt
@@ -147,5 +147,5 @@ proper_taken {w} terms ch (beat.D x) e is passed old =
     go true o h = h
     go false o h = tt
 
-pub offered-proper : {w : ℕ} (terms : Terms) (ch : Channel) (x : Beat w) (e : End w) → IsWidth w → HasBytes e → IsProperAnswer terms.blocks (offered terms ch x e).answer
+pub offered-proper : {w : ℕ} (terms : EndConfig) (ch : Channel) (x : Beat w) (e : Endpoint w) → IsWidth w → HasBytes e → IsProperAnswer terms.blocks (offered terms ch x e).answer
 offered-proper terms ch x e is old = offered-cases terms ch x e (λ o. IsProperAnswer terms.blocks o.answer) (λ r. tt) tt (λ passed. proper_taken terms ch x e is passed old)

@@ -11,10 +11,10 @@ use Rattle.tl_burst.specs.declared.message.MessageD.{MessageD}
 use Rattle.tl_burst.specs.statement.Burst.{beats_of, d_beat_of, IsBurst}
 use Rattle.tl_burst.specs.statement.Messages.{grown}
 use Rattle.tl_burst.specs.statement.Part.{completes}
-use Rattle.tl_rules.specs.statement.Agent.{payload_of}
+use Rattle.tl_rules.specs.statement.Admission.{payload_of}
 use Rattle.tl_client.specs.declared.caching.Caching.{Caching}
 use Rattle.tl_client.specs.declared.verdict.Verdict.{Verdict}
-use Rattle.tl_client.specs.statement.End.{Terms}
+use Rattle.tl_client.specs.statement.Endpoint.{EndConfig}
 use Rattle.tl_client.specs.code.KnowsCaching.{terms_of}
 use Rattle.tl_client.specs.code.Response.{Response, in_message, in_beats, Completes, d_of}
 use Rattle.tl_client.specs.code.Takes.{Finishes, GrantsInside, Ends}
@@ -77,7 +77,7 @@ pub ends-from : {w : ℕ} (c c1 d : Caching w) (n : Response) (x : BeatD w) (r :
     → c1.releases ≡ c.releases → c1.closed ≡ c.closed → terms_of c1 ≡ terms_of c
     → (GrantsInside c1 n → Finishes c1 d n r) → d.responses ≡ [] → d.granting ≡ None → GrantsInside c (in_beats x c.responses) → Ends c d x r
 ends-from {w} c c1 d n x r same table requests releases closed terms finishes response granting fits =
-    let blocks : c1.blocks ≡ c.blocks = ap (λ (t : Terms). t.blocks) terms in
+    let blocks : c1.blocks ≡ c.blocks = ap (λ (t : EndConfig). t.blocks) terms in
     let within : GrantsInside c1 (in_beats x c.responses) = rw (requests, blocks) fits in
     let f : Finishes c1 d (in_beats x c.responses) r = subst (λ (z : Response). GrantsInside c1 z → Finishes c1 d z r) same finishes within in
     record {

@@ -22,7 +22,7 @@ use Rattle.tl_params.specs.declared.perm.Perm.TheVariants.{Branch, Trunk}
 use Rattle.tl_params.specs.declared.profile.Profile.TheVariants as profile
 use Rattle.tl_params.specs.declared.rule.Rule.{Rule}
 use Rattle.tl_params.specs.declared.rule.Rule.TheVariants.{L7, H2, H3, H6, A1, A3}
-use Rattle.tl_rules.specs.statement.Agent.{bytes_carried}
+use Rattle.tl_rules.specs.statement.Admission.{bytes_carried}
 use Rattle.tl_rules.specs.statement.Conformance.{broken_order}
 use Rattle.tl_rules.specs.statement.Effect.{number_from}
 use Rattle.tl_rules.specs.statement.History.{request_of, release_of, probe_of, grant_sink, pending, held}
@@ -36,7 +36,7 @@ use Rattle.tl_client.specs.declared.verdict.Finish.TheVariants.{Granted, Release
 use Rattle.tl_client.specs.declared.verdict.Verdict.{Verdict}
 use Rattle.tl_client.specs.declared.verdict.Verdict.TheVariants.{Stalled, Taken, Done}
 use Rattle.tl_client.specs.statement.Ask.{asked, busy, least_free, low_bytes}
-use Rattle.tl_client.specs.statement.End.{Terms, End, fresh}
+use Rattle.tl_client.specs.statement.Endpoint.{EndConfig, Endpoint, fresh}
 use Rattle.tl_client.specs.statement.Offer.{offered}
 
 -- ---- what happens to a client, and what it answers
@@ -56,20 +56,20 @@ answer_to_beat (Ok v) = Judged v.0 v.1
 answer_to_beat (Err rule) = Refused rule
 
 -- the answers to events, one after another
-unfoldable plays : {w : ℕ} → Terms → End w → List (Event w) → List (Answer w)
+unfoldable plays : {w : ℕ} → EndConfig → Endpoint w → List (Event w) → List (Answer w)
 plays terms e [] = []
 plays terms e (Ask op ∷ events) = Replied (asked terms op e).reply (asked terms op e).message ∷ plays terms (asked terms op e).after events
 plays terms e (Offer ch x ∷ events) = answer_to_beat (offered terms ch x e).answer ∷ plays terms (offered terms ch x e).after events
 
-abbrev plain : Terms
+abbrev plain : EndConfig
 plain = record { level = level.UL; profile = profile.One; sources = 1; blocks = 1 }
 
-abbrev caching : ℕ → Terms
+abbrev caching : ℕ → EndConfig
 caching blocks = record { level = level.C; profile = profile.One; sources = 1; blocks = blocks }
 
 -- ---- beats and messages
 
--- so many bytes, of which the first is this one
+-- this many bytes, of which the first is this one
 abbrev first_of : ℕ → ℕ → List ℕ
 first_of count byte = byte ∷ replicate (count - 1) 0
 

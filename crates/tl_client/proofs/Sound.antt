@@ -49,7 +49,7 @@ use Rattle.tl_client.specs.declared.operation.Op.{Op}
 use Rattle.tl_client.specs.declared.operation.Op.TheVariants.{Load, Store, Acquire, AcquireWhole, Release, Access}
 use Rattle.tl_client.specs.statement.Ask.{asked, asked_given, busy, breaks_b4, breaks_b5, op_block, is_sound, is_clean, done, load, store, source_or_0, free_request, free_release, whole_grow}
 use Rattle.tl_client.specs.statement.Send.{access, acquire, on_c, release, probe_ack, grant_ack}
-use Rattle.tl_client.specs.statement.End.{Terms, End, zeros, copy_at, held_at, with_past}
+use Rattle.tl_client.specs.statement.Endpoint.{EndConfig, Endpoint, zeros, copy_at, held_at, with_past}
 use Rattle.tl_client.specs.laws.Sound.{IsSound, IsSoundIfAny, IsSoundAnswer}
 
 -- ---- fields
@@ -168,22 +168,22 @@ at_c level.C m e sound = sound
 at_c level.UL m e sound = absurd cc
 at_c level.UH m e sound = absurd cc
 
-pub formed_access : {w : ℕ} (terms : Terms) (m : Message w) → breaks_b5 terms (Access m) ≡ false → is_sound terms.level m ≡ true
+pub formed_access : {w : ℕ} (terms : EndConfig) (m : Message w) → breaks_b5 terms (Access m) ≡ false → is_sound terms.level m ≡ true
 formed_access terms m e =
     let parts = or_parts (leb terms.blocks (op_block (Access m))) _ e in
     not-false (is_sound terms.level m) parts.1
 
-no_message : {w : ℕ} (l : Level) (address size : ℕ) (p : Perm) (e : End w) → IsSoundIfAny l (load address size p e).message
+no_message : {w : ℕ} (l : Level) (address size : ℕ) (p : Perm) (e : Endpoint w) → IsSoundIfAny l (load address size p e).message
 no_message l address size perm.None e = tt
 no_message l address size perm.Branch e = tt
 no_message l address size perm.Trunk e = tt
 
-no_message_stored : {w : ℕ} (l : Level) (address size value : ℕ) (p : Perm) (e : End w) → IsSoundIfAny l (store address size value p e).message
+no_message_stored : {w : ℕ} (l : Level) (address size value : ℕ) (p : Perm) (e : Endpoint w) → IsSoundIfAny l (store address size value p e).message
 no_message_stored l address size value perm.None e = tt
 no_message_stored l address size value perm.Branch e = tt
 no_message_stored l address size value perm.Trunk e = tt
 
-done_sound : {w : ℕ} (terms : Terms) (op : Op w) (e : End w) → IsWidth w → breaks_b4 terms.level op ≡ false → breaks_b5 terms op ≡ false → IsSoundIfAny terms.level (done terms op e).message
+done_sound : {w : ℕ} (terms : EndConfig) (op : Op w) (e : Endpoint w) → IsWidth w → breaks_b4 terms.level op ≡ false → breaks_b5 terms op ≡ false → IsSoundIfAny terms.level (done terms op e).message
 done_sound terms (Load address size) e is four five = no_message terms.level address size (held_at e (block_at address)) e
 done_sound terms (Store address size value) e is four five = no_message_stored terms.level address size value (held_at e (block_at address)) e
 done_sound {w} terms (Acquire block grow) e is four five =
@@ -204,13 +204,13 @@ done_sound terms (Access (C m)) e is four five = tt
 done_sound terms (Access (D m)) e is four five = tt
 done_sound terms (Access (E m)) e is four five = tt
 
-asked_given_sound : {w : ℕ} (o : Option Busy) (terms : Terms) (op : Op w) (e : End w) → IsWidth w → (o ≡ None → (breaks_b4 terms.level op ≡ false) × (breaks_b5 terms op ≡ false))
+asked_given_sound : {w : ℕ} (o : Option Busy) (terms : EndConfig) (op : Op w) (e : Endpoint w) → IsWidth w → (o ≡ None → (breaks_b4 terms.level op ≡ false) × (breaks_b5 terms op ≡ false))
     → IsSoundIfAny terms.level (asked_given o terms op e).message
 asked_given_sound (Some b) terms op e is parts = tt
 asked_given_sound None terms op e is parts = done_sound terms op e is (parts refl).0 (parts refl).1
 
 -- what is handed out for an operation
-pub asked-sound : {w : ℕ} (terms : Terms) (op : Op w) (e : End w) → IsWidth w → IsSoundIfAny terms.level (asked terms op e).message
+pub asked-sound : {w : ℕ} (terms : EndConfig) (op : Op w) (e : Endpoint w) → IsWidth w → IsSoundIfAny terms.level (asked terms op e).message
 unfolding asked busy
 asked-sound terms op e is = asked_given_sound (busy terms op e) terms op e is (λ none.
     let four = next_rule (breaks_b4 terms.level op) B4 _ none in
@@ -250,7 +250,7 @@ transfers_with_grant l channel.C x grants e = absurd cc
 transfers_with_grant l channel.D x grants e = no_grant_below l x.opcode grants (not-false (d_of_level l x.opcode) (next_rule (not (d_of_level l x.opcode)) L1 _ e).0)
 transfers_with_grant l channel.E x grants e = absurd cc
 
-ended_sound : {w : ℕ} (l : Level) (opcode : OpD) (x : BeatD w) (f : Finish) (e : End w) → (is_grant opcode ≡ true → has_transfers l ≡ true) → IsSoundAnswer l (ended opcode x f e).answer
+ended_sound : {w : ℕ} (l : Level) (opcode : OpD) (x : BeatD w) (f : Finish) (e : Endpoint w) → (is_grant opcode ≡ true → has_transfers l ≡ true) → IsSoundAnswer l (ended opcode x f e).answer
 ended_sound l d.AccessAck x f e transfers = tt
 ended_sound l d.AccessAckData x f e transfers = tt
 ended_sound l d.HintAck x f e transfers = tt
@@ -258,7 +258,7 @@ ended_sound {w} l d.Grant x f e transfers = at_c l (grant_ack x.sink) (transfers
 ended_sound {w} l d.GrantData x f e transfers = at_c l (grant_ack x.sink) (transfers refl) (sound_grant_ack w x.sink)
 ended_sound l d.ReleaseAck x f e transfers = tt
 
-taken_sound : {w : ℕ} (l : Level) (ch : Channel) (x : Beat w) (e : End w) → illegal l ch x ≡ None → IsSoundAnswer l (taken x e).answer
+taken_sound : {w : ℕ} (l : Level) (ch : Channel) (x : Beat w) (e : Endpoint w) → illegal l ch x ≡ None → IsSoundAnswer l (taken x e).answer
 taken_sound l ch (beat.A x) e legal = tt
 taken_sound {w} l ch (beat.B x) e legal =
     let p = held_at e (block_at x.address) in
@@ -272,11 +272,11 @@ taken_sound {w} l ch (beat.D x) e legal = go (ends (beat.D x) e.past) _ (ended_s
     go false o sound = tt
 taken_sound l ch (beat.E x) e legal = tt
 
-judged_later_sound : {w : ℕ} (o : Option Rule) (l : Level) (ch : Channel) (x : Beat w) (e : End w) → illegal l ch x ≡ None → IsSoundAnswer l (judged_later o x e).answer
+judged_later_sound : {w : ℕ} (o : Option Rule) (l : Level) (ch : Channel) (x : Beat w) (e : Endpoint w) → illegal l ch x ≡ None → IsSoundAnswer l (judged_later o x e).answer
 judged_later_sound (Some r) l ch x e legal = tt
 judged_later_sound None l ch x e legal = taken_sound l ch x e legal
 
-judged_sound : {w : ℕ} (o : Option Rule) (terms : Terms) (ch : Channel) (x : Beat w) (e : End w) → (o ≡ None → illegal terms.level ch x ≡ None) → IsSoundAnswer terms.level (judged o terms x e).answer
+judged_sound : {w : ℕ} (o : Option Rule) (terms : EndConfig) (ch : Channel) (x : Beat w) (e : Endpoint w) → (o ≡ None → illegal terms.level ch x ≡ None) → IsSoundAnswer terms.level (judged o terms x e).answer
 judged_sound (Some r) terms ch x e legal = tt
 judged_sound {w} None terms ch x e legal = go (waits x e.past)
   where
@@ -285,7 +285,7 @@ judged_sound {w} None terms ch x e legal = go (waits x e.past)
     go false = judged_later_sound (broken_later terms x e) terms.level ch x e (legal refl)
 
 -- what is handed out for a beat
-pub offered-sound : {w : ℕ} (terms : Terms) (ch : Channel) (x : Beat w) (e : End w) → IsSoundAnswer terms.level (offered terms ch x e).answer
+pub offered-sound : {w : ℕ} (terms : EndConfig) (ch : Channel) (x : Beat w) (e : Endpoint w) → IsSoundAnswer terms.level (offered terms ch x e).answer
 unfolding offered
 offered-sound terms ch x e = judged_sound (broken_before terms ch x e) terms ch x e (λ none.
     let live = next_rule e.closed A3 _ none in

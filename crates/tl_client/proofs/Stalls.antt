@@ -11,10 +11,10 @@ use Rattle.tl_params.specs.declared.rule.Rule.{Rule}
 use Rattle.tl_rules.specs.statement.History.{ends}
 use Rattle.tl_client.specs.declared.verdict.Finish.{Finish}
 use Rattle.tl_client.specs.declared.verdict.Verdict.TheVariants.{Stalled, Taken}
-use Rattle.tl_client.specs.statement.End.{Terms, End, with_past}
+use Rattle.tl_client.specs.statement.Endpoint.{EndConfig, Endpoint, with_past}
 use Rattle.tl_client.specs.statement.Offer.{Offered, offered, stalls, is_stalled, broken_before, broken_later, waits, taken, ended, silent, judged, judged_later}
 
-ended_now : {w : ℕ} (opcode : OpD) (x : BeatD w) (f : Finish) (e : End w) → is_stalled (ended opcode x f e).answer ≡ false
+ended_now : {w : ℕ} (opcode : OpD) (x : BeatD w) (f : Finish) (e : Endpoint w) → is_stalled (ended opcode x f e).answer ≡ false
 ended_now d.AccessAck x f e = refl
 ended_now d.AccessAckData x f e = refl
 ended_now d.HintAck x f e = refl
@@ -22,7 +22,7 @@ ended_now d.Grant x f e = refl
 ended_now d.GrantData x f e = refl
 ended_now d.ReleaseAck x f e = refl
 
-pub taken_now : {w : ℕ} (x : Beat w) (e : End w) → is_stalled (taken x e).answer ≡ false
+pub taken_now : {w : ℕ} (x : Beat w) (e : Endpoint w) → is_stalled (taken x e).answer ≡ false
 taken_now (A x) e = refl
 taken_now (B x) e = refl
 taken_now (C x) e = refl
@@ -33,11 +33,11 @@ taken_now {w} (D x) e = go (ends (D x) e.past) _ (ended_now x.opcode x _ _)
     go true o last = last
     go false o last = refl
 
-judged_now : {w : ℕ} (o : Option Rule) (x : Beat w) (e : End w) → is_stalled (judged_later o x e).answer ≡ false
+judged_now : {w : ℕ} (o : Option Rule) (x : Beat w) (e : Endpoint w) → is_stalled (judged_later o x e).answer ≡ false
 judged_now (Some r) x e = refl
 judged_now None x e = taken_now x e
 
-before_now : {w : ℕ} (o : Option Rule) (terms : Terms) (x : Beat w) (e : End w) → (is_none o && waits x e.past) ≡ is_stalled (judged o terms x e).answer
+before_now : {w : ℕ} (o : Option Rule) (terms : EndConfig) (x : Beat w) (e : Endpoint w) → (is_none o && waits x e.past) ≡ is_stalled (judged o terms x e).answer
 before_now (Some r) terms x e = refl
 before_now {w} None terms x e = go (waits x e.past)
   where
@@ -45,6 +45,6 @@ before_now {w} None terms x e = go (waits x e.past)
     go true = refl
     go false = sym (judged_now (broken_later terms x e) x e)
 
-pub stalls-offered : {w : ℕ} (terms : Terms) (ch : Channel) (x : Beat w) (e : End w) → stalls terms ch x e ≡ is_stalled (offered terms ch x e).answer
+pub stalls-offered : {w : ℕ} (terms : EndConfig) (ch : Channel) (x : Beat w) (e : Endpoint w) → stalls terms ch x e ≡ is_stalled (offered terms ch x e).answer
 unfolding stalls offered
 stalls-offered terms ch x e = before_now (broken_before terms ch x e) terms x e

@@ -1,6 +1,6 @@
 pub mod Ask
-pub mod End
-pub mod Kept
+pub mod Endpoint
+pub mod EndpointInvariant
 pub mod Offer
 pub mod Requests
 pub mod Send

@@ -4,7 +4,7 @@
 ghost use Rattle.std.specs.Prelude.{◌≡◌};
 ghost use Rattle.tl_rules.specs.statement.History;
 ghost use Rattle.tl_client.specs.statement.Ask.{asked};
-ghost use Rattle.tl_client.specs.statement.End.{Terms, End};
+ghost use Rattle.tl_client.specs.statement.Endpoint.{EndConfig, Endpoint};
 ghost use Rattle.tl_client.specs.statement.Offer;
 ghost use Rattle.tl_client.specs.statement.Offer.{offered};
 
@@ -17,23 +17,23 @@ use tl_burst::message::Message;
 use tl_rules::perm::Perm;
 use tl_rules::rule::Rule;
 
-/// A client. It stores no history: a contract speaks of every end of a link that the client knows.
+/// A client. It stores no history: a contract speaks of every end of a link that the client represents.
 pub trait Agent<const W: usize>: Drop {
-    /// What the client is is what it would be after this.
-    ghost knows: { Self → End W → Type 0 };
+    /// The client is in the state that this end of its link leads to.
+    ghost represents: { Self → Endpoint W → Type 0 };
 
     /// What it was made for.
-    ghost terms: { Self → Terms };
+    ghost terms: { Self → EndConfig };
 
     /// Answers an operation, and hands a message out where it starts one. A busy client and a miss
     /// change nothing. It works as before where the link is closed.
     fn ask(&mut self, operation: Op<W>) -> (Reply, Option<Message<W>>)
-        ensures reply { (e : End W) → knows self.old e →
+        ensures reply { (e : Endpoint W) → represents self.old e →
             result.0 ≡ (asked (terms self.old) operation.entry e).reply }
-        ensures message { (e : End W) → knows self.old e →
+        ensures message { (e : Endpoint W) → represents self.old e →
             result.1 ≡ (asked (terms self.old) operation.entry e).message }
-        ensures after { (e : End W) → knows self.old e →
-            knows self.new (asked (terms self.old) operation.entry e).after }
+        ensures after { (e : Endpoint W) → represents self.old e →
+            represents self.new (asked (terms self.old) operation.entry e).after }
         ensures terms { terms self.new ≡ terms self.old };
 
     /// Takes a beat of the channel named, stalls it, or refuses it by the first rule that it breaks.
@@ -44,26 +44,26 @@ pub trait Agent<const W: usize>: Drop {
         channel: Channel,
         beat: &Beat<W>,
     ) -> Result<(Verdict, Option<Message<W>>), Rule>
-        ensures answer { (e : End W) → knows self.old e →
+        ensures answer { (e : Endpoint W) → represents self.old e →
             result ≡ (offered (terms self.old) channel beat.now e).answer }
-        ensures after { (e : End W) → knows self.old e →
-            knows self.new (offered (terms self.old) channel beat.now e).after }
+        ensures after { (e : Endpoint W) → represents self.old e →
+            represents self.new (offered (terms self.old) channel beat.now e).after }
         ensures terms { terms self.new ≡ terms self.old };
 
     /// Whether `offer` of the same would answer `Stalled`.
     fn stalls(&self, channel: Channel, beat: &Beat<W>) -> bool
-        ensures { (e : End W) → knows self.now e →
+        ensures { (e : Endpoint W) → represents self.now e →
             result ≡ Offer.stalls (terms self.now) channel beat.now e };
 
     /// What is held of a block: None where it is outside the map.
     fn held(&self, block: u16) -> Perm
-        ensures { (e : End W) → knows self.now e → result ≡ History.held block e.past };
+        ensures { (e : Endpoint W) → represents self.now e → result ≡ History.held block e.past };
 
     /// The bytes of the copy of a block, which there is exactly where the block isn't held as None.
     fn copy(&self, block: u16) -> Option<[u8; 64]>
-        ensures { (e : End W) → knows self.now e → result ≡ e.copies block };
+        ensures { (e : Endpoint W) → represents self.now e → result ≡ e.copies block };
 
     /// Whether a beat was refused.
     fn closed(&self) -> bool
-        ensures { (e : End W) → knows self.now e → result ≡ e.closed };
+        ensures { (e : Endpoint W) → represents self.now e → result ≡ e.closed };
 }

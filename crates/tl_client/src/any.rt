@@ -29,7 +29,7 @@ pub enum AnyClient<const W: usize> {
 impl<const W: usize> AnyClient<W> {
     ghost use Rattle.tl_client.specs.code.KnowsAny.{IsNewAny};
 
-    /// A client of the level of its configuration, on so many blocks, which has sent and taken
+    /// A client of the level of its configuration, on this many blocks, which has sent and taken
     /// nothing: N2 where these are out of their limits, otherwise N4 where its sources are, or at
     /// level C `Memory`. A plain client takes no memory.
     pub fn new(
@@ -57,18 +57,18 @@ impl<const W: usize> AnyClient<W> {
 impl<const W: usize> Agent<W> for AnyClient<W> {
     ghost use Rattle.tl_client.specs.code.KnowsAny.{KnowsAny, any_terms};
     ghost use Rattle.tl_client.specs.statement.Ask.{asked};
-    ghost use Rattle.tl_client.specs.statement.End.{End};
+    ghost use Rattle.tl_client.specs.statement.Endpoint.{Endpoint};
 
-    ghost knows = { λ c e. KnowsAny c e };
+    ghost represents = { λ c e. KnowsAny c e };
 
     ghost terms = { any_terms };
 
     fn ask(&mut self, operation: Op<W>) -> (Reply, Option<Message<W>>)
-        ensures reply { (e : End W) → KnowsAny self.old e →
+        ensures reply { (e : Endpoint W) → KnowsAny self.old e →
             result.0 ≡ (asked (any_terms self.old) operation.entry e).reply }
-        ensures message { (e : End W) → KnowsAny self.old e →
+        ensures message { (e : Endpoint W) → KnowsAny self.old e →
             result.1 ≡ (asked (any_terms self.old) operation.entry e).message }
-        ensures after { (e : End W) → KnowsAny self.old e →
+        ensures after { (e : Endpoint W) → KnowsAny self.old e →
             KnowsAny self.new (asked (any_terms self.old) operation.entry e).after }
         ensures terms { any_terms self.new ≡ any_terms self.old }
     {

@@ -61,7 +61,7 @@ pub struct Caching<const W: usize> {
 impl<const W: usize> Caching<W> {
     ghost use Rattle.tl_client.specs.code.KnowsCaching.{IsNewCaching};
 
-    /// A client on so many blocks, which has sent and taken nothing: N2 where these are out of their
+    /// A client on this many blocks, which has sent and taken nothing: N2 where these are out of their
     /// limits, otherwise N4 where its sources are, or `Memory`. No other call takes memory.
     pub fn new(
         alloc: Global,
@@ -91,18 +91,18 @@ impl<const W: usize> Caching<W> {
 impl<const W: usize> Agent<W> for Caching<W> {
     ghost use Rattle.tl_client.specs.code.KnowsCaching.{KnowsCaching, terms_of};
     ghost use Rattle.tl_client.specs.statement.Ask.{asked};
-    ghost use Rattle.tl_client.specs.statement.End.{End};
+    ghost use Rattle.tl_client.specs.statement.Endpoint.{Endpoint};
 
-    ghost knows = { λ c e. KnowsCaching c e };
+    ghost represents = { λ c e. KnowsCaching c e };
 
     ghost terms = { terms_of };
 
     fn ask(&mut self, operation: Op<W>) -> (Reply, Option<Message<W>>)
-        ensures reply { (e : End W) → KnowsCaching self.old e →
+        ensures reply { (e : Endpoint W) → KnowsCaching self.old e →
             result.0 ≡ (asked (terms_of self.old) operation.entry e).reply }
-        ensures message { (e : End W) → KnowsCaching self.old e →
+        ensures message { (e : Endpoint W) → KnowsCaching self.old e →
             result.1 ≡ (asked (terms_of self.old) operation.entry e).message }
-        ensures after { (e : End W) → KnowsCaching self.old e →
+        ensures after { (e : Endpoint W) → KnowsCaching self.old e →
             KnowsCaching self.new (asked (terms_of self.old) operation.entry e).after }
         ensures terms { terms_of self.new ≡ terms_of self.old }
     {

@@ -11,6 +11,7 @@ use crate::access::{is_access, is_sound};
 use crate::busy::Busy;
 use crate::operation::Op;
 use tl_burst::message::Message;
+use tl_rules::key::block_at;
 use tl_rules::level::Level;
 
 /// Whether an operation is one of the level.
@@ -47,16 +48,16 @@ pub fn op_block<const W: usize>(operation: &Op<W>) -> u32
     ensures { result ≡ Ask.op_block operation.now }
 {
     match operation {
-        Op::Load { address, .. } | Op::Store { address, .. } => *address / 64,
+        Op::Load { address, .. } | Op::Store { address, .. } => block_at(*address),
         Op::Acquire { block, .. } | Op::AcquireWhole { block, .. } | Op::Release { block, .. } => {
             u32::from(*block)
         }
-        Op::Access(Message::A(access)) => access.address / 64,
+        Op::Access(Message::A(access)) => block_at(access.address),
         Op::Access(_) => 0,
     }
 }
 
-/// Why an operation isn't started on a map of so many blocks: B4 where it isn't one of the level,
+/// Why an operation isn't started on a map of this many blocks: B4 where it isn't one of the level,
 /// B5 where it is outside the map or isn't well formed.
 pub fn check<const W: usize>(level: Level, blocks: u16, operation: &Op<W>) -> Option<Busy>
     requires { IsWidth W }

@@ -10,7 +10,7 @@ ghost use Rattle.tl_burst.specs.declared.message.Message.{Message};
 ghost use Rattle.tl_burst.specs.statement.Messages.{unfinished};
 ghost use Rattle.tl_params.specs.declared.key.Key.{Key};
 ghost use Rattle.tl_params.specs.declared.rule.Rule.{Rule};
-ghost use Rattle.tl_rules.specs.statement.Agent.{sent_if_any};
+ghost use Rattle.tl_rules.specs.statement.Admission.{sent_if_any};
 ghost use Rattle.tl_params.specs.declared.perm.Perm.TheVariants as perm;
 ghost use Rattle.tl_rules.specs.statement.Conformance.{same_perm};
 ghost use Rattle.tl_rules.specs.statement.Effect.{byte_of};
@@ -26,9 +26,9 @@ ghost use Rattle.tl_client.specs.laws.Accounted.{IsAccounted};
 ghost use Rattle.tl_client.specs.laws.After.{heard, handed, is_refused, copy_left, copy_by, waiting_left, waiting_by, open_by, release_by, IsStarted};
 ghost use Rattle.tl_client.specs.statement.Ask.{asked, busy, is_word, loaded, copy_stored};
 ghost use Rattle.tl_client.specs.laws.Bytes.{IsTypedOp, HasBytes};
-ghost use Rattle.tl_client.specs.statement.End.{Terms, End, copy_at, fresh, shut};
+ghost use Rattle.tl_client.specs.statement.Endpoint.{EndConfig, Endpoint, copy_at, fresh, shut};
 ghost use Rattle.tl_client.specs.laws.Inside.{IsInside};
-ghost use Rattle.tl_client.specs.statement.Kept.{IsKept, holds};
+ghost use Rattle.tl_client.specs.statement.EndpointInvariant.{IsEndpointInvariant, holds};
 ghost use Rattle.tl_client.specs.laws.Held.{left_by, held_by};
 ghost use Rattle.tl_client.specs.statement.Requests.{open_beat, open_release};
 ghost use Rattle.tl_client.specs.laws.Sound.{IsSoundIfAny, IsSoundAnswer, IsProperIfAny, IsProperAnswer, IsLegalAfter};
@@ -36,7 +36,7 @@ ghost use Rattle.tl_client.specs.statement.Offer.{offered, stalls, is_stalled, t
 
 /// A beat is stalled exactly where that is what is answered.
 pub fn stalls_as_answered<const W: usize>()
-    ensures { (terms : Terms) (ch : Channel) (x : Beat W) (e : End W) →
+    ensures { (terms : EndConfig) (ch : Channel) (x : Beat W) (e : Endpoint W) →
         stalls terms ch x e ≡ is_stalled (offered terms ch x e).answer }
 {}
 
@@ -44,7 +44,7 @@ pub fn stalls_as_answered<const W: usize>()
 /// channel C: what it was, but that a Release that isn't busy leaves the right end of its prune.
 pub fn held_after_asked<const W: usize>()
     requires { IsWidth W }
-    ensures { (terms : Terms) (op : Op W) (e : End W) (k : ℕ) → unfinished channel.C e.past ≡ [] →
+    ensures { (terms : EndConfig) (op : Op W) (e : Endpoint W) (k : ℕ) → unfinished channel.C e.past ≡ [] →
         held k (asked terms op e).after.past ≡ left_by (busy terms op e) op k (held k e.past) }
 {}
 
@@ -52,7 +52,7 @@ pub fn held_after_asked<const W: usize>()
 /// and the last beat of a Grant gives what its cap names.
 pub fn held_after_offered<const W: usize>()
     requires { IsWidth W }
-    ensures { (terms : Terms) (ch : Channel) (x : Beat W) (e : End W) (k : ℕ) → unfinished channel.C e.past ≡ [] →
+    ensures { (terms : EndConfig) (ch : Channel) (x : Beat W) (e : Endpoint W) (k : ℕ) → unfinished channel.C e.past ≡ [] →
         held k (offered terms ch x e).after.past ≡ held_by (offered terms ch x e).answer x e.past k }
 {}
 
@@ -60,45 +60,45 @@ pub fn held_after_offered<const W: usize>()
 /// it is set.
 pub fn hands_out_sound_messages<const W: usize>()
     requires { IsWidth W }
-    ensures asked { (terms : Terms) (op : Op W) (e : End W) → IsSoundIfAny terms.level (asked terms op e).message }
-    ensures offered { (terms : Terms) (ch : Channel) (x : Beat W) (e : End W) → IsSoundAnswer terms.level (offered terms ch x e).answer }
+    ensures asked { (terms : EndConfig) (op : Op W) (e : Endpoint W) → IsSoundIfAny terms.level (asked terms op e).message }
+    ensures offered { (terms : EndConfig) (ch : Channel) (x : Beat W) (e : Endpoint W) → IsSoundAnswer terms.level (offered terms ch x e).answer }
 {}
 
-/// A client keeps what `IsKept` says: whole messages, a copy exactly where something is held, and the
-/// bytes of each AcquirePerm until its Grant.
+/// A client keeps what `IsEndpointInvariant` says: whole messages, a copy exactly where something is
+/// held, and the bytes of each AcquirePerm until its Grant.
 pub fn keeps<const W: usize>()
     requires { IsWidth W }
-    ensures fresh { IsKept (fresh {w = W}) }
-    ensures asked { (terms : Terms) (op : Op W) (e : End W) → IsKept e → IsKept (asked terms op e).after }
-    ensures offered { (terms : Terms) (ch : Channel) (x : Beat W) (e : End W) → IsKept e → IsKept (offered terms ch x e).after }
+    ensures fresh { IsEndpointInvariant (fresh {w = W}) }
+    ensures asked { (terms : EndConfig) (op : Op W) (e : Endpoint W) → IsEndpointInvariant e → IsEndpointInvariant (asked terms op e).after }
+    ensures offered { (terms : EndConfig) (ch : Channel) (x : Beat W) (e : Endpoint W) → IsEndpointInvariant e → IsEndpointInvariant (offered terms ch x e).after }
 {}
 
 /// The source that an operation starts with is one of the client's.
 pub fn starts_with_own_sources<const W: usize>()
-    ensures { (terms : Terms) (op : Op W) (e : End W) (s : ℕ) → (asked terms op e).reply ≡ reply.Started s → s < terms.sources }
+    ensures { (terms : EndConfig) (op : Op W) (e : Endpoint W) (s : ℕ) → (asked terms op e).reply ≡ reply.Started s → s < terms.sources }
 {}
 
 /// The history after a call is that before it, with the beat where it was taken, and then with all
 /// beats of the message that is handed out. The link is closed once a beat was refused.
 pub fn remembers_what_passes<const W: usize>()
-    ensures asked { (terms : Terms) (op : Op W) (e : End W) →
+    ensures asked { (terms : EndConfig) (op : Op W) (e : Endpoint W) →
         (asked terms op e).after.past ≡ sent_if_any (asked terms op e).message e.past }
-    ensures offered { (terms : Terms) (ch : Channel) (x : Beat W) (e : End W) →
+    ensures offered { (terms : EndConfig) (ch : Channel) (x : Beat W) (e : Endpoint W) →
         (offered terms ch x e).after.past ≡ sent_if_any (handed (offered terms ch x e).answer) (heard (offered terms ch x e).answer x e.past) }
-    ensures asked_closed { (terms : Terms) (op : Op W) (e : End W) → (asked terms op e).after.closed ≡ e.closed }
-    ensures offered_closed { (terms : Terms) (ch : Channel) (x : Beat W) (e : End W) →
+    ensures asked_closed { (terms : EndConfig) (op : Op W) (e : Endpoint W) → (asked terms op e).after.closed ≡ e.closed }
+    ensures offered_closed { (terms : EndConfig) (ch : Channel) (x : Beat W) (e : Endpoint W) →
         (offered terms ch x e).after.closed ≡ (e.closed || is_refused (offered terms ch x e).answer) }
 {}
 
 /// The copy of a block and the bytes that wait for its Grant, after an operation and after a beat.
 pub fn copies_after_calls<const W: usize>()
-    ensures asked { (terms : Terms) (op : Op W) (e : End W) (k : ℕ) →
+    ensures asked { (terms : EndConfig) (op : Op W) (e : Endpoint W) (k : ℕ) →
         (asked terms op e).after.copies k ≡ copy_left (busy terms op e) op k (held k e.past) (e.copies k) }
-    ensures offered { (terms : Terms) (ch : Channel) (x : Beat W) (e : End W) (k : ℕ) →
+    ensures offered { (terms : EndConfig) (ch : Channel) (x : Beat W) (e : Endpoint W) (k : ℕ) →
         (offered terms ch x e).after.copies k ≡ copy_by (offered terms ch x e).answer x k e }
-    ensures asked_waiting { (terms : Terms) (op : Op W) (e : End W) (k : ℕ) →
+    ensures asked_waiting { (terms : EndConfig) (op : Op W) (e : Endpoint W) (k : ℕ) →
         (asked terms op e).after.waiting k ≡ waiting_left (busy terms op e) op k (e.waiting k) }
-    ensures offered_waiting { (terms : Terms) (ch : Channel) (x : Beat W) (e : End W) (k : ℕ) →
+    ensures offered_waiting { (terms : EndConfig) (ch : Channel) (x : Beat W) (e : Endpoint W) (k : ℕ) →
         (offered terms ch x e).after.waiting k ≡ waiting_by (offered terms ch x e).answer x k e }
 {}
 
@@ -106,40 +106,40 @@ pub fn copies_after_calls<const W: usize>()
 /// source, by the message that it hands out.
 pub fn pending_after_asked<const W: usize>()
     requires { IsWidth W }
-    ensures unfinished { (terms : Terms) (op : Op W) (e : End W) (ch : Channel) → IsKept e →
+    ensures unfinished { (terms : EndConfig) (op : Op W) (e : Endpoint W) (ch : Channel) → IsEndpointInvariant e →
         unfinished ch (asked terms op e).after.past ≡ unfinished ch e.past }
-    ensures pending { (terms : Terms) (op : Op W) (e : End W) (key : Key) → IsKept e →
+    ensures pending { (terms : EndConfig) (op : Op W) (e : Endpoint W) (key : Key) → IsEndpointInvariant e →
         History.pending key (asked terms op e).after.past ≡ pending_if_any key (asked terms op e).message e.past }
-    ensures request { (terms : Terms) (op : Op W) (e : End W) (s : ℕ) → IsKept e →
+    ensures request { (terms : EndConfig) (op : Op W) (e : Endpoint W) (s : ℕ) → IsEndpointInvariant e →
         History.request_of s (asked terms op e).after.past ≡ request_if_any s (asked terms op e).message (History.request_of s e.past) }
-    ensures release { (terms : Terms) (op : Op W) (e : End W) (s : ℕ) → IsKept e →
+    ensures release { (terms : EndConfig) (op : Op W) (e : Endpoint W) (s : ℕ) → IsEndpointInvariant e →
         History.release_of s (asked terms op e).after.past ≡ release_if_any s (asked terms op e).message (History.release_of s e.past) }
 {}
 
 /// And after a beat, by its answer. Requests and Releases are as before.
 pub fn pending_after_offered<const W: usize>()
     requires { IsWidth W }
-    ensures unfinished { (terms : Terms) (ch : Channel) (x : Beat W) (e : End W) (at : Channel) → IsKept e →
+    ensures unfinished { (terms : EndConfig) (ch : Channel) (x : Beat W) (e : Endpoint W) (at : Channel) → IsEndpointInvariant e →
         unfinished at (offered terms ch x e).after.past ≡ unfinished at (heard (offered terms ch x e).answer x e.past) }
-    ensures pending { (terms : Terms) (ch : Channel) (x : Beat W) (e : End W) (key : Key) → IsKept e →
+    ensures pending { (terms : EndConfig) (ch : Channel) (x : Beat W) (e : Endpoint W) (key : Key) → IsEndpointInvariant e →
         History.pending key (offered terms ch x e).after.past
         ≡ pending_if_any key (handed (offered terms ch x e).answer) (heard (offered terms ch x e).answer x e.past) }
-    ensures request { (terms : Terms) (ch : Channel) (x : Beat W) (e : End W) (s : ℕ) → IsKept e →
+    ensures request { (terms : EndConfig) (ch : Channel) (x : Beat W) (e : Endpoint W) (s : ℕ) → IsEndpointInvariant e →
         History.request_of s (offered terms ch x e).after.past ≡ History.request_of s e.past }
-    ensures release { (terms : Terms) (ch : Channel) (x : Beat W) (e : End W) (s : ℕ) → IsKept e →
+    ensures release { (terms : EndConfig) (ch : Channel) (x : Beat W) (e : Endpoint W) (s : ℕ) → IsEndpointInvariant e →
         History.release_of s (offered terms ch x e).after.past ≡ History.release_of s e.past }
 {}
 
 /// Which request and which Release with a source is open after an operation, and after a beat.
 pub fn open_after_calls<const W: usize>()
     requires { IsWidth W }
-    ensures asked { (terms : Terms) (op : Op W) (e : End W) (s : ℕ) → IsKept e →
+    ensures asked { (terms : EndConfig) (op : Op W) (e : Endpoint W) (s : ℕ) → IsEndpointInvariant e →
         open_beat s (asked terms op e).after.past ≡ request_if_any s (asked terms op e).message (open_beat s e.past) }
-    ensures asked_release { (terms : Terms) (op : Op W) (e : End W) (s : ℕ) → IsKept e →
+    ensures asked_release { (terms : EndConfig) (op : Op W) (e : Endpoint W) (s : ℕ) → IsEndpointInvariant e →
         open_release s (asked terms op e).after.past ≡ release_if_any s (asked terms op e).message (open_release s e.past) }
-    ensures offered { (terms : Terms) (ch : Channel) (x : Beat W) (e : End W) (s : ℕ) → IsKept e →
+    ensures offered { (terms : EndConfig) (ch : Channel) (x : Beat W) (e : Endpoint W) (s : ℕ) → IsEndpointInvariant e →
         open_beat s (offered terms ch x e).after.past ≡ open_by s (offered terms ch x e).answer x e.past }
-    ensures offered_release { (terms : Terms) (ch : Channel) (x : Beat W) (e : End W) (s : ℕ) → IsKept e →
+    ensures offered_release { (terms : EndConfig) (ch : Channel) (x : Beat W) (e : Endpoint W) (s : ℕ) → IsEndpointInvariant e →
         open_release s (offered terms ch x e).after.past ≡ release_by s (offered terms ch x e).answer x e.past }
 {}
 
@@ -149,76 +149,76 @@ pub fn open_after_calls<const W: usize>()
 pub fn keeps_account<const W: usize>()
     requires { IsWidth W }
     ensures fresh { IsAccounted {w = W} [] }
-    ensures asked { (terms : Terms) (op : Op W) (e : End W) → IsKept e → IsAccounted e.past → IsAccounted (asked terms op e).after.past }
-    ensures offered { (terms : Terms) (ch : Channel) (x : Beat W) (e : End W) → IsKept e → IsAccounted e.past → IsAccounted (offered terms ch x e).after.past }
+    ensures asked { (terms : EndConfig) (op : Op W) (e : Endpoint W) → IsEndpointInvariant e → IsAccounted e.past → IsAccounted (asked terms op e).after.past }
+    ensures offered { (terms : EndConfig) (ch : Channel) (x : Beat W) (e : Endpoint W) → IsEndpointInvariant e → IsAccounted e.past → IsAccounted (offered terms ch x e).after.past }
 {}
 
 /// A client asks for and holds blocks of the map alone, none at TL-UL and TL-UH, and its sources are
 /// its own.
 pub fn keeps_inside<const W: usize>()
     requires { IsWidth W }
-    ensures fresh { (terms : Terms) → IsInside {w = W} terms [] }
-    ensures asked { (terms : Terms) (op : Op W) (e : End W) → IsKept e → IsInside terms e.past → IsInside terms (asked terms op e).after.past }
-    ensures offered { (terms : Terms) (ch : Channel) (x : Beat W) (e : End W) → IsKept e → IsInside terms e.past → IsInside terms (offered terms ch x e).after.past }
+    ensures fresh { (terms : EndConfig) → IsInside {w = W} terms [] }
+    ensures asked { (terms : EndConfig) (op : Op W) (e : Endpoint W) → IsEndpointInvariant e → IsInside terms e.past → IsInside terms (asked terms op e).after.past }
+    ensures offered { (terms : EndConfig) (ch : Channel) (x : Beat W) (e : Endpoint W) → IsEndpointInvariant e → IsInside terms e.past → IsInside terms (offered terms ch x e).after.past }
 {}
 
 /// A message is handed out for an operation exactly where it started, with the source that the reply
 /// names, which was free.
 pub fn starts_with_a_message<const W: usize>()
-    ensures { (terms : Terms) (op : Op W) (e : End W) → IsStarted (asked terms op e).reply (asked terms op e).message e.past }
+    ensures { (terms : EndConfig) (op : Op W) (e : Endpoint W) → IsStarted (asked terms op e).reply (asked terms op e).message e.past }
 {}
 
 /// A busy client, a miss, a Load and a stall change nothing, and a refusal closes the link and changes
 /// nothing else.
 pub fn changes_nothing<const W: usize>()
-    ensures busy { (terms : Terms) (op : Op W) (e : End W) (b : Busy) → (asked terms op e).reply ≡ reply.Busy b → (asked terms op e).after ≡ e }
-    ensures miss { (terms : Terms) (op : Op W) (e : End W) → (asked terms op e).reply ≡ reply.Miss → (asked terms op e).after ≡ e }
-    ensures load { (terms : Terms) (address size : ℕ) (e : End W) → (asked terms (Op.Load address size) e).after ≡ e }
-    ensures stall { (terms : Terms) (ch : Channel) (x : Beat W) (e : End W) (m : Option (Message W)) →
+    ensures busy { (terms : EndConfig) (op : Op W) (e : Endpoint W) (b : Busy) → (asked terms op e).reply ≡ reply.Busy b → (asked terms op e).after ≡ e }
+    ensures miss { (terms : EndConfig) (op : Op W) (e : Endpoint W) → (asked terms op e).reply ≡ reply.Miss → (asked terms op e).after ≡ e }
+    ensures load { (terms : EndConfig) (address size : ℕ) (e : Endpoint W) → (asked terms (Op.Load address size) e).after ≡ e }
+    ensures stall { (terms : EndConfig) (ch : Channel) (x : Beat W) (e : Endpoint W) (m : Option (Message W)) →
         (offered terms ch x e).answer ≡ Ok (verdict.Stalled, m) → (offered terms ch x e).after ≡ e }
-    ensures refusal { (terms : Terms) (ch : Channel) (x : Beat W) (e : End W) (rule : Rule) →
+    ensures refusal { (terms : EndConfig) (ch : Channel) (x : Beat W) (e : Endpoint W) (rule : Rule) →
         (offered terms ch x e).answer ≡ Err rule → (offered terms ch x e).after ≡ shut e }
 {}
 
 /// A beat that breaks no rule and doesn't wait is taken, and one of channel D never waits.
 pub fn takes_what_is_lawful<const W: usize>()
-    ensures taken { (terms : Terms) (ch : Channel) (x : Beat W) (e : End W) →
+    ensures taken { (terms : EndConfig) (ch : Channel) (x : Beat W) (e : Endpoint W) →
         broken_before terms ch x e ≡ None → waits x e.past ≡ false → broken_later terms x e ≡ None → offered terms ch x e ≡ taken x e }
-    ensures never_d { (terms : Terms) (ch : Channel) (x : BeatD W) (e : End W) → stalls terms ch (Beat.D x) e ≡ false }
+    ensures never_d { (terms : EndConfig) (ch : Channel) (x : BeatD W) (e : Endpoint W) → stalls terms ch (Beat.D x) e ≡ false }
 {}
 
 /// A client keeps blocks of 64 bytes, as copies and for its Grants.
 pub fn keeps_blocks<const W: usize>()
     requires { IsWidth W }
     ensures fresh { HasBytes (fresh {w = W}) }
-    ensures asked { (terms : Terms) (op : Op W) (e : End W) → IsKept e → IsTypedOp op → HasBytes e → HasBytes (asked terms op e).after }
-    ensures offered { (terms : Terms) (ch : Channel) (x : Beat W) (e : End W) → IsKept e → IsTyped x → HasBytes e → HasBytes (offered terms ch x e).after }
+    ensures asked { (terms : EndConfig) (op : Op W) (e : Endpoint W) → IsEndpointInvariant e → IsTypedOp op → HasBytes e → HasBytes (asked terms op e).after }
+    ensures offered { (terms : EndConfig) (ch : Channel) (x : Beat W) (e : Endpoint W) → IsEndpointInvariant e → IsTyped x → HasBytes e → HasBytes (offered terms ch x e).after }
 {}
 
 /// A message that is handed out has 64 bytes, is zero where no beat carries it, and is of the map.
 pub fn hands_out_proper_messages<const W: usize>()
     requires { IsWidth W }
-    ensures asked { (terms : Terms) (op : Op W) (e : End W) → IsTypedOp op → HasBytes e → IsProperIfAny terms.blocks (asked terms op e).message }
-    ensures offered { (terms : Terms) (ch : Channel) (x : Beat W) (e : End W) → HasBytes e → IsProperAnswer terms.blocks (offered terms ch x e).answer }
+    ensures asked { (terms : EndConfig) (op : Op W) (e : Endpoint W) → IsTypedOp op → HasBytes e → IsProperIfAny terms.blocks (asked terms op e).message }
+    ensures offered { (terms : EndConfig) (ch : Channel) (x : Beat W) (e : Endpoint W) → HasBytes e → IsProperAnswer terms.blocks (offered terms ch x e).answer }
 {}
 
 /// No beat of a message that is handed out breaks a rule after the history of the client's end, to which
 /// a beat belongs that was taken.
 pub fn breaks_no_rule<const W: usize>()
     requires { IsWidth W }
-    ensures asked { (terms : Terms) (op : Op W) (e : End W) → IsKept e →
+    ensures asked { (terms : EndConfig) (op : Op W) (e : Endpoint W) → IsEndpointInvariant e →
         IsLegalAfter terms.level terms.profile (asked terms op e).message e.past }
-    ensures offered { (terms : Terms) (ch : Channel) (x : Beat W) (e : End W) → IsKept e → IsAccounted e.past →
+    ensures offered { (terms : EndConfig) (ch : Channel) (x : Beat W) (e : Endpoint W) → IsEndpointInvariant e → IsAccounted e.past →
         IsLegalAfter terms.level terms.profile (handed (offered terms ch x e).answer) (heard (offered terms ch x e).answer x e.past) }
 {}
 
 /// A Load reads the number of the copy's bytes, and a Store is done where Trunk is held; either misses
 /// where too little is held.
 pub fn reads_its_copy<const W: usize>()
-    ensures load { (terms : Terms) (address size : ℕ) (e : End W) → busy terms (Op.Load address size) e ≡ None →
+    ensures load { (terms : EndConfig) (address size : ℕ) (e : Endpoint W) → busy terms (Op.Load address size) e ≡ None →
         (asked terms (Op.Load address size) e).reply
         ≡ (if holds (held (block_at address) e.past) then reply.Value (loaded address size (copy_at e (block_at address))) else reply.Miss) }
-    ensures store { (terms : Terms) (address size value : ℕ) (e : End W) → busy terms (Op.Store address size value) e ≡ None →
+    ensures store { (terms : EndConfig) (address size value : ℕ) (e : Endpoint W) → busy terms (Op.Store address size value) e ≡ None →
         (asked terms (Op.Store address size value) e).reply
         ≡ (if same_perm perm.Trunk (held (block_at address) e.past) then reply.Stored else reply.Miss) }
 {}

@@ -27,7 +27,7 @@ use tl_beat::beat::{Beat, BeatD};
 use tl_beat::channel::Channel;
 use tl_burst::assembler::Assembler;
 use tl_burst::message::{Message, MessageA};
-use tl_rules::agent::is_spoiled;
+use tl_rules::admission::is_spoiled;
 use tl_rules::config::{ClientConfig, NewFault};
 use tl_rules::legality::beat::check_beat;
 use tl_rules::perm::Perm;
@@ -52,10 +52,10 @@ pub struct Plain<const W: usize> {
 }
 
 impl<const W: usize> Plain<W> {
-    ghost use Rattle.tl_client.specs.statement.End.{End};
+    ghost use Rattle.tl_client.specs.statement.Endpoint.{Endpoint};
     ghost use Rattle.tl_client.specs.code.KnowsPlain.{IsNewPlain, KnowsPlain, terms_of};
 
-    /// A client on so many blocks, which has sent and taken nothing: N2 where these are out of their
+    /// A client on this many blocks, which has sent and taken nothing: N2 where these are out of their
     /// limits, otherwise N4 where its sources are. It takes no memory.
     pub fn new(
         _alloc: Global,
@@ -83,7 +83,7 @@ impl<const W: usize> Plain<W> {
         requires response { beat.now ≡ Beat.D response }
         requires takeable { IsTakeable beat.now }
         requires legal { illegal self.now.config.level Channel.D beat.now ≡ None }
-        ensures rule { (e : End W) → KnowsPlain self.now e →
+        ensures rule { (e : Endpoint W) → KnowsPlain self.now e →
             result ≡ ok_unless (order_rule response.entry (open_at self.now.requests response.entry.source) self.now.responses) }
         ensures continues { OnOk result (breaks_burst beat.now self.now.responses ≡ false) }
     {
@@ -99,7 +99,7 @@ impl<const W: usize> Plain<W> {
 
     /// The first rule that a beat breaks. Only channel D comes to this client.
     fn judge(&self, channel: Channel, beat: &Beat<W>) -> Result<(), Rule>
-        ensures rule { (e : End W) → KnowsPlain self.now e →
+        ensures rule { (e : Endpoint W) → KnowsPlain self.now e →
             result ≡ ok_unless (plain_rule self.now.config.level (open_at self.now.requests) self.now.responses self.now.closed channel beat.now) }
         ensures takeable { OnOk result (IsTakeable beat.now) }
         ensures continues { OnOk result (breaks_burst beat.now self.now.responses ≡ false) }
@@ -137,18 +137,18 @@ impl<const W: usize> Plain<W> {
 impl<const W: usize> Agent<W> for Plain<W> {
     ghost use Rattle.tl_client.specs.code.KnowsPlain.{KnowsPlain, terms_of};
     ghost use Rattle.tl_client.specs.statement.Ask.{asked};
-    ghost use Rattle.tl_client.specs.statement.End.{End};
+    ghost use Rattle.tl_client.specs.statement.Endpoint.{Endpoint};
 
-    ghost knows = { λ p e. KnowsPlain p e };
+    ghost represents = { λ p e. KnowsPlain p e };
 
     ghost terms = { terms_of };
 
     fn ask(&mut self, operation: Op<W>) -> (Reply, Option<Message<W>>)
-        ensures reply { (e : End W) → KnowsPlain self.old e →
+        ensures reply { (e : Endpoint W) → KnowsPlain self.old e →
             result.0 ≡ (asked (terms_of self.old) operation.entry e).reply }
-        ensures message { (e : End W) → KnowsPlain self.old e →
+        ensures message { (e : Endpoint W) → KnowsPlain self.old e →
             result.1 ≡ (asked (terms_of self.old) operation.entry e).message }
-        ensures after { (e : End W) → KnowsPlain self.old e →
+        ensures after { (e : Endpoint W) → KnowsPlain self.old e →
             KnowsPlain self.new (asked (terms_of self.old) operation.entry e).after }
         ensures terms { terms_of self.new ≡ terms_of self.old }
     {

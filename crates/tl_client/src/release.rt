@@ -6,6 +6,7 @@ ghost use Rattle.tl_client.specs.statement.Requests.{releases_block};
 
 use crate::sources::Sources;
 use tl_burst::message::MessageC;
+use tl_rules::key::block_at;
 
 /// Fields of a Release.
 #[derive(Clone, Copy, Debug, PartialEq, Eq)]
@@ -34,7 +35,7 @@ pub fn is_release_of(release: Option<Release>, block: u32) -> bool
 {
     match release {
         None => false,
-        Some(release) => release.address / 64 == block,
+        Some(release) => block_at(release.address) == block,
     }
 }
 

@@ -11,6 +11,7 @@ use crate::reply::Reply;
 use crate::sources::Sources;
 use tl_beat::opcode::OpA;
 use tl_burst::message::{Message, MessageA};
+use tl_rules::key::block_at;
 use tl_rules::kind::is_acquire;
 use tl_rules::past;
 
@@ -46,7 +47,7 @@ impl Request {
             opcode: self.opcode,
             param: self.param,
             size: self.size,
-            block: self.address / 64,
+            block: block_at(self.address),
         }
     }
 }
@@ -57,7 +58,7 @@ pub fn is_acquire_of(request: Option<Request>, block: u32) -> bool
 {
     match request {
         None => false,
-        Some(request) => is_acquire(request.opcode) && request.address / 64 == block,
+        Some(request) => is_acquire(request.opcode) && block_at(request.address) == block,
     }
 }
 

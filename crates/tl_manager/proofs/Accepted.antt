@@ -16,7 +16,7 @@ use Rattle.tl_manager.specs.laws.Pending.{one_if, is_granted, is_asking, IsAccou
 use Rattle.tl_manager.specs.statement.Service.{Service, services, service_of_block}
 use Rattle.tl_manager.proofs.Asked.{Place, First, Later}
 use Rattle.tl_manager.proofs.Counts.{count-served}
-use Rattle.tl_manager.proofs.Links.{own_beat, other_beat, beat-keeps}
+use Rattle.tl_manager.proofs.LinkHistories.{own_beat, other_beat, beat-keeps}
 use Rattle.tl_manager.proofs.Unmoved.{IsSame}
 
 -- ---- services whose request isn't answered

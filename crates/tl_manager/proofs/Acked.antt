@@ -19,7 +19,7 @@ use Rattle.tl_manager.specs.code.Kept.{AreApart, blocks_of}
 use Rattle.tl_manager.specs.laws.Pending.{count_where, is_granted, is_asking, is_acquiring, is_granted_to, IsNamed, IsHandled, IsAccounted}
 use Rattle.tl_manager.specs.statement.Service.{Service, services, service_of_block, is_ended_by}
 use Rattle.tl_manager.proofs.Counts.{count-same, count-filter, all-each}
-use Rattle.tl_manager.proofs.Links.{own_beat, other_beat, beat-keeps, pending-closed, whole-e}
+use Rattle.tl_manager.proofs.LinkHistories.{own_beat, other_beat, beat-keeps, pending-closed, whole-e}
 use Rattle.tl_manager.proofs.Serving.{if_passes, serving-filter, some_is}
 use Rattle.tl_manager.proofs.Unmoved.{IsSame, handled-same, begun-kept, reports-kept}
 

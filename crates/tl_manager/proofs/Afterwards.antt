@@ -14,7 +14,7 @@ use Rattle.tl_burst.specs.statement.Messages.{on, unfinished}
 use Rattle.tl_burst.proofs.Splitting.{beats-positive}
 use Rattle.tl_params.specs.declared.config.Config.{Config}
 use Rattle.tl_params.specs.declared.key.Key.TheVariants.{ProbeOf}
-use Rattle.tl_rules.specs.statement.Agent.{sent}
+use Rattle.tl_rules.specs.statement.Admission.{sent}
 use Rattle.tl_rules.specs.statement.Conformance.{Trace, on_link}
 use Rattle.tl_rules.specs.statement.History.{ends, block_at, is_probe, is_probe_ack, pending}
 use Rattle.tl_rules.proofs.Handed.{pending-sent_b}
@@ -23,14 +23,14 @@ use Rattle.tl_manager.specs.laws.After.{with_sent, history_after, taken_after, i
 use Rattle.tl_manager.specs.statement.Handing.{Handed, with_handed}
 use Rattle.tl_manager.specs.statement.Holders.{is_missing}
 use Rattle.tl_manager.specs.code.Kept.{Each, IsTyped, IsKept}
-use Rattle.tl_manager.specs.statement.Deed.{deed}
+use Rattle.tl_manager.specs.statement.Reaction.{reaction}
 use Rattle.tl_manager.specs.statement.End.{End}
 use Rattle.tl_manager.specs.statement.Offer.{Judgement, Breaks, Waits, Passes, is_from_client, judged, offered_as, offered}
-use Rattle.tl_manager.proofs.Deeds.{deed_handable}
+use Rattle.tl_manager.proofs.Reactions.{reaction_handable}
 use Rattle.tl_manager.proofs.Handed.{after_sent, own_link, other_link, whole-after_sent, whole-taken}
 use Rattle.tl_manager.proofs.Judged.{passed}
 use Rattle.tl_manager.proofs.Lawful.{IsHandable}
-use Rattle.tl_manager.proofs.Links.{beat-keeps, sent-keeps, pending-closed}
+use Rattle.tl_manager.proofs.LinkHistories.{beat-keeps, sent-keeps, pending-closed}
 use Rattle.tl_manager.proofs.Replies.{reply-quiet}
 use Rattle.tl_manager.specs.code.Ready.{IsWhole}
 
@@ -56,7 +56,7 @@ history_as : {w : ℕ} (j : Judgement) (config : Config) (link : Link) (x : Beat
     → on_link c (offered_as j config link x e).1.trace ≡ history_after (offered_as j config link x e).0 (link, x) c (on_link c e.trace)
 history_as (Breaks r) config link x e c = refl
 history_as Waits config link x e c = refl
-history_as Passes config link x e c = link-handed c (deed config link x e).handed ((link, x) ∷ e.trace) ∙ ap (with_sent c (deed config link x e).handed) (link-taken c link x e.trace)
+history_as Passes config link x e c = link-handed c (reaction config link x e).handed ((link, x) ∷ e.trace) ∙ ap (with_sent c (reaction config link x e).handed) (link-taken c link x e.trace)
 
 pub history-offered : {w : ℕ} (config : Config) (link : Link) (ch : Channel) (x : Beat w) (e : End w) (c : ℕ)
     → on_link c (offered config link ch x e).1.trace ≡ history_after (offered config link ch x e).0 (link, x) c (on_link c e.trace)
@@ -93,7 +93,7 @@ unfinished_as (Breaks r) config link ch x e c on_ch width typed is before theirs
 unfinished_as Waits config link ch x e c on_ch width typed is before theirs = refl
 unfinished_as Passes config link ch x e c on_ch width typed is before theirs =
     let ok = passed config link ch x e typed is in
-    unfinished-handed config c on_ch (deed config link x e).handed ((link, x) ∷ e.trace) theirs (deed_handable config link x e width ok.sound before.sound)
+    unfinished-handed config c on_ch (reaction config link x e).handed ((link, x) ∷ e.trace) theirs (reaction_handable config link x e width ok.sound before.sound)
     ∙ ap (unfinished on_ch) (link-taken c link x e.trace)
 
 pub unfinished-offered : {w : ℕ} (config : Config) (link : Link) (ch : Channel) (x : Beat w) (e : End w) (c : ℕ) (on_ch : Channel) → IsWidth w → IsTyped x → IsKept config e
@@ -144,9 +144,9 @@ missing_as (Breaks r) config link ch x e c k width typed is before = refl
 missing_as Waits config link ch x e c k width typed is before = refl
 missing_as Passes config link ch x e c k width typed is before =
     let ok = passed config link ch x e typed is in
-    missing-handed config c k (deed config link x e).handed ((link, x) ∷ e.trace) width (deed_handable config link x e width ok.sound before.sound)
+    missing-handed config c k (reaction config link x e).handed ((link, x) ∷ e.trace) width (reaction_handable config link x e width ok.sound before.sound)
     (λ d. whole-taken d link x e.trace ok.theirs (before.whole d))
-    ∙ ap (missing_with c k (deed config link x e).handed) (missing-taken c k link x e.trace ok.theirs)
+    ∙ ap (missing_with c k (reaction config link x e).handed) (missing-taken c k link x e.trace ok.theirs)
 
 pub missing-offered : {w : ℕ} (config : Config) (link : Link) (ch : Channel) (x : Beat w) (e : End w) (c k : ℕ) → IsWidth w → IsTyped x → IsKept config e
     → is_missing c k (offered config link ch x e).1.trace ≡ missing_after (offered config link ch x e).0 (link, x) e.trace c k

@@ -19,27 +19,27 @@ use Rattle.tl_rules.specs.declared.answer.Answer.{Answer}
 use Rattle.tl_rules.specs.declared.answer.Answer.TheVariants as answer
 use Rattle.tl_params.specs.declared.config.Config.{Config}
 use Rattle.tl_params.specs.declared.param.Cap.{Cap}
-use Rattle.tl_rules.specs.statement.Agent.{sent}
+use Rattle.tl_rules.specs.statement.Admission.{sent}
 use Rattle.tl_rules.specs.statement.Conformance.{Trace, on_link, broken_in_order}
 use Rattle.tl_rules.specs.statement.Effect.{Memory, effect, answer_of}
 use Rattle.tl_rules.specs.statement.History.{ends, block_at, is_acquire, is_probe_ack, is_release, is_release_ack}
-use Rattle.tl_manager.specs.statement.Handing.{Handed, no_payload, with_handed, probe_of_block, release_ack, access_answer, grant, grant_opcode, Deed, nothing, performed}
+use Rattle.tl_manager.specs.statement.Handing.{Handed, no_payload, with_handed, probe_of_block, release_ack, access_answer, grant, grant_opcode, Reaction, nothing, performed}
 use Rattle.tl_manager.specs.statement.Holders.{probed, is_settled}
 use Rattle.tl_manager.specs.code.Kept.{Each}
 use Rattle.tl_manager.specs.code.Releases.{IsAnswered}
 use Rattle.tl_manager.specs.statement.Service.{Service, services, service_of_block}
-use Rattle.tl_manager.specs.statement.Deed.{probing_or, begun_with, begun_if_any, performed_if_any, finish, completed_c, completed, deed}
+use Rattle.tl_manager.specs.statement.Reaction.{probing_or, begun_with, begun_if_any, performed_if_any, finish, completed_c, completed, reaction}
 use Rattle.tl_manager.specs.statement.End.{End}
 use Rattle.tl_manager.specs.statement.Offer.{is_from_client}
 use Rattle.tl_manager.proofs.Handed.{after_sent, own_link, other_link, whole-after_sent}
 use Rattle.tl_manager.proofs.Lawful.{IsHandable}
 use Rattle.tl_manager.proofs.Releases.{IsCarried, IsNoAck, answered-a, answered-b, answered-d, answered-e, carried, not_last, no_release, released}
-use Rattle.tl_manager.proofs.Links.{own_beat}
+use Rattle.tl_manager.proofs.LinkHistories.{own_beat}
 use Rattle.tl_manager.specs.code.Ready.{IsWhole}
 
 -- ---- messages that answer no Release
 
-abbrev NoAcks : {w : ℕ} → Deed w → Type 0
+abbrev NoAcks : {w : ℕ} → Reaction w → Type 0
 NoAcks d = Each (λ y. IsNoAck y.1) d.handed
 
 no_ack_access : {w : ℕ} (m : MessageA w) (kind : Answer) → IsNoAck (access_answer m kind)
@@ -64,7 +64,7 @@ no_ack_probes : (w : ℕ) (block : ℕ) (c : Cap) (clients : List ℕ) → Each 
 no_ack_probes w block c [] = tt
 no_ack_probes w block c (client ∷ clients) = (tt, no_ack_probes w block c clients)
 
-no_ack_probing : {w : ℕ} (d : Deed w) (block : ℕ) (c : Cap) (clients : List ℕ) (memory : Memory) → NoAcks d → NoAcks (probing_or d block c clients memory)
+no_ack_probing : {w : ℕ} (d : Reaction w) (block : ℕ) (c : Cap) (clients : List ℕ) (memory : Memory) → NoAcks d → NoAcks (probing_or d block c clients memory)
 no_ack_probing d block c [] memory none = none
 no_ack_probing {w} d block c (client ∷ clients) memory none = no_ack_probes w block c (client ∷ clients)
 
@@ -179,10 +179,10 @@ done_c_answered : {w : ℕ} (config : Config) (client : ℕ) (link : Link) (x : 
 unfolding with_handed
 done_c_answered {w} config client link x t memory width order last handable whole ok = go (is_release x.opcode) (is_probe_ack x.opcode) refl handable
   where
-    deed_by : Bool → Bool → Deed w
-    deed_by r p = if r then record { handed = (link, release_ack x.source) ∷ []; memory = memory } else if p then finish config (block_at x.address) ((link, beat.C x) ∷ t) memory else nothing memory
+    reaction_by : Bool → Bool → Reaction w
+    reaction_by r p = if r then record { handed = (link, release_ack x.source) ∷ []; memory = memory } else if p then finish config (block_at x.address) ((link, beat.C x) ∷ t) memory else nothing memory
 
-    go : (r p : Bool) → is_release x.opcode ≡ r → Each (IsHandable config) (deed_by r p).handed → IsAnswered (on_link client (with_handed (deed_by r p).handed ((link, beat.C x) ∷ t)))
+    go : (r p : Bool) → is_release x.opcode ≡ r → Each (IsHandable config) (reaction_by r p).handed → IsAnswered (on_link client (with_handed (reaction_by r p).handed ((link, beat.C x) ∷ t)))
     go true p release each = after_release config client link x t width order last release whole ok
     go false true other each =
         answered-handed config client (finish config (block_at x.address) ((link, beat.C x) ∷ t) memory).handed ((link, beat.C x) ∷ t) width each
@@ -192,7 +192,7 @@ done_c_answered {w} config client link x t memory width order last handable whol
 -- ---- any beat that is taken
 
 -- what is done, where it is known whether the beat is the last of its message
-abbrev done_if : {w : ℕ} → Bool → Config → Link → Beat w → End w → Deed w
+abbrev done_if : {w : ℕ} → Bool → Config → Link → Beat w → End w → Reaction w
 done_if last config link x e = if last then completed config link x (unfinished (channel_of x) (on_link link.0 e.trace)) e.trace e.memory else nothing e.memory
 
 done_answered : {w : ℕ} (config : Config) (client : ℕ) (link : Link) (x : Beat w) (e : End w) (last : Bool) → IsWidth w → is_from_client x ≡ true
@@ -213,9 +213,9 @@ done_answered config client link (beat.E x) e true width theirs order last each 
 done_answered config client link (beat.E x) e false width theirs order last each whole ok =
     answered-beat client link (beat.E x) e.trace (λ here before. answered-e x (on_link client e.trace) before) ok
 
-pub answered-deed : {w : ℕ} (config : Config) (client : ℕ) (link : Link) (x : Beat w) (e : End w) → IsWidth w → is_from_client x ≡ true
+pub answered-reaction : {w : ℕ} (config : Config) (client : ℕ) (link : Link) (x : Beat w) (e : End w) → IsWidth w → is_from_client x ≡ true
     → broken_in_order config.profile x (on_link link.0 e.trace) ≡ None
-    → Each (IsHandable config) (deed config link x e).handed → IsWhole (on_link client ((link, x) ∷ e.trace)) → IsAnswered (on_link client e.trace)
-    → IsAnswered (on_link client (with_handed (deed config link x e).handed ((link, x) ∷ e.trace)))
-unfolding deed
-answered-deed config client link x e width theirs order each whole ok = done_answered config client link x e (ends x (on_link link.0 e.trace)) width theirs order refl each whole ok
+    → Each (IsHandable config) (reaction config link x e).handed → IsWhole (on_link client ((link, x) ∷ e.trace)) → IsAnswered (on_link client e.trace)
+    → IsAnswered (on_link client (with_handed (reaction config link x e).handed ((link, x) ∷ e.trace)))
+unfolding reaction
+answered-reaction config client link x e width theirs order each whole ok = done_answered config client link x e (ends x (on_link link.0 e.trace)) width theirs order refl each whole ok

@@ -17,16 +17,16 @@ use Rattle.tl_rules.specs.statement.Effect.{Memory, effect, answer_of}
 use Rattle.tl_rules.specs.statement.History.{block_at, is_acquire, is_grant, capped}
 use Rattle.tl_rules.specs.statement.Legality.{is_one_of}
 use Rattle.tl_manager.specs.code.Blocks.{AreBlocks}
-use Rattle.tl_manager.specs.statement.Handing.{Deed, with_handed, performed, grant, access_answer}
+use Rattle.tl_manager.specs.statement.Handing.{Reaction, with_handed, performed, grant, access_answer}
 use Rattle.tl_manager.specs.statement.Holders.{recorded, is_missing}
-use Rattle.tl_manager.specs.code.Home.{IsHomeWithout, IsDone, IsReadyAt}
+use Rattle.tl_manager.specs.code.BlockState.{IsBlockStateWithout, IsDone, IsReadyAt}
 use Rattle.tl_manager.specs.laws.Pending.{is_granted}
 use Rattle.tl_manager.specs.code.Ready.{IsReady, IsWhole}
 use Rattle.tl_manager.specs.laws.Record.{granted_by}
 use Rattle.tl_manager.specs.statement.Service.{Service, services, service_of_block, trackers_of}
 use Rattle.tl_manager.specs.code.Tracked.{service_with, IsTracked}
 use Rattle.tl_manager.specs.code.Trackers.{tracker_at}
-use Rattle.tl_manager.specs.declared.manager.home.Home.{Home}
+use Rattle.tl_manager.specs.declared.manager.block_state.BlockState.{BlockState}
 use Rattle.tl_manager.specs.declared.manager.tracker.Tracker.{Tracker}
 use Rattle.tl_manager.specs.declared.manager.tracker.Tracker.TheVariants.{Free}
 use Rattle.tl_manager.proofs.Accesses.{answer_kind, granted-still}
@@ -41,14 +41,14 @@ use Rattle.tl_manager.proofs.Trackers.{IsStill, tracked-still, other_block, trac
 -- ---- the services of other blocks
 
 -- after this deed
-deed_by : {w : ℕ} → Bool → Config → Service w → Trace w → Memory → Deed w
-deed_by b config s t memory = if b
+reaction_by : {w : ℕ} → Bool → Config → Service w → Trace w → Memory → Reaction w
+reaction_by b config s t memory = if b
     then record { handed = (s.link, grant config s t memory) ∷ []; memory = memory }
     else record { handed = (s.link, access_answer s.request (answer_of (A s.request) (effect (A s.request) memory).1)) ∷ []; memory = (effect (A s.request) memory).0 }
 
 pub performed-still : {w : ℕ} (config : Config) (n k : ℕ) (s v : Service w) (t : Trace w) (memory : Memory) → IsReady config n s t → (n == k) ≡ false → service_of_block k (services t) ≡ Some v
     → IsStill k v t (with_handed (performed config s t memory).handed t)
-unfolding with_handed deed_by
+unfolding with_handed reaction_by
 performed-still {w} config n k s v t memory is other e = go (is_acquire s.request.opcode) refl (performed-serving config n k s t memory is)
   where
     serves : (b : Bool) → (if not b && (n == k) then None else service_of_block k (services t)) ≡ Some v
@@ -56,8 +56,8 @@ performed-still {w} config n k s v t memory is other e = go (is_acquire s.reques
     serves false = rw other e
 
     go : (b : Bool) → is_acquire s.request.opcode ≡ b
-        → service_of_block k (services (with_handed (deed_by b config s t memory).handed t)) ≡ (if not (is_acquire s.request.opcode) && (n == k) then None else service_of_block k (services t))
-        → IsStill k v t (with_handed (deed_by b config s t memory).handed t)
+        → service_of_block k (services (with_handed (reaction_by b config s t memory).handed t)) ≡ (if not (is_acquire s.request.opcode) && (n == k) then None else service_of_block k (services t))
+        → IsStill k v t (with_handed (reaction_by b config s t memory).handed t)
     go true acquires same =
         let m = grant_is config s t memory in
         let reply = reply_of config n s m.0 t is m.3 m.4 in
@@ -128,27 +128,27 @@ recorded-answer {w} link request kind t c b width whole =
             go true = refl
             go false = refl
 
-pub home-performed : {w : ℕ} {D : Type 0} (perm_of : D → ℕ → ℕ → Perm) (config : Config) (old new : Home w D) (number : ℕ) (link : Link) (request : MessageA w)
+pub block_state-performed : {w : ℕ} {D : Type 0} (perm_of : D → ℕ → ℕ → Perm) (config : Config) (old new : BlockState w D) (number : ℕ) (link : Link) (request : MessageA w)
     (kind : Answer) (t : Trace w) (memory : Memory)
     → is_acquire request.opcode ≡ false → new.profile ≡ old.profile → new.directory ≡ old.directory → new.trackers.count ≡ old.trackers.count
     → ((n : ℕ) → tracker_at new.trackers n ≡ (if number == n then Free else tracker_at old.trackers n))
     → AreBlocks new.blocks.bytes.items (effect (A request) memory).0 → kind ≡ answer_of (A request) (effect (A request) memory).1
-    → IsReadyAt config number link request t → IsHomeWithout number perm_of config old t memory
+    → IsReadyAt config number link request t → IsBlockStateWithout number perm_of config old t memory
     → IsDone perm_of config new ((link, access_answer request kind) ∷ []) t (performed config (service_with number link request) t memory)
 unfolding with_handed
-home-performed {w} {D} perm_of config old new number link request kind t memory access profile directory count trackers bytes is_kind at home =
+block_state-performed {w} {D} perm_of config old new number link request kind t memory access profile directory count trackers bytes is_kind at block_state =
     let s : Service w = service_with number link request in
-    let deed_is = performed-access config s t memory access in (
-      ap (λ k. (link, access_answer request k) ∷ []) is_kind ∙ sym (ap (λ (d : Deed w). d.handed) deed_is),
+    let reaction_is = performed-access config s t memory access in (
+      ap (λ k. (link, access_answer request k) ∷ []) is_kind ∙ sym (ap (λ (d : Reaction w). d.handed) reaction_is),
       record {
-        profile = profile ∙ home.profile;
-        count = count ∙ home.count;
+        profile = profile ∙ block_state.profile;
+        count = count ∙ block_state.count;
         tracked = λ i all. tracker-changed number i Free (tracker_at new.trackers) (tracker_at old.trackers) t (with_handed (performed config s t memory).handed t) trackers
             (freed-performed config (block_at request.address) s t memory at.ready access)
-            (λ n other ok. tracked-performed config (block_at request.address) n s (tracker_at old.trackers n) t memory at.ready other ok) home.tracked;
-        records = λ b c. ap (λ d. perm_of d b c) directory ∙ home.records b c
-            ∙ sym (ap (λ (d : Deed w). recorded c b (with_handed d.handed t)) deed_is
+            (λ n other ok. tracked-performed config (block_at request.address) n s (tracker_at old.trackers n) t memory at.ready other ok) block_state.tracked;
+        records = λ b c. ap (λ d. perm_of d b c) directory ∙ block_state.records b c
+            ∙ sym (ap (λ (d : Reaction w). recorded c b (with_handed d.handed t)) reaction_is
             ∙ recorded-answer link request (answer_of (A request) (effect (A request) memory).1) t c b at.ready.width (at.ready.whole c));
-        bytes = subst (AreBlocks new.blocks.bytes.items) (sym (ap (λ (d : Deed w). d.memory) deed_is)) bytes;
+        bytes = subst (AreBlocks new.blocks.bytes.items) (sym (ap (λ (d : Reaction w). d.memory) reaction_is)) bytes;
       },
     )

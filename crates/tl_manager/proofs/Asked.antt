@@ -20,7 +20,7 @@ use Rattle.tl_rules.specs.statement.Conformance.{broken_in_order, broken_order, 
 use Rattle.tl_rules.specs.statement.History.{begins, ends, is_acquire, pending, request_of}
 use Rattle.tl_rules.proofs.Bursts.{next_rule}
 use Rattle.tl_manager.specs.laws.Pending.{one_if, HasFields, IsBegun}
-use Rattle.tl_manager.proofs.Links.{pending-opened}
+use Rattle.tl_manager.proofs.LinkHistories.{pending-opened}
 
 -- ---- the first beat and the later ones
 
@@ -101,7 +101,7 @@ begun-now {w} x t place = go (ends (beat.A x) t) refl
 
 -- ---- its source
 
--- with so many services that ask with a source, the beat is one more that does
+-- with this many services that ask with a source, the beat is one more that does
 pub source-now : {w : ℕ} (x : BeatA w) (t : History w) (q n : ℕ) → Place x t → one_if (comes_in_request q (unfinished channel.A t)) + n ≡ one_if (pending (RequestSource q) t)
     → one_if (x.source == q) + n ≡ one_if (pending (RequestSource q) (beat.A x ∷ t))
 source-now {w} x t q n (First none free) before =

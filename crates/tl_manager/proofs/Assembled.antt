@@ -14,7 +14,7 @@ use Rattle.tl_burst.specs.declared.message.MessageA.{MessageA}
 use Rattle.tl_burst.specs.statement.Burst.{a_beat_of, beats_of, begun, IsBurst}
 use Rattle.tl_burst.proofs.Begun.{length-begun}
 use Rattle.tl_burst.proofs.Splitting.{beats-positive}
-use Rattle.tl_rules.specs.statement.Agent.{payload_of}
+use Rattle.tl_rules.specs.statement.Admission.{payload_of}
 use Rattle.tl_rules.proofs.Payload.{payload-a}
 use Rattle.tl_manager.specs.statement.Request.{masks_carried, corrupt_carried, request_if, request_carried}
 

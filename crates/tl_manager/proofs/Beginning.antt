@@ -18,16 +18,16 @@ use Rattle.tl_rules.specs.statement.Effect.{Memory}
 use Rattle.tl_rules.specs.statement.History.{block_at, is_acquire, pending, held, ends}
 use Rattle.tl_rules.specs.statement.Legality.{is_one_of}
 use Rattle.tl_manager.specs.code.Bit.{bit_if}
-use Rattle.tl_manager.specs.statement.Handing.{Deed, Handed, with_handed, probes, probe_beat, performed}
+use Rattle.tl_manager.specs.statement.Handing.{Reaction, Handed, with_handed, probes, probe_beat, performed}
 use Rattle.tl_manager.specs.statement.Holders.{clients_from, is_nobody, recorded, is_missing, is_above, is_spared, probed}
-use Rattle.tl_manager.specs.code.Home.{IsHomeWithout, IsDone, IsReadyAt}
+use Rattle.tl_manager.specs.code.BlockState.{IsBlockStateWithout, IsDone, IsReadyAt}
 use Rattle.tl_manager.specs.code.Kept.{Each, IsSound}
 use Rattle.tl_manager.specs.code.Ready.{IsReady}
 use Rattle.tl_manager.specs.statement.Service.{Service, services, service_of_block, trackers_of}
-use Rattle.tl_manager.specs.statement.Deed.{probing_or, begun_with}
+use Rattle.tl_manager.specs.statement.Reaction.{probing_or, begun_with}
 use Rattle.tl_manager.specs.code.Tracked.{service_with, IsTracked}
 use Rattle.tl_manager.specs.code.Trackers.{tracker_at}
-use Rattle.tl_manager.specs.declared.manager.home.Home.{Home}
+use Rattle.tl_manager.specs.declared.manager.block_state.BlockState.{BlockState}
 use Rattle.tl_manager.specs.declared.manager.tracker.Tracker.TheVariants.{Probing}
 use Rattle.tl_manager.proofs.Answering.{tracker-changed}
 use Rattle.tl_manager.proofs.Clients.{among-where}
@@ -59,14 +59,14 @@ probed-word config number link request c word perm_at t sound bits records = rec
 
 -- ---- the deed
 
-pub probing-none : {w : ℕ} (deed : Deed w) (block : ℕ) (c : Cap) (clients : List ℕ) (memory : Memory) → is_nobody clients ≡ true → probing_or deed block c clients memory ≡ deed
-probing-none deed block c [] memory e = refl
-probing-none deed block c (d ∷ ds) memory e = absurd cc
+pub probing-none : {w : ℕ} (reaction : Reaction w) (block : ℕ) (c : Cap) (clients : List ℕ) (memory : Memory) → is_nobody clients ≡ true → probing_or reaction block c clients memory ≡ reaction
+probing-none reaction block c [] memory e = refl
+probing-none reaction block c (d ∷ ds) memory e = absurd cc
 
-pub probing-some : {w : ℕ} (deed : Deed w) (block : ℕ) (c : Cap) (clients : List ℕ) (memory : Memory) → is_nobody clients ≡ false
-    → probing_or deed block c clients memory ≡ record { handed = probes block c clients; memory = memory }
-probing-some deed block c [] memory e = absurd cc
-probing-some deed block c (d ∷ ds) memory e = refl
+pub probing-some : {w : ℕ} (reaction : Reaction w) (block : ℕ) (c : Cap) (clients : List ℕ) (memory : Memory) → is_nobody clients ≡ false
+    → probing_or reaction block c clients memory ≡ record { handed = probes block c clients; memory = memory }
+probing-some reaction block c [] memory e = absurd cc
+probing-some reaction block c (d ∷ ds) memory e = refl
 
 -- ---- after the Probes
 
@@ -99,24 +99,24 @@ missing-after {w} config s c t client is none = elim (cases_lt client (length co
         ap (pending (ProbeOf block)) (probes-within client block c 0 (length config.clients.items) (is_probed s c t) t (omega arith) (omega (arith, lt)) ∙ rw e refl)
         ∙ is.settled client ∙ sym e
 
-pub home-probed : {w : ℕ} {D : Type 0} (perm_of : D → ℕ → ℕ → Perm) (config : Config) (old new : Home w D) (number : ℕ) (link : Link) (request : MessageA w)
+pub block_state-probed : {w : ℕ} {D : Type 0} (perm_of : D → ℕ → ℕ → Perm) (config : Config) (old new : BlockState w D) (number : ℕ) (link : Link) (request : MessageA w)
     (c : Cap) (word : ℕ) (t : Trace w) (memory : Memory)
     → new.profile ≡ old.profile → new.directory ≡ old.directory → new.blocks ≡ old.blocks → new.trackers.count ≡ old.trackers.count
     → ((n : ℕ) → tracker_at new.trackers n ≡ (if number == n then Probing link request word else tracker_at old.trackers n))
     → length config.clients.items ≤ 16 → IsWord config word (is_probed (service_with number link request) c t) → (word == 0) ≡ false
-    → IsReadyAt config number link request t → IsHomeWithout number perm_of config old t memory
+    → IsReadyAt config number link request t → IsBlockStateWithout number perm_of config old t memory
     → IsDone perm_of config new (probes (block_at request.address) c (clients_from 0 16 (λ d. bit_at word d == 1))) t
     (probing_or (performed config (service_with number link request) t memory) (block_at request.address) c (probed config (service_with number link request) c t) memory)
-home-probed {w} {D} perm_of config old new number link request c word t memory profile directory blocks count trackers few is some at home =
-    let deed_is = probing-some (performed config s t memory) block c (probed config s c t) memory (sym (word-nobody config word (is_probed s c t) is) ∙ some) in
-    subst (λ (d : Deed w). IsDone perm_of config new (probes block c (clients_from 0 16 (λ d. bit_at word d == 1))) t d) (sym deed_is) (
+block_state-probed {w} {D} perm_of config old new number link request c word t memory profile directory blocks count trackers few is some at block_state =
+    let reaction_is = probing-some (performed config s t memory) block c (probed config s c t) memory (sym (word-nobody config word (is_probed s c t) is) ∙ some) in
+    subst (λ (d : Reaction w). IsDone perm_of config new (probes block c (clients_from 0 16 (λ d. bit_at word d == 1))) t d) (sym reaction_is) (
       ap (probes block c) (word-clients config word (is_probed s c t) few is),
       record {
-        profile = profile ∙ home.profile;
-        count = count ∙ home.count;
-        tracked = λ i all. tracker-changed number i (Probing link request word) (tracker_at new.trackers) (tracker_at old.trackers) t u trackers probing still home.tracked;
-        records = λ b d. ap (λ m. perm_of m b d) directory ∙ home.records b d ∙ sym (probes-keep (held b) d block c (probed config s c t) t (unheld-b b block c));
-        bytes = rw blocks home.bytes;
+        profile = profile ∙ block_state.profile;
+        count = count ∙ block_state.count;
+        tracked = λ i all. tracker-changed number i (Probing link request word) (tracker_at new.trackers) (tracker_at old.trackers) t u trackers probing still block_state.tracked;
+        records = λ b d. ap (λ m. perm_of m b d) directory ∙ block_state.records b d ∙ sym (probes-keep (held b) d block c (probed config s c t) t (unheld-b b block c));
+        bytes = rw blocks block_state.bytes;
       },
     )
   where
@@ -156,16 +156,16 @@ begun-some : {w : ℕ} (config : Config) (s : Service w) (o : Option Cap) (c : C
     → begun_with config o s t memory ≡ probing_or (performed config s t memory) (block_at s.request.address) c (probed config s c t) memory
 begun-some config s o c t memory e = rw (← e) refl
 
-pub done-unprobed : {w : ℕ} {D : Type 0} (perm_of : D → ℕ → ℕ → Perm) (config : Config) (home : Home w D) (handed : Handed w) (s : Service w) (o : Option Cap)
+pub done-unprobed : {w : ℕ} {D : Type 0} (perm_of : D → ℕ → ℕ → Perm) (config : Config) (block_state : BlockState w D) (handed : Handed w) (s : Service w) (o : Option Cap)
     (c : Cap) (word : ℕ) (t : Trace w) (memory : Memory)
-    → Some c ≡ o → IsWord config word (is_probed s c t) → (word == 0) ≡ true → IsDone perm_of config home handed t (performed config s t memory)
-    → IsDone perm_of config home handed t (begun_with config o s t memory)
-done-unprobed {w} perm_of config home handed s o c word t memory e is none done =
-    subst (λ (d : Deed w). IsDone perm_of config home handed t d)
+    → Some c ≡ o → IsWord config word (is_probed s c t) → (word == 0) ≡ true → IsDone perm_of config block_state handed t (performed config s t memory)
+    → IsDone perm_of config block_state handed t (begun_with config o s t memory)
+done-unprobed {w} perm_of config block_state handed s o c word t memory e is none done =
+    subst (λ (d : Reaction w). IsDone perm_of config block_state handed t d)
     (sym (begun-some config s o c t memory e ∙ probing-none (performed config s t memory) (block_at s.request.address) c (probed config s c t) memory
     (sym (word-nobody config word (is_probed s c t) is) ∙ none))) done
 
-pub done-probed : {w : ℕ} {D : Type 0} (perm_of : D → ℕ → ℕ → Perm) (config : Config) (home : Home w D) (handed : Handed w) (s : Service w) (o : Option Cap) (c : Cap) (t : Trace w) (memory : Memory)
-    → Some c ≡ o → IsDone perm_of config home handed t (probing_or (performed config s t memory) (block_at s.request.address) c (probed config s c t) memory)
-    → IsDone perm_of config home handed t (begun_with config o s t memory)
-done-probed {w} perm_of config home handed s o c t memory e done = subst (λ (d : Deed w). IsDone perm_of config home handed t d) (sym (begun-some config s o c t memory e)) done
+pub done-probed : {w : ℕ} {D : Type 0} (perm_of : D → ℕ → ℕ → Perm) (config : Config) (block_state : BlockState w D) (handed : Handed w) (s : Service w) (o : Option Cap) (c : Cap) (t : Trace w) (memory : Memory)
+    → Some c ≡ o → IsDone perm_of config block_state handed t (probing_or (performed config s t memory) (block_at s.request.address) c (probed config s c t) memory)
+    → IsDone perm_of config block_state handed t (begun_with config o s t memory)
+done-probed {w} perm_of config block_state handed s o c t memory e done = subst (λ (d : Reaction w). IsDone perm_of config block_state handed t d) (sym (begun-some config s o c t memory e)) done

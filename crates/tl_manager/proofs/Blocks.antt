@@ -5,7 +5,7 @@ use Rattle.std.proofs.lemmas.Bool.{eq-eqb, ne_eqb, cases_eq}
 use Rattle.std.proofs.lemmas.List.{get_or-set_same, get_or-set_other, get_or-replicate, length-replicate, length-set}
 use Rattle.tl_rules.specs.statement.Effect.{Memory, IsBlock, bytes_from}
 use Rattle.tl_manager.specs.code.Blocks.{AreBlocks}
-use Rattle.tl_manager.specs.statement.Deed.{with_block}
+use Rattle.tl_manager.specs.statement.Reaction.{with_block}
 use Rattle.tl_manager.proofs.Written.{bytes_are}
 
 -- the bytes of a block are read off it

@@ -24,21 +24,21 @@ use Rattle.tl_manager.specs.laws.After.{is_of_clients}
 use Rattle.tl_manager.specs.code.BurstFor.{burst_for, burst_with}
 use Rattle.tl_manager.specs.code.Complete.{IsComplete}
 use Rattle.tl_manager.specs.statement.Handing.{with_handed}
-use Rattle.tl_manager.specs.code.Home.{IsHome}
+use Rattle.tl_manager.specs.code.BlockState.{IsBlockState}
 use Rattle.tl_manager.specs.code.Kept.{Each, IsSound, IsFilled, IsKept}
 use Rattle.tl_manager.specs.code.Knows.{Knows}
 use Rattle.tl_manager.specs.code.Ready.{IsPassed}
-use Rattle.tl_manager.specs.statement.Deed.{deed}
+use Rattle.tl_manager.specs.statement.Reaction.{reaction}
 use Rattle.tl_manager.specs.statement.End.{End}
 use Rattle.tl_manager.specs.statement.Offer.{taken}
-use Rattle.tl_manager.specs.code.Wire.{IsWire}
-use Rattle.tl_manager.specs.declared.manager.links.Links.{Links}
-use Rattle.tl_manager.specs.declared.manager.wire.Wire.{Wire}
+use Rattle.tl_manager.specs.code.LinkState.{IsLinkState}
+use Rattle.tl_manager.specs.declared.manager.state.ManagerState.{ManagerState}
+use Rattle.tl_manager.specs.declared.manager.link_state.LinkState.{LinkState}
 use Rattle.tl_manager.proofs.Continued.{bursts-handed}
-use Rattle.tl_manager.proofs.Deeds.{deed_handable}
+use Rattle.tl_manager.proofs.Reactions.{reaction_handable}
 use Rattle.tl_manager.proofs.Judging.{burst-is}
 use Rattle.tl_manager.proofs.Keeping.{is_taken, kept-taken}
-use Rattle.tl_manager.proofs.Links.{own_beat, other_beat}
+use Rattle.tl_manager.proofs.LinkHistories.{own_beat, other_beat}
 use Rattle.tl_manager.proofs.Refusing.{set-other, set-here}
 
 burst-with : {w : ℕ} (ch : Channel) (x : Beat w) (h : History w) → burst_with ch x (unfinished ch h) ≡ unfinished ch (x ∷ h)
@@ -47,33 +47,33 @@ burst-with ch x h = refl
 
 -- the burst that is unfinished on a channel of clients
 burst-own : {w : ℕ} (config : Config) (ch : Channel) (link : Link) (x : Beat w) (e : End w) → is_of_clients ch ≡ true → IsWidth w → IsPassed config link x e.trace
-    → Each (IsSound config) e.trace → burst_with ch x (unfinished ch (on_link link.0 e.trace)) ≡ unfinished ch (on_link link.0 (taken link x (deed config link x e) e).trace)
+    → Each (IsSound config) e.trace → burst_with ch x (unfinished ch (on_link link.0 e.trace)) ≡ unfinished ch (on_link link.0 (taken link x (reaction config link x e) e).trace)
 burst-own config ch link x e theirs width ok sound =
     burst-with ch x (on_link link.0 e.trace) ∙ ap (unfinished ch) (sym (own_beat link.0 link x e.trace (eq-eqb link.0 link.0 refl)))
-    ∙ sym (bursts-handed config ch link.0 (deed config link x e).handed ((link, x) ∷ e.trace) theirs (deed_handable config link x e width ok.sound sound))
+    ∙ sym (bursts-handed config ch link.0 (reaction config link x e).handed ((link, x) ∷ e.trace) theirs (reaction_handable config link x e width ok.sound sound))
 
 burst-other : {w : ℕ} (config : Config) (ch : Channel) (client : ℕ) (link : Link) (x : Beat w) (e : End w) → (link.0 == client) ≡ false → is_of_clients ch ≡ true → IsWidth w
-    → IsPassed config link x e.trace → Each (IsSound config) e.trace → unfinished ch (on_link client e.trace) ≡ unfinished ch (on_link client (taken link x (deed config link x e) e).trace)
+    → IsPassed config link x e.trace → Each (IsSound config) e.trace → unfinished ch (on_link client e.trace) ≡ unfinished ch (on_link client (taken link x (reaction config link x e) e).trace)
 burst-other config ch client link x e other theirs width ok sound =
     ap (unfinished ch) (sym (other_beat client link x e.trace other))
-    ∙ sym (bursts-handed config ch client (deed config link x e).handed ((link, x) ∷ e.trace) theirs (deed_handable config link x e width ok.sound sound))
+    ∙ sym (bursts-handed config ch client (reaction config link x e).handed ((link, x) ∷ e.trace) theirs (reaction_handable config link x e width ok.sound sound))
 
-pub knows-taken : {w : ℕ} {M : Type 0} (perm_of : M → ℕ → ℕ → Perm) (old new : Links w M) (config : Config) (link : Link) (before after : Wire w) (x : Beat w) (e : End w) → IsWidth w
-    → IsPassed config link x e.trace → new.wires.items ≡ slice_set old.wires.items link.0 after → slice_get old.wires.items link.0 ≡ Some before
+pub knows-taken : {w : ℕ} {M : Type 0} (perm_of : M → ℕ → ℕ → Perm) (old new : ManagerState w M) (config : Config) (link : Link) (before after : LinkState w) (x : Beat w) (e : End w) → IsWidth w
+    → IsPassed config link x e.trace → new.link_states.items ≡ slice_set old.link_states.items link.0 after → slice_get old.link_states.items link.0 ≡ Some before
     → after.level ≡ before.level → after.closed ≡ before.closed → after.requests ≡ burst_with channel.A x before.requests → after.reports ≡ burst_with channel.C x before.reports
-    → length new.home.blocks.bytes.items ≡ length old.home.blocks.bytes.items
-    → IsHome perm_of config new.home (with_handed (deed config link x e).handed ((link, x) ∷ e.trace)) (deed config link x e).memory → Knows perm_of old config e
-    → Knows perm_of new config (taken link x (deed config link x e) e)
-knows-taken {w} perm_of old new config link before after x e width ok wires found level closed requests reports size home k = record {
+    → length new.block_state.blocks.bytes.items ≡ length old.block_state.blocks.bytes.items
+    → IsBlockState perm_of config new.block_state (with_handed (reaction config link x e).handed ((link, x) ∷ e.trace)) (reaction config link x e).memory → Knows perm_of old config e
+    → Knows perm_of new config (taken link x (reaction config link x e) e)
+knows-taken {w} perm_of old new config link before after x e width ok link_states found level closed requests reports size block_state k = record {
   fits = k.fits;
   kept = kept-taken config link x e width ok k.kept;
-  home = home;
+  block_state = block_state;
   size = size ∙ k.size;
-  count = ap length wires ∙ length-set old.wires.items link.0 after ∙ k.count;
-  wires = λ client wire at. elim (cases_eq client link.0) [
+  count = ap length link_states ∙ length-set old.link_states.items link.0 after ∙ k.count;
+  link_states = λ client link_state at. elim (cases_eq client link.0) [
     | inl same ↦
-        let here = k.wires link.0 before found in
-        let is : wire ≡ after = set-here old.wires.items link.0 wire after (rw (same, wires) at at) in
+        let here = k.link_states link.0 before found in
+        let is : link_state ≡ after = set-here old.link_states.items link.0 link_state after (rw (same, link_states) at at) in
         rw (is, same) (record {
           level = here.level ∙ ap Some (sym level);
           closed = closed ∙ here.closed;
@@ -83,7 +83,7 @@ knows-taken {w} perm_of old new config link before after x e width ok wires foun
           };
         })
     | inr other ↦
-        let there = k.wires client wire (set-other old.wires.items link.0 client wire after other (rw wires at at)) in
+        let there = k.link_states client link_state (set-other old.link_states.items link.0 client link_state after other (rw link_states at at)) in
         let away = ne_eqb link.0 client (λ same. other (sym same)) in
         record {
           level = there.level;
@@ -105,20 +105,20 @@ unbroken {w} p x t e = go (unfinished (channel_of x) t) e
     go [] f = refl
     go (y ∷ ys) f = (next_rule (breaks_burst x (y ∷ ys)) S1 None f).0
 
-pub goes-on : {w : ℕ} (config : Config) (link : Link) (wire : Wire w) (x : Beat w) (e : End w) → IsPassed config link x e.trace → IsWire config wire link.0 e
-    → breaks_burst x (burst_for wire.requests wire.reports x) ≡ false
-goes-on config link wire x e ok is = rw (burst-is wire link.0 x e.trace ok.theirs is.carried) (unbroken config.profile x (on_link link.0 e.trace) ok.order)
+pub goes-on : {w : ℕ} (config : Config) (link : Link) (link_state : LinkState w) (x : Beat w) (e : End w) → IsPassed config link x e.trace → IsLinkState config link_state link.0 e
+    → breaks_burst x (burst_for link_state.requests link_state.reports x) ≡ false
+goes-on config link link_state x e ok is = rw (burst-is link_state link.0 x e.trace ok.theirs is.carried) (unbroken config.profile x (on_link link.0 e.trace) ok.order)
 
-pub last-is : {w : ℕ} (config : Config) (link : Link) (wire : Wire w) (x : Beat w) (e : End w) (last : Bool) → IsPassed config link x e.trace → IsWire config wire link.0 e
-    → last ≡ completes x (burst_for wire.requests wire.reports x) → ends x (on_link link.0 e.trace) ≡ last
-last-is config link wire x e last ok is at = sym (rw (burst-is wire link.0 x e.trace ok.theirs is.carried) at at)
+pub last-is : {w : ℕ} (config : Config) (link : Link) (link_state : LinkState w) (x : Beat w) (e : End w) (last : Bool) → IsPassed config link x e.trace → IsLinkState config link_state link.0 e
+    → last ≡ completes x (burst_for link_state.requests link_state.reports x) → ends x (on_link link.0 e.trace) ≡ last
+last-is config link link_state x e last ok is at = sym (rw (burst-is link_state link.0 x e.trace ok.theirs is.carried) at at)
 
-pub is-complete : {w : ℕ} (config : Config) (link : Link) (wire : Wire w) (x : Beat w) (m : Message w) (e : End w) → IsWidth w → IsPassed config link x e.trace → IsKept config e
-    → IsWire config wire link.0 e → true ≡ completes x (burst_for wire.requests wire.reports x)
-    → IsBurst m (x ∷ burst_for wire.requests wire.reports x) → IsFilled m → IsComplete config link x m e
-is-complete config link wire x m e width ok kept is last burst filled = record {
+pub is-complete : {w : ℕ} (config : Config) (link : Link) (link_state : LinkState w) (x : Beat w) (m : Message w) (e : End w) → IsWidth w → IsPassed config link x e.trace → IsKept config e
+    → IsLinkState config link_state link.0 e → true ≡ completes x (burst_for link_state.requests link_state.reports x)
+    → IsBurst m (x ∷ burst_for link_state.requests link_state.reports x) → IsFilled m → IsComplete config link x m e
+is-complete config link link_state x m e width ok kept is last burst filled = record {
   taken = is_taken config link x e width ok kept;
-  last = last-is config link wire x e true ok is last;
-  burst = rw (burst-is wire link.0 x e.trace ok.theirs is.carried) at burst;
+  last = last-is config link link_state x e true ok is last;
+  burst = rw (burst-is link_state link.0 x e.trace ok.theirs is.carried) at burst;
   filled = filled;
 }

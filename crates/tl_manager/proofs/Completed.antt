@@ -27,26 +27,26 @@ use Rattle.tl_rules.proofs.Payload.{payload-c}
 use Rattle.tl_manager.specs.code.Complete.{IsComplete}
 use Rattle.tl_manager.specs.statement.Handing.{Handed, with_handed}
 use Rattle.tl_manager.specs.statement.Holders.{recorded, cap_probed}
-use Rattle.tl_manager.specs.code.Home.{IsHome, IsHomeWithout, IsDone, IsReadyAt, IsMessage}
+use Rattle.tl_manager.specs.code.BlockState.{IsBlockState, IsBlockStateWithout, IsDone, IsReadyAt, IsMessage}
 use Rattle.tl_manager.specs.laws.Pending.{is_granted}
 use Rattle.tl_manager.specs.code.Ready.{IsReady, IsServed, IsTaken}
 use Rattle.tl_manager.specs.laws.Record.{reported_by}
 use Rattle.tl_manager.specs.statement.Service.{Service, services, service_of_block, is_in_service, trackers_of, least_untaken}
-use Rattle.tl_manager.specs.statement.Deed.{deed, begun_with}
+use Rattle.tl_manager.specs.statement.Reaction.{reaction, begun_with}
 use Rattle.tl_manager.specs.statement.End.{End}
 use Rattle.tl_manager.specs.statement.Offer.{is_from_client}
 use Rattle.tl_manager.specs.code.Tracked.{service_with, IsTracked}
 use Rattle.tl_manager.specs.code.Trackers.{tracker_at}
 use Rattle.tl_manager.specs.code.Tracking.{is_free}
-use Rattle.tl_manager.specs.declared.manager.home.Home.{Home}
+use Rattle.tl_manager.specs.declared.manager.block_state.BlockState.{BlockState}
 use Rattle.tl_manager.specs.declared.manager.tracker.Tracker.{Tracker}
 use Rattle.tl_manager.proofs.Accepted.{granted_a}
 use Rattle.tl_manager.proofs.Assembled.{request-again}
 use Rattle.tl_manager.proofs.Busy.{least-tracker, all-taken}
 use Rattle.tl_manager.proofs.Ended.{services-part}
-use Rattle.tl_manager.proofs.Events.{services-request, deed-ack}
+use Rattle.tl_manager.proofs.Events.{services-request, reaction-ack}
 use Rattle.tl_manager.proofs.Handed.{recorded-taken}
-use Rattle.tl_manager.proofs.Links.{own_beat, other_beat, whole-e}
+use Rattle.tl_manager.proofs.LinkHistories.{own_beat, other_beat, whole-e}
 use Rattle.tl_manager.proofs.Probing.{missing-part}
 use Rattle.tl_manager.proofs.Requested.{service_made, made}
 use Rattle.tl_manager.proofs.Serving.{none_of_block, some_is}
@@ -98,20 +98,20 @@ ready-at {w} config number link x m e small is served =
       sound = (is.passes.sound, is.before.sound);
     }
 
-pub home-requested : {w : ℕ} {D : Type 0} (perm_of : D → ℕ → ℕ → Perm) (config : Config) (home : Home w D) (number : ℕ) (link : Link) (x : BeatA w) (m : MessageA w) (e : End w)
+pub block_state-requested : {w : ℕ} {D : Type 0} (perm_of : D → ℕ → ℕ → Perm) (config : Config) (block_state : BlockState w D) (number : ℕ) (link : Link) (x : BeatA w) (m : MessageA w) (e : End w)
     → IsTaken config link (beat.A x) e → IsServed link x (service_with number link m) e.trace
-    → IsHome perm_of config home e.trace e.memory → IsHomeWithout number perm_of config home ((link, beat.A x) ∷ e.trace) e.memory
-home-requested {w} perm_of config home number link x m e is served home_is = record {
-  profile = home_is.profile;
-  count = home_is.count;
-  tracked = λ n other. tracked-still n (tracker_at home.trackers n) e.trace u (λ free. ap (λ (ss : List (Service w)). is_one_of n (trackers_of ss)) more ∙ rw (ne_eqb n number other) free)
+    → IsBlockState perm_of config block_state e.trace e.memory → IsBlockStateWithout number perm_of config block_state ((link, beat.A x) ∷ e.trace) e.memory
+block_state-requested {w} perm_of config block_state number link x m e is served block_state_is = record {
+  profile = block_state_is.profile;
+  count = block_state_is.count;
+  tracked = λ n other. tracked-still n (tracker_at block_state.trackers n) e.trace u (λ free. ap (λ (ss : List (Service w)). is_one_of n (trackers_of ss)) more ∙ rw (ne_eqb n number other) free)
       (λ k v f at. record {
         serves = ap (service_of_block k) more ∙ rw (away k v f) f;
         granted = granted_a link x e.trace v;
         missing = missing_a link x e.trace k;
-      }) (home_is.tracked n tt);
-  records = λ b c. home_is.records b c ∙ sym (recorded-taken c link b (beat.A x) e.trace refl);
-  bytes = home_is.bytes;
+      }) (block_state_is.tracked n tt);
+  records = λ b c. block_state_is.records b c ∙ sym (recorded-taken c link b (beat.A x) e.trace refl);
+  bytes = block_state_is.bytes;
 }
   where
     u : Trace w
@@ -129,33 +129,33 @@ home-requested {w} perm_of config home number link x m e is served home_is = rec
     away : (k : ℕ) (v : Service w) → service_of_block k (services e.trace) ≡ Some v → (block_at m.address == k) ≡ false
     away k v f = ne_eqb (block_at m.address) k (λ same. absurd (let no : service_of_block k (services e.trace) ≡ None = rw same at none in cc))
 
-pub done-requested : {w : ℕ} {M : Type 0} (perm_of : M → ℕ → ℕ → Perm) (config : Config) (home : Home w M) (handed : Handed w) (number : ℕ) (link : Link) (x : BeatA w) (m : MessageA w) (e : End w)
+pub done-requested : {w : ℕ} {M : Type 0} (perm_of : M → ℕ → ℕ → Perm) (config : Config) (block_state : BlockState w M) (handed : Handed w) (number : ℕ) (link : Link) (x : BeatA w) (m : MessageA w) (e : End w)
     → IsServed link x (service_with number link m) e.trace
-    → IsDone perm_of config home handed ((link, beat.A x) ∷ e.trace) (begun_with config (cap_probed m.opcode m.param) (service_with number link m) ((link, beat.A x) ∷ e.trace) e.memory)
-    → IsDone perm_of config home handed ((link, beat.A x) ∷ e.trace) (deed config link (beat.A x) e)
-unfolding deed
-done-requested perm_of config home handed number link x m e served done = rw (served.last, served.made) done
+    → IsDone perm_of config block_state handed ((link, beat.A x) ∷ e.trace) (begun_with config (cap_probed m.opcode m.param) (service_with number link m) ((link, beat.A x) ∷ e.trace) e.memory)
+    → IsDone perm_of config block_state handed ((link, beat.A x) ∷ e.trace) (reaction config link (beat.A x) e)
+unfolding reaction
+done-requested perm_of config block_state handed number link x m e served done = rw (served.last, served.made) done
 
 -- so its service is begun with the least free tracker
-pub done-served : {w : ℕ} {M : Type 0} (perm_of : M → ℕ → ℕ → Perm) (config : Config) (old new : Home w M) (handed : Handed w) (number : ℕ) (link : Link) (x : Beat w) (m : MessageA w) (e : End w)
+pub done-served : {w : ℕ} {M : Type 0} (perm_of : M → ℕ → ℕ → Perm) (config : Config) (old new : BlockState w M) (handed : Handed w) (number : ℕ) (link : Link) (x : Beat w) (m : MessageA w) (e : End w)
     → length m.payload ≡ 64
     → is_free (tracker_at old.trackers number) ≡ true → ((i : ℕ) → i < number → is_free (tracker_at old.trackers i) ≡ false)
-    → ((t : Trace w) (memory : Memory) → IsReadyAt config number link m t → IsHomeWithout number perm_of config old t memory
+    → ((t : Trace w) (memory : Memory) → IsReadyAt config number link m t → IsBlockStateWithout number perm_of config old t memory
     → IsDone perm_of config new handed t (begun_with config (cap_probed m.opcode m.param) (service_with number link m) t memory))
-    → IsComplete config link x (A m) e → IsHome perm_of config old e.trace e.memory → IsDone perm_of config new handed ((link, x) ∷ e.trace) (deed config link x e)
-done-served perm_of config old new handed number link (beat.A x) m e long free taken begins is home =
-    let least = least-tracker number (tracker_at old.trackers) e.trace (λ n. home.tracked n tt) free taken in
+    → IsComplete config link x (A m) e → IsBlockState perm_of config old e.trace e.memory → IsDone perm_of config new handed ((link, x) ∷ e.trace) (reaction config link x e)
+done-served perm_of config old new handed number link (beat.A x) m e long free taken begins is block_state =
+    let least = least-tracker number (tracker_at old.trackers) e.trace (λ n. block_state.tracked n tt) free taken in
     let served = is_served number link x m e.trace is.taken.width long is.last is.burst least in
     let newest = newest-a m x (unfinished channel.A (on_link link.0 e.trace)) (beats_of (A m)) is.burst.0 in
     let small : nat_le x.size 6 ≡ true = ap (λ (y : BeatA _). nat_le y.size 6) newest.1 ∙ le-leb m.size 6 m.small in
     done-requested perm_of config new handed number link x m e served
     (begins ((link, beat.A x) ∷ e.trace) e.memory (ready-at config number link x m e small is.taken served)
-    (home-requested perm_of config old number link x m e is.taken served home))
-done-served perm_of config old new handed number link (beat.B x) m e long free taken begins is home = absurd (let no = is.taken.passes.theirs in cc)
-done-served perm_of config old new handed number link (beat.C x) m e long free taken begins is home =
+    (block_state-requested perm_of config old number link x m e is.taken served block_state))
+done-served perm_of config old new handed number link (beat.B x) m e long free taken begins is block_state = absurd (let no = is.taken.passes.theirs in cc)
+done-served perm_of config old new handed number link (beat.C x) m e long free taken begins is block_state =
     absurd (let no = on-a m (beat.C x) (unfinished channel.C (on_link link.0 e.trace)) (beats_of (A m)) is.burst.0 in cc)
-done-served perm_of config old new handed number link (beat.D x) m e long free taken begins is home = absurd (let no = is.taken.passes.theirs in cc)
-done-served perm_of config old new handed number link (beat.E x) m e long free taken begins is home =
+done-served perm_of config old new handed number link (beat.D x) m e long free taken begins is block_state = absurd (let no = is.taken.passes.theirs in cc)
+done-served perm_of config old new handed number link (beat.E x) m e long free taken begins is block_state =
     absurd (let no = on-a m (beat.E x) (unfinished channel.E (on_link link.0 e.trace)) (beats_of (A m)) is.burst.0 in cc)
 
 -- there is one
@@ -187,27 +187,27 @@ is_message {w} config link x m e long is last burst =
       payload = sym (payload-c m (beat.C x ∷ unfinished channel.C (on_link link.0 e.trace)) is.width long burst);
     }
 
-pub done-reported : {w : ℕ} {M : Type 0} (perm_of : M → ℕ → ℕ → Perm) (config : Config) (old new : Home w M) (handed : Handed w) (link : Link) (x : Beat w) (m : MessageC w) (e : End w)
-    → ((y : BeatC w) → IsMessage config link y m e → IsHome perm_of config old e.trace e.memory → IsDone perm_of config new handed ((link, beat.C y) ∷ e.trace) (deed config link (beat.C y) e))
-    → IsComplete config link x (C m) e → IsHome perm_of config old e.trace e.memory → IsDone perm_of config new handed ((link, x) ∷ e.trace) (deed config link x e)
-done-reported perm_of config old new handed link (beat.A x) m e takes is home = absurd (let no = on-c m (beat.A x) (unfinished channel.A (on_link link.0 e.trace)) (beats_of (C m)) is.burst.0 in cc)
-done-reported perm_of config old new handed link (beat.B x) m e takes is home = absurd (let no = is.taken.passes.theirs in cc)
-done-reported perm_of config old new handed link (beat.C x) m e takes is home = takes x (is_message config link x m e is.filled is.taken is.last is.burst) home
-done-reported perm_of config old new handed link (beat.D x) m e takes is home = absurd (let no = is.taken.passes.theirs in cc)
-done-reported perm_of config old new handed link (beat.E x) m e takes is home = absurd (let no = on-c m (beat.E x) (unfinished channel.E (on_link link.0 e.trace)) (beats_of (C m)) is.burst.0 in cc)
+pub done-reported : {w : ℕ} {M : Type 0} (perm_of : M → ℕ → ℕ → Perm) (config : Config) (old new : BlockState w M) (handed : Handed w) (link : Link) (x : Beat w) (m : MessageC w) (e : End w)
+    → ((y : BeatC w) → IsMessage config link y m e → IsBlockState perm_of config old e.trace e.memory → IsDone perm_of config new handed ((link, beat.C y) ∷ e.trace) (reaction config link (beat.C y) e))
+    → IsComplete config link x (C m) e → IsBlockState perm_of config old e.trace e.memory → IsDone perm_of config new handed ((link, x) ∷ e.trace) (reaction config link x e)
+done-reported perm_of config old new handed link (beat.A x) m e takes is block_state = absurd (let no = on-c m (beat.A x) (unfinished channel.A (on_link link.0 e.trace)) (beats_of (C m)) is.burst.0 in cc)
+done-reported perm_of config old new handed link (beat.B x) m e takes is block_state = absurd (let no = is.taken.passes.theirs in cc)
+done-reported perm_of config old new handed link (beat.C x) m e takes is block_state = takes x (is_message config link x m e is.filled is.taken is.last is.burst) block_state
+done-reported perm_of config old new handed link (beat.D x) m e takes is block_state = absurd (let no = is.taken.passes.theirs in cc)
+done-reported perm_of config old new handed link (beat.E x) m e takes is block_state = absurd (let no = on-c m (beat.E x) (unfinished channel.E (on_link link.0 e.trace)) (beats_of (C m)) is.burst.0 in cc)
 
 -- ---- a GrantAck
 
-pub done-acked : {w : ℕ} {M : Type 0} (perm_of : M → ℕ → ℕ → Perm) (config : Config) (old new : Home w M) (link : Link) (x : Beat w) (m : MessageE) (e : End w)
-    → ((y : BeatE) → y.sink ≡ m.sink → IsTaken config link (beat.E y) e → IsHome perm_of config old e.trace e.memory → IsHome perm_of config new ((link, beat.E y) ∷ e.trace) e.memory)
-    → IsComplete config link x (E m) e → IsHome perm_of config old e.trace e.memory → IsDone perm_of config new [] ((link, x) ∷ e.trace) (deed config link x e)
+pub done-acked : {w : ℕ} {M : Type 0} (perm_of : M → ℕ → ℕ → Perm) (config : Config) (old new : BlockState w M) (link : Link) (x : Beat w) (m : MessageE) (e : End w)
+    → ((y : BeatE) → y.sink ≡ m.sink → IsTaken config link (beat.E y) e → IsBlockState perm_of config old e.trace e.memory → IsBlockState perm_of config new ((link, beat.E y) ∷ e.trace) e.memory)
+    → IsComplete config link x (E m) e → IsBlockState perm_of config old e.trace e.memory → IsDone perm_of config new [] ((link, x) ∷ e.trace) (reaction config link x e)
 unfolding with_handed
-done-acked perm_of config old new link (beat.A x) m e takes is home = absurd (let no = is.burst.0 in cc)
-done-acked perm_of config old new link (beat.B x) m e takes is home = absurd (let no = is.taken.passes.theirs in cc)
-done-acked perm_of config old new link (beat.C x) m e takes is home = absurd (let no = is.burst.0 in cc)
-done-acked perm_of config old new link (beat.D x) m e takes is home = absurd (let no = is.taken.passes.theirs in cc)
-done-acked {w} perm_of config old new link (beat.E x) m e takes is home =
-    rw (deed-ack config link x e) (refl, takes x (newest-e m x (unfinished channel.E (on_link link.0 e.trace)) is.burst.0) is.taken home)
+done-acked perm_of config old new link (beat.A x) m e takes is block_state = absurd (let no = is.burst.0 in cc)
+done-acked perm_of config old new link (beat.B x) m e takes is block_state = absurd (let no = is.taken.passes.theirs in cc)
+done-acked perm_of config old new link (beat.C x) m e takes is block_state = absurd (let no = is.burst.0 in cc)
+done-acked perm_of config old new link (beat.D x) m e takes is block_state = absurd (let no = is.taken.passes.theirs in cc)
+done-acked {w} perm_of config old new link (beat.E x) m e takes is block_state =
+    rw (reaction-ack config link x e) (refl, takes x (newest-e m x (unfinished channel.E (on_link link.0 e.trace)) is.burst.0) is.taken block_state)
 
 -- ---- a beat that isn't the last of its burst
 
@@ -241,16 +241,16 @@ part-reports {w} link (beat.C x) t c b theirs part = go (link.0 == c) refl
 part-reports link (beat.D x) t c b theirs part = refl
 part-reports link (beat.E x) t c b theirs part = refl
 
-pub done-part : {w : ℕ} {M : Type 0} (perm_of : M → ℕ → ℕ → Perm) (config : Config) (home : Home w M) (link : Link) (x : Beat w) (e : End w) → is_from_client x ≡ true
-    → ends x (on_link link.0 e.trace) ≡ false → IsHome perm_of config home e.trace e.memory
-    → IsDone perm_of config home [] ((link, x) ∷ e.trace) (deed config link x e)
-unfolding deed with_handed
-done-part {w} perm_of config home link x e theirs part is = rw part (
+pub done-part : {w : ℕ} {M : Type 0} (perm_of : M → ℕ → ℕ → Perm) (config : Config) (block_state : BlockState w M) (link : Link) (x : Beat w) (e : End w) → is_from_client x ≡ true
+    → ends x (on_link link.0 e.trace) ≡ false → IsBlockState perm_of config block_state e.trace e.memory
+    → IsDone perm_of config block_state [] ((link, x) ∷ e.trace) (reaction config link x e)
+unfolding reaction with_handed
+done-part {w} perm_of config block_state link x e theirs part is = rw part (
   refl,
   record {
     profile = is.profile;
     count = is.count;
-    tracked = λ n all. tracked-still n (tracker_at home.trackers n) e.trace ((link, x) ∷ e.trace)
+    tracked = λ n all. tracked-still n (tracker_at block_state.trackers n) e.trace ((link, x) ∷ e.trace)
         (λ free. ap (λ (ss : List (Service w)). is_one_of n (trackers_of ss)) (services-part (link, x) e.trace part) ∙ free)
         (λ k v f at. record {
           serves = ap (service_of_block k) (services-part (link, x) e.trace part) ∙ f;

@@ -21,10 +21,10 @@ use Rattle.tl_manager.specs.laws.After.{without_answered, without_all, services_
 use Rattle.tl_manager.specs.statement.Handing.{Handed, with_handed}
 use Rattle.tl_manager.specs.code.Kept.{Each, IsTyped, IsKept}
 use Rattle.tl_manager.specs.statement.Service.{Service, services, is_ended_by}
-use Rattle.tl_manager.specs.statement.Deed.{deed}
+use Rattle.tl_manager.specs.statement.Reaction.{reaction}
 use Rattle.tl_manager.specs.statement.End.{End}
 use Rattle.tl_manager.specs.statement.Offer.{Judgement, Breaks, Waits, Passes, is_from_client, judged, offered_as, offered}
-use Rattle.tl_manager.proofs.Deeds.{deed_handable}
+use Rattle.tl_manager.proofs.Reactions.{reaction_handable}
 use Rattle.tl_manager.proofs.Handed.{after_sent, beats_on_link, whole-after_sent, whole-taken}
 use Rattle.tl_manager.proofs.Judged.{passed}
 use Rattle.tl_manager.proofs.Lawful.{IsHandable}
@@ -91,7 +91,7 @@ services_as (Breaks r) config link ch x e width typed is before = refl
 services_as Waits config link ch x e width typed is before = refl
 services_as Passes config link ch x e width typed is before =
     let ok = passed config link ch x e typed is in
-    services-handed config (deed config link x e).handed ((link, x) ∷ e.trace) width (deed_handable config link x e width ok.sound before.sound)
+    services-handed config (reaction config link x e).handed ((link, x) ∷ e.trace) width (reaction_handable config link x e width ok.sound before.sound)
     (λ client. whole-taken client link x e.trace ok.theirs (before.whole client))
 
 pub services-offered : {w : ℕ} (config : Config) (link : Link) (ch : Channel) (x : Beat w) (e : End w) → IsWidth w → IsTyped x → IsKept config e

@@ -18,14 +18,14 @@ use Rattle.tl_rules.specs.statement.History.{ends, block_at, is_acquire, is_prob
 use Rattle.tl_manager.specs.statement.Handing.{nothing, probes, performed, grant, access_answer, release_ack}
 use Rattle.tl_manager.specs.statement.Holders.{cap_probed, probed, is_settled}
 use Rattle.tl_manager.specs.statement.Service.{Service, services, service_of_block}
-use Rattle.tl_manager.specs.statement.Deed.{deed, written}
+use Rattle.tl_manager.specs.statement.Reaction.{reaction, written}
 use Rattle.tl_manager.specs.statement.End.{End}
 use Rattle.tl_manager.specs.code.Ready.{IsServed}
 
 -- nothing at a beat that isn't the last of its message
-pub deed-part : {w : ℕ} (config : Config) (link : Link) (x : Beat w) (e : End w) → ends x (on_link link.0 e.trace) ≡ false → deed config link x e ≡ nothing e.memory
-unfolding deed
-deed-part config link x e part = rw part refl
+pub reaction-part : {w : ℕ} (config : Config) (link : Link) (x : Beat w) (e : End w) → ends x (on_link link.0 e.trace) ≡ false → reaction config link x e ≡ nothing e.memory
+unfolding reaction
+reaction-part config link x e part = rw part refl
 
 -- ---- a request
 
@@ -35,25 +35,25 @@ unfolding services
 services-request link x s t is = rw (is.last, is.made) refl
 
 -- others are probed
-pub deed-probes : {w : ℕ} (config : Config) (link : Link) (x : BeatA w) (s : Service w) (k : Cap) (d : ℕ) (ds : List ℕ) (e : End w) → IsServed link x s e.trace
+pub reaction-probes : {w : ℕ} (config : Config) (link : Link) (x : BeatA w) (s : Service w) (k : Cap) (d : ℕ) (ds : List ℕ) (e : End w) → IsServed link x s e.trace
     → cap_probed s.request.opcode s.request.param ≡ Some k
     → probed config s k ((link, beat.A x) ∷ e.trace) ≡ d ∷ ds
-    → deed config link (beat.A x) e ≡ record { handed = probes (block_at s.request.address) k (d ∷ ds); memory = e.memory }
-unfolding deed
-deed-probes config link x s k d ds e is asks someone = rw (is.last, is.made, asks, someone) refl
+    → reaction config link (beat.A x) e ≡ record { handed = probes (block_at s.request.address) k (d ∷ ds); memory = e.memory }
+unfolding reaction
+reaction-probes config link x s k d ds e is asks someone = rw (is.last, is.made, asks, someone) refl
 
 -- nobody holds too much
-pub deed-unprobed : {w : ℕ} (config : Config) (link : Link) (x : BeatA w) (s : Service w) (k : Cap) (e : End w) → IsServed link x s e.trace → cap_probed s.request.opcode s.request.param ≡ Some k
+pub reaction-unprobed : {w : ℕ} (config : Config) (link : Link) (x : BeatA w) (s : Service w) (k : Cap) (e : End w) → IsServed link x s e.trace → cap_probed s.request.opcode s.request.param ≡ Some k
     → probed config s k ((link, beat.A x) ∷ e.trace) ≡ []
-    → deed config link (beat.A x) e ≡ performed config s ((link, beat.A x) ∷ e.trace) e.memory
-unfolding deed
-deed-unprobed config link x s k e is asks nobody = rw (is.last, is.made, asks, nobody) refl
+    → reaction config link (beat.A x) e ≡ performed config s ((link, beat.A x) ∷ e.trace) e.memory
+unfolding reaction
+reaction-unprobed config link x s k e is asks nobody = rw (is.last, is.made, asks, nobody) refl
 
 -- an Intent probes nobody
-pub deed-intent : {w : ℕ} (config : Config) (link : Link) (x : BeatA w) (s : Service w) (e : End w) → IsServed link x s e.trace → cap_probed s.request.opcode s.request.param ≡ None
-    → deed config link (beat.A x) e ≡ performed config s ((link, beat.A x) ∷ e.trace) e.memory
-unfolding deed
-deed-intent config link x s e is asks = rw (is.last, is.made, asks) refl
+pub reaction-intent : {w : ℕ} (config : Config) (link : Link) (x : BeatA w) (s : Service w) (e : End w) → IsServed link x s e.trace → cap_probed s.request.opcode s.request.param ≡ None
+    → reaction config link (beat.A x) e ≡ performed config s ((link, beat.A x) ∷ e.trace) e.memory
+unfolding reaction
+reaction-intent config link x s e is asks = rw (is.last, is.made, asks) refl
 
 -- ---- a report or a Release
 
@@ -61,31 +61,31 @@ deed-intent config link x s e is asks = rw (is.last, is.made, asks) refl
 abbrev pub memory_with : {w : ℕ} → Link → BeatC w → End w → Memory
 memory_with link x e = written x (beat.C x ∷ unfinished channel.C (on_link link.0 e.trace)) e.memory
 
-pub deed-release : {w : ℕ} (config : Config) (link : Link) (x : BeatC w) (e : End w) → ends (beat.C x) (on_link link.0 e.trace) ≡ true → is_release x.opcode ≡ true
-    → deed config link (beat.C x) e ≡ record { handed = (link, release_ack x.source) ∷ []; memory = memory_with link x e }
-unfolding deed
-deed-release config link x e last release = rw (last, release) refl
+pub reaction-release : {w : ℕ} (config : Config) (link : Link) (x : BeatC w) (e : End w) → ends (beat.C x) (on_link link.0 e.trace) ≡ true → is_release x.opcode ≡ true
+    → reaction config link (beat.C x) e ≡ record { handed = (link, release_ack x.source) ∷ []; memory = memory_with link x e }
+unfolding reaction
+reaction-release config link x e last release = rw (last, release) refl
 
 -- other ProbeAcks are missing
-pub deed-report : {w : ℕ} (config : Config) (link : Link) (x : BeatC w) (e : End w) → ends (beat.C x) (on_link link.0 e.trace) ≡ true → is_release x.opcode ≡ false → is_probe_ack x.opcode ≡ true
+pub reaction-report : {w : ℕ} (config : Config) (link : Link) (x : BeatC w) (e : End w) → ends (beat.C x) (on_link link.0 e.trace) ≡ true → is_release x.opcode ≡ false → is_probe_ack x.opcode ≡ true
     → is_settled config (block_at x.address) ((link, beat.C x) ∷ e.trace) ≡ false
-    → deed config link (beat.C x) e ≡ nothing (memory_with link x e)
-unfolding deed
-deed-report config link x e last other report more = rw (last, other, report, more) refl
+    → reaction config link (beat.C x) e ≡ nothing (memory_with link x e)
+unfolding reaction
+reaction-report config link x e last other report more = rw (last, other, report, more) refl
 
 -- it was the last one
-pub deed-settled : {w : ℕ} (config : Config) (link : Link) (x : BeatC w) (s : Service w) (e : End w) → ends (beat.C x) (on_link link.0 e.trace) ≡ true → is_release x.opcode ≡ false
+pub reaction-settled : {w : ℕ} (config : Config) (link : Link) (x : BeatC w) (s : Service w) (e : End w) → ends (beat.C x) (on_link link.0 e.trace) ≡ true → is_release x.opcode ≡ false
     → is_probe_ack x.opcode ≡ true
     → is_settled config (block_at x.address) ((link, beat.C x) ∷ e.trace) ≡ true → service_of_block (block_at x.address) (services ((link, beat.C x) ∷ e.trace)) ≡ Some s
-    → deed config link (beat.C x) e ≡ performed config s ((link, beat.C x) ∷ e.trace) (memory_with link x e)
-unfolding deed
-deed-settled config link x s e last other report all found = rw (last, other, report, all, found) refl
+    → reaction config link (beat.C x) e ≡ performed config s ((link, beat.C x) ∷ e.trace) (memory_with link x e)
+unfolding reaction
+reaction-settled config link x s e last other report all found = rw (last, other, report, all, found) refl
 
 -- ---- a GrantAck
 
-pub deed-ack : {w : ℕ} (config : Config) (link : Link) (x : BeatE) (e : End w) → deed config link (beat.E x) e ≡ nothing e.memory
-unfolding deed
-deed-ack {w} config link x e = go (ends {w = w} (beat.E x) (on_link link.0 e.trace))
+pub reaction-ack : {w : ℕ} (config : Config) (link : Link) (x : BeatE) (e : End w) → reaction config link (beat.E x) e ≡ nothing e.memory
+unfolding reaction
+reaction-ack {w} config link x e = go (ends {w = w} (beat.E x) (on_link link.0 e.trace))
   where
     go : (b : Bool) → (if b then nothing {w = w} e.memory else nothing e.memory) ≡ nothing e.memory
     go true = refl

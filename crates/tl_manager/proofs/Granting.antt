@@ -14,15 +14,15 @@ use Rattle.tl_rules.specs.statement.Effect.{Memory, bytes_from}
 use Rattle.tl_rules.specs.statement.History.{block_at, is_acquire, asks_for, request_of}
 use Rattle.tl_manager.specs.code.Blocks.{AreBlocks}
 use Rattle.tl_manager.specs.code.Granting.{grant_of}
-use Rattle.tl_manager.specs.statement.Handing.{Deed, with_handed, performed, grant, grant_with, cap_granted, is_granted_data}
+use Rattle.tl_manager.specs.statement.Handing.{Reaction, with_handed, performed, grant, grant_with, cap_granted, is_granted_data}
 use Rattle.tl_manager.specs.statement.Holders.{recorded, is_unheld}
-use Rattle.tl_manager.specs.code.Home.{IsHomeWithout, IsDone, IsReadyAt}
+use Rattle.tl_manager.specs.code.BlockState.{IsBlockStateWithout, IsDone, IsReadyAt}
 use Rattle.tl_manager.specs.laws.Pending.{is_granted, IsNamed, HasFields}
 use Rattle.tl_manager.specs.laws.Record.{granted_by}
 use Rattle.tl_manager.specs.statement.Service.{Service, service_of_block}
 use Rattle.tl_manager.specs.code.Tracked.{service_with, IsTracked}
 use Rattle.tl_manager.specs.code.Trackers.{tracker_at}
-use Rattle.tl_manager.specs.declared.manager.home.Home.{Home}
+use Rattle.tl_manager.specs.declared.manager.block_state.BlockState.{BlockState}
 use Rattle.tl_manager.specs.declared.manager.tracker.Tracker.TheVariants.{Granted}
 use Rattle.tl_manager.proofs.Answering.{tracked-performed, tracker-changed}
 use Rattle.tl_manager.proofs.Events.{performed-acquire}
@@ -87,29 +87,29 @@ records-set perm_old perm_new recorded_then recorded_now block client given here
     go (inl e) (inr g) = rw (eq-eqb client c (sym e), ne_eqb block b (λ i. g (sym i))) (others b c (inl g) ∙ before b c)
     go (inr g) f = rw (ne_eqb client c (λ i. g (sym i))) (others b c (inr g) ∙ before b c)
 
-pub home-granted : {w : ℕ} {D : Type 0} (perm_of : D → ℕ → ℕ → Perm) (config : Config) (old new : Home w D) (number : ℕ) (link : Link) (request : MessageA w)
+pub block_state-granted : {w : ℕ} {D : Type 0} (perm_of : D → ℕ → ℕ → Perm) (config : Config) (old new : BlockState w D) (number : ℕ) (link : Link) (request : MessageA w)
     (held : Perm) (unheld : Bool) (given : Cap) (bytes : Option (List ℕ)) (t : Trace w) (memory : Memory)
     → is_acquire request.opcode ≡ true → new.profile ≡ old.profile → new.blocks ≡ old.blocks → new.trackers.count ≡ old.trackers.count
     → ((n : ℕ) → tracker_at new.trackers n ≡ (if number == n then Granted link (block_at request.address) else tracker_at old.trackers n))
     → held ≡ perm_of old.directory (block_at request.address) link.0 → unheld ≡ is_unheld config (block_at request.address) t → given ≡ cap_granted old.profile request.opcode request.param unheld
     → bytes ≡ (if is_granted_data request.opcode request.param held then Some (bytes_from memory (64 * block_at request.address) 64) else None)
     → perm_of new.directory (block_at request.address) link.0 ≡ cap_right given → ((b c : ℕ) → (b ≢ block_at request.address) ⊎ (c ≢ link.0) → perm_of new.directory b c ≡ perm_of old.directory b c)
-    → IsReadyAt config number link request t → IsHomeWithout number perm_of config old t memory
+    → IsReadyAt config number link request t → IsBlockStateWithout number perm_of config old t memory
     → IsDone perm_of config new ((link, grant_of request.source number given bytes) ∷ []) t (performed config (service_with number link request) t memory)
 unfolding with_handed
-home-granted {w} {D} perm_of config old new number link request held unheld given bytes t memory acquires profile blocks count trackers held_is unheld_is given_is bytes_is here others at home =
-    let deed_is = performed-acquire config s t memory acquires in (
-      ap (λ (m : Message w). (link, m) ∷ []) grant_made ∙ sym (ap (λ (d : Deed w). d.handed) deed_is),
+block_state-granted {w} {D} perm_of config old new number link request held unheld given bytes t memory acquires profile blocks count trackers held_is unheld_is given_is bytes_is here others at block_state =
+    let reaction_is = performed-acquire config s t memory acquires in (
+      ap (λ (m : Message w). (link, m) ∷ []) grant_made ∙ sym (ap (λ (d : Reaction w). d.handed) reaction_is),
       record {
-        profile = profile ∙ home.profile;
-        count = count ∙ home.count;
+        profile = profile ∙ block_state.profile;
+        count = count ∙ block_state.count;
         tracked = λ i all. tracker-changed number i (Granted link (block_at request.address)) (tracker_at new.trackers) (tracker_at old.trackers) t u trackers granted
-            (λ n other ok. tracked-performed config (block_at request.address) n s (tracker_at old.trackers n) t memory at.ready other ok) home.tracked;
+            (λ n other ok. tracked-performed config (block_at request.address) n s (tracker_at old.trackers n) t memory at.ready other ok) block_state.tracked;
         records =
-            records-set (perm_of old.directory) (perm_of new.directory) (λ b c. recorded c b t) (λ b c. recorded c b u) (block_at request.address) link.0 (cap_right given) here others home.records
-            (λ b c. ap (λ (d : Deed w). recorded c b (with_handed d.handed t)) deed_is ∙ recorded-grant config number link request t memory c b at
+            records-set (perm_of old.directory) (perm_of new.directory) (λ b c. recorded c b t) (λ b c. recorded c b u) (block_at request.address) link.0 (cap_right given) here others block_state.records
+            (λ b c. ap (λ (d : Reaction w). recorded c b (with_handed d.handed t)) reaction_is ∙ recorded-grant config number link request t memory c b at
             ∙ ap (λ (k : Cap). if (link.0 == c) && (block_at request.address == b) then cap_right k else recorded c b t) (sym cap_is));
-        bytes = rw blocks (subst (λ m. AreBlocks old.blocks.bytes.items m) (sym (ap (λ (d : Deed w). d.memory) deed_is)) home.bytes);
+        bytes = rw blocks (subst (λ m. AreBlocks old.blocks.bytes.items m) (sym (ap (λ (d : Reaction w). d.memory) reaction_is)) block_state.bytes);
       },
     )
   where
@@ -120,10 +120,10 @@ home-granted {w} {D} perm_of config old new number link request held unheld give
     u = with_handed (performed config s t memory).handed t
 
     cap_is : given ≡ cap_granted config.profile request.opcode request.param (is_unheld config (block_at request.address) t)
-    cap_is = given_is ∙ ap (λ p. cap_granted p request.opcode request.param unheld) home.profile ∙ ap (cap_granted config.profile request.opcode request.param) unheld_is
+    cap_is = given_is ∙ ap (λ p. cap_granted p request.opcode request.param unheld) block_state.profile ∙ ap (cap_granted config.profile request.opcode request.param) unheld_is
 
     carries_is : is_granted_data request.opcode request.param held ≡ is_granted_data request.opcode request.param (recorded link.0 (block_at request.address) t)
-    carries_is = ap (is_granted_data request.opcode request.param) (held_is ∙ home.records (block_at request.address) link.0)
+    carries_is = ap (is_granted_data request.opcode request.param) (held_is ∙ block_state.records (block_at request.address) link.0)
 
     grant_made : grant_of request.source number given bytes ≡ grant config s t memory
     grant_made =
@@ -144,5 +144,5 @@ home-granted {w} {D} perm_of config old new number link request held unheld give
             let m = grant_is config s t memory in
             let grants : IsGrant (block_at request.address) s m.0 t =
             record { reply = reply_of config (block_at request.address) s m.0 t at.ready m.3 m.4; grants = m.2; sink = m.5; acquires = acquires } in
-            ap (λ (d : Deed w). is_granted (with_handed d.handed t) s) (performed-acquire config s t memory acquires)
+            ap (λ (d : Reaction w). is_granted (with_handed d.handed t) s) (performed-acquire config s t memory acquires)
             ∙ subst (λ (i : Message w). is_granted (after_sent link i t) s ≡ true) (sym m.1) (granted-now (block_at request.address) s m.0 t grants)

@@ -17,19 +17,19 @@ use Rattle.tl_params.specs.declared.param.Cap.{Cap}
 use Rattle.tl_rules.specs.statement.Conformance.{Trace, on_link}
 use Rattle.tl_rules.specs.statement.Effect.{Memory, effect, answer_of}
 use Rattle.tl_rules.specs.statement.History.{ends, block_at, is_acquire, is_probe_ack, is_release}
-use Rattle.tl_manager.specs.statement.Handing.{probe_of_block, release_ack, access_answer, grant, Deed, nothing, performed}
+use Rattle.tl_manager.specs.statement.Handing.{probe_of_block, release_ack, access_answer, grant, Reaction, nothing, performed}
 use Rattle.tl_manager.specs.statement.Holders.{cap_probed, probed, is_settled}
 use Rattle.tl_manager.specs.code.Kept.{Each, is_granting}
 use Rattle.tl_manager.specs.statement.Request.{request_if, request_carried}
 use Rattle.tl_manager.specs.statement.Service.{Service, with_service, least_untaken, trackers_of, services, service_of_block}
-use Rattle.tl_manager.specs.statement.Deed.{probing_or, begun_with, begun_if_any, performed_if_any, finish, written, completed_c, completed, deed}
+use Rattle.tl_manager.specs.statement.Reaction.{probing_or, begun_with, begun_if_any, performed_if_any, finish, written, completed_c, completed, reaction}
 use Rattle.tl_manager.specs.statement.End.{End}
 use Rattle.tl_manager.proofs.Lists.{each_weaker}
 use Rattle.tl_manager.proofs.Requests.{made_of}
 use Rattle.tl_manager.proofs.Sinks.{grants_by, IsGranted}
 
 -- all Grants handed out are so
-abbrev AllGranted : {w : ℕ} → List (Service w) → Deed w → Type 0
+abbrev AllGranted : {w : ℕ} → List (Service w) → Reaction w → Type 0
 AllGranted ss d = Each (IsGranted ss) d.handed
 
 -- the service, where it is of an Acquire, is one of these
@@ -70,7 +70,7 @@ probes_granted : {w : ℕ} (ss : List (Service w)) (block : ℕ) (c : Cap) (clie
 probes_granted ss block c [] = tt
 probes_granted ss block c (client ∷ clients) = (tt, probes_granted ss block c clients)
 
-probing_granted : {w : ℕ} (ss : List (Service w)) (d : Deed w) (block : ℕ) (c : Cap) (clients : List ℕ) (memory : Memory) → AllGranted ss d → AllGranted ss (probing_or d block c clients memory)
+probing_granted : {w : ℕ} (ss : List (Service w)) (d : Reaction w) (block : ℕ) (c : Cap) (clients : List ℕ) (memory : Memory) → AllGranted ss d → AllGranted ss (probing_or d block c clients memory)
 probing_granted ss d block c [] memory granted = granted
 probing_granted ss d block c (client ∷ clients) memory granted = probes_granted ss block c (client ∷ clients)
 
@@ -128,6 +128,6 @@ done_granted config link (beat.C x) e true last =
 done_granted config link (beat.D x) e true last = tt
 done_granted config link (beat.E x) e true last = tt
 
-pub deed_granted : {w : ℕ} (config : Config) (link : Link) (x : Beat w) (e : End w) → Each (IsGranted (services ((link, x) ∷ e.trace))) (deed config link x e).handed
-unfolding deed
-deed_granted config link x e = done_granted config link x e (ends x (on_link link.0 e.trace)) refl
+pub reaction_granted : {w : ℕ} (config : Config) (link : Link) (x : Beat w) (e : End w) → Each (IsGranted (services ((link, x) ∷ e.trace))) (reaction config link x e).handed
+unfolding reaction
+reaction_granted config link x e = done_granted config link x e (ends x (on_link link.0 e.trace)) refl

@@ -13,7 +13,7 @@ use Rattle.tl_burst.specs.statement.Messages.{History, unfinished}
 use Rattle.tl_burst.proofs.Splitting.{beats-positive}
 use Rattle.tl_params.specs.declared.config.Config.{Config}
 use Rattle.tl_params.specs.declared.perm.Perm.{Perm}
-use Rattle.tl_rules.specs.statement.Agent.{sent}
+use Rattle.tl_rules.specs.statement.Admission.{sent}
 use Rattle.tl_rules.specs.statement.Conformance.{Trace, on_link}
 use Rattle.tl_rules.specs.statement.History.{ends, block_at, is_probe_ack, is_release, says_held, held, request_of, reported}
 use Rattle.tl_manager.specs.statement.Handing.{Handed, with_handed}

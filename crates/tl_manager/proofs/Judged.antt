@@ -12,12 +12,12 @@ use Rattle.tl_params.specs.declared.config.Config.{Config}
 use Rattle.tl_params.specs.declared.level.Level.{Level}
 use Rattle.tl_params.specs.declared.rule.Rule.{Rule}
 use Rattle.tl_params.specs.declared.rule.Rule.TheVariants.{L1, A1, A2}
-use Rattle.tl_rules.specs.statement.Agent.{is_outside, is_spoiled}
+use Rattle.tl_rules.specs.statement.Admission.{is_outside, is_spoiled}
 use Rattle.tl_rules.specs.statement.Conformance.{Trace, on_link, broken_in_order}
 use Rattle.tl_rules.specs.statement.Legality.{illegal, breaks_l1, is_one_of}
 use Rattle.tl_rules.proofs.Bursts.{next_rule}
 use Rattle.tl_manager.specs.code.Kept.{IsTyped}
-use Rattle.tl_manager.specs.statement.Deed.{deed}
+use Rattle.tl_manager.specs.statement.Reaction.{reaction}
 use Rattle.tl_manager.specs.statement.End.{End}
 use Rattle.tl_manager.specs.statement.Offer.{Sent, Judgement, Passes, breaks_or, waits_or, unlawful, is_from_client, before_stall, must_wait, judged_at, judged_on}
 use Rattle.tl_manager.specs.statement.Offer.{judged, level_of, open_level, taken, offered_as, offered}
@@ -94,7 +94,7 @@ judged-passes config l link ch x e live lawful order free inside clean = rw live
 pub manager-takes : {w : ℕ} (config : Config) (l : Level) (link : Link) (ch : Channel) (x : Beat w) (e : End w) → open_level config link e ≡ Some l → unlawful l ch x ≡ None
     → broken_in_order config.profile x (on_link link.0 e.trace) ≡ None
     → must_wait config link x e.trace ≡ false → is_outside config.blocks x ≡ false → is_spoiled x ≡ false
-    → offered config link ch x e ≡ (Sent (deed config link x e).handed, taken link x (deed config link x e) e)
+    → offered config link ch x e ≡ (Sent (reaction config link x e).handed, taken link x (reaction config link x e) e)
 unfolding offered
 manager-takes config l link ch x e live lawful order free inside clean =
     ap (λ j. offered_as j config link x e) (judged-passes config l link ch x e live lawful order free inside clean)

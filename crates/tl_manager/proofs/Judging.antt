@@ -14,7 +14,7 @@ use Rattle.tl_burst.specs.statement.Part.{is_empty, completes, place, part_of}
 use Rattle.tl_params.specs.declared.config.Config.{Config}
 use Rattle.tl_params.specs.declared.rule.Rule.{Rule}
 use Rattle.tl_params.specs.declared.rule.Rule.TheVariants.{L1, S1}
-use Rattle.tl_rules.specs.statement.Agent.{is_outside, is_spoiled}
+use Rattle.tl_rules.specs.statement.Admission.{is_outside, is_spoiled}
 use Rattle.tl_rules.specs.statement.Conformance.{Trace, on_link, broken_in_order, broken_order}
 use Rattle.tl_rules.specs.statement.Legality.{illegal}
 use Rattle.tl_manager.specs.code.Admission.{admission_of, judged_by, judged_in_order}
@@ -25,23 +25,23 @@ use Rattle.tl_manager.specs.code.Knows.{Knows}
 use Rattle.tl_manager.specs.statement.Service.{services, is_in_service}
 use Rattle.tl_manager.specs.code.Trackers.{tracker_at}
 use Rattle.tl_manager.specs.code.Tracking.{is_of, is_free}
-use Rattle.tl_manager.specs.declared.manager.links.Links.{Links}
+use Rattle.tl_manager.specs.declared.manager.state.ManagerState.{ManagerState}
 use Rattle.tl_manager.proofs.Busy.{unserved-among, all-taken, one-free}
 use Rattle.tl_manager.specs.code.PartIs.{IsPartOf, is_first_part, is_last_part}
 use Rattle.tl_manager.specs.statement.End.{End}
 use Rattle.tl_manager.specs.statement.Offer.{is_from_client, open_level, judged, judged_at, must_wait, breaks_or}
-use Rattle.tl_manager.specs.code.Wire.{IsCarried, IsWire}
-use Rattle.tl_manager.specs.declared.manager.wire.Wire.{Wire}
-use Rattle.tl_manager.proofs.Links.{none-on_e}
+use Rattle.tl_manager.specs.code.LinkState.{IsCarried, IsLinkState}
+use Rattle.tl_manager.specs.declared.manager.link_state.LinkState.{LinkState}
+use Rattle.tl_manager.proofs.LinkHistories.{none-on_e}
 
 -- the burst that a client's beat is of
-pub burst-is : {w : ℕ} (wire : Wire w) (client : ℕ) (x : Beat w) (t : Trace w) → is_from_client x ≡ true → IsCarried wire client t
-    → burst_for wire.requests wire.reports x ≡ unfinished (channel_of x) (on_link client t)
-burst-is wire client (A x) t theirs is = is.requests
-burst-is wire client (B x) t theirs is = absurd cc
-burst-is wire client (C x) t theirs is = is.reports
-burst-is wire client (D x) t theirs is = absurd cc
-burst-is wire client (E x) t theirs is = sym (none-on_e (on_link client t))
+pub burst-is : {w : ℕ} (link_state : LinkState w) (client : ℕ) (x : Beat w) (t : Trace w) → is_from_client x ≡ true → IsCarried link_state client t
+    → burst_for link_state.requests link_state.reports x ≡ unfinished (channel_of x) (on_link client t)
+burst-is link_state client (A x) t theirs is = is.requests
+burst-is link_state client (B x) t theirs is = absurd cc
+burst-is link_state client (C x) t theirs is = is.reports
+burst-is link_state client (D x) t theirs is = absurd cc
+burst-is link_state client (E x) t theirs is = sym (none-on_e (on_link client t))
 
 -- ---- parts
 
@@ -78,27 +78,27 @@ breaks-off {w} config link x t b e =
 
 -- ---- levels
 
-pub level-open : {w : ℕ} (config : Config) (link : Link) (wire : Wire w) (e : End w) → IsWire config wire link.0 e → wire.closed ≡ false → open_level config link e ≡ Some wire.level
-level-open config link wire e is open_yet = rw (sym is.closed, open_yet) is.level
+pub level-open : {w : ℕ} (config : Config) (link : Link) (link_state : LinkState w) (e : End w) → IsLinkState config link_state link.0 e → link_state.closed ≡ false → open_level config link e ≡ Some link_state.level
+level-open config link link_state e is open_yet = rw (sym is.closed, open_yet) is.level
 
-pub judged-ours : {w : ℕ} (config : Config) (link : Link) (ch : Channel) (wire : Wire w) (x : Beat w) (e : End w) → IsWire config wire link.0 e → wire.closed ≡ false
+pub judged-ours : {w : ℕ} (config : Config) (link : Link) (ch : Channel) (link_state : LinkState w) (x : Beat w) (e : End w) → IsLinkState config link_state link.0 e → link_state.closed ≡ false
     → is_from_client x ≡ false → Err L1 ≡ admission_of (judged config link ch x e)
 unfolding judged_at
-judged-ours config link ch wire x e is open_yet ours = rw (level-open config link wire e is open_yet, ours) refl
+judged-ours config link ch link_state x e is open_yet ours = rw (level-open config link link_state e is open_yet, ours) refl
 
-pub judged-illegal : {w : ℕ} (config : Config) (link : Link) (ch : Channel) (wire : Wire w) (x : Beat w) (e : End w) (rule : Rule) → IsWire config wire link.0 e → wire.closed ≡ false
-    → is_from_client x ≡ true → Err rule ≡ ok_unless (illegal wire.level ch x) → Err rule ≡ admission_of (judged config link ch x e)
+pub judged-illegal : {w : ℕ} (config : Config) (link : Link) (ch : Channel) (link_state : LinkState w) (x : Beat w) (e : End w) (rule : Rule) → IsLinkState config link_state link.0 e → link_state.closed ≡ false
+    → is_from_client x ≡ true → Err rule ≡ ok_unless (illegal link_state.level ch x) → Err rule ≡ admission_of (judged config link ch x e)
 unfolding judged_at
-judged-illegal config link ch wire x e rule is open_yet theirs broken = rw (level-open config link wire e is open_yet, theirs) (go (illegal wire.level ch x) broken)
+judged-illegal config link ch link_state x e rule is open_yet theirs broken = rw (level-open config link link_state e is open_yet, theirs) (go (illegal link_state.level ch x) broken)
   where
     go : (o : Option Rule) → Err rule ≡ ok_unless o → Err rule ≡ admission_of (breaks_or o (judged_in_order config link x e.trace))
     go None f = absurd cc
     go (Some r) f = cc
 
-pub judged-legal : {w : ℕ} (config : Config) (link : Link) (ch : Channel) (wire : Wire w) (x : Beat w) (e : End w) → IsWire config wire link.0 e → wire.closed ≡ false
-    → is_from_client x ≡ true → Ok tt ≡ ok_unless (illegal wire.level ch x) → judged_in_order config link x e.trace ≡ judged config link ch x e
+pub judged-legal : {w : ℕ} (config : Config) (link : Link) (ch : Channel) (link_state : LinkState w) (x : Beat w) (e : End w) → IsLinkState config link_state link.0 e → link_state.closed ≡ false
+    → is_from_client x ≡ true → Ok tt ≡ ok_unless (illegal link_state.level ch x) → judged_in_order config link x e.trace ≡ judged config link ch x e
 unfolding judged_at
-judged-legal config link ch wire x e is open_yet theirs legal = rw (level-open config link wire e is open_yet, theirs) (go (illegal wire.level ch x) legal)
+judged-legal config link ch link_state x e is open_yet theirs legal = rw (level-open config link link_state e is open_yet, theirs) (go (illegal link_state.level ch x) legal)
   where
     go : (o : Option Rule) → Ok tt ≡ ok_unless o → judged_in_order config link x e.trace ≡ breaks_or o (judged_in_order config link x e.trace)
     go None f = refl
@@ -110,18 +110,18 @@ none_of : {X : Type 0} (o : Option X) → is_some o ≡ false → o ≡ None
 none_of None e = refl
 none_of (Some x) e = absurd cc
 
-pub busy-free : {w : ℕ} {M : Type 0} (perm_of : M → ℕ → ℕ → Perm) (links : Links w M) (config : Config) (e : End w) (block : ℕ) (o : Option ℕ) (least : Option ℕ)
-    → Knows perm_of links config e → is_some o ≡ false → (o ≡ None → (i : ℕ) → is_of block (tracker_at links.home.trackers i) ≡ false)
-    → IfSome least (λ n. (n < links.home.trackers.count) × (is_free (tracker_at links.home.trackers n) ≡ true) × ((i : ℕ) → i < n → is_free (tracker_at links.home.trackers i) ≡ false))
-    → (least ≡ None → (i : ℕ) → i < links.home.trackers.count → is_free (tracker_at links.home.trackers i) ≡ false)
+pub busy-free : {w : ℕ} {M : Type 0} (perm_of : M → ℕ → ℕ → Perm) (state : ManagerState w M) (config : Config) (e : End w) (block : ℕ) (o : Option ℕ) (least : Option ℕ)
+    → Knows perm_of state config e → is_some o ≡ false → (o ≡ None → (i : ℕ) → is_of block (tracker_at state.block_state.trackers i) ≡ false)
+    → IfSome least (λ n. (n < state.block_state.trackers.count) × (is_free (tracker_at state.block_state.trackers n) ≡ true) × ((i : ℕ) → i < n → is_free (tracker_at state.block_state.trackers i) ≡ false))
+    → (least ≡ None → (i : ℕ) → i < state.block_state.trackers.count → is_free (tracker_at state.block_state.trackers i) ≡ false)
     → not (is_some least) ≡ (is_in_service block (services e.trace) || nat_le config.trackers (length (services e.trace)))
-busy-free {w} perm_of links config e block o least k none away found full =
-    rw (unserved-among block (tracker_at links.home.trackers) e.trace k.kept.trackers_apart (λ n. k.home.tracked n tt) (away (none_of o none))) (go least found full)
+busy-free {w} perm_of state config e block o least k none away found full =
+    rw (unserved-among block (tracker_at state.block_state.trackers) e.trace k.kept.trackers_apart (λ n. k.block_state.tracked n tt) (away (none_of o none))) (go least found full)
   where
-    go : (l : Option ℕ) → IfSome l (λ n. (n < links.home.trackers.count) × (is_free (tracker_at links.home.trackers n) ≡ true) × ((i : ℕ) → i < n → is_free (tracker_at links.home.trackers i) ≡ false))
-        → (l ≡ None → (i : ℕ) → i < links.home.trackers.count → is_free (tracker_at links.home.trackers i) ≡ false) → not (is_some l) ≡ nat_le config.trackers (length (services e.trace))
-    go None f all = sym (all-taken config.trackers (tracker_at links.home.trackers) e.trace (λ n. k.home.tracked n tt) (rw k.home.count at (all refl)))
-    go (Some n) f all = sym (one-free config.trackers n (tracker_at links.home.trackers) e.trace k.kept.trackers_apart k.kept.tracked (λ i. k.home.tracked i tt) (rw k.home.count at f.0) f.1)
+    go : (l : Option ℕ) → IfSome l (λ n. (n < state.block_state.trackers.count) × (is_free (tracker_at state.block_state.trackers n) ≡ true) × ((i : ℕ) → i < n → is_free (tracker_at state.block_state.trackers i) ≡ false))
+        → (l ≡ None → (i : ℕ) → i < state.block_state.trackers.count → is_free (tracker_at state.block_state.trackers i) ≡ false) → not (is_some l) ≡ nat_le config.trackers (length (services e.trace))
+    go None f all = sym (all-taken config.trackers (tracker_at state.block_state.trackers) e.trace (λ n. k.block_state.tracked n tt) (rw k.block_state.count at (all refl)))
+    go (Some n) f all = sym (one-free config.trackers n (tracker_at state.block_state.trackers) e.trace k.kept.trackers_apart k.kept.tracked (λ i. k.block_state.tracked i tt) (rw k.block_state.count at f.0) f.1)
 
 pub on-ok : {X E : Type 0} (r : Result X E) (P : Type 0) → P → OnOk r P
 on-ok (Ok x) P p = p

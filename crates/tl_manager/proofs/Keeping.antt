@@ -27,10 +27,10 @@ use Rattle.tl_manager.specs.statement.Handing.{Handed, with_handed}
 use Rattle.tl_manager.specs.code.Kept.{Each, AreApart, IsSound, IsTyped, IsClean, IsFilled, IsPerformable, illegal_at, illegal_message_at, blocks_of, IsKept, IsAnswerLawful}
 use Rattle.tl_manager.specs.statement.Request.{request_if, request_carried}
 use Rattle.tl_manager.specs.statement.Service.{Service, is_ended_by, least_untaken, trackers_of, with_service, services_after, services, service_of_block, is_in_service}
-use Rattle.tl_manager.specs.statement.Deed.{deed}
+use Rattle.tl_manager.specs.statement.Reaction.{reaction}
 use Rattle.tl_manager.specs.statement.End.{End, fresh}
 use Rattle.tl_manager.specs.statement.Offer.{level_of, Judgement, Breaks, Waits, Passes, is_from_client, must_wait, judged, taken, offered_as, offered}
-use Rattle.tl_manager.proofs.Deeds.{deed_handable, handed_sound}
+use Rattle.tl_manager.proofs.Reactions.{reaction_handable, handed_sound}
 use Rattle.tl_manager.proofs.Free.{apart_filter, each_map_filter, least_free-is_free, least_free-le}
 use Rattle.tl_manager.proofs.Handed.{whole-handed, whole-taken, recorded-taken, recorded-handed}
 use Rattle.tl_manager.proofs.Continued.{whole_request, of_one-taken, bursts-handed}
@@ -38,10 +38,10 @@ use Rattle.tl_manager.proofs.Judged.{passed}
 use Rattle.tl_manager.proofs.Requests.{IsWhole, performable}
 use Rattle.tl_manager.specs.statement.Holders.{recorded}
 use Rattle.tl_manager.specs.laws.Record.{granted_by_all, recorded_after}
-use Rattle.tl_manager.proofs.Answered.{answered-deed}
-use Rattle.tl_manager.proofs.Grants.{deed_granted}
+use Rattle.tl_manager.proofs.Answered.{answered-reaction}
+use Rattle.tl_manager.proofs.Grants.{reaction_granted}
 use Rattle.tl_rules.proofs.Sent.{same_channel}
-use Rattle.tl_manager.proofs.Steady.{steady-deed}
+use Rattle.tl_manager.proofs.Steady.{steady-reaction}
 use Rattle.tl_manager.proofs.Sinks.{is_request, tracked-taken, tracked-handed}
 use Rattle.tl_rules.specs.statement.History.{pending}
 use Rattle.tl_manager.proofs.Lawful.{IsHandable}
@@ -175,25 +175,25 @@ is_taken config link x e width ok before =
     let after = taken_beat config link x e width before ok (are_served config e before) in
     record { width = width; before = before; passes = ok; blocks_apart = after.blocks_apart; trackers_apart = after.trackers_apart }
 
-pub kept-taken : {w : ℕ} (config : Config) (link : Link) (x : Beat w) (e : End w) → IsWidth w → IsPassed config link x e.trace → IsKept config e → IsKept config (taken link x (deed config link x e) e)
+pub kept-taken : {w : ℕ} (config : Config) (link : Link) (x : Beat w) (e : End w) → IsWidth w → IsPassed config link x e.trace → IsKept config e → IsKept config (taken link x (reaction config link x e) e)
 kept-taken config link x e width ok before =
-    let handable = deed_handable config link x e width ok.sound before.sound in
+    let handable = reaction_handable config link x e width ok.sound before.sound in
     let complete = λ (client : ℕ). whole-taken client link x e.trace ok.theirs (before.whole client) in
     let served_then = taken_beat config link x e width before ok (are_served config e before) in
-    let after = handed_served config (deed config link x e).handed ((link, x) ∷ e.trace) handable served_then in
+    let after = handed_served config (reaction config link x e).handed ((link, x) ∷ e.trace) handable served_then in
     record {
-      sound = handed_sound config (deed config link x e).handed ((link, x) ∷ e.trace) handable (ok.sound, before.sound);
-      whole = λ client. whole-handed config client (deed config link x e).handed ((link, x) ∷ e.trace) width handable (complete client);
-      bursts = λ client. rw (bursts-handed config channel.A client (deed config link x e).handed ((link, x) ∷ e.trace) refl handable)
+      sound = handed_sound config (reaction config link x e).handed ((link, x) ∷ e.trace) handable (ok.sound, before.sound);
+      whole = λ client. whole-handed config client (reaction config link x e).handed ((link, x) ∷ e.trace) width handable (complete client);
+      bursts = λ client. rw (bursts-handed config channel.A client (reaction config link x e).handed ((link, x) ∷ e.trace) refl handable)
           (of_one-taken config client link x e.trace ok.theirs ok.order before.bursts);
       requests = after.requests;
       tracked = after.tracked;
       trackers_apart = after.trackers_apart;
       blocks_apart = after.blocks_apart;
-      sinks = tracked-handed config (deed config link x e).handed ((link, x) ∷ e.trace) width handable complete (deed_granted config link x e) (tracked-taken link x e.trace ok.theirs before.sinks);
-      releases = λ client. answered-deed config client link x e width ok.theirs ok.order handable (complete client) (before.releases client);
+      sinks = tracked-handed config (reaction config link x e).handed ((link, x) ∷ e.trace) width handable complete (reaction_granted config link x e) (tracked-taken link x e.trace ok.theirs before.sinks);
+      releases = λ client. answered-reaction config client link x e width ok.theirs ok.order handable (complete client) (before.releases client);
       few = after.few;
-      steady = steady-deed config link x e (is_taken config link x e width ok before);
+      steady = steady-reaction config link x e (is_taken config link x e width ok before);
     }
 
 kept_as : {w : ℕ} (j : Judgement) (config : Config) (link : Link) (ch : Channel) (x : Beat w) (e : End w) → IsWidth w → IsTyped x → judged config link ch x e ≡ j → IsKept config e
@@ -258,9 +258,9 @@ recorded_as (Breaks r) config link ch x e client block width typed is before = r
 recorded_as Waits config link ch x e client block width typed is before = refl
 recorded_as Passes config link ch x e client block width typed is before =
     let ok = passed config link ch x e typed is in
-    let handable = deed_handable config link x e width ok.sound before.sound in
-    recorded-handed config client block (deed config link x e).handed ((link, x) ∷ e.trace) width handable (whole-taken client link x e.trace ok.theirs (before.whole client))
-    ∙ ap (granted_by_all (deed config link x e).handed ((link, x) ∷ e.trace) client block) (recorded-taken client link block x e.trace ok.theirs)
+    let handable = reaction_handable config link x e width ok.sound before.sound in
+    recorded-handed config client block (reaction config link x e).handed ((link, x) ∷ e.trace) width handable (whole-taken client link x e.trace ok.theirs (before.whole client))
+    ∙ ap (granted_by_all (reaction config link x e).handed ((link, x) ∷ e.trace) client block) (recorded-taken client link block x e.trace ok.theirs)
 
 pub recorded-offered : {w : ℕ} (config : Config) (link : Link) (ch : Channel) (x : Beat w) (e : End w) (client block : ℕ) → IsWidth w → IsTyped x → IsKept config e
     → recorded client block (offered config link ch x e).1.trace ≡ recorded_after (offered config link ch x e).0 (link, x) e.trace client block
@@ -285,8 +285,8 @@ lawful_as Waits config link ch x e width typed is before = tt
 lawful_as Passes config link ch x e width typed is before =
     let ok = passed config link ch x e typed is in
     each_weaker (IsHandable config) (λ y. (illegal_message_at (level_of config y.0.0) y.1 ≡ None) × IsClean y.1 × IsFilled y.1
-    × IsBlankAfter (beats_of y.1) y.1) (deed config link x e).handed (λ y h. lawful_message config y width h)
-    (deed_handable config link x e width ok.sound before.sound)
+    × IsBlankAfter (beats_of y.1) y.1) (reaction config link x e).handed (λ y h. lawful_message config y width h)
+    (reaction_handable config link x e width ok.sound before.sound)
 
 pub lawful : {w : ℕ} (config : Config) (link : Link) (ch : Channel) (x : Beat w) (e : End w) → IsWidth w → IsTyped x → IsKept config e → IsAnswerLawful config (offered config link ch x e).0
 unfolding offered

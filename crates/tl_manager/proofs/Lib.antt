@@ -3,11 +3,10 @@ pub mod Accesses
 pub mod Acked
 pub mod Afterwards
 pub mod Answered
-pub mod Asked
 pub mod Answering
+pub mod Asked
 pub mod Assembled
 pub mod Beginning
-pub mod WordBits
 pub mod Blocks
 pub mod Busy
 pub mod Carrying
@@ -15,8 +14,9 @@ pub mod Clients
 pub mod Completed
 pub mod Continued
 pub mod Counts
-pub mod Deeds
+pub mod Reactions
 pub mod Ended
+pub mod Entries
 pub mod Events
 pub mod Filled
 pub mod Free
@@ -28,7 +28,7 @@ pub mod Judged
 pub mod Judging
 pub mod Keeping
 pub mod Lawful
-pub mod Links
+pub mod LinkHistories
 pub mod Lists
 pub mod Looking
 pub mod Making
@@ -39,8 +39,8 @@ pub mod Offered
 pub mod Offers
 pub mod Outside
 pub mod Past
-pub mod Placing
 pub mod Performed
+pub mod Placing
 pub mod Probed
 pub mod Probes
 pub mod Probing
@@ -61,9 +61,9 @@ pub mod Sources
 pub mod Stalls
 pub mod Steady
 pub mod SteadyReports
-pub mod Entries
 pub mod Taking
 pub mod Trackers
 pub mod Unmoved
+pub mod WordBits
 pub mod Words
 pub mod Written

@@ -11,17 +11,17 @@ use Rattle.tl_burst.specs.statement.Messages.{unfinished}
 use Rattle.tl_rules.specs.statement.Conformance.{on_link}
 use Rattle.tl_rules.specs.statement.History.{held}
 use Rattle.tl_manager.specs.code.Blocks.{AreBlocks}
-use Rattle.tl_manager.specs.code.Fresh.{fresh_wire}
+use Rattle.tl_manager.specs.code.Fresh.{fresh_link_state}
 use Rattle.tl_manager.specs.code.Knows.{Knows}
 use Rattle.tl_manager.specs.statement.Service.{services}
 use Rattle.tl_manager.specs.statement.End.{fresh}
 use Rattle.tl_manager.specs.code.Trackers.{tracker_at}
 use Rattle.tl_manager.specs.code.Tracked.{IsTracked}
-use Rattle.tl_manager.specs.code.Wire.{IsWire}
-use Rattle.tl_manager.specs.declared.manager.links.Links.{Links}
+use Rattle.tl_manager.specs.code.LinkState.{IsLinkState}
+use Rattle.tl_manager.specs.declared.manager.state.ManagerState.{ManagerState}
 use Rattle.tl_manager.specs.declared.manager.tracker.Tracker.{Tracker}
 use Rattle.tl_manager.specs.declared.manager.tracker.Tracker.TheVariants.{Free}
-use Rattle.tl_manager.specs.declared.manager.wire.Wire.{Wire}
+use Rattle.tl_manager.specs.declared.manager.link_state.LinkState.{LinkState}
 use Rattle.tl_manager.proofs.Keeping.{fresh-kept}
 
 mapped : {X Y : Type 0} (f : X → Y) (xs : List X) (i : ℕ) (y : Y) → slice_get (map f xs) i ≡ Some y → (x : X) × (slice_get xs i ≡ Some x) × (y ≡ f x)
@@ -33,24 +33,24 @@ free-tracked : {w : ℕ} (n : ℕ) (tracker : Tracker w) → tracker ≡ Free �
 unfolding services
 free-tracked n tracker e = rw e refl
 
-wire-fresh : {w : ℕ} (config : Config) (client : ℕ) (wire : Wire w)
-    → slice_get (map (λ (c : ClientConfig). fresh_wire {w = w} c.level) config.clients.items) client ≡ Some wire → IsWire config wire client fresh
+link_state-fresh : {w : ℕ} (config : Config) (client : ℕ) (link_state : LinkState w)
+    → slice_get (map (λ (c : ClientConfig). fresh_link_state {w = w} c.level) config.clients.items) client ≡ Some link_state → IsLinkState config link_state client fresh
 unfolding on_link unfinished
-wire-fresh {w} config client wire found =
-    let p = mapped (λ (c : ClientConfig). fresh_wire {w = w} c.level) config.clients.items client wire found in
+link_state-fresh {w} config client link_state found =
+    let p = mapped (λ (c : ClientConfig). fresh_link_state {w = w} c.level) config.clients.items client link_state found in
     rw p.2 (record { level = ap (option_map (λ c. c.level)) p.1; closed = refl; carried = record { requests = refl; reports = refl } })
 
-pub knows-fresh : {w : ℕ} {M : Type 0} (perm_of : M → ℕ → ℕ → Perm) (links : Links w M) (config : Config) → config_fault config ≡ None
-    → links.wires.items ≡ map (λ (c : ClientConfig). fresh_wire c.level) config.clients.items
-    → links.home.profile ≡ config.profile → links.home.trackers.count ≡ config.trackers → ((n : ℕ) → tracker_at links.home.trackers n ≡ Free)
-    → ((block client : ℕ) → perm_of links.home.directory block client ≡ perm.None)
-    → length links.home.blocks.bytes.items ≡ config.blocks → AreBlocks links.home.blocks.bytes.items (λ address. 0) → Knows perm_of links config fresh
+pub knows-fresh : {w : ℕ} {M : Type 0} (perm_of : M → ℕ → ℕ → Perm) (state : ManagerState w M) (config : Config) → config_fault config ≡ None
+    → state.link_states.items ≡ map (λ (c : ClientConfig). fresh_link_state c.level) config.clients.items
+    → state.block_state.profile ≡ config.profile → state.block_state.trackers.count ≡ config.trackers → ((n : ℕ) → tracker_at state.block_state.trackers n ≡ Free)
+    → ((block client : ℕ) → perm_of state.block_state.directory block client ≡ perm.None)
+    → length state.block_state.blocks.bytes.items ≡ config.blocks → AreBlocks state.block_state.blocks.bytes.items (λ address. 0) → Knows perm_of state config fresh
 unfolding held on_link
-knows-fresh {w} perm_of links config fits wires profile count trackers records size bytes = record {
+knows-fresh {w} perm_of state config fits link_states profile count trackers records size bytes = record {
   fits = fits;
   kept = fresh-kept config;
-  home = record { profile = profile; count = count; tracked = λ n all. free-tracked n (tracker_at links.home.trackers n) (trackers n); records = records; bytes = bytes };
+  block_state = record { profile = profile; count = count; tracked = λ n all. free-tracked n (tracker_at state.block_state.trackers n) (trackers n); records = records; bytes = bytes };
   size = size;
-  count = ap length wires ∙ length-map config.clients.items (λ (c : ClientConfig). fresh_wire {w = w} c.level);
-  wires = λ client wire found. wire-fresh config client wire (rw wires at found);
+  count = ap length link_states ∙ length-map config.clients.items (λ (c : ClientConfig). fresh_link_state {w = w} c.level);
+  link_states = λ client link_state found. link_state-fresh config client link_state (rw link_states at found);
 }

@@ -19,19 +19,19 @@ use Rattle.tl_burst.specs.statement.Messages.{channel_of, unfinished, burst_leng
 use Rattle.tl_params.specs.declared.config.Config.{Config}
 use Rattle.tl_params.specs.declared.level.Level.{Level}
 use Rattle.tl_params.specs.declared.param.Cap.{Cap}
-use Rattle.tl_rules.specs.statement.Agent.{payload_of}
+use Rattle.tl_rules.specs.statement.Admission.{payload_of}
 use Rattle.tl_rules.specs.statement.Conformance.{Trace, on_link}
 use Rattle.tl_rules.specs.statement.Effect.{Memory, effect, answer_of}
 use Rattle.tl_rules.specs.statement.History.{ends, block_at, is_acquire, is_probe_ack, is_release}
 use Rattle.tl_rules.proofs.Blocks.{effect_elsewhere}
 use Rattle.tl_rules.proofs.Legal.{access_at_uh}
-use Rattle.tl_manager.specs.statement.Handing.{Deed, nothing, access_answer, release_ack, grant, performed}
+use Rattle.tl_manager.specs.statement.Handing.{Reaction, nothing, access_answer, release_ack, grant, performed}
 use Rattle.tl_manager.specs.statement.Holders.{probed, is_settled}
 use Rattle.tl_manager.specs.code.Kept.{Each, IsSound, IsTyped, IsPerformable, IsKept, illegal_message_at}
 use Rattle.tl_manager.specs.laws.Record.{is_of_block}
 use Rattle.tl_manager.specs.statement.Request.{request_if, request_carried}
 use Rattle.tl_manager.specs.statement.Service.{Service, services, service_of_block, least_untaken, trackers_of}
-use Rattle.tl_manager.specs.statement.Deed.{with_block, written, probing_or, begun_with, begun_if_any, performed_if_any, finish, completed_c, completed, deed}
+use Rattle.tl_manager.specs.statement.Reaction.{with_block, written, probing_or, begun_with, begun_if_any, performed_if_any, finish, completed_c, completed, reaction}
 use Rattle.tl_manager.specs.statement.End.{End}
 use Rattle.tl_manager.specs.statement.Offer.{Judgement, Breaks, Waits, Passes, level_of, judged, Refused, Stalled, refused, offered_as, offered}
 use Rattle.tl_manager.proofs.Continued.{whole_request}
@@ -41,7 +41,7 @@ use Rattle.tl_manager.proofs.Requests.{IsWhole, performable}
 use Rattle.tl_manager.specs.code.Ready.{IsPassed}
 
 -- the memory has the same byte at the address
-abbrev pub Same : {w : ℕ} → Deed w → Memory → ℕ → Type 0
+abbrev pub Same : {w : ℕ} → Reaction w → Memory → ℕ → Type 0
 Same d memory address = d.memory address ≡ memory address
 
 -- ---- requests
@@ -73,7 +73,7 @@ performed_same {w} config s t memory address width ok other = go (is_acquire s.r
     go true e = refl
     go false e = effect_same config s (level_of config s.link.0) memory address width e ok ok.lawful other
 
-probing_same : {w : ℕ} (d : Deed w) (block : ℕ) (c : Cap) (clients : List ℕ) (memory : Memory) (address : ℕ) → Same d memory address → Same (probing_or d block c clients memory) memory address
+probing_same : {w : ℕ} (d : Reaction w) (block : ℕ) (c : Cap) (clients : List ℕ) (memory : Memory) (address : ℕ) → Same d memory address → Same (probing_or d block c clients memory) memory address
 probing_same d block c [] memory address same = same
 probing_same d block c (client ∷ clients) memory address same = refl
 
@@ -154,17 +154,17 @@ done_same {w} config link (beat.C x) e address width before passes other true la
 done_same config link (beat.D x) e address width before passes other true last = refl
 done_same config link (beat.E x) e address width before passes other true last = refl
 
-deed_same : {w : ℕ} (config : Config) (link : Link) (x : Beat w) (e : End w) (address : ℕ) → IsWidth w → IsKept config e → IsPassed config link x e.trace
-    → is_of_block (block_at address) x ≡ false → Same (deed config link x e) e.memory address
-unfolding deed
-deed_same config link x e address width before passes other = done_same config link x e address width before passes other (ends x (on_link link.0 e.trace)) refl
+reaction_same : {w : ℕ} (config : Config) (link : Link) (x : Beat w) (e : End w) (address : ℕ) → IsWidth w → IsKept config e → IsPassed config link x e.trace
+    → is_of_block (block_at address) x ≡ false → Same (reaction config link x e) e.memory address
+unfolding reaction
+reaction_same config link x e address width before passes other = done_same config link x e address width before passes other (ends x (on_link link.0 e.trace)) refl
 
 memory_as : {w : ℕ} (j : Judgement) (config : Config) (link : Link) (ch : Channel) (x : Beat w) (e : End w) (address : ℕ) → IsWidth w → IsTyped x → judged config link ch x e ≡ j
     → IsKept config e → is_of_block (block_at address) x ≡ false
     → (offered_as j config link x e).1.memory address ≡ e.memory address
 memory_as (Breaks r) config link ch x e address width typed is before other = refl
 memory_as Waits config link ch x e address width typed is before other = refl
-memory_as Passes config link ch x e address width typed is before other = deed_same config link x e address width before (passed config link ch x e typed is) other
+memory_as Passes config link ch x e address width typed is before other = reaction_same config link x e address width before (passed config link ch x e typed is) other
 
 pub memory-elsewhere : {w : ℕ} (config : Config) (link : Link) (ch : Channel) (x : Beat w) (e : End w) (address : ℕ) → IsWidth w → IsTyped x → IsKept config e
     → is_of_block (block_at address) x ≡ false → (offered config link ch x e).1.memory address ≡ e.memory address

@@ -22,7 +22,7 @@ use Rattle.tl_params.specs.declared.profile.Profile.{Profile}
 use Rattle.tl_manager.specs.statement.End.{End, fresh}
 use Rattle.tl_manager.specs.statement.Offer.{Reception, Sent, offered}
 
--- a manager of so many blocks and trackers, whose links have these levels
+-- a manager of this many blocks and trackers, whose links have these levels
 abbrev pub with_links : Profile → ℕ → ℕ → List Level → Config
 with_links p blocks trackers levels = record {
   blocks = blocks;

@@ -14,33 +14,33 @@ use Rattle.tl_manager.specs.code.Probed.{probe_in}
 use Rattle.tl_manager.specs.code.Trackers.{tracker_at, IsOfBlock, IsAsked}
 use Rattle.tl_manager.specs.code.Tracking.{is_acquiring, is_granted_to, is_missing, request_in}
 use Rattle.tl_manager.specs.declared.manager.tracker.Tracker.{Tracker}
-use Rattle.tl_manager.specs.code.Wire.{IsLinkPast}
-use Rattle.tl_manager.specs.declared.manager.home.Home.{Home}
-use Rattle.tl_manager.specs.declared.manager.wire.Wire.{Wire}
+use Rattle.tl_manager.specs.code.LinkState.{IsLinkPast}
+use Rattle.tl_manager.specs.declared.manager.block_state.BlockState.{BlockState}
+use Rattle.tl_manager.specs.declared.manager.link_state.LinkState.{LinkState}
 use Rattle.tl_manager.proofs.Looking.{AreLooked, source-looked, acquiring-looked, granted-looked, missing-looked, sink-looked, probe-looked}
 use Rattle.tl_manager.proofs.Outside.{recorded-outside}
 
-pub looked-past : {w : ℕ} {M : Type 0} (perm_of : M → ℕ → ℕ → Perm) (link : Link) (wire : Wire w) (home : Home w M) (t : History w) (p : IsLinkPast perm_of link wire home t)
-    → AreLooked home.trackers p.end.trace
-looked-past perm_of link wire home t p = record {
-  tracked = λ n. p.home_is.tracked n tt;
+pub looked-past : {w : ℕ} {M : Type 0} (perm_of : M → ℕ → ℕ → Perm) (link : Link) (link_state : LinkState w) (block_state : BlockState w M) (t : History w) (p : IsLinkPast perm_of link link_state block_state t)
+    → AreLooked block_state.trackers p.end.trace
+looked-past perm_of link link_state block_state t p = record {
+  tracked = λ n. p.block_state_is.tracked n tt;
   accounted = p.kept.steady.accounted;
   sinks = p.kept.sinks;
   blocks_apart = p.kept.blocks_apart;
   trackers_apart = p.kept.trackers_apart;
 }
 
-pub held-outside : {w : ℕ} {M : Type 0} (perm_of : M → ℕ → ℕ → Perm) (link : Link) (wire : Wire w) (home : Home w M) (t : History w) (block : ℕ) → IsLinkPast perm_of link wire home t
-    → length home.blocks.bytes.items ≤ block → perm.None ≡ held block t
-held-outside perm_of link wire home t block p past =
+pub held-outside : {w : ℕ} {M : Type 0} (perm_of : M → ℕ → ℕ → Perm) (link : Link) (link_state : LinkState w) (block_state : BlockState w M) (t : History w) (block : ℕ) → IsLinkPast perm_of link link_state block_state t
+    → length block_state.blocks.bytes.items ≤ block → perm.None ≡ held block t
+held-outside perm_of link link_state block_state t block p past =
     sym (ap (held block) p.past ∙ recorded-outside p.config link.0 block p.end.trace p.kept.sound (rw p.size at past))
 
 -- ---- bursts
 
 -- no Grant is unfinished
-pub granted-whole : {w : ℕ} {M : Type 0} (perm_of : M → ℕ → ℕ → Perm) (link : Link) (wire : Wire w) (home : Home w M) (t : History w) (sink : ℕ) → (p : IsLinkPast perm_of link wire home t)
+pub granted-whole : {w : ℕ} {M : Type 0} (perm_of : M → ℕ → ℕ → Perm) (link : Link) (link_state : LinkState w) (block_state : BlockState w M) (t : History w) (sink : ℕ) → (p : IsLinkPast perm_of link link_state block_state t)
     → pending (GrantSink sink) (on_link link.0 p.end.trace) ≡ has_open_grant sink t
-granted-whole perm_of link wire home t sink p = rw (p.past, (p.kept.whole link.0).1) (go (pending (GrantSink sink) (on_link link.0 p.end.trace)))
+granted-whole perm_of link link_state block_state t sink p = rw (p.past, (p.kept.whole link.0).1) (go (pending (GrantSink sink) (on_link link.0 p.end.trace)))
   where
     go : (b : Bool) → b ≡ (b && true)
     go true = refl
@@ -48,41 +48,41 @@ granted-whole perm_of link wire home t sink p = rw (p.past, (p.kept.whole link.0
 
 -- ---- what is pending
 
-pub source-past : {w : ℕ} {M : Type 0} (perm_of : M → ℕ → ℕ → Perm) (link : Link) (wire : Wire w) (home : Home w M) (t : History w) (source : ℕ) (o : Option (MessageA w))
-    → IsLinkPast perm_of link wire home t → IsAsked home.trackers link.0 source o
-    → (comes_in_request source wire.requests || is_some o) ≡ pending (RequestSource source) t
-source-past perm_of link wire home t source o p asked =
-    ap (λ burst. comes_in_request source burst || is_some o) p.wire_is.carried.requests
-    ∙ source-looked home.trackers link.0 source o p.end.trace (looked-past perm_of link wire home t p) asked ∙ ap (pending (RequestSource source)) (sym p.past)
+pub source-past : {w : ℕ} {M : Type 0} (perm_of : M → ℕ → ℕ → Perm) (link : Link) (link_state : LinkState w) (block_state : BlockState w M) (t : History w) (source : ℕ) (o : Option (MessageA w))
+    → IsLinkPast perm_of link link_state block_state t → IsAsked block_state.trackers link.0 source o
+    → (comes_in_request source link_state.requests || is_some o) ≡ pending (RequestSource source) t
+source-past perm_of link link_state block_state t source o p asked =
+    ap (λ burst. comes_in_request source burst || is_some o) p.link_state_is.carried.requests
+    ∙ source-looked block_state.trackers link.0 source o p.end.trace (looked-past perm_of link link_state block_state t p) asked ∙ ap (pending (RequestSource source)) (sym p.past)
 
-pub acquire-past : {w : ℕ} {M : Type 0} (perm_of : M → ℕ → ℕ → Perm) (link : Link) (wire : Wire w) (home : Home w M) (t : History w) (block : ℕ) (tracker : Tracker w)
-    → IsLinkPast perm_of link wire home t → IsOfBlock home.trackers block tracker
+pub acquire-past : {w : ℕ} {M : Type 0} (perm_of : M → ℕ → ℕ → Perm) (link : Link) (link_state : LinkState w) (block_state : BlockState w M) (t : History w) (block : ℕ) (tracker : Tracker w)
+    → IsLinkPast perm_of link link_state block_state t → IsOfBlock block_state.trackers block tracker
     → is_acquiring link.0 tracker ≡ pending (AcquireOf block) t
-acquire-past perm_of link wire home t block tracker p of =
-    acquiring-looked home.trackers block link.0 tracker p.end.trace (looked-past perm_of link wire home t p) of ∙ ap (pending (AcquireOf block)) (sym p.past)
+acquire-past perm_of link link_state block_state t block tracker p of =
+    acquiring-looked block_state.trackers block link.0 tracker p.end.trace (looked-past perm_of link link_state block_state t p) of ∙ ap (pending (AcquireOf block)) (sym p.past)
 
-pub grant-past : {w : ℕ} {M : Type 0} (perm_of : M → ℕ → ℕ → Perm) (link : Link) (wire : Wire w) (home : Home w M) (t : History w) (block : ℕ) (tracker : Tracker w)
-    → IsLinkPast perm_of link wire home t → IsOfBlock home.trackers block tracker
+pub grant-past : {w : ℕ} {M : Type 0} (perm_of : M → ℕ → ℕ → Perm) (link : Link) (link_state : LinkState w) (block_state : BlockState w M) (t : History w) (block : ℕ) (tracker : Tracker w)
+    → IsLinkPast perm_of link link_state block_state t → IsOfBlock block_state.trackers block tracker
     → is_granted_to link.0 tracker ≡ pending (GrantAckOf block) t
-grant-past perm_of link wire home t block tracker p of =
-    granted-looked home.trackers block link.0 tracker p.end.trace (looked-past perm_of link wire home t p) of ∙ ap (pending (GrantAckOf block)) (sym p.past)
+grant-past perm_of link link_state block_state t block tracker p of =
+    granted-looked block_state.trackers block link.0 tracker p.end.trace (looked-past perm_of link link_state block_state t p) of ∙ ap (pending (GrantAckOf block)) (sym p.past)
 
-pub probe-past : {w : ℕ} {M : Type 0} (perm_of : M → ℕ → ℕ → Perm) (link : Link) (wire : Wire w) (home : Home w M) (t : History w) (block : ℕ) (tracker : Tracker w)
-    → IsLinkPast perm_of link wire home t → IsOfBlock home.trackers block tracker
+pub probe-past : {w : ℕ} {M : Type 0} (perm_of : M → ℕ → ℕ → Perm) (link : Link) (link_state : LinkState w) (block_state : BlockState w M) (t : History w) (block : ℕ) (tracker : Tracker w)
+    → IsLinkPast perm_of link link_state block_state t → IsOfBlock block_state.trackers block tracker
     → is_missing link.0 tracker ≡ pending (ProbeOf block) t
-probe-past perm_of link wire home t block tracker p of =
-    missing-looked home.trackers block link.0 tracker p.end.trace (looked-past perm_of link wire home t p) of ∙ ap (pending (ProbeOf block)) (sym p.past)
+probe-past perm_of link link_state block_state t block tracker p of =
+    missing-looked block_state.trackers block link.0 tracker p.end.trace (looked-past perm_of link link_state block_state t p) of ∙ ap (pending (ProbeOf block)) (sym p.past)
 
-pub sink-past : {w : ℕ} {M : Type 0} (perm_of : M → ℕ → ℕ → Perm) (link : Link) (wire : Wire w) (home : Home w M) (t : History w) (sink : ℕ) → IsLinkPast perm_of link wire home t
-    → is_granted_to link.0 (tracker_at home.trackers sink) ≡ pending (GrantSink sink) t
-sink-past perm_of link wire home t sink p = sink-looked home.trackers sink link.0 p.end.trace (looked-past perm_of link wire home t p) ∙ ap (pending (GrantSink sink)) (sym p.past)
+pub sink-past : {w : ℕ} {M : Type 0} (perm_of : M → ℕ → ℕ → Perm) (link : Link) (link_state : LinkState w) (block_state : BlockState w M) (t : History w) (sink : ℕ) → IsLinkPast perm_of link link_state block_state t
+    → is_granted_to link.0 (tracker_at block_state.trackers sink) ≡ pending (GrantSink sink) t
+sink-past perm_of link link_state block_state t sink p = sink-looked block_state.trackers sink link.0 p.end.trace (looked-past perm_of link link_state block_state t p) ∙ ap (pending (GrantSink sink)) (sym p.past)
 
 -- the Probe that is open
-pub unprobed-past : {w : ℕ} {M : Type 0} (perm_of : M → ℕ → ℕ → Perm) (link : Link) (wire : Wire w) (home : Home w M) (t : History w) (block : ℕ) (tracker : Tracker w)
-    → IsLinkPast perm_of link wire home t → IsOfBlock home.trackers block tracker → is_missing link.0 tracker ≡ false → None ≡ open_probe block t
-unprobed-past perm_of link wire home t block tracker p of e = rw (sym (probe-past perm_of link wire home t block tracker p of), e) refl
+pub unprobed-past : {w : ℕ} {M : Type 0} (perm_of : M → ℕ → ℕ → Perm) (link : Link) (link_state : LinkState w) (block_state : BlockState w M) (t : History w) (block : ℕ) (tracker : Tracker w)
+    → IsLinkPast perm_of link link_state block_state t → IsOfBlock block_state.trackers block tracker → is_missing link.0 tracker ≡ false → None ≡ open_probe block t
+unprobed-past perm_of link link_state block_state t block tracker p of e = rw (sym (probe-past perm_of link link_state block_state t block tracker p of), e) refl
 
-pub probed-past : {w : ℕ} {M : Type 0} (perm_of : M → ℕ → ℕ → Perm) (link : Link) (wire : Wire w) (home : Home w M) (t : History w) (block : ℕ) (tracker : Tracker w)
-    → IsLinkPast perm_of link wire home t → IsOfBlock home.trackers block tracker → is_missing link.0 tracker ≡ true → probe_in (request_in tracker) ≡ open_probe block t
-probed-past perm_of link wire home t block tracker p of e =
-    probe-looked home.trackers block link.0 tracker p.end.trace (looked-past perm_of link wire home t p) of e ∙ ap (open_probe block) (sym p.past)
+pub probed-past : {w : ℕ} {M : Type 0} (perm_of : M → ℕ → ℕ → Perm) (link : Link) (link_state : LinkState w) (block_state : BlockState w M) (t : History w) (block : ℕ) (tracker : Tracker w)
+    → IsLinkPast perm_of link link_state block_state t → IsOfBlock block_state.trackers block tracker → is_missing link.0 tracker ≡ true → probe_in (request_in tracker) ≡ open_probe block t
+probed-past perm_of link link_state block_state t block tracker p of e =
+    probe-looked block_state.trackers block link.0 tracker p.end.trace (looked-past perm_of link link_state block_state t p) of e ∙ ap (open_probe block) (sym p.past)

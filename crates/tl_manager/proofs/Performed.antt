@@ -13,7 +13,7 @@ use Rattle.tl_rules.specs.declared.answer.Answer.TheVariants as answer
 use Rattle.tl_rules.specs.statement.Conformance.{Trace}
 use Rattle.tl_rules.specs.statement.Effect.{Memory, effect, answer_of}
 use Rattle.tl_rules.specs.statement.History.{block_at, is_grant, is_acquire, is_release_ack}
-use Rattle.tl_manager.specs.statement.Handing.{Deed, with_handed, performed, grant, grant_opcode, is_granted_data, access_answer}
+use Rattle.tl_manager.specs.statement.Handing.{Reaction, with_handed, performed, grant, grant_opcode, is_granted_data, access_answer}
 use Rattle.tl_manager.specs.statement.Holders.{recorded, is_settled}
 use Rattle.tl_manager.specs.laws.Pending.{is_awaited, IsSteady}
 use Rattle.tl_manager.specs.statement.Service.{Service, services, service_of_block, is_access_answer}
@@ -104,12 +104,12 @@ pub performed-steady : {w : ℕ} (config : Config) (n : ℕ) (s : Service w) (t 
 unfolding with_handed
 performed-steady {w} config n s t memory is = go (is_acquire s.request.opcode) refl
   where
-    deed_by : Bool → Deed w
-    deed_by b = if b
+    reaction_by : Bool → Reaction w
+    reaction_by b = if b
         then record { handed = (s.link, grant config s t memory) ∷ []; memory = memory }
         else record { handed = (s.link, access_answer s.request (answer_of (A s.request) (effect (A s.request) memory).1)) ∷ []; memory = (effect (A s.request) memory).0 }
 
-    go : (b : Bool) → is_acquire s.request.opcode ≡ b → IsSteady config (with_handed (deed_by b).handed t)
+    go : (b : Bool) → is_acquire s.request.opcode ≡ b → IsSteady config (with_handed (reaction_by b).handed t)
     go true acquires =
         let m = grant_is config s t memory in
         subst (λ (i : Message w). IsSteady config (after_sent s.link i t)) (sym m.1)
@@ -127,12 +127,12 @@ pub performed-services : {w : ℕ} (config : Config) (n : ℕ) (s : Service w) (
 unfolding with_handed
 performed-services {w} config n s t memory is = go (is_acquire s.request.opcode) refl
   where
-    deed_by : Bool → Deed w
-    deed_by b = if b
+    reaction_by : Bool → Reaction w
+    reaction_by b = if b
         then record { handed = (s.link, grant config s t memory) ∷ []; memory = memory }
         else record { handed = (s.link, access_answer s.request (answer_of (A s.request) (effect (A s.request) memory).1)) ∷ []; memory = (effect (A s.request) memory).0 }
 
-    go : (b : Bool) → is_acquire s.request.opcode ≡ b → services (with_handed (deed_by b).handed t) ≡ (if b then services t else filter (λ v. not (block_at v.request.address == n)) (services t))
+    go : (b : Bool) → is_acquire s.request.opcode ≡ b → services (with_handed (reaction_by b).handed t) ≡ (if b then services t else filter (λ v. not (block_at v.request.address == n)) (services t))
     go true acquires =
         let m = grant_is config s t memory in
         ap (λ (i : Message w). services (after_sent s.link i t)) m.1 ∙ services-grant s.link m.0 t is.width (is.whole s.link.0).1 m.2

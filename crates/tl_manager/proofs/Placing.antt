@@ -32,7 +32,7 @@ use Rattle.tl_rules.specs.statement.Legality.{illegal, first_illegal, beats_from
 use Rattle.tl_rules.proofs.Bursts.{next_rule, both_none}
 use Rattle.tl_rules.proofs.Verdicts.{illegal_a}
 use Rattle.tl_manager.specs.code.Complete.{IsComplete, IsDue}
-use Rattle.tl_manager.specs.code.Home.{IsPlaced, IsPlacedIn}
+use Rattle.tl_manager.specs.code.BlockState.{IsPlaced, IsPlacedIn}
 use Rattle.tl_manager.specs.code.Kept.{Each, IsPerformable, illegal_message_at}
 use Rattle.tl_manager.specs.code.Knows.{Knows, IsManager}
 use Rattle.tl_manager.specs.statement.Service.{Service, services, service_of_block, trackers_of, least_untaken}
@@ -40,7 +40,7 @@ use Rattle.tl_manager.specs.statement.End.{End}
 use Rattle.tl_manager.specs.statement.Offer.{level_of}
 use Rattle.tl_manager.specs.code.Tracked.{service_with, IsTracked}
 use Rattle.tl_manager.specs.code.Trackers.{tracker_at}
-use Rattle.tl_manager.specs.declared.manager.links.Links.{Links}
+use Rattle.tl_manager.specs.declared.manager.state.ManagerState.{ManagerState}
 use Rattle.tl_manager.specs.declared.manager.tracker.Tracker.{Tracker}
 use Rattle.tl_manager.specs.declared.manager.tracker.Tracker.TheVariants.{Free, Probing, Granted}
 use Rattle.tl_manager.proofs.Acked.{acked-sink}
@@ -137,14 +137,14 @@ serving-each {w} P n (v ∷ ss) s each e = go (block_at v.request.address == n) 
     go true rest f = subst P (some_is v s f) each.0
     go false rest f = rest f
 
-pub are-placed : {w : ℕ} {M : Type 0} (perm_of : M → ℕ → ℕ → Perm) (links : Links w M) (config : Config) (e : End w) (clients n : ℕ) → IsWidth w → Knows perm_of links config e
-    → length config.clients.items ≤ clients → IsPlacedIn (length links.home.blocks.bytes.items) clients (tracker_at links.home.trackers n)
-are-placed {w} perm_of links config e clients n width k covered = go (tracker_at links.home.trackers n) (k.home.tracked n tt)
+pub are-placed : {w : ℕ} {M : Type 0} (perm_of : M → ℕ → ℕ → Perm) (state : ManagerState w M) (config : Config) (e : End w) (clients n : ℕ) → IsWidth w → Knows perm_of state config e
+    → length config.clients.items ≤ clients → IsPlacedIn (length state.block_state.blocks.bytes.items) clients (tracker_at state.block_state.trackers n)
+are-placed {w} perm_of state config e clients n width k covered = go (tracker_at state.block_state.trackers n) (k.block_state.tracked n tt)
   where
-    go : (tracker : Tracker w) → IsTracked n tracker e.trace → IsPlacedIn (length links.home.blocks.bytes.items) clients tracker
+    go : (tracker : Tracker w) → IsTracked n tracker e.trace → IsPlacedIn (length state.block_state.blocks.bytes.items) clients tracker
     go Free is = tt
     go (Probing link request missing) is =
-        is-placed config (service_with n link request) (length links.home.blocks.bytes.items) clients width
+        is-placed config (service_with n link request) (length state.block_state.blocks.bytes.items) clients width
         (serving-each (IsPerformable config) (block_at request.address) (services e.trace) (service_with n link request) k.kept.requests is.serves) k.size
         covered
     go (Granted link block) is = tt
@@ -187,23 +187,23 @@ is-due {w} config link x message e blocks clients few same covered is =
         omega (arith, lt, few)
 
 -- so all that a message needs is there
-pub can-complete : {w : ℕ} {M : Type 0} (perm_of : M → ℕ → ℕ → Perm) (blocks_of clients_of : M → ℕ) (links : Links w M) (link : Link) (x : Beat w) (m : Message w)
-    → (known : IsManager perm_of blocks_of clients_of links) → link.0 < length links.wires.items → IsComplete known.config link x m known.end
-    → (link.0 < 16) × (link.0 < clients_of links.home.directory) × IsDue (length links.home.blocks.bytes.items) (clients_of links.home.directory) link m
-    × ((n : ℕ) → IsPlacedIn (length links.home.blocks.bytes.items) (clients_of links.home.directory) (tracker_at links.home.trackers n))
-    × (length links.home.blocks.bytes.items ≤ 1024) × (links.home.trackers.count ≤ 8)
-can-complete perm_of blocks_of clients_of links link x m known inside is =
+pub can-complete : {w : ℕ} {M : Type 0} (perm_of : M → ℕ → ℕ → Perm) (blocks_of clients_of : M → ℕ) (state : ManagerState w M) (link : Link) (x : Beat w) (m : Message w)
+    → (known : IsManager perm_of blocks_of clients_of state) → link.0 < length state.link_states.items → IsComplete known.config link x m known.end
+    → (link.0 < 16) × (link.0 < clients_of state.block_state.directory) × IsDue (length state.block_state.blocks.bytes.items) (clients_of state.block_state.directory) link m
+    × ((n : ℕ) → IsPlacedIn (length state.block_state.blocks.bytes.items) (clients_of state.block_state.directory) (tracker_at state.block_state.trackers n))
+    × (length state.block_state.blocks.bytes.items ≤ 1024) × (state.block_state.trackers.count ≤ 8)
+can-complete perm_of blocks_of clients_of state link x m known inside is =
     let k = known.knows in
     let limit = limits known.config k.fits in
     let clients = known.clients in
     let count = k.count in
     let size = k.size in
-    let trackers = k.home.count in
-    let covered : length known.config.clients.items ≤ clients_of links.home.directory = omega (arith, clients, count) in (
+    let trackers = k.block_state.count in
+    let covered : length known.config.clients.items ≤ clients_of state.block_state.directory = omega (arith, clients, count) in (
       (let few = limit.0 in omega (arith, inside, count, few)),
       omega (arith, inside, clients),
-      is-due known.config link x m known.end (length links.home.blocks.bytes.items) (clients_of links.home.directory) limit.2 k.size covered is,
-      (λ n. are-placed perm_of links known.config known.end (clients_of links.home.directory) n known.width k covered),
+      is-due known.config link x m known.end (length state.block_state.blocks.bytes.items) (clients_of state.block_state.directory) limit.2 k.size covered is,
+      (λ n. are-placed perm_of state known.config known.end (clients_of state.block_state.directory) n known.width k covered),
       (let few = limit.1 in omega (arith, size, few)),
       (let few = limit.2 in omega (arith, trackers, few)),
     )

@@ -17,7 +17,7 @@ use Rattle.tl_manager.specs.statement.Holders.{recorded, is_missing, is_settled,
 use Rattle.tl_manager.specs.laws.Pending.{is_granted, is_awaited, IsSteady}
 use Rattle.tl_manager.specs.statement.Service.{Service, services, service_of_block}
 use Rattle.tl_manager.proofs.Clients.{among-where, nobody-where}
-use Rattle.tl_manager.proofs.Links.{beat-keeps}
+use Rattle.tl_manager.proofs.LinkHistories.{beat-keeps}
 use Rattle.tl_manager.proofs.Lists.{each_client, each_weaker}
 use Rattle.tl_manager.proofs.Probes.{probes-within, services-probes}
 use Rattle.tl_manager.proofs.Probing.{missing-own_b, missing-else_b, accounted-probes}

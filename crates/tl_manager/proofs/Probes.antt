@@ -11,7 +11,7 @@ use Rattle.tl_burst.specs.declared.message.MessageB.{MessageB}
 use Rattle.tl_burst.specs.statement.Burst.{begun, beats_of}
 use Rattle.tl_burst.specs.statement.Messages.{History}
 use Rattle.tl_params.specs.declared.param.Cap.{Cap}
-use Rattle.tl_rules.specs.statement.Agent.{sent}
+use Rattle.tl_rules.specs.statement.Admission.{sent}
 use Rattle.tl_rules.specs.statement.Conformance.{Trace, on_link}
 use Rattle.tl_rules.specs.statement.History.{ends}
 use Rattle.tl_manager.specs.statement.Handing.{with_handed, probes, probe_of_block}

@@ -29,7 +29,7 @@ use Rattle.tl_manager.specs.laws.Pending.{is_granted, IsReporting, IsProbed, IsA
 use Rattle.tl_manager.specs.statement.Service.{Service, services, service_of_block, is_ended_by}
 use Rattle.tl_manager.proofs.Accepted.{granted-kept}
 use Rattle.tl_manager.proofs.Handed.{whole-after_sent}
-use Rattle.tl_manager.proofs.Links.{own_beat, other_beat, beat-keeps, pending-opened, pending-closed}
+use Rattle.tl_manager.proofs.LinkHistories.{own_beat, other_beat, beat-keeps, pending-opened, pending-closed}
 use Rattle.tl_manager.proofs.Probes.{filter-all, services-b}
 use Rattle.tl_manager.proofs.Unmoved.{IsSame, IsQuiet, handled-same, handled-quiet, reports-kept, accounted-kept}
 use Rattle.tl_manager.specs.code.Ready.{IsWhole}

@@ -14,9 +14,9 @@ use Rattle.tl_manager.specs.code.Kept.{IsKept}
 use Rattle.tl_manager.specs.code.Knows.{Knows}
 use Rattle.tl_manager.specs.statement.End.{End}
 use Rattle.tl_manager.specs.statement.Offer.{Judgement, Breaks, Waits, Passes, judged, is_waiting, stalls, refused}
-use Rattle.tl_manager.specs.code.Wire.{IsWire}
-use Rattle.tl_manager.specs.declared.manager.links.Links.{Links}
-use Rattle.tl_manager.specs.declared.manager.wire.Wire.{Wire}
+use Rattle.tl_manager.specs.code.LinkState.{IsLinkState}
+use Rattle.tl_manager.specs.declared.manager.state.ManagerState.{ManagerState}
+use Rattle.tl_manager.specs.declared.manager.link_state.LinkState.{LinkState}
 
 -- ---- stalls
 
@@ -50,20 +50,20 @@ kept-refused config link e k =
       steady = k.steady;
     }
 
-still-wire : {w : ℕ} (config : Config) (link : Link) (client : ℕ) (wire : Wire w) (e : End w) → (client == link.0) ≡ false → IsWire config wire client e → IsWire config wire client (refused link e)
-still-wire config link client wire e other is = record { level = is.level; closed = is.closed ∙ rw other refl; carried = is.carried }
+still-link_state : {w : ℕ} (config : Config) (link : Link) (client : ℕ) (link_state : LinkState w) (e : End w) → (client == link.0) ≡ false → IsLinkState config link_state client e → IsLinkState config link_state client (refused link e)
+still-link_state config link client link_state e other is = record { level = is.level; closed = is.closed ∙ rw other refl; carried = is.carried }
 
-pub knows-absent : {w : ℕ} {M : Type 0} (perm_of : M → ℕ → ℕ → Perm) (links : Links w M) (config : Config) (link : Link) (e : End w) → Knows perm_of links config e
-    → length links.wires.items ≤ link.0 → Knows perm_of links config (refused link e)
-knows-absent perm_of links config link e k past = record {
+pub knows-absent : {w : ℕ} {M : Type 0} (perm_of : M → ℕ → ℕ → Perm) (state : ManagerState w M) (config : Config) (link : Link) (e : End w) → Knows perm_of state config e
+    → length state.link_states.items ≤ link.0 → Knows perm_of state config (refused link e)
+knows-absent perm_of state config link e k past = record {
   fits = k.fits;
   kept = kept-refused config link e k.kept;
-  home = k.home;
+  block_state = k.block_state;
   size = k.size;
   count = k.count;
-  wires = λ client wire found.
-      let within = slice_get_within links.wires.items client wire found in
-      still-wire config link client wire e (ne_eqb client link.0 (λ same. omega (arith, same, within, past))) (k.wires client wire found);
+  link_states = λ client link_state found.
+      let within = slice_get_within state.link_states.items client link_state found in
+      still-link_state config link client link_state e (ne_eqb client link.0 (λ same. omega (arith, same, within, past))) (k.link_states client link_state found);
 }
 
 pub set-other : {X : Type 0} (xs : List X) (i j : ℕ) (x y : X) → j ≢ i → slice_get (slice_set xs i y) j ≡ Some x → slice_get xs j ≡ Some x
@@ -78,25 +78,25 @@ set-here [] i x y e = absurd cc
 set-here (z ∷ xs) zero x y e = cc
 set-here (z ∷ xs) (suc i) x y e = set-here xs i x y e
 
-pub knows-refused : {w : ℕ} {M : Type 0} (perm_of : M → ℕ → ℕ → Perm) (old new : Links w M) (config : Config) (link : Link) (before after : Wire w) (e : End w) → new.home ≡ old.home
-    → new.wires.items ≡ slice_set old.wires.items link.0 after
-    → slice_get old.wires.items link.0 ≡ Some before → after.level ≡ before.level → after.requests ≡ before.requests → after.reports ≡ before.reports → after.closed ≡ true
+pub knows-refused : {w : ℕ} {M : Type 0} (perm_of : M → ℕ → ℕ → Perm) (old new : ManagerState w M) (config : Config) (link : Link) (before after : LinkState w) (e : End w) → new.block_state ≡ old.block_state
+    → new.link_states.items ≡ slice_set old.link_states.items link.0 after
+    → slice_get old.link_states.items link.0 ≡ Some before → after.level ≡ before.level → after.requests ≡ before.requests → after.reports ≡ before.reports → after.closed ≡ true
     → Knows perm_of old config e → Knows perm_of new config (refused link e)
-knows-refused {w} perm_of old new config link before after e home wires found level requests reports closed k = record {
+knows-refused {w} perm_of old new config link before after e block_state link_states found level requests reports closed k = record {
   fits = k.fits;
   kept = kept-refused config link e k.kept;
-  home = rw home k.home;
-  size = rw home k.size;
-  count = ap length wires ∙ length-set old.wires.items link.0 after ∙ k.count;
-  wires = λ client wire at. elim (cases_eq client link.0) [
+  block_state = rw block_state k.block_state;
+  size = rw block_state k.size;
+  count = ap length link_states ∙ length-set old.link_states.items link.0 after ∙ k.count;
+  link_states = λ client link_state at. elim (cases_eq client link.0) [
     | inl same ↦
-        let here = k.wires link.0 before found in
-        let is : wire ≡ after = set-here old.wires.items link.0 wire after (rw (same, wires) at at) in
+        let here = k.link_states link.0 before found in
+        let is : link_state ≡ after = set-here old.link_states.items link.0 link_state after (rw (same, link_states) at at) in
         rw (is, same) (record {
           level = here.level ∙ ap Some (sym level);
           closed = closed ∙ rw (eq-eqb link.0 link.0 refl) refl;
           carried = record { requests = requests ∙ here.carried.requests; reports = reports ∙ here.carried.reports };
         })
-    | inr other ↦ still-wire config link client wire e (ne_eqb client link.0 other) (k.wires client wire (set-other old.wires.items link.0 client wire after other (rw wires at at)))
+    | inr other ↦ still-link_state config link client link_state e (ne_eqb client link.0 other) (k.link_states client link_state (set-other old.link_states.items link.0 client link_state after other (rw link_states at at)))
   ];
 }

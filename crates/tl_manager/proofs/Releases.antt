@@ -22,7 +22,7 @@ use Rattle.tl_burst.proofs.Splitting.{beats-positive}
 use Rattle.tl_params.specs.declared.key.Key.TheVariants.{ReleaseSource, ReleaseOf}
 use Rattle.tl_params.specs.declared.profile.Profile.{Profile}
 use Rattle.tl_params.specs.declared.rule.Rule.TheVariants.{S1}
-use Rattle.tl_rules.specs.statement.Agent.{sent}
+use Rattle.tl_rules.specs.statement.Admission.{sent}
 use Rattle.tl_rules.specs.statement.Conformance.{broken_in_order, broken_order}
 use Rattle.tl_rules.specs.statement.History.{begins, ends, pending, release_of, releases, block_at, is_release, is_release_ack}
 use Rattle.tl_rules.proofs.Bursts.{next_rule}

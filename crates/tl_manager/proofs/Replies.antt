@@ -14,14 +14,14 @@ use Rattle.tl_burst.specs.statement.Messages.{History, unfinished}
 use Rattle.tl_burst.proofs.Splitting.{beats-positive}
 use Rattle.tl_params.specs.declared.key.Key.{Key}
 use Rattle.tl_params.specs.declared.key.Key.TheVariants.{ProbeOf}
-use Rattle.tl_rules.specs.statement.Agent.{sent}
+use Rattle.tl_rules.specs.statement.Admission.{sent}
 use Rattle.tl_rules.specs.statement.Conformance.{Trace, on_link}
 use Rattle.tl_rules.specs.statement.History.{opens, closes, block_at, is_grant, pending, asks_for, request_of, probe_of, grant_sink}
 use Rattle.tl_rules.proofs.Handed.{after_whole, pending-sent_d}
 use Rattle.tl_rules.proofs.Sent.{begins-first, begins-later, unfinished-sent_other, request_of-other}
 use Rattle.tl_manager.specs.laws.Pending.{HasFields, IsReporting, IsAccounted}
 use Rattle.tl_manager.proofs.Handed.{after_sent, own_link, other_link}
-use Rattle.tl_manager.proofs.Links.{sent-keeps}
+use Rattle.tl_manager.proofs.LinkHistories.{sent-keeps}
 use Rattle.tl_manager.proofs.Unmoved.{reports-kept}
 
 -- ---- keys

@@ -25,7 +25,7 @@ use Rattle.tl_manager.proofs.Asked.{Place, fields-now, acquire_whole, begun-now,
 use Rattle.tl_manager.proofs.Ended.{services-part}
 use Rattle.tl_manager.proofs.Events.{services-request}
 use Rattle.tl_manager.proofs.Free.{least_free-is_free}
-use Rattle.tl_manager.proofs.Links.{own_beat, other_beat, beat-keeps, pending-opened}
+use Rattle.tl_manager.proofs.LinkHistories.{own_beat, other_beat, beat-keeps, pending-opened}
 use Rattle.tl_manager.proofs.Requests.{made_of}
 use Rattle.tl_manager.proofs.Sinks.{AreTracked, grants_by}
 use Rattle.tl_manager.proofs.Unmoved.{handled-same, reports-kept}

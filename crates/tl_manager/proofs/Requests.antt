@@ -17,7 +17,7 @@ use Rattle.tl_burst.specs.statement.Burst.{beats_of, a_beat_of, IsZeroFrom}
 use Rattle.tl_burst.specs.statement.Messages.{burst_length}
 use Rattle.tl_params.specs.declared.config.Config.{Config}
 use Rattle.tl_params.specs.declared.level.Level.{Level}
-use Rattle.tl_rules.specs.statement.Agent.{bytes_carried, lanes_of, payload_of, is_spoiled}
+use Rattle.tl_rules.specs.statement.Admission.{bytes_carried, lanes_of, payload_of, is_spoiled}
 use Rattle.tl_rules.specs.code.Control.{a_control, a_own}
 use Rattle.tl_rules.specs.statement.Legality.{illegal}
 use Rattle.tl_rules.proofs.Checks.{beats_room}

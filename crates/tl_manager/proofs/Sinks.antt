@@ -17,7 +17,7 @@ use Rattle.tl_burst.specs.statement.Messages.{History, channel_of, unfinished}
 use Rattle.tl_burst.proofs.Splitting.{beats-positive}
 use Rattle.tl_params.specs.declared.config.Config.{Config}
 use Rattle.tl_params.specs.declared.key.Key.TheVariants.{GrantSink}
-use Rattle.tl_rules.specs.statement.Agent.{sent}
+use Rattle.tl_rules.specs.statement.Admission.{sent}
 use Rattle.tl_rules.specs.statement.Conformance.{Trace, on_link}
 use Rattle.tl_rules.specs.statement.History.{begins, ends, pending, is_grant, is_acquire}
 use Rattle.tl_manager.specs.statement.Handing.{Handed, with_handed}

@@ -8,7 +8,7 @@ use Rattle.tl_params.specs.declared.config.Config.{Config}
 use Rattle.tl_params.specs.declared.level.Level.{Level}
 use Rattle.tl_params.specs.declared.rule.Rule.{Rule}
 use Rattle.tl_params.specs.declared.rule.Rule.TheVariants.{A1, A2}
-use Rattle.tl_rules.specs.statement.Agent.{is_outside, is_spoiled}
+use Rattle.tl_rules.specs.statement.Admission.{is_outside, is_spoiled}
 use Rattle.tl_rules.specs.statement.Conformance.{Trace, on_link, broken_in_order}
 use Rattle.tl_manager.specs.code.Kept.{is_stalled}
 use Rattle.tl_manager.specs.statement.End.{End}

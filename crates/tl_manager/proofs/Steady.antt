@@ -14,21 +14,21 @@ use Rattle.tl_params.specs.declared.param.Cap.{Cap}
 use Rattle.tl_rules.specs.statement.Conformance.{Trace, on_link}
 use Rattle.tl_rules.specs.statement.History.{ends, block_at, pending}
 use Rattle.tl_rules.proofs.Sent.{pending-quiet}
-use Rattle.tl_manager.specs.statement.Handing.{Deed, with_handed, probes}
+use Rattle.tl_manager.specs.statement.Handing.{Reaction, with_handed, probes}
 use Rattle.tl_manager.specs.statement.Holders.{cap_probed, probed}
 use Rattle.tl_manager.specs.code.Kept.{IsSound}
 use Rattle.tl_manager.specs.laws.Pending.{is_awaited, IsSteady}
 use Rattle.tl_manager.specs.statement.Service.{Service, services, service_of_block, is_in_service, is_ended_by}
-use Rattle.tl_manager.specs.statement.Deed.{deed}
+use Rattle.tl_manager.specs.statement.Reaction.{reaction}
 use Rattle.tl_manager.specs.statement.End.{End}
 use Rattle.tl_manager.specs.statement.Offer.{level_of, must_wait}
 use Rattle.tl_manager.proofs.Accepted.{granted_a}
 use Rattle.tl_manager.proofs.Acked.{acked-sink, services-e, granted-left, accounted-e}
 use Rattle.tl_manager.proofs.Asked.{Place, placed}
 use Rattle.tl_manager.proofs.Ended.{services-part}
-use Rattle.tl_manager.proofs.Events.{services-request, deed-part, deed-probes, deed-unprobed, deed-intent, deed-ack}
+use Rattle.tl_manager.proofs.Events.{services-request, reaction-part, reaction-probes, reaction-unprobed, reaction-intent, reaction-ack}
 use Rattle.tl_manager.proofs.Handed.{whole-taken}
-use Rattle.tl_manager.proofs.Links.{beat-keeps}
+use Rattle.tl_manager.proofs.LinkHistories.{beat-keeps}
 use Rattle.tl_manager.proofs.Masks.{legal-small}
 use Rattle.tl_manager.proofs.Performed.{performed-steady}
 use Rattle.tl_manager.proofs.Probed.{probes-steady}
@@ -98,7 +98,7 @@ request-ready {w} config link x e fits is served = record {
     calm d false f = refl
 
 request-last : {w : ℕ} (config : Config) (link : Link) (x : BeatA w) (e : End w) → IsTaken config link (beat.A x) e → ends (beat.A x) (on_link link.0 e.trace) ≡ true
-    → IsSteady config (with_handed (deed config link (beat.A x) e).handed ((link, beat.A x) ∷ e.trace))
+    → IsSteady config (with_handed (reaction config link (beat.A x) e).handed ((link, beat.A x) ∷ e.trace))
 request-last {w} config link x e is last = go (cap_probed s.request.opcode s.request.param) refl
   where
     u : Trace w
@@ -113,15 +113,15 @@ request-last {w} config link x e is last = go (cap_probed s.request.opcode s.req
     ready : IsReady config (block_at x.address) s u
     ready = request-ready config link x e found.0 is found.1
 
-    probing : (k : Cap) → cap_probed s.request.opcode s.request.param ≡ Some k → (ds : List ℕ) → probed config s k u ≡ ds → IsSteady config (with_handed (deed config link (beat.A x) e).handed u)
-    probing k caps [] f = doing config link (beat.A x) e _ (deed-unprobed config link x s k e found.1 caps f) (performed-steady config (block_at x.address) s u e.memory ready)
+    probing : (k : Cap) → cap_probed s.request.opcode s.request.param ≡ Some k → (ds : List ℕ) → probed config s k u ≡ ds → IsSteady config (with_handed (reaction config link (beat.A x) e).handed u)
+    probing k caps [] f = doing config link (beat.A x) e _ (reaction-unprobed config link x s k e found.1 caps f) (performed-steady config (block_at x.address) s u e.memory ready)
     probing k caps (d ∷ ds) f =
         doing config link (beat.A x) e (record { handed = probes (block_at x.address) k (probed config s k u); memory = e.memory })
-        (deed-probes config link x s k d ds e found.1 caps f ∙ ap (λ (cs : List ℕ). record { handed = probes (block_at x.address) k cs; memory = e.memory }) (sym f))
+        (reaction-probes config link x s k d ds e found.1 caps f ∙ ap (λ (cs : List ℕ). record { handed = probes (block_at x.address) k cs; memory = e.memory }) (sym f))
         (probes-steady config (block_at x.address) s k d ds u ready caps f)
 
-    go : (o : Option Cap) → cap_probed s.request.opcode s.request.param ≡ o → IsSteady config (with_handed (deed config link (beat.A x) e).handed u)
-    go None caps = doing config link (beat.A x) e _ (deed-intent config link x s e found.1 caps) (performed-steady config (block_at x.address) s u e.memory ready)
+    go : (o : Option Cap) → cap_probed s.request.opcode s.request.param ≡ o → IsSteady config (with_handed (reaction config link (beat.A x) e).handed u)
+    go None caps = doing config link (beat.A x) e _ (reaction-intent config link x s e found.1 caps) (performed-steady config (block_at x.address) s u e.memory ready)
     go (Some k) caps = probing k caps (probed config s k u) refl
 
 -- ---- GrantAcks
@@ -159,13 +159,13 @@ ack {w} config link x e is = record {
 
 -- ---- any beat
 
-pub steady-deed : {w : ℕ} (config : Config) (link : Link) (x : Beat w) (e : End w) → IsTaken config link x e → IsSteady config (with_handed (deed config link x e).handed ((link, x) ∷ e.trace))
-steady-deed {w} config link (beat.A x) e is = go (ends (beat.A x) (on_link link.0 e.trace)) refl
+pub steady-reaction : {w : ℕ} (config : Config) (link : Link) (x : Beat w) (e : End w) → IsTaken config link x e → IsSteady config (with_handed (reaction config link x e).handed ((link, x) ∷ e.trace))
+steady-reaction {w} config link (beat.A x) e is = go (ends (beat.A x) (on_link link.0 e.trace)) refl
   where
-    go : (b : Bool) → ends (beat.A x) (on_link link.0 e.trace) ≡ b → IsSteady config (with_handed (deed config link (beat.A x) e).handed ((link, beat.A x) ∷ e.trace))
+    go : (b : Bool) → ends (beat.A x) (on_link link.0 e.trace) ≡ b → IsSteady config (with_handed (reaction config link (beat.A x) e).handed ((link, beat.A x) ∷ e.trace))
     go true f = request-last config link x e is f
-    go false f = quietly config link (beat.A x) e (ap (λ (d : Deed w). d.handed) (deed-part config link (beat.A x) e f)) (request-part config link x e is f)
-steady-deed config link (beat.B x) e is = absurd (let theirs = is.passes.theirs in cc)
-steady-deed config link (beat.C x) e is = steady-report config link x e is
-steady-deed config link (beat.D x) e is = absurd (let theirs = is.passes.theirs in cc)
-steady-deed {w} config link (beat.E x) e is = quietly config link (beat.E x) e (ap (λ (d : Deed w). d.handed) (deed-ack config link x e)) (ack config link x e is)
+    go false f = quietly config link (beat.A x) e (ap (λ (d : Reaction w). d.handed) (reaction-part config link (beat.A x) e f)) (request-part config link x e is f)
+steady-reaction config link (beat.B x) e is = absurd (let theirs = is.passes.theirs in cc)
+steady-reaction config link (beat.C x) e is = steady-report config link x e is
+steady-reaction config link (beat.D x) e is = absurd (let theirs = is.passes.theirs in cc)
+steady-reaction {w} config link (beat.E x) e is = quietly config link (beat.E x) e (ap (λ (d : Reaction w). d.handed) (reaction-ack config link x e)) (ack config link x e is)

@@ -19,17 +19,17 @@ use Rattle.tl_rules.specs.statement.Conformance.{Trace, on_link}
 use Rattle.tl_rules.specs.statement.History.{ends, block_at, is_probe_ack, is_release, is_release_ack, is_grant, pending}
 use Rattle.tl_rules.proofs.Sent.{pending-quiet}
 use Rattle.tl_rules.proofs.Open.{never}
-use Rattle.tl_manager.specs.statement.Handing.{Deed, with_handed, release_ack}
+use Rattle.tl_manager.specs.statement.Handing.{Reaction, with_handed, release_ack}
 use Rattle.tl_manager.specs.statement.Holders.{is_settled}
 use Rattle.tl_manager.specs.laws.Pending.{is_granted, is_awaited, IsSteady}
 use Rattle.tl_manager.specs.statement.Service.{Service, services, service_of_block}
-use Rattle.tl_manager.specs.statement.Deed.{deed}
+use Rattle.tl_manager.specs.statement.Reaction.{reaction}
 use Rattle.tl_manager.specs.statement.End.{End}
 use Rattle.tl_manager.proofs.Accepted.{granted-kept}
 use Rattle.tl_manager.proofs.Accesses.{granted-still, services-release_ack, accounted-release_ack}
-use Rattle.tl_manager.proofs.Events.{deed-part, deed-release, deed-report, deed-settled, memory_with}
+use Rattle.tl_manager.proofs.Events.{reaction-part, reaction-release, reaction-report, reaction-settled, memory_with}
 use Rattle.tl_manager.proofs.Handed.{after_sent, whole-taken}
-use Rattle.tl_manager.proofs.Links.{own_beat, other_beat}
+use Rattle.tl_manager.proofs.LinkHistories.{own_beat, other_beat}
 use Rattle.tl_manager.proofs.Performed.{performed-steady}
 use Rattle.tl_manager.proofs.Probing.{services-c, missing-else_c, missing-part, report-pending, accounted-c}
 use Rattle.tl_manager.proofs.Replies.{reply-quiet}
@@ -39,15 +39,15 @@ use Rattle.tl_manager.proofs.Unmoved.{awaited-same}
 use Rattle.tl_manager.specs.code.Ready.{IsReady, IsTaken}
 
 -- where nothing is handed out
-pub quietly : {w : ℕ} (config : Config) (link : Link) (x : Beat w) (e : End w) → (deed config link x e).handed ≡ [] → IsSteady config ((link, x) ∷ e.trace)
-    → IsSteady config (with_handed (deed config link x e).handed ((link, x) ∷ e.trace))
+pub quietly : {w : ℕ} (config : Config) (link : Link) (x : Beat w) (e : End w) → (reaction config link x e).handed ≡ [] → IsSteady config ((link, x) ∷ e.trace)
+    → IsSteady config (with_handed (reaction config link x e).handed ((link, x) ∷ e.trace))
 unfolding with_handed
 quietly config link x e nothing ok = rw nothing ok
 
 -- where this is done
-pub doing : {w : ℕ} (config : Config) (link : Link) (x : Beat w) (e : End w) (d : Deed w) → deed config link x e ≡ d → IsSteady config (with_handed d.handed ((link, x) ∷ e.trace))
-    → IsSteady config (with_handed (deed config link x e).handed ((link, x) ∷ e.trace))
-doing {w} config link x e d is ok = subst (λ (i : Deed w). IsSteady config (with_handed i.handed ((link, x) ∷ e.trace))) (sym is) ok
+pub doing : {w : ℕ} (config : Config) (link : Link) (x : Beat w) (e : End w) (d : Reaction w) → reaction config link x e ≡ d → IsSteady config (with_handed d.handed ((link, x) ∷ e.trace))
+    → IsSteady config (with_handed (reaction config link x e).handed ((link, x) ∷ e.trace))
+doing {w} config link x e d is ok = subst (λ (i : Reaction w). IsSteady config (with_handed i.handed ((link, x) ∷ e.trace))) (sym is) ok
 
 -- ---- which ProbeAcks are missing
 
@@ -159,7 +159,7 @@ report-ready config link x s e is kind found all =
 
 report : {w : ℕ} (config : Config) (link : Link) (x : BeatC w) (e : End w) → IsTaken config link (beat.C x) e → ends (beat.C x) (on_link link.0 e.trace) ≡ true → is_release x.opcode ≡ false
     → is_probe_ack x.opcode ≡ true
-    → IsSteady config (with_handed (deed config link (beat.C x) e).handed ((link, beat.C x) ∷ e.trace))
+    → IsSteady config (with_handed (reaction config link (beat.C x) e).handed ((link, beat.C x) ∷ e.trace))
 report {w} config link x e is last other kind = go (is_settled config n u) refl
   where
     u : Trace w
@@ -176,29 +176,29 @@ report {w} config link x e is last other kind = go (is_settled config n u) refl
     more None f = refl
     more (Some s) f = ap (λ b. is_granted u s || not b) f ∙ either (is_granted u s)
 
-    go : (b : Bool) → is_settled config n u ≡ b → IsSteady config (with_handed (deed config link (beat.C x) e).handed u)
+    go : (b : Bool) → is_settled config n u ≡ b → IsSteady config (with_handed (reaction config link (beat.C x) e).handed u)
     go true f =
         let s = report-service config link x e is kind in
-        doing config link (beat.C x) e _ (deed-settled config link x s.0 e last other kind f s.1)
+        doing config link (beat.C x) e _ (reaction-settled config link x s.0 e last other kind f s.1)
         (performed-steady config n s.0 u (memory_with link x e) (report-ready config link x s.0 e is kind s.1 f))
-    go false f = quietly config link (beat.C x) e (ap (λ (d : Deed w). d.handed) (deed-report config link x e last other kind f))
+    go false f = quietly config link (beat.C x) e (ap (λ (d : Reaction w). d.handed) (reaction-report config link x e last other kind f))
         (reported config link x e is (more (service_of_block n (services u)) f))
 
 -- ---- any beat of channel C
 
-deed-other : {w : ℕ} (config : Config) (link : Link) (x : BeatC w) (e : End w) → ends (beat.C x) (on_link link.0 e.trace) ≡ true → is_release x.opcode ≡ false → is_probe_ack x.opcode ≡ false
-    → (deed config link (beat.C x) e).handed ≡ []
-unfolding deed
-deed-other config link x e last other kind = rw (last, other, kind) refl
+reaction-other : {w : ℕ} (config : Config) (link : Link) (x : BeatC w) (e : End w) → ends (beat.C x) (on_link link.0 e.trace) ≡ true → is_release x.opcode ≡ false → is_probe_ack x.opcode ≡ false
+    → (reaction config link (beat.C x) e).handed ≡ []
+unfolding reaction
+reaction-other config link x e last other kind = rw (last, other, kind) refl
 
 pub steady-report : {w : ℕ} (config : Config) (link : Link) (x : BeatC w) (e : End w) → IsTaken config link (beat.C x) e
-    → IsSteady config (with_handed (deed config link (beat.C x) e).handed ((link, beat.C x) ∷ e.trace))
+    → IsSteady config (with_handed (reaction config link (beat.C x) e).handed ((link, beat.C x) ∷ e.trace))
 steady-report {w} config link x e is = go (ends (beat.C x) (on_link link.0 e.trace)) (is_release x.opcode) (is_probe_ack x.opcode) refl refl refl
   where
     go : (last kind answers : Bool) → ends (beat.C x) (on_link link.0 e.trace) ≡ last → is_release x.opcode ≡ kind → is_probe_ack x.opcode ≡ answers
-        → IsSteady config (with_handed (deed config link (beat.C x) e).handed ((link, beat.C x) ∷ e.trace))
+        → IsSteady config (with_handed (reaction config link (beat.C x) e).handed ((link, beat.C x) ∷ e.trace))
     go false kind answers f g h =
-        quietly config link (beat.C x) e (ap (λ (d : Deed w). d.handed) (deed-part config link (beat.C x) e f)) (still-steady config link x e is (λ k d. missing_part link x e.trace k d f))
-    go true true answers f g h = doing config link (beat.C x) e _ (deed-release config link x e f g) (release config link x e is g)
+        quietly config link (beat.C x) e (ap (λ (d : Reaction w). d.handed) (reaction-part config link (beat.C x) e f)) (still-steady config link x e is (λ k d. missing_part link x e.trace k d f))
+    go true true answers f g h = doing config link (beat.C x) e _ (reaction-release config link x e f g) (release config link x e is g)
     go true false true f g h = report config link x e is f g h
-    go true false false f g h = quietly config link (beat.C x) e (deed-other config link x e f g h) (no_report config link x e is h)
+    go true false false f g h = quietly config link (beat.C x) e (reaction-other config link x e f g h) (no_report config link x e is h)

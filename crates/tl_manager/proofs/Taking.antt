@@ -26,27 +26,27 @@ use Rattle.tl_rules.specs.statement.Legality.{illegal, breaks_l1, breaks_l7, is_
 use Rattle.tl_rules.proofs.Bursts.{next_rule}
 use Rattle.tl_rules.proofs.Sent.{pending-quiet}
 use Rattle.tl_manager.specs.code.Blocks.{AreBlocks}
-use Rattle.tl_manager.specs.statement.Handing.{Deed, Handed, with_handed, release_ack}
+use Rattle.tl_manager.specs.statement.Handing.{Reaction, Handed, with_handed, release_ack}
 use Rattle.tl_manager.specs.statement.Holders.{recorded}
-use Rattle.tl_manager.specs.code.Home.{IsHome, IsReportedHome, IsDone, IsReport, IsMessage}
+use Rattle.tl_manager.specs.code.BlockState.{IsBlockState, IsReportedBlockState, IsDone, IsReport, IsMessage}
 use Rattle.tl_manager.specs.code.Kept.{AreApart, is_granting}
 use Rattle.tl_manager.specs.code.Ready.{IsPassed, IsTaken}
 use Rattle.tl_manager.specs.statement.Service.{Service, services, service_of_block, trackers_of, is_ended_by}
-use Rattle.tl_manager.specs.statement.Deed.{deed, finish, with_block}
+use Rattle.tl_manager.specs.statement.Reaction.{reaction, finish, with_block}
 use Rattle.tl_manager.specs.statement.End.{End}
 use Rattle.tl_manager.specs.statement.Offer.{level_of}
 use Rattle.tl_manager.specs.code.Tracked.{IsTracked}
 use Rattle.tl_manager.specs.code.Trackers.{tracker_at}
-use Rattle.tl_manager.specs.declared.manager.home.Home.{Home}
+use Rattle.tl_manager.specs.declared.manager.block_state.BlockState.{BlockState}
 use Rattle.tl_manager.specs.declared.manager.tracker.Tracker.TheVariants.{Free}
 use Rattle.tl_manager.proofs.Accesses.{granted-still, services-release_ack}
 use Rattle.tl_manager.proofs.Acked.{acked-sink, services-e, granted-left}
 use Rattle.tl_manager.proofs.Answering.{tracker-changed}
-use Rattle.tl_manager.proofs.Events.{memory_with, deed-release}
+use Rattle.tl_manager.proofs.Events.{memory_with, reaction-release}
 use Rattle.tl_manager.proofs.Free.{missing_filter}
 use Rattle.tl_manager.proofs.Granting.{records-set}
 use Rattle.tl_manager.proofs.Handed.{after_sent, recorded-taken, recorded-sent, whole-taken}
-use Rattle.tl_manager.proofs.Links.{beat-keeps}
+use Rattle.tl_manager.proofs.LinkHistories.{beat-keeps}
 use Rattle.tl_manager.proofs.Probing.{services-c, missing-else_c}
 use Rattle.tl_manager.proofs.Replies.{reply-quiet}
 use Rattle.tl_manager.proofs.Serving.{if_passes, serving-filter}
@@ -104,32 +104,32 @@ recorded-reported {w} config link x e c b is last = recorded-taken c link b (bea
     go false f = refl
 
 -- the directory and the bytes after it
-pub home-written : {w : ℕ} {D : Type 0} (perm_of : D → ℕ → ℕ → Perm) (config : Config) (old new : Home w D) (link : Link) (x : BeatC w) (message : MessageC w) (e : End w)
+pub block_state-written : {w : ℕ} {D : Type 0} (perm_of : D → ℕ → ℕ → Perm) (config : Config) (old new : BlockState w D) (link : Link) (x : BeatC w) (message : MessageC w) (e : End w)
     → new.profile ≡ old.profile → new.trackers ≡ old.trackers
     → perm_of new.directory (block_at message.address) link.0 ≡ reported message.param
     → ((b c : ℕ) → (b ≢ block_at message.address) ⊎ (c ≢ link.0) → perm_of new.directory b c ≡ perm_of old.directory b c)
     → AreBlocks new.blocks.bytes.items (if c_carries_data message.opcode then with_block (block_at message.address) message.payload e.memory else e.memory)
-    → IsMessage config link x message e → IsHome perm_of config old e.trace e.memory → IsReportedHome perm_of config new e.trace ((link, beat.C x) ∷ e.trace) (memory_with link x e)
-home-written {w} perm_of config old new link x message e profile trackers here others bytes is home = record {
-  profile = profile ∙ home.profile;
-  count = ap (λ t. t.count) trackers ∙ home.count;
-  tracked = λ n. rw trackers (home.tracked n tt);
+    → IsMessage config link x message e → IsBlockState perm_of config old e.trace e.memory → IsReportedBlockState perm_of config new e.trace ((link, beat.C x) ∷ e.trace) (memory_with link x e)
+block_state-written {w} perm_of config old new link x message e profile trackers here others bytes is block_state = record {
+  profile = profile ∙ block_state.profile;
+  count = ap (λ t. t.count) trackers ∙ block_state.count;
+  tracked = λ n. rw trackers (block_state.tracked n tt);
   records =
       records-set (perm_of old.directory) (perm_of new.directory) (λ b c. recorded c b e.trace) (λ b c. recorded c b ((link, beat.C x) ∷ e.trace))
-      (block_at message.address) link.0 (reported message.param) here others home.records
+      (block_at message.address) link.0 (reported message.param) here others block_state.records
       (λ b c. rw (is.address, is.param) (recorded-reported config link x e c b is.taken.passes is.last));
   bytes = rw (is.opcode, is.address, is.payload) at bytes;
 }
 
 -- ---- a Release
 
-pub home-released : {w : ℕ} {M : Type 0} (perm_of : M → ℕ → ℕ → Perm) (config : Config) (home : Home w M) (link : Link) (x : BeatC w) (message : MessageC w) (e : End w)
+pub block_state-released : {w : ℕ} {M : Type 0} (perm_of : M → ℕ → ℕ → Perm) (config : Config) (block_state : BlockState w M) (link : Link) (x : BeatC w) (message : MessageC w) (e : End w)
     → IsMessage config link x message e → is_release x.opcode ≡ true
-    → IsReportedHome perm_of config home e.trace ((link, beat.C x) ∷ e.trace) (memory_with link x e)
-    → IsDone perm_of config home ((link, release_ack message.source) ∷ []) ((link, beat.C x) ∷ e.trace) (deed config link (beat.C x) e)
+    → IsReportedBlockState perm_of config block_state e.trace ((link, beat.C x) ∷ e.trace) (memory_with link x e)
+    → IsDone perm_of config block_state ((link, release_ack message.source) ∷ []) ((link, beat.C x) ∷ e.trace) (reaction config link (beat.C x) e)
 unfolding with_handed
-home-released {w} {M} perm_of config home link x message e is release ok =
-    subst (λ (d : Deed w). IsDone perm_of config home ((link, release_ack message.source) ∷ []) u d) (sym (deed-release config link x e is.last release)) (
+block_state-released {w} {M} perm_of config block_state link x message e is release ok =
+    subst (λ (d : Reaction w). IsDone perm_of config block_state ((link, release_ack message.source) ∷ []) u d) (sym (reaction-release config link x e is.last release)) (
       ap (λ s. (link, release_ack s) ∷ []) is.source,
       record {
         profile = ok.profile;
@@ -149,10 +149,10 @@ home-released {w} {M} perm_of config home link x message e is release ok =
     silent c b false = refl
 
     after : (n : ℕ) → ((m : MessageD w) × (release_ack {w = w} x.source ≡ D m) × (is_release_ack m.opcode ≡ true) × (is_grant m.opcode ≡ false))
-        → IsTracked n (tracker_at home.trackers n) (after_sent link (release_ack x.source) u)
+        → IsTracked n (tracker_at block_state.trackers n) (after_sent link (release_ack x.source) u)
     after n m =
-        subst (λ (i : Message w). IsTracked n (tracker_at home.trackers n) (after_sent link i u)) (sym m.1)
-        (tracked-still n (tracker_at home.trackers n) e.trace (after_sent link (D m.0) u) (λ free. ap (λ (ss : List (Service w)). is_one_of n (trackers_of ss)) same ∙ free)
+        subst (λ (i : Message w). IsTracked n (tracker_at block_state.trackers n) (after_sent link i u)) (sym m.1)
+        (tracked-still n (tracker_at block_state.trackers n) e.trace (after_sent link (D m.0) u) (λ free. ap (λ (ss : List (Service w)). is_one_of n (trackers_of ss)) same ∙ free)
         (λ k v f at. record {
           serves = ap (service_of_block k) same ∙ f;
           granted = granted-still link m.0 u v is.taken.width whole m.3 ∙ granted_c link x e.trace v;
@@ -169,10 +169,10 @@ home-released {w} {M} perm_of config home link x message e is release ok =
 
 -- ---- a ProbeAck
 
-pub deed-ack_report : {w : ℕ} (config : Config) (link : Link) (x : BeatC w) (e : End w) → ends (beat.C x) (on_link link.0 e.trace) ≡ true → is_release x.opcode ≡ false → is_probe_ack x.opcode ≡ true
-    → deed config link (beat.C x) e ≡ finish config (block_at x.address) ((link, beat.C x) ∷ e.trace) (memory_with link x e)
-unfolding deed
-deed-ack_report config link x e last other kind = rw (last, other, kind) refl
+pub reaction-ack_report : {w : ℕ} (config : Config) (link : Link) (x : BeatC w) (e : End w) → ends (beat.C x) (on_link link.0 e.trace) ≡ true → is_release x.opcode ≡ false → is_probe_ack x.opcode ≡ true
+    → reaction config link (beat.C x) e ≡ finish config (block_at x.address) ((link, beat.C x) ∷ e.trace) (memory_with link x e)
+unfolding reaction
+reaction-ack_report config link x e last other kind = rw (last, other, kind) refl
 
 -- it is for the request of its block
 pub is_report : {w : ℕ} (config : Config) (link : Link) (block : ℕ) (x : BeatC w) (message : MessageC w) (e : End w) → block ≡ block_at message.address → is_release message.opcode ≡ false
@@ -184,14 +184,14 @@ is_report config link block x message e of_block other is = record {
   of_block = ap block_at (sym is.address) ∙ sym of_block;
 }
 
-pub done-ack : {w : ℕ} {M : Type 0} (perm_of : M → ℕ → ℕ → Perm) (config : Config) (home : Home w M) (handed : Handed w) (link : Link) (block : ℕ) (x : BeatC w) (message : MessageC w) (e : End w)
+pub done-ack : {w : ℕ} {M : Type 0} (perm_of : M → ℕ → ℕ → Perm) (config : Config) (block_state : BlockState w M) (handed : Handed w) (link : Link) (block : ℕ) (x : BeatC w) (message : MessageC w) (e : End w)
     → is_release message.opcode ≡ false → IsMessage config link x message e → IsReport config link block x e
-    → IsDone perm_of config home handed ((link, beat.C x) ∷ e.trace) (finish config block ((link, beat.C x) ∷ e.trace) (memory_with link x e))
-    → IsDone perm_of config home handed ((link, beat.C x) ∷ e.trace) (deed config link (beat.C x) e)
-done-ack {w} perm_of config home handed link block x message e other is report done =
-    subst (λ (d : Deed w). IsDone perm_of config home handed ((link, beat.C x) ∷ e.trace) d)
+    → IsDone perm_of config block_state handed ((link, beat.C x) ∷ e.trace) (finish config block ((link, beat.C x) ∷ e.trace) (memory_with link x e))
+    → IsDone perm_of config block_state handed ((link, beat.C x) ∷ e.trace) (reaction config link (beat.C x) e)
+done-ack {w} perm_of config block_state handed link block x message e other is report done =
+    subst (λ (d : Reaction w). IsDone perm_of config block_state handed ((link, beat.C x) ∷ e.trace) d)
     (ap (λ k. finish config k ((link, beat.C x) ∷ e.trace) (memory_with link x e)) (sym report.of_block)
-    ∙ sym (deed-ack_report config link x e is.last (ap is_release (sym is.opcode) ∙ other) report.kind)) done
+    ∙ sym (reaction-ack_report config link x e is.last (ap is_release (sym is.opcode) ∙ other) report.kind)) done
 
 -- ---- a GrantAck
 
@@ -228,16 +228,16 @@ tracker-acked {w} link x (s ∷ ss) apart e = go (is_acquire s.request.opcode) r
     go false f false g false h rest i = rw (f, g) (stays h (rest i))
     go false f false g true h rest i = absurd (twice h i)
 
-pub home-acked : {w : ℕ} {D : Type 0} (perm_of : D → ℕ → ℕ → Perm) (config : Config) (old new : Home w D) (sink : ℕ) (link : Link) (x : BeatE) (e : End w)
+pub block_state-acked : {w : ℕ} {D : Type 0} (perm_of : D → ℕ → ℕ → Perm) (config : Config) (old new : BlockState w D) (sink : ℕ) (link : Link) (x : BeatE) (e : End w)
     → new.profile ≡ old.profile → new.directory ≡ old.directory → new.blocks ≡ old.blocks → new.trackers.count ≡ old.trackers.count
     → ((n : ℕ) → tracker_at new.trackers n ≡ (if sink == n then Free else tracker_at old.trackers n))
-    → x.sink ≡ sink → IsTaken config link (beat.E x) e → IsHome perm_of config old e.trace e.memory → IsHome perm_of config new ((link, beat.E x) ∷ e.trace) e.memory
-home-acked {w} perm_of config old new sink link x e profile directory blocks count trackers same is home = record {
-  profile = profile ∙ home.profile;
-  count = count ∙ home.count;
-  tracked = λ i all. tracker-changed sink i Free (tracker_at new.trackers) (tracker_at old.trackers) e.trace u trackers ended others (λ n other. home.tracked n tt);
-  records = λ b c. ap (λ d. perm_of d b c) directory ∙ home.records b c ∙ sym (recorded-taken c link b (beat.E x) e.trace refl);
-  bytes = rw blocks home.bytes;
+    → x.sink ≡ sink → IsTaken config link (beat.E x) e → IsBlockState perm_of config old e.trace e.memory → IsBlockState perm_of config new ((link, beat.E x) ∷ e.trace) e.memory
+block_state-acked {w} perm_of config old new sink link x e profile directory blocks count trackers same is block_state = record {
+  profile = profile ∙ block_state.profile;
+  count = count ∙ block_state.count;
+  tracked = λ i all. tracker-changed sink i Free (tracker_at new.trackers) (tracker_at old.trackers) e.trace u trackers ended others (λ n other. block_state.tracked n tt);
+  records = λ b c. ap (λ d. perm_of d b c) directory ∙ block_state.records b c ∙ sym (recorded-taken c link b (beat.E x) e.trace refl);
+  bytes = rw blocks block_state.bytes;
 }
   where
     u : Trace w

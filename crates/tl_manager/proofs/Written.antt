@@ -3,7 +3,7 @@ use Rattle.std.proofs.Common.{◌≡◌, ℕ, suc, ◌+◌, ◌*◌, ◌/◌, �
 use Rattle.std.specs.Prelude.{slice_index}
 use Rattle.std.proofs.lemmas.Bool.{eq-eqb}
 use Rattle.tl_rules.specs.statement.Effect.{Memory, bytes_from}
-use Rattle.tl_manager.specs.statement.Deed.{with_block}
+use Rattle.tl_manager.specs.statement.Reaction.{with_block}
 
 pub bytes_are : (f : Memory) (x : ℕ) (bytes : List ℕ) → ((i : ℕ) → i < length bytes → f (x + i) ≡ slice_index bytes i) → bytes_from f x (length bytes) ≡ bytes
 unfolding bytes_from

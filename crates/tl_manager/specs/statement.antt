@@ -1,4 +1,4 @@
-pub mod Deed
+pub mod Reaction
 pub mod End
 pub mod Handing
 pub mod Holders

@@ -71,7 +71,7 @@ impl BitDirectory {
     ghost use Rattle.std.specs.Prelude.{length};
     ghost use Rattle.tl_manager.specs.code.Directories.{perm_of_bits, blocks_of_bits, clients_of_bits};
 
-    /// A directory of so many blocks and clients, at most 16, of whom none holds anything.
+    /// A directory of this many blocks and clients, at most 16, of whom none holds anything.
     pub fn new(alloc: Global, blocks: u16, clients: u8) -> Result<BitDirectory, AllocError>
         requires { clients ≤ 16 }
         ensures none { IfOk result (λ d. (b c : ℕ) → perm_of_bits d b c ≡ Perm.None) }

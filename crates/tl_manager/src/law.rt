@@ -19,7 +19,7 @@ ghost use Rattle.tl_params.specs.declared.key.Key.{Key};
 ghost use Rattle.tl_params.specs.declared.key.Key.TheVariants.{RequestSource, AcquireOf, GrantSink, GrantAckOf};
 ghost use Rattle.tl_params.specs.declared.perm.Perm.TheVariants as perm;
 ghost use Rattle.tl_params.specs.declared.rule.Rule.{Rule};
-ghost use Rattle.tl_rules.specs.statement.Agent.{payload_of, sent};
+ghost use Rattle.tl_rules.specs.statement.Admission.{payload_of, sent};
 ghost use Rattle.tl_rules.specs.statement.Conformance.{Trace, on_link, comes_in_request};
 ghost use Rattle.tl_rules.specs.statement.History.{block_at, pending, opens, closes, request_of};
 ghost use Rattle.tl_rules.specs.statement.Legality.{is_one_of};

@@ -1,13 +1,13 @@
 //! The manager: it takes the beats of its clients, stalls them, or refuses them.
 
 pub mod admission;
+pub mod block_state;
 pub mod blocks;
-pub mod home;
-pub mod links;
+pub mod link_state;
 pub mod reply;
+pub mod state;
 pub mod tracker;
 pub mod types;
-pub mod wire;
 
 ghost use Rattle.std.specs.Prelude.{ℕ, ◌≡◌, ◌≤◌, length, is_none};
 ghost use Rattle.tl_beat.specs.statement.Width.{IsWidth};
@@ -19,8 +19,8 @@ ghost use Rattle.tl_manager.specs.statement.Offer.{offered, open_level};
 
 use crate::directory::Directory;
 use crate::manager::admission::Admission;
-use crate::manager::links::Links;
-use crate::manager::reply::{Handed, Sending};
+use crate::manager::reply::{Handed, Outbox};
+use crate::manager::state::ManagerState;
 use std::alloc::Global;
 use std::marker::Model;
 use tl_beat::beat::{Beat, Link};
@@ -32,7 +32,7 @@ use tl_rules::rule::Rule;
 pub enum Taken<const W: usize> {
     /// It has to wait.
     Stalled,
-    /// It was taken, and these messages are handed out, the first first.
+    /// It was taken, and these messages are handed out, in order.
     Sent(Handed<W>),
 }
 
@@ -40,18 +40,18 @@ pub enum Taken<const W: usize> {
 /// keeps, and says what that tells of any end that it knows.
 #[derive(Drop)]
 pub struct Manager<const W: usize, D: Directory> {
-    links: Links<W, D>,
+    state: ManagerState<W, D>,
 }
 
 impl<const W: usize, D: Directory> Model for Manager<W, D> {
-    ghost use Rattle.tl_manager.specs.declared.manager.links.Links.{Links};
+    ghost use Rattle.tl_manager.specs.declared.manager.state.ManagerState.{ManagerState};
     ghost use Rattle.tl_manager.specs.code.Knows.{IsManager};
 
-    ghost Value = { Links W D };
+    ghost Value = { ManagerState W D };
 
-    ghost view = { λ m. m.links };
+    ghost view = { λ m. m.state };
 
-    ghost invariant = { λ m. IsManager D.perm_of D.blocks D.clients m.links };
+    ghost invariant = { λ m. IsManager D.perm_of D.blocks D.clients m.state };
 }
 
 impl<const W: usize, D: Directory> Manager<W, D> {
@@ -68,8 +68,8 @@ impl<const W: usize, D: Directory> Manager<W, D> {
         requires clients { length config.now.clients.items ≤ D.clients directory }
         ensures { IsNew D.perm_of config.now result }
     {
-        let links = Links::new(alloc, config, directory)?;
-        Ok(Manager { links })
+        let state = ManagerState::new(alloc, config, directory)?;
+        Ok(Manager { state })
     }
 
     /// Takes a beat, stalls it, or refuses it by the first rule that it breaks, which closes the link.
@@ -79,10 +79,11 @@ impl<const W: usize, D: Directory> Manager<W, D> {
         ensures after { (config : Config) (e : End W) → Knows D.perm_of self.old config e →
             Knows D.perm_of self.new config (offered config link channel beat.now e).1 }
     {
-        let _ = &self.links;
+        // A field is named so that the prover has the invariant of the manager here.
+        let _ = &self.state;
         match self.answer(link, channel, beat)? {
             None => Ok(Taken::Stalled),
-            Some(sending) => Ok(Taken::Sent(sending.handed())),
+            Some(outbox) => Ok(Taken::Sent(outbox.handed())),
         }
     }
 
@@ -92,19 +93,19 @@ impl<const W: usize, D: Directory> Manager<W, D> {
         link: Link,
         channel: Channel,
         beat: &Beat<W>,
-    ) -> Result<Option<Sending<W>>, Rule>
+    ) -> Result<Option<Outbox<W>>, Rule>
         ensures answer { (config : Config) (e : End W) → Knows D.perm_of self.old config e →
             sent_of result ≡ (offered config link channel beat.now e).0 }
         ensures after { (config : Config) (e : End W) → Knows D.perm_of self.old config e →
             Knows D.perm_of self.new config (offered config link channel beat.now e).1 }
     {
-        match self.links.judge(link, channel, beat) {
+        match self.state.judge(link, channel, beat) {
             Err(rule) => {
-                self.links.refuse(link);
+                self.state.refuse(link);
                 Err(rule)
             }
             Ok(Admission::Waits) => Ok(None),
-            Ok(Admission::Passes) => Ok(Some(self.links.take(link, beat))),
+            Ok(Admission::Passes) => Ok(Some(self.state.take(link, beat))),
         }
     }
 
@@ -113,7 +114,7 @@ impl<const W: usize, D: Directory> Manager<W, D> {
         ensures { (config : Config) (e : End W) → Knows D.perm_of self.now config e →
             result ≡ Offer.stalls config link channel beat.now e }
     {
-        self.links.stalls(link, channel, beat)
+        self.state.stalls(link, channel, beat)
     }
 
     /// Whether a link takes no beats: it was closed, or there is no such link.
@@ -121,7 +122,7 @@ impl<const W: usize, D: Directory> Manager<W, D> {
         ensures { (config : Config) (e : End W) → Knows D.perm_of self.now config e →
             result ≡ is_none (open_level config link e) }
     {
-        self.links.closed(link)
+        self.state.closed(link)
     }
 }
 

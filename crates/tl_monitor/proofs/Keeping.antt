@@ -24,19 +24,19 @@ use Rattle.tl_rules.specs.code.Open.{request_fields}
 use Rattle.tl_rules.specs.code.Tables.{kept_request, kept_release, kept_grant, kept_block, release_fields, block_next, bears_on}
 use Rattle.tl_monitor.specs.code.Count.{at}
 use Rattle.tl_monitor.specs.code.Bursts.{burst_on}
-use Rattle.tl_monitor.specs.code.Kept.{is_first, touched, is_block, block_of_request, block_of_release}
-use Rattle.tl_monitor.specs.code.Kept as kept
+use Rattle.tl_monitor.specs.code.LinkState.{is_first, touched, is_block, block_of_request, block_of_release}
+use Rattle.tl_monitor.specs.code.LinkState as link_state
 use Rattle.tl_monitor.specs.code.Keeps.{Keeps}
-use Rattle.tl_monitor.specs.declared.kept.Kept.{Kept}
+use Rattle.tl_monitor.specs.declared.link_state.LinkState.{LinkState}
 use Rattle.tl_monitor.proofs.Continued.{first-is, last-is}
 use Rattle.tl_monitor.proofs.Judged.{continues, answers_request, answers_release}
 
 -- ---- whether a beat begins and completes a message
 
-pub begins-is : {w : ℕ} (k : Kept) (x : Beat w) (t : History w) → Keeps k t → begins x t ≡ is_first x k
+pub begins-is : {w : ℕ} (k : LinkState) (x : Beat w) (t : History w) → Keeps k t → begins x t ≡ is_first x k
 begins-is k x t keeps = first-is (burst_on k.bursts (channel_of x)) (unfinished (channel_of x) t) (keeps.bursts_are (channel_of x))
 
-pub ends-is : {w : ℕ} (l : Level) (p : Profile) (k : Kept) (x : Beat w) (t : History w) → IsWidth w → Keeps k t → broken_after l p x t ≡ None → ends x t ≡ kept.completes x k
+pub ends-is : {w : ℕ} (l : Level) (p : Profile) (k : LinkState) (x : Beat w) (t : History w) → IsWidth w → Keeps k t → broken_after l p x t ≡ None → ends x t ≡ link_state.completes x k
 ends-is l p k x t width keeps legal = last-is x (burst_on k.bursts (channel_of x)) (unfinished (channel_of x) t) width (keeps.bursts_are (channel_of x)) (continues l p x t legal)
 
 -- ---- the block that a beat bears on
@@ -129,7 +129,7 @@ pub record Answers {w : ℕ} (x : BeatD w) (t : History w) : Type 0 where
   pub release : is_release_ack x.opcode ≡ true → (is_some (kept_release x.source t) ≡ true) × (begins (D x) t ≡ true)
   pub request : is_release_ack x.opcode ≡ false → is_some (kept_request x.source t) ≡ true
 
-later : {w : ℕ} (k : Kept) (x : BeatD w) (y : Beat w) (earlier : List (Beat w)) (t : History w) → Keeps k t → unfinished channel.D t ≡ y ∷ earlier → breaks_burst (D x) (y ∷ earlier) ≡ false
+later : {w : ℕ} (k : LinkState) (x : BeatD w) (y : Beat w) (earlier : List (Beat w)) (t : History w) → Keeps k t → unfinished channel.D t ≡ y ∷ earlier → breaks_burst (D x) (y ∷ earlier) ≡ false
     → Answers x t
 later k x (D y) earlier t keeps is cont =
     let same = same_source x y cont in
@@ -146,7 +146,7 @@ later k x (B y) earlier t keeps is cont = absurd cc
 later k x (C y) earlier t keeps is cont = absurd cc
 later k x (E y) earlier t keeps is cont = absurd cc
 
-pub answers : {w : ℕ} (l : Level) (p : Profile) (k : Kept) (x : BeatD w) (t : History w) (beats : List (Beat w)) → Keeps k t → broken_after l p (D x) t ≡ None
+pub answers : {w : ℕ} (l : Level) (p : Profile) (k : LinkState) (x : BeatD w) (t : History w) (beats : List (Beat w)) → Keeps k t → broken_after l p (D x) t ≡ None
     → unfinished channel.D t ≡ beats → Answers x t
 answers l p k x t [] keeps legal is =
     let first : begins (D x) t ≡ true = ap is_empty is in
@@ -169,7 +169,7 @@ sink_if s false o e = absurd cc
 pub is_own : (b : ℕ) (o : Option ℕ) → o ≡ Some b → is_block b o ≡ true
 is_own b o e = rw e (eq-eqb b b refl)
 
-pub same_touched : {w : ℕ} (l : Level) (p : Profile) (k : Kept) (x : Beat w) (t : History w) (b : ℕ) (first last : Bool) → Keeps k t → broken_after l p x t ≡ None
+pub same_touched : {w : ℕ} (l : Level) (p : Profile) (k : LinkState) (x : Beat w) (t : History w) (b : ℕ) (first last : Bool) → Keeps k t → broken_after l p x t ≡ None
     → IsSameFor first last (bears_on b x t) (touched first last x k) b x (kept_block b t)
 same_touched l p k (A x) t b first last keeps legal = bears_a first last (is_acquire x.opcode) b (block_at x.address) x (kept_block b t) refl
 same_touched l p k (B x) t b first last keeps legal = bears_b first last (is_probe x.opcode) b (block_at x.address) x (kept_block b t) refl

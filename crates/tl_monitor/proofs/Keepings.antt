@@ -26,10 +26,10 @@ use Rattle.tl_rules.proofs.Tables.{request-next, release-next, sink-next, block-
 use Rattle.tl_monitor.specs.code.Count.{at}
 use Rattle.tl_monitor.specs.code.Blocks.{block_in}
 use Rattle.tl_monitor.specs.code.Bursts.{burst_on}
-use Rattle.tl_monitor.specs.code.Kept.{IsEmpty, is_first, touched, is_block, sink_with, block_of_request, IsNext}
-use Rattle.tl_monitor.specs.code.Kept as kept
+use Rattle.tl_monitor.specs.code.LinkState.{IsEmpty, is_first, touched, is_block, sink_with, block_of_request, IsNext}
+use Rattle.tl_monitor.specs.code.LinkState as link_state
 use Rattle.tl_monitor.specs.code.Keeps.{Keeps}
-use Rattle.tl_monitor.specs.declared.kept.Kept.{Kept}
+use Rattle.tl_monitor.specs.declared.link_state.LinkState.{LinkState}
 use Rattle.tl_monitor.proofs.Continued.{bursts-next}
 use Rattle.tl_monitor.proofs.Judged.{continues, sink-free}
 use Rattle.tl_monitor.proofs.Keeping.{begins-is, ends-is, same_touched, answers, is_own}
@@ -60,7 +60,7 @@ sink-with first last (E x) block s b some = closed last (x.sink == s) b
     closed false own b = refl
 
 -- a Grant touches the block of its request
-grant_touches : {w : ℕ} (first last : Bool) (x : BeatD w) (k : Kept) → first ≡ true → is_grant x.opcode ≡ true → is_release_ack x.opcode ≡ false → is_some (at k.requests x.source) ≡ true
+grant_touches : {w : ℕ} (first last : Bool) (x : BeatD w) (k : LinkState) → first ≡ true → is_grant x.opcode ≡ true → is_release_ack x.opcode ≡ false → is_some (at k.requests x.source) ≡ true
     → is_some (touched first last (D x) k) ≡ true
 grant_touches first last x k f g a some = rw (f, a, g) (of_some (at k.requests x.source) some)
   where
@@ -169,7 +169,7 @@ response_alone {w} x ack = short x.opcode ack
     short d.AccessAckData e = absurd cc
     short d.HintAck e = absurd cc
 
-answering-next : {w : ℕ} (l : Level) (p : Profile) (k : Kept) (x : Beat w) (t : History w) → Keeps k t → broken_after l p x t ≡ None
+answering-next : {w : ℕ} (l : Level) (p : Profile) (k : LinkState) (x : Beat w) (t : History w) → Keeps k t → broken_after l p x t ≡ None
     → (y : BeatD w) (earlier : List (Beat w)) → unfinished channel.D (x ∷ t) ≡ D y ∷ earlier → (is_release_ack y.opcode ≡ false) × (is_some (kept_request y.source (x ∷ t)) ≡ true)
 unfolding unfinished
 answering-next l p k (A x) t keeps legal y earlier e =
@@ -219,29 +219,29 @@ answering-next {w} l p k (D x) t keeps legal y earlier e = elim (cases_Bool (end
 
 -- ---- all of it
 
-pub keeps-more : {w : ℕ} (l : Level) (p : Profile) (old new : Kept) (x : Beat w) (t : History w) → IsWidth w → Keeps old t → broken_after l p x t ≡ None → IsNext old x new → Keeps new (x ∷ t)
+pub keeps-more : {w : ℕ} (l : Level) (p : Profile) (old new : LinkState) (x : Beat w) (t : History w) → IsWidth w → Keeps old t → broken_after l p x t ≡ None → IsNext old x new → Keeps new (x ∷ t)
 keeps-more {w} l p old new x t width keeps legal next =
     let first = begins-is old x t keeps in
     let last = ends-is l p old x t width keeps legal in
-    let block = touched (is_first x old) (kept.completes x old) x old in
+    let block = touched (is_first x old) (link_state.completes x old) x old in
     let blocks : (b : ℕ) → block_in new.blocks b ≡ kept_block b (x ∷ t) = λ b.
-    next.blocks_are b ∙ ap (λ c. if is_block b block then block_next (is_first x old) (kept.completes x old) x c else c) (keeps.blocks_are b)
-    ∙ sym (same_touched l p old x t b (is_first x old) (kept.completes x old) keeps legal)
+    next.blocks_are b ∙ ap (λ c. if is_block b block then block_next (is_first x old) (link_state.completes x old) x c else c) (keeps.blocks_are b)
+    ∙ sym (same_touched l p old x t b (is_first x old) (link_state.completes x old) keeps legal)
     ∙ sym (block-next b x t ∙ ap₂ (λ f g. if bears_on b x t then block_next f g x (kept_block b t) else kept_block b t) first last) in
     record {
       bursts_are = λ ch. rw (next.bursts_are ch) (bursts-next ch x t (burst_on old.bursts ch) width (keeps.bursts_are ch) (continues l p x t legal));
-      requests_are = λ s. next.requests_are s ∙ ap (request_next (is_first x old) (kept.completes x old) x s) (keeps.requests_are s)
+      requests_are = λ s. next.requests_are s ∙ ap (request_next (is_first x old) (link_state.completes x old) x s) (keeps.requests_are s)
           ∙ sym (request-next s x t ∙ ap₂ (λ f g. request_next f g x s (kept_request s t)) first last);
-      releases_are = λ s. next.releases_are s ∙ ap (release_next (is_first x old) (kept.completes x old) x s) (keeps.releases_are s)
+      releases_are = λ s. next.releases_are s ∙ ap (release_next (is_first x old) (link_state.completes x old) x s) (keeps.releases_are s)
           ∙ sym (release-next s x t ∙ ap₂ (λ f g. release_next f g x s (kept_release s t)) first last);
       sinks_are = λ s. ap is_some (next.sinks_are s)
-          ∙ sink-with (is_first x old) (kept.completes x old) x block s (at old.sinks s) (λ y is f g. grant_block l p old x y t keeps legal is f g)
-          ∙ ap (sink_next (is_first x old) (kept.completes x old) x s) (keeps.sinks_are s)
+          ∙ sink-with (is_first x old) (link_state.completes x old) x block s (at old.sinks s) (λ y is f g. grant_block l p old x y t keeps legal is f g)
+          ∙ ap (sink_next (is_first x old) (link_state.completes x old) x s) (keeps.sinks_are s)
           ∙ sym (sink-next s x t ∙ ap₂ (λ f g. sink_next f g x s (pending (GrantSink s) t)) first last);
       blocks_are = blocks;
-      granted = λ b s e. next.sinks_are s ∙ grants-next (is_first x old) (kept.completes x old) x b s (block_in old.blocks b) block (at old.sinks s) (sink_of x)
+      granted = λ b s e. next.sinks_are s ∙ grants-next (is_first x old) (link_state.completes x old) x b s (block_in old.blocks b) block (at old.sinks s) (sink_of x)
           (λ y is f g. (free x y legal is f g, λ its. sym (ap (at old.sinks) its) ∙ ap sink_of (sym is)))
-          (λ y is its. ap (λ z. touched (is_first x old) (kept.completes x old) z old) is ∙ ap (at old.sinks) its)
+          (λ y is its. ap (λ z. touched (is_first x old) (link_state.completes x old) z old) is ∙ ap (at old.sinks) its)
           (λ n e its. keeps.granted b s (sym (ap (λ c. c.grant) (keeps.blocks_are b)) ∙ e ∙ ap Some its))
           (ap (λ c. c.grant) (sym (next.blocks_are b) ∙ blocks b) ∙ e);
       answering = answering-next l p old x t keeps legal;
@@ -255,14 +255,14 @@ keeps-more {w} l p old new x t width keeps legal next =
     not_some None e = refl
     not_some (Some n) e = absurd cc
 
-    grant_block : (l : Level) (p : Profile) (k : Kept) (x : Beat w) (y : BeatD w) (t : History w) → Keeps k t → broken_after l p x t ≡ None → x ≡ D y → is_first x k ≡ true → is_grant y.opcode ≡ true
-        → is_some (touched (is_first x k) (kept.completes x k) x k) ≡ true
+    grant_block : (l : Level) (p : Profile) (k : LinkState) (x : Beat w) (y : BeatD w) (t : History w) → Keeps k t → broken_after l p x t ≡ None → x ≡ D y → is_first x k ≡ true → is_grant y.opcode ≡ true
+        → is_some (touched (is_first x k) (link_state.completes x k) x k) ≡ true
     grant_block l p k (D z) y t keeps legal is f g =
         let same : z ≡ y = cc in
         let grant : is_grant z.opcode ≡ true = ap (λ (v : BeatD w). is_grant v.opcode) same ∙ g in
         let known = answers l p k z t (unfinished channel.D t) keeps legal refl in
         let other = not_release_ack z.opcode grant in
-        grant_touches (is_first (D z) k) (kept.completes (D z) k) z k f grant other (ap is_some (keeps.requests_are z.source) ∙ known.request other)
+        grant_touches (is_first (D z) k) (link_state.completes (D z) k) z k f grant other (ap is_some (keeps.requests_are z.source) ∙ known.request other)
     grant_block l p k (A z) y t keeps legal is f g = absurd cc
     grant_block l p k (B z) y t keeps legal is f g = absurd cc
     grant_block l p k (C z) y t keeps legal is f g = absurd cc
@@ -280,7 +280,7 @@ keeps-more {w} l p old new x t width keeps legal next =
 
 -- ---- none of it
 
-pub keeps-none : {w : ℕ} (k : Kept) → IsEmpty k → Keeps {w = w} k []
+pub keeps-none : {w : ℕ} (k : LinkState) → IsEmpty k → Keeps {w = w} k []
 unfolding pending held unfinished
 keeps-none {w} k none = record {
   bursts_are = λ ch. rw (none.no_burst ch) refl;

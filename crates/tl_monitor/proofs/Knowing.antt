@@ -9,7 +9,7 @@ use Rattle.tl_params.specs.declared.level.Level.{Level}
 use Rattle.tl_params.specs.declared.profile.Profile.{Profile}
 use Rattle.tl_params.specs.declared.rule.Rule.{Rule}
 use Rattle.tl_rules.specs.statement.Conformance.{Trace, on_link, broken_after, broken_on_link, fault_from}
-use Rattle.tl_monitor.specs.declared.kept.Kept.{Kept}
+use Rattle.tl_monitor.specs.declared.link_state.LinkState.{LinkState}
 use Rattle.tl_monitor.specs.code.Keeps.{Keeps}
 use Rattle.tl_monitor.proofs.Keepings.{keeps-none}
 use Rattle.tl_monitor.specs.declared.monitor.Monitor.{Monitor}
@@ -27,25 +27,25 @@ unfolding on_link
 on_link-other n link x t apart = rw (ne_eqb link.0 n apart) refl
 
 -- what is kept of one link was put anew
-knows-at : {w : ℕ} (m m' : Monitor w) (levels : List Level) (p : Profile) (t s : Trace w) (closed : Bool) (i : ℕ) (kept : Kept)
-    → Knows m levels p t closed → m'.levels ≡ m.levels → m'.profile ≡ m.profile → m'.closed ≡ false → m'.links.items ≡ slice_set m.links.items i kept → i < length m.links.items
-    → Keeps kept (on_link i s) → ((n : ℕ) → n ≢ i → on_link n s ≡ on_link n t) → Knows m' levels p s false
-knows-at m m' levels p t s closed i kept k levels_same profile_same open_still links lt own other = record {
+knows-at : {w : ℕ} (m m' : Monitor w) (levels : List Level) (p : Profile) (t s : Trace w) (closed : Bool) (i : ℕ) (link_state : LinkState)
+    → Knows m levels p t closed → m'.levels ≡ m.levels → m'.profile ≡ m.profile → m'.closed ≡ false → m'.links.items ≡ slice_set m.links.items i link_state → i < length m.links.items
+    → Keeps link_state (on_link i s) → ((n : ℕ) → n ≢ i → on_link n s ≡ on_link n t) → Knows m' levels p s false
+knows-at m m' levels p t s closed i link_state k levels_same profile_same open_still links lt own other = record {
   levels_are = ap (λ v. v.items) levels_same ∙ k.levels_are;
   profile_is = profile_same ∙ k.profile_is;
   closed_is = open_still;
   links_are = λ n d below. elim (cases_eq n i) [
-    | inl here ↦ rw (links, here, get_or-set_same m.links.items i kept d lt) own
-    | inr apart ↦ rw (links, get_or-set_other m.links.items i n kept d apart, other n apart) (k.links_are n d below)
+    | inl here ↦ rw (links, here, get_or-set_same m.links.items i link_state d lt) own
+    | inr apart ↦ rw (links, get_or-set_other m.links.items i n link_state d apart, other n apart) (k.links_are n d below)
   ];
 }
 
 -- a link has one more beat
-pub knows-more : {w : ℕ} (m m' : Monitor w) (levels : List Level) (p : Profile) (t : Trace w) (closed : Bool) (i : ℕ) (link : Link) (x : Beat w) (kept : Kept)
-    → Knows m levels p t closed → m'.levels ≡ m.levels → m'.profile ≡ m.profile → m'.closed ≡ false → m'.links.items ≡ slice_set m.links.items i kept → i ≡ link.0 → i < length m.links.items
-    → Keeps kept (x ∷ on_link i t) → Knows m' levels p ((link, x) ∷ t) false
-knows-more m m' levels p t closed i link x kept k levels_same profile_same open_still links i_is lt own =
-    knows-at m m' levels p t ((link, x) ∷ t) closed i kept k levels_same profile_same open_still links lt
+pub knows-more : {w : ℕ} (m m' : Monitor w) (levels : List Level) (p : Profile) (t : Trace w) (closed : Bool) (i : ℕ) (link : Link) (x : Beat w) (link_state : LinkState)
+    → Knows m levels p t closed → m'.levels ≡ m.levels → m'.profile ≡ m.profile → m'.closed ≡ false → m'.links.items ≡ slice_set m.links.items i link_state → i ≡ link.0 → i < length m.links.items
+    → Keeps link_state (x ∷ on_link i t) → Knows m' levels p ((link, x) ∷ t) false
+knows-more m m' levels p t closed i link x link_state k levels_same profile_same open_still links i_is lt own =
+    knows-at m m' levels p t ((link, x) ∷ t) closed i link_state k levels_same profile_same open_still links lt
     (rw (on_link-own i link x t (sym i_is)) own)
     (λ n apart. on_link-other n link x t (λ e. apart (sym e ∙ sym i_is)))
 
@@ -55,9 +55,9 @@ get_is (y ∷ ys) zero x lt is = ap Some (sym is)
 get_is (y ∷ ys) (suc i) x lt is = get_is ys i x (omega arith) is
 
 -- what is kept of the link of a beat
-pub kept-of : {w : ℕ} (m : Monitor w) (levels : List Level) (p : Profile) (t : Trace w) (closed : Bool) (i : ℕ) (kept : Kept) → Knows m levels p t closed → i < length m.levels.items
-    → kept ≡ slice_index_or m.links.items i kept → Keeps kept (on_link i t)
-kept-of m levels p t closed i kept k lt is = let at_i : i < length levels = rw k.levels_are at lt in rw is (k.links_are i kept at_i)
+pub link_state-of : {w : ℕ} (m : Monitor w) (levels : List Level) (p : Profile) (t : Trace w) (closed : Bool) (i : ℕ) (link_state : LinkState) → Knows m levels p t closed → i < length m.levels.items
+    → link_state ≡ slice_index_or m.links.items i link_state → Keeps link_state (on_link i t)
+link_state-of m levels p t closed i link_state k lt is = let at_i : i < length levels = rw k.levels_are at lt in rw is (k.links_are i link_state at_i)
 
 -- the fault of a beat is the rule that it breaks after what its link has carried
 pub fault-is : {w : ℕ} (m : Monitor w) (levels : List Level) (p : Profile) (t : Trace w) (closed : Bool) (i : ℕ) (link : Link) (x : Beat w) (l : Level) (o : Option Rule)

@@ -8,9 +8,9 @@ use Rattle.tl_rules.specs.code.Tables.{request_next, release_next, block_next}
 use Rattle.tl_monitor.specs.code.Count.{at}
 use Rattle.tl_monitor.specs.code.Blocks.{block_in}
 use Rattle.tl_monitor.specs.code.Bursts.{burst_on, burst_with}
-use Rattle.tl_monitor.specs.code.Kept.{is_first, completes, touched, is_block, sink_with, IsNext}
+use Rattle.tl_monitor.specs.code.LinkState.{is_first, completes, touched, is_block, sink_with, IsNext}
 use Rattle.tl_monitor.specs.declared.bursts.Bursts.{Bursts}
-use Rattle.tl_monitor.specs.declared.kept.Kept.{Kept}
+use Rattle.tl_monitor.specs.declared.link_state.LinkState.{LinkState}
 
 bursts_by_channel : {w : ℕ} (old new : Bursts) (x : Beat w) → new.a ≡ burst_with channel.A x old.a → new.b ≡ burst_with channel.B x old.b → new.c ≡ burst_with channel.C x old.c
     → new.d ≡ burst_with channel.D x old.d
@@ -21,7 +21,7 @@ bursts_by_channel old new x a b c d e channel.C = c
 bursts_by_channel old new x a b c d e channel.D = d
 bursts_by_channel old new x a b c d e channel.E = e
 
-pub next-tables : {w : ℕ} (old new : Kept) (x : Beat w) (first last : Bool) (block : Option ℕ) → first ≡ is_first x old → last ≡ completes x old → block ≡ touched first last x old
+pub next-tables : {w : ℕ} (old new : LinkState) (x : Beat w) (first last : Bool) (block : Option ℕ) → first ≡ is_first x old → last ≡ completes x old → block ≡ touched first last x old
     → new.bursts.a ≡ burst_with channel.A x old.bursts.a → new.bursts.b ≡ burst_with channel.B x old.bursts.b → new.bursts.c ≡ burst_with channel.C x old.bursts.c
     → new.bursts.d ≡ burst_with channel.D x old.bursts.d → new.bursts.e ≡ burst_with channel.E x old.bursts.e
     → ((s : ℕ) → at new.requests s ≡ request_next first last x s (at old.requests s))

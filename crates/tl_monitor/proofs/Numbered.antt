@@ -17,11 +17,11 @@ use Rattle.tl_rules.specs.code.Tables.{kept_block, block_next, bears_on, empty_b
 use Rattle.tl_rules.proofs.Tables.{block-next, pending-probe, pending-grant}
 use Rattle.tl_monitor.specs.code.Count.{sum_below, count_below, one_if, at}
 use Rattle.tl_monitor.specs.code.Blocks.{block_in, is_held, open_of}
-use Rattle.tl_monitor.specs.code.Kept.{is_first, touched, is_block, entries_in, IsNew}
-use Rattle.tl_monitor.specs.code.Kept as kept
+use Rattle.tl_monitor.specs.code.LinkState.{is_first, touched, is_block, entries_in, IsNew}
+use Rattle.tl_monitor.specs.code.LinkState as link_state
 use Rattle.tl_monitor.specs.code.Keeps.{Keeps}
 use Rattle.tl_monitor.specs.statement.Numbers.{numbers, entries_of, AnyMore}
-use Rattle.tl_monitor.specs.declared.kept.Kept.{Kept}
+use Rattle.tl_monitor.specs.declared.link_state.LinkState.{LinkState}
 use Rattle.tl_monitor.proofs.Counts.{sum-same, sum-changed, sum-both}
 use Rattle.tl_monitor.proofs.Keeping.{begins-is, ends-is, same_touched}
 use Rattle.tl_monitor.proofs.LooksUp.{request-pending, release-pending}
@@ -40,7 +40,7 @@ five n h a r p g =
     let four = sum-both n h a in
     omega (arith, one, two, three, four)
 
-opened : {w : ℕ} (k : Kept) (t : History w) → Keeps k t → sum_below (2 ^ 32) (λ b. open_of (block_in k.blocks b))
+opened : {w : ℕ} (k : LinkState) (t : History w) → Keeps k t → sum_below (2 ^ 32) (λ b. open_of (block_in k.blocks b))
     ≡ count_below (2 ^ 32) (λ b. is_held (held b t)) + count_below (2 ^ 32) (λ b. pending (AcquireOf b) t) + count_below (2 ^ 32) (λ b. pending (ReleaseOf b) t)
     + count_below (2 ^ 32) (λ b. pending (ProbeOf b) t) + count_below (2 ^ 32) (λ b. pending (GrantAckOf b) t)
 unfolding open_of
@@ -52,7 +52,7 @@ opened k t keeps =
     ∙ five (2 ^ 32) (λ b. one_if (is_held (held b t))) (λ b. one_if (pending (AcquireOf b) t)) (λ b. one_if (pending (ReleaseOf b) t))
     (λ b. one_if (pending (ProbeOf b) t)) (λ b. one_if (pending (GrantAckOf b) t))
 
-pub entries-are : {w : ℕ} (k : Kept) (t : History w) → Keeps k t → entries_in k ≡ sum (numbers t)
+pub entries-are : {w : ℕ} (k : LinkState) (t : History w) → Keeps k t → entries_in k ≡ sum (numbers t)
 entries-are k t keeps =
     let requests = same_count 256 (λ s. is_some (at k.requests s)) (λ s. pending (RequestSource s) t) (λ s. request-pending k t s keeps) in
     let releases = same_count 256 (λ s. is_some (at k.releases s)) (λ s. pending (ReleaseSource s) t) (λ s. release-pending k t s keeps) in
@@ -70,13 +70,13 @@ one_more n b f g lt same was is =
     omega (arith, e, x, y)
 
 -- what a beat leaves of each block but the one that it touches
-others_stay : {w : ℕ} (l : Level) (p : Profile) (k : Kept) (x : Beat w) (t : History w) (b n : ℕ) → IsWidth w → Keeps k t → broken_after l p x t ≡ None
-    → touched (is_first x k) (kept.completes x k) x k ≡ Some b
-    → kept_block n (x ∷ t) ≡ (if is_block n (Some b) then block_next (is_first x k) (kept.completes x k) x (kept_block n t) else kept_block n t)
+others_stay : {w : ℕ} (l : Level) (p : Profile) (k : LinkState) (x : Beat w) (t : History w) (b n : ℕ) → IsWidth w → Keeps k t → broken_after l p x t ≡ None
+    → touched (is_first x k) (link_state.completes x k) x k ≡ Some b
+    → kept_block n (x ∷ t) ≡ (if is_block n (Some b) then block_next (is_first x k) (link_state.completes x k) x (kept_block n t) else kept_block n t)
 others_stay l p k x t b n width keeps legal is =
     block-next n x t ∙ ap₂ (λ f g. if bears_on n x t then block_next f g x (kept_block n t) else kept_block n t) (begins-is k x t keeps) (ends-is l p k x t width keeps legal)
-    ∙ same_touched l p k x t n (is_first x k) (kept.completes x k) keeps legal
-    ∙ ap (λ o. if is_block n o then block_next (is_first x k) (kept.completes x k) x (kept_block n t) else kept_block n t) is
+    ∙ same_touched l p k x t n (is_first x k) (link_state.completes x k) keeps legal
+    ∙ ap (λ o. if is_block n o then block_next (is_first x k) (link_state.completes x k) x (kept_block n t) else kept_block n t) is
 
 -- a block of which something is open or held
 some_open : (c : Block) → 0 < open_of c → (is_held c.held ≡ true) ⊎ (c.acquire ≡ true) ⊎ (c.release ≡ true) ⊎ (is_some c.probe ≡ true) ⊎ (is_some c.grant ≡ true)
@@ -98,14 +98,14 @@ some_open c pos = elim (cases_Bool (is_held c.held)) [
   ]
 ]
 
-pub some-more : {w : ℕ} (l : Level) (p : Profile) (k : Kept) (x : Beat w) (t : History w) (b : ℕ) → IsWidth w → Keeps k t → broken_after l p x t ≡ None → IsNew k x b
+pub some-more : {w : ℕ} (l : Level) (p : Profile) (k : LinkState) (x : Beat w) (t : History w) (b : ℕ) → IsWidth w → Keeps k t → broken_after l p x t ≡ None → IsNew k x b
     → AnyMore (numbers t) (numbers (x ∷ t))
 some-more {w} l p k x t b width keeps legal new =
-    let step : (n : ℕ) → kept_block n (x ∷ t) ≡ (if is_block n (Some b) then block_next (is_first x k) (kept.completes x k) x
+    let step : (n : ℕ) → kept_block n (x ∷ t) ≡ (if is_block n (Some b) then block_next (is_first x k) (link_state.completes x k) x
     (kept_block n t) else kept_block n t) = λ n. others_stay l p k x t b n width keeps legal new.is_touched in
     let before : kept_block b t ≡ empty_block = sym (keeps.blocks_are b) ∙ new.was_empty in
-    let after : kept_block b (x ∷ t) ≡ block_next (is_first x k) (kept.completes x k) x (block_in k.blocks b) =
-    step b ∙ rw (eq-eqb b b refl) refl ∙ ap (block_next (is_first x k) (kept.completes x k) x) (sym (keeps.blocks_are b)) in
+    let after : kept_block b (x ∷ t) ≡ block_next (is_first x k) (link_state.completes x k) x (block_in k.blocks b) =
+    step b ∙ rw (eq-eqb b b refl) refl ∙ ap (block_next (is_first x k) (link_state.completes x k) x) (sym (keeps.blocks_are b)) in
     let apart : (n : ℕ) → n ≢ b → kept_block n t ≡ kept_block n (x ∷ t) = λ n other. sym (step n ∙ rw (ne_eqb n b other) refl) in
     let pos : 0 < open_of (kept_block b (x ∷ t)) = rw after new.then_open in
     let more : (f : Block → Bool) → f empty_block ≡ false → f (kept_block b (x ∷ t)) ≡ true → count_below (2 ^ 32) (λ n. f (kept_block n t)) < count_below (2 ^ 32) (λ n. f (kept_block n (x ∷ t))) =
@@ -136,7 +136,7 @@ some-more {w} l p k x t b width keeps legal new =
 pub no-entries : {w : ℕ} (levels : List Level) (link : Link) (t : Trace w) (n count : ℕ) → n ≡ link.0 → count ≡ length levels → count ≤ n → 0 ≡ entries_of levels link t
 no-entries levels link t n count own counted none = rw (le-ltb link.0 (length levels) (omega arith)) refl
 
-pub link-entries : {w : ℕ} (levels : List Level) (link : Link) (t : Trace w) (k : Kept) (n count : ℕ) → n ≡ link.0 → count ≡ length levels → n < count → Keeps k (on_link n t)
+pub link-entries : {w : ℕ} (levels : List Level) (link : Link) (t : Trace w) (k : LinkState) (n count : ℕ) → n ≡ link.0 → count ≡ length levels → n < count → Keeps k (on_link n t)
     → entries_in k ≡ entries_of levels link t
 link-entries {w} levels link t k n count own counted lt keeps =
     let below : link.0 < length levels = omega arith in

@@ -206,13 +206,6 @@ pub read-found : (trees : List (BTreeMap ℕ Block)) (tree : BTreeMap ℕ Block)
     → o ≡ value_found tree.entries k → o ≡ block_found (entries_of trees) k
 read-found trees tree k i o e lt is found = found ∙ ap (λ (m : BTreeMap ℕ Block). value_found m.entries k) is ∙ ap (λ es. value_found es k) (tree_read trees tree k i e lt)
 
-pub read-stands : (trees : List (BTreeMap ℕ Block)) (d : BTreeMap ℕ Block) (k i : ℕ) (o : Option Block) → i ≡ tree_of k → i < length trees → IsSeen (entries_of trees) k o
-    → IsValue (slice_index_or trees i d).entries k o
-read-stands trees d k i o e lt stands = rw (tree_read trees d k i e lt) stands
-
-pub read-open : (trees : List (BTreeMap ℕ Block)) (d : BTreeMap ℕ Block) (k i : ℕ) → i ≡ tree_of k → i < length trees → AreOpen (entries_of trees) → AllOpen (slice_index_or trees i d).entries
-read-open trees d k i e lt all = rw (tree_read trees d k i e lt) (all (tree_of k))
-
 pub stored : (trees : List (BTreeMap ℕ Block)) (d new : BTreeMap ℕ Block) (k i : ℕ) (o : Option Block) → i ≡ tree_of k → i < length trees
     → new.entries ≡ with_value (slice_index_or trees i d).entries k o → entries_of (slice_set trees i new) ≡ with_seen (entries_of trees) k o
 stored trees d new k i o e lt written =

@@ -3,5 +3,5 @@ pub mod Bursts
 pub mod Control
 pub mod Count
 pub mod Keeps
-pub mod Kept
-pub mod Lookups
+pub mod LinkState
+pub mod Past

@@ -221,14 +221,14 @@ impl Blocks {
     }
 
     /// Has `get` of this block search no more.
-    pub fn look(&mut self, block: u32)
+    pub fn cache_block(&mut self, block: u32)
         ensures { self.new ≡ self.old }
     {
         self.seen = turn(&mut self.trees, self.last, self.seen, block);
         self.last = block;
     }
 
-    /// Says anew what is open and held of a block. Without memory nothing changes; that can only be
+    /// Writes what is open and held of a block. Without memory nothing changes; that can only be
     /// where nothing was open or held of the block, and now something is.
     pub fn set(&mut self, block: u32, value: Block) -> Result<(), AllocError>
         ensures changed { OnOk result ((k : ℕ) → block_in self.new k ≡ (if k == block then value else block_in self.old k)) }

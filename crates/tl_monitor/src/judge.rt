@@ -9,7 +9,7 @@ ghost use Rattle.tl_monitor.specs.code.Keeps.{Keeps};
 
 use crate::bursts::channel_of;
 use crate::control::has_control;
-use crate::kept::Kept;
+use crate::link_state::LinkState;
 use tl_beat::beat::Beat;
 use tl_rules::legality::beat::check_beat;
 use tl_rules::level::Level;
@@ -18,11 +18,15 @@ use tl_rules::profile::Profile;
 use tl_rules::rule::Rule;
 
 /// The rule of bursts or of the order of messages that a beat breaks which breaks none by itself.
-fn broken_in_order<const W: usize>(profile: Profile, beat: &Beat<W>, kept: &Kept) -> Option<Rule>
-    ensures { (t : History W) → Keeps kept.now t → result ≡ Conformance.broken_in_order profile beat.now t }
+fn broken_in_order<const W: usize>(
+    profile: Profile,
+    beat: &Beat<W>,
+    link_state: &LinkState,
+) -> Option<Rule>
+    ensures { (t : History W) → Keeps link_state.now t → result ≡ Conformance.broken_in_order profile beat.now t }
 {
-    match kept.bursts.on(channel_of(beat)) {
-        None => broken_order(profile, beat, kept),
+    match link_state.bursts.on(channel_of(beat)) {
+        None => broken_order(profile, beat, link_state),
         Some(burst) => {
             if has_control(beat, &burst.control) {
                 None
@@ -39,14 +43,14 @@ pub fn broken_after<const W: usize>(
     level: Level,
     profile: Profile,
     beat: &Beat<W>,
-    kept: &Kept,
+    link_state: &LinkState,
 ) -> Option<Rule>
     requires { IsWidth W }
-    ensures rule { (t : History W) → Keeps kept.now t → result ≡ Conformance.broken_after level profile beat.now t }
+    ensures rule { (t : History W) → Keeps link_state.now t → result ≡ Conformance.broken_after level profile beat.now t }
     ensures small { IfNone result (IsTrue (is_small beat.now)) }
 {
     match check_beat(level, channel_of(beat), beat) {
         Err(rule) => Some(rule),
-        Ok(()) => broken_in_order(profile, beat, kept),
+        Ok(()) => broken_in_order(profile, beat, link_state),
     }
 }

@@ -3,11 +3,11 @@
 
 mod blocks;
 mod bursts;
+mod byte_table;
 mod control;
 pub mod fault;
 mod judge;
-mod kept;
-mod lookups;
+mod link_state;
 pub mod monitor;
-mod slots;
+mod past;
 pub mod trace;

@@ -9,7 +9,7 @@ ghost use Rattle.tl_rules.specs.statement.Conformance.{Trace, on_link};
 
 use crate::fault::MonitorFault;
 use crate::judge::broken_after;
-use crate::kept::Kept;
+use crate::link_state::LinkState;
 use std::alloc::{AllocError, Global};
 use tl_beat::beat::{Beat, Link};
 use tl_rules::level::Level;
@@ -22,7 +22,7 @@ use tl_rules::rule::Rule;
 pub struct Monitor<const W: usize> {
     levels: Vec<Level>,
     profile: Profile,
-    links: Vec<Kept>,
+    links: Vec<LinkState>,
     closed: bool,
     ghost one_each: { length links.items ≡ length levels.items },
 }
@@ -31,13 +31,13 @@ impl<const W: usize> Monitor<W> {
     ghost use Rattle.tl_monitor.specs.statement.Numbers.{IsMoreWhereRefused, entries_of};
     ghost use Rattle.tl_monitor.specs.statement.Knows.{Knows, IsNew, Answers, fault_of, recorded_after, closed_after, AllEmpty};
 
-    /// What is kept of so many links that have carried nothing.
-    fn empty_links(alloc: Global, count: usize) -> Result<Vec<Kept>, AllocError>
+    /// What is kept of this many links that have carried nothing.
+    fn empty_links(alloc: Global, count: usize) -> Result<Vec<LinkState>, AllocError>
         ensures { IfOk result (λ v. AllEmpty count v.items) }
     {
         let mut links = Vec::new(alloc);
         for _ in 0..count {
-            links.push(Kept::new(alloc))?;
+            links.push(LinkState::new(alloc))?;
         }
         Ok(links)
     }
@@ -87,14 +87,14 @@ impl<const W: usize> Monitor<W> {
             self.closed = true;
             return Err(MonitorFault::Broken(Rule::L1));
         }
-        let kept = &mut self.links[n];
-        kept.look(beat);
-        match broken_after(self.levels[n], self.profile, beat, kept) {
+        let link_state = &mut self.links[n];
+        link_state.cache_block(beat);
+        match broken_after(self.levels[n], self.profile, beat, link_state) {
             Some(rule) => {
                 self.closed = true;
                 Err(MonitorFault::Broken(rule))
             }
-            None => match kept.take(beat) {
+            None => match link_state.take(beat) {
                 Ok(()) => Ok(()),
                 Err(_) => Err(MonitorFault::Memory),
             },

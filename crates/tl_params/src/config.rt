@@ -70,7 +70,7 @@ impl ClientConfig {
     ghost use Rattle.tl_params.specs.statement.Config.{client_fault};
     ghost use Rattle.tl_params.specs.statement.Refusal.{ok_unless};
 
-    /// The first limit that a client on so many blocks breaks, in the order N2, N4.
+    /// The first limit that a client on this many blocks breaks, in the order N2, N4.
     pub fn check(&self, blocks: u16) -> Result<(), NewFault>
         ensures { result ≡ ok_unless (client_fault self.now blocks) }
     {

@@ -17,7 +17,7 @@ use Rattle.tl_burst.specs.statement.Messages.{History, channel_in, on, unfinishe
 use Rattle.tl_params.specs.declared.key.Key.{Key}
 use Rattle.tl_params.specs.declared.key.Key.TheVariants as key
 use Rattle.tl_rules.specs.statement.History.{begins, ends, opens, closes, pending, request_of, release_of, probe_of, grant_sink, is_release, is_probe, block_at, held}
-use Rattle.tl_rules.specs.statement.Agent.{sent}
+use Rattle.tl_rules.specs.statement.Admission.{sent}
 use Rattle.tl_rules.specs.laws.Handed.{pending_with, held_with, request_with, release_with, probe_with, sink_with}
 use Rattle.tl_rules.proofs.Sent.{begins-first, begins-later, ends-at, not_last, is_last, off_other, unfinished-sent, unfinished-sent_other, request_of-sent}
 use Rattle.tl_rules.proofs.Sent.{request_of-other, release_of-other, held-sent_c, held-sent_d, held-sent_unsaid}

@@ -11,7 +11,7 @@ use Rattle.tl_burst.specs.declared.message.MessageA.{MessageA}
 use Rattle.tl_burst.specs.declared.message.MessageC.{MessageC}
 use Rattle.tl_burst.specs.declared.message.MessageD.{MessageD}
 use Rattle.tl_burst.specs.statement.Burst.{beats_of, begun, lanes_at, IsZeroFrom, IsBurst}
-use Rattle.tl_rules.specs.statement.Agent.{bytes_carried, payload_of}
+use Rattle.tl_rules.specs.statement.Admission.{bytes_carried, payload_of}
 use Rattle.tl_rules.proofs.Checks.{beats_room}
 
 -- the lanes of the first n beats

@@ -19,7 +19,7 @@ use Rattle.tl_params.specs.declared.key.Key.{Key}
 use Rattle.tl_params.specs.declared.key.Key.TheVariants as key
 use Rattle.tl_params.specs.declared.perm.Perm.{Perm}
 use Rattle.tl_rules.specs.statement.History.{begins, ends, opens, closes, pending, request_of, release_of, asks_for, is_grant, capped, says_held, held}
-use Rattle.tl_rules.specs.statement.Agent.{sent}
+use Rattle.tl_rules.specs.statement.Admission.{sent}
 
 -- ---- beats of one message
 

@@ -10,7 +10,7 @@ use Rattle.tl_burst.specs.declared.message.Message.{Message}
 use Rattle.tl_burst.specs.declared.message.Message.TheVariants.{A, B, C, D, E}
 use Rattle.tl_burst.specs.statement.Burst.{beats_of, beat_of, lanes_at}
 use Rattle.tl_burst.proofs.Lanes.{within_payload}
-use Rattle.tl_rules.specs.statement.Agent.{lanes_of, bytes_carried, payload_of}
+use Rattle.tl_rules.specs.statement.Admission.{lanes_of, bytes_carried, payload_of}
 use Rattle.tl_rules.specs.laws.Typed.{IsTyped, AreTyped, HasBlock}
 
 -- ---- the beats of a message

@@ -9,7 +9,7 @@ use Rattle.tl_burst.specs.statement.Burst.{data_beats}
 pub width-bounds : (w : ℕ) → IsWidth w → (4 ≤ w) × (w ≤ 16)
 width-bounds w is = elim is [ inl e ↦ (omega arith, omega arith) | inr more ↦ elim more [ inl e ↦ (omega arith, omega arith) | inr e ↦ (omega arith, omega arith) ] ]
 
--- a block is so many whole beats
+-- a block is this many whole beats
 pub whole_block : (w : ℕ) → IsWidth w → w * data_beats w 6 ≡ 64
 whole_block w is = elim is [ inl w_is ↦ rw w_is refl | inr more ↦ elim more [ inl w_is ↦ rw w_is refl | inr w_is ↦ rw w_is refl ] ]
 

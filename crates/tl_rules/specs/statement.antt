@@ -1,4 +1,4 @@
-pub mod Agent
+pub mod Admission
 pub mod Conformance
 pub mod Effect
 pub mod History

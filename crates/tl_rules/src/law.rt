@@ -12,7 +12,7 @@ ghost use Rattle.tl_burst.specs.statement.Messages.{History, channel_in};
 ghost use Rattle.tl_params.specs.declared.key.Key.{Key};
 ghost use Rattle.tl_params.specs.declared.level.Level.{Level};
 ghost use Rattle.tl_params.specs.declared.profile.Profile.{Profile};
-ghost use Rattle.tl_rules.specs.statement.Agent.{sent, payload_of};
+ghost use Rattle.tl_rules.specs.statement.Admission.{sent, payload_of};
 ghost use Rattle.tl_rules.specs.statement.Conformance.{broken_in_order, broken_after};
 ghost use Rattle.tl_rules.specs.statement.Legality.{illegal_message};
 ghost use Rattle.tl_rules.specs.statement.Effect.{Memory, SameBlock};

@@ -2,7 +2,7 @@
 //! operations.
 #![tactic(auto)]
 
-pub mod agent;
+pub mod admission;
 pub mod answer;
 mod atomic;
 pub mod blank;

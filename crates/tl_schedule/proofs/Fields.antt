@@ -71,7 +71,7 @@ set_last (suc k) x tail = ap (λ (xs : List ℕ). 0 ∷ xs) (set_last k x tail)
 abbrev zeros : ℕ → List ℕ
 zeros n = replicate n 0
 
--- so many bytes of so many have been read
+-- this many bytes of that many have been read
 abbrev pub Reads : ℕ → ℕ → List ℕ → List ℕ → List ℕ → Type 0
 Reads count i bytes field rest =
     (done : List ℕ) × (length done ≡ i) × (bytes ≡ replicate (count - i) 0 ++ (done ++ replicate (64 - count) 0)) × (pairs_in [] count field ≡ pairs_in done (count - i) rest)

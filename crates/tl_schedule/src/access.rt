@@ -40,7 +40,7 @@ fn beats<const W: usize>(size: u8) -> u8
     if bytes > W { (bytes / W) as u8 } else { 1 }
 }
 
-/// The lowest bits, so many of them.
+/// The lowest bits, this many of them.
 fn ones(count: usize) -> u64
     requires { count ≤ 64 }
     ensures { result ≡ 2 ^ count - 1 }
@@ -51,7 +51,7 @@ fn ones(count: usize) -> u64
     (1 << count) - 1
 }
 
-/// A mask of the lanes that carry a byte of an access, in so many beats.
+/// A mask of the lanes that carry a byte of an access, in this many beats.
 fn lanes<const W: usize>(size: u8, address: u32, beats: u8) -> u64
     requires width { IsWidth W }
     requires small { size ≤ 6 }

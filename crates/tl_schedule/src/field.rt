@@ -32,7 +32,7 @@ fn front_digit(bytes: &[u8]) -> Option<(u8, &[u8])>
     }
 }
 
-/// The number that a field of so many digits spells.
+/// The number that a field of this many digits spells.
 pub fn number(field: &[u8], count: u8) -> Option<u64>
     requires { count ≤ 16 }
     ensures value { result ≡ number_in 0 count field.now }
@@ -65,7 +65,7 @@ fn pair(bytes: &[u8]) -> Option<(u8, &[u8])>
     }
 }
 
-/// The bytes that a field of so many pairs of digits spells, the last byte first, with zeros behind
+/// The bytes that a field of this many pairs of digits spells, the last byte first, with zeros behind
 /// them.
 pub fn data(field: &[u8], count: usize) -> Option<[u8; 64]>
     requires { count ≤ 64 }
@@ -117,7 +117,7 @@ pub fn is_end(bytes: &[u8]) -> bool
     bytes.is_empty()
 }
 
-/// A number of so many digits in the next field.
+/// A number of this many digits in the next field.
 pub fn number_field(bytes: &[u8], count: u8) -> Option<(u64, &[u8])>
     requires { count ≤ 16 }
     ensures gives { Gives result (front (number_in 0 count) (fields_behind bytes.now)) }
@@ -157,7 +157,7 @@ pub fn block_field(bytes: &[u8]) -> Option<(u16, &[u8])>
     Some((block as u16, rest))
 }
 
-/// So many bytes in the last field, with zeros behind them.
+/// This many bytes in the last field, with zeros behind them.
 pub fn last_bytes(bytes: &[u8], count: usize) -> Option<[u8; 64]>
     requires { count ≤ 64 }
     ensures { result ≡ option_map filled (last (bytes_in count) (fields_behind bytes.now)) }

@@ -87,7 +87,7 @@ open_fault w line (inl ends) = go (nat_lt 256 (length line))
     go false = rw ends refl
 open_fault w line (inr long) = rw (lt-ltb 256 (length line) long) refl
 
--- what a judge of lines answers, behind a text that has been written
+-- what a handler of lines answers, behind a text that has been written
 pub good_line : (w : ℕ) (line old new : List ℕ) (link : Link) (beat : Beat w) → Spells line link beat → new ≡ old ++ text_of link beat
     → (lines : List (List ℕ)) (before : List ℕ) → DecodesBefore w lines (before ++ old) → DecodesBefore w (lines ++ line ∷ []) (before ++ new)
 good_line w line old new link beat spells is lines before known =

@@ -24,8 +24,8 @@ use Rattle.tl_tool.specs.declared.fault.Fault.{Fault}
 use Rattle.tl_tool.specs.declared.fault.Fault.TheVariants.{Header, Line, Rule as Breaks}
 use Rattle.tl_tool.specs.declared.status.Status.{Status}
 use Rattle.tl_tool.specs.declared.status.Status.TheVariants.{Clean, Broken}
-use Rattle.tl_tool.specs.declared.watcher.Watcher.{Watcher}
-use Rattle.tl_tool.specs.declared.watcher.Watcher.TheVariants.{Waiting, Four, Eight, Sixteen}
+use Rattle.tl_tool.specs.declared.monitor_lines.MonitorLines.{MonitorLines}
+use Rattle.tl_tool.specs.declared.monitor_lines.MonitorLines.TheVariants.{Waiting, Four, Eight, Sixteen}
 use Rattle.tl_tool.specs.statement.Decoded.{is_width}
 use Rattle.tl_tool.specs.statement.Fault.{fault_text}
 use Rattle.tl_tool.specs.statement.Judged.{clean_text, IsAtFault, Judged, JudgedAfter}
@@ -95,8 +95,8 @@ beats_end m count lines before was is says k counted =
     let number : count - 1 ≡ length k.trace = omega (arith, k.counted) in
     rw (says, number, ← append_assoc before was (clean_text (length k.trace))) (rw append-nil at (k.before [] (clean_text (length k.trace)) Clean (refl, refl)))
 
--- what a monitor says of a line is what the judge says
-module _ {w : ℕ} (wrap : Monitor w → Watcher) (into : (m : Monitor w) (lines : List (List ℕ)) (text : List ℕ) → KnowsLines (wrap m) lines text → KnowsTrace m lines text)
+-- what a monitor says of a line is what the handler says
+module _ {w : ℕ} (wrap : Monitor w → MonitorLines) (into : (m : Monitor w) (lines : List (List ℕ)) (text : List ℕ) → KnowsLines (wrap m) lines text → KnowsTrace m lines text)
     (out : (m : Monitor w) (lines : List (List ℕ)) (text : List ℕ) → KnowsTrace m lines text → KnowsLines (wrap m) lines text) where
   judges : (old new : Monitor w) (line was : List ℕ) (answer : Option Fault) → Watches old new line answer → Judges KnowsLines Judged (wrap old) (wrap new) line was was answer
   judges old new line was None watches = λ lines before known.
@@ -115,15 +115,15 @@ module _ {w : ℕ} (wrap : Monitor w → Watcher) (into : (m : Monitor w) (lines
 -- ---- where a header has been read
 
 -- a line with no LF at its end or of more than 256 bytes is no beat's
-pub beat_open : (watcher : Watcher) → ((alloc : Global) → watcher ≡ Waiting alloc → ⊥) → (line said : List ℕ) → IsOpen line → Stops KnowsLines Judged watcher line said said (Line F1)
+pub beat_open : (monitor_lines : MonitorLines) → ((alloc : Global) → monitor_lines ≡ Waiting alloc → ⊥) → (line said : List ℕ) → IsOpen line → Stops KnowsLines Judged monitor_lines line said said (Line F1)
 beat_open (Waiting alloc) read line said is = absurd (read alloc refl)
 beat_open (Four m) read line said is = λ lines before k. beat_bad m lines before said line (Line F1) k (open_fault 4 line is)
 beat_open (Eight m) read line said is = λ lines before k. beat_bad m lines before said line (Line F1) k (open_fault 8 line is)
 beat_open (Sixteen m) read line said is = λ lines before k. beat_bad m lines before said line (Line F1) k (open_fault 16 line is)
 
 -- all lines behind the header have a good beat
-pub all_clean : (watcher : Watcher) → ((alloc : Global) → watcher ≡ Waiting alloc → ⊥) → (count : ℕ) (was is : List ℕ) → is ≡ was ++ clean_text (count - 1)
-    → Finishes KnowsLines Judged watcher count was is None
+pub all_clean : (monitor_lines : MonitorLines) → ((alloc : Global) → monitor_lines ≡ Waiting alloc → ⊥) → (count : ℕ) (was is : List ℕ) → is ≡ was ++ clean_text (count - 1)
+    → Finishes KnowsLines Judged monitor_lines count was is None
 all_clean (Waiting alloc) read count was is says = absurd (read alloc refl)
 all_clean (Four m) read count was is says = λ lines before k counted. beats_end m count lines before was is says k counted
 all_clean (Eight m) read count was is says = λ lines before k counted. beats_end m count lines before was is says k counted

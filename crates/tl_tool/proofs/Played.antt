@@ -21,7 +21,7 @@ use Rattle.tl_schedule.specs.declared.line.Line.TheVariants as line_of
 use Rattle.tl_schedule.specs.statement.OutcomeLine.{drained_line}
 use Rattle.tl_tool.specs.statement.Played.{delivery_text, deliveries_text, event_text, number_text, outcome_after}
 use Rattle.tl_tool.specs.code.Playing.{Drains, Happens, PlaysOn}
-use Rattle.tl_tool.specs.code.Stage.{Contained, Reaches}
+use Rattle.tl_tool.specs.code.PlayableWorld.{Contained, Reaches}
 
 -- ---- deliveries
 

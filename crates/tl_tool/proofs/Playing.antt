@@ -1,4 +1,4 @@
--- What a judge of schedules answers, and that each schedule has a text.
+-- What a handler of schedules answers, and that each schedule has a text.
 use Rattle.std.proofs.Common.{◌≡◌, ℕ, zero, suc, ◌+◌, Bool, List, [], ◌∷◌, ◌++◌, length, refl, sym, ◌∙◌, ap, subst, arith, append_assoc, length-append, inl, inr}
 use Rattle.std.specs.declared.alloc.Global.{Global}
 use Rattle.std.specs.Prelude.{◌⊎◌, IfOk, Option, Some, None, Result, Ok, Err}
@@ -26,8 +26,8 @@ use Rattle.tl_world.proofs.Happened.{given-more}
 use Rattle.tl_coherence.proofs.bound.Settling.{drain, given-delivering}
 use Rattle.tl_tool.specs.declared.fault.Fault.{Fault}
 use Rattle.tl_tool.specs.declared.fault.Fault.TheVariants.{Header, Event as NoEvent}
-use Rattle.tl_tool.specs.declared.player.Player.{Player}
-use Rattle.tl_tool.specs.declared.player.Player.TheVariants.{Waiting, Four, Eight, Sixteen}
+use Rattle.tl_tool.specs.declared.run_lines.RunLines.{RunLines}
+use Rattle.tl_tool.specs.declared.run_lines.RunLines.TheVariants.{Waiting, Four, Eight, Sixteen}
 use Rattle.tl_tool.specs.declared.status.Status.{Status}
 use Rattle.tl_tool.specs.declared.status.Status.TheVariants.{Clean, Broken}
 use Rattle.tl_tool.specs.statement.Fault.{fault_text}
@@ -35,7 +35,7 @@ use Rattle.tl_tool.specs.code.Judging.{Finishes, IsTotal, Judges, Stops}
 use Rattle.tl_tool.specs.code.Lines.{IsOpen}
 use Rattle.tl_tool.specs.statement.Played.{HeadsSchedule, Played, PlayedAfter, Plays, deliveries_text, event_text, header_text, number_text, outcome_after}
 use Rattle.tl_tool.specs.code.Playing.{KnowsPlay, KnowsSchedule, Opens, PlaysLine, is_trace}
-use Rattle.tl_tool.specs.code.Stage.{Contained, Reaches}
+use Rattle.tl_tool.specs.code.PlayableWorld.{Contained, Reaches}
 use Rattle.tl_tool.specs.statement.Width.{bytes_of}
 use Rattle.tl_tool.proofs.OneText.{is_width_of}
 use Rattle.tl_tool.proofs.ShortHeaders.{header-unopened}
@@ -61,20 +61,20 @@ unfolding Played
 header-none n alloc line was none = λ lines before known more.
     rw (← append_assoc before was (fault_text (length lines + 1) Header), known.0, known.1) (inr (none, refl, refl))
 
-pub header-refused : (n : ℕ) (alloc : Global) (line was is : List ℕ) (answer : Option (Player n)) → answer ≡ None → Opens line was is answer
+pub header-refused : (n : ℕ) (alloc : Global) (line was is : List ℕ) (answer : Option (RunLines n)) → answer ≡ None → Opens line was is answer
     → Stops (KnowsSchedule {n = n}) (Played (is_trace n)) (Waiting alloc) line was is Header
 header-refused n alloc line was is None same (none, says) = rw says (header-none n alloc line was none)
-header-refused n alloc line was is (Some player) same opens = absurd cc
+header-refused n alloc line was is (Some run_lines) same opens = absurd cc
 
 -- a header begins a world
-pub header-opened : (n : ℕ) (alloc : Global) (player : Player n) (line was is : List ℕ) (answer : Option (Player n)) → answer ≡ Some player → Opens line was is answer
-    → Judges (KnowsSchedule {n = n}) (Played (is_trace n)) (Waiting alloc) player line was is None
-header-opened n alloc player line was is None same opens = absurd cc
-header-opened n alloc player line was is (Some other) same (text, says, knows) = λ lines before known.
+pub header-opened : (n : ℕ) (alloc : Global) (run_lines : RunLines n) (line was is : List ℕ) (answer : Option (RunLines n)) → answer ≡ Some run_lines → Opens line was is answer
+    → Judges (KnowsSchedule {n = n}) (Played (is_trace n)) (Waiting alloc) run_lines line was is None
+header-opened n alloc run_lines line was is None same opens = absurd cc
+header-opened n alloc run_lines line was is (Some other) same (text, says, knows) = λ lines before known.
     let whole : before ++ is ≡ text = ap (λ (t : List ℕ). before ++ t) says ∙ sym (append_assoc before was text) ∙ ap (λ (t : List ℕ). t ++ text) known.1 in
-    rw (known.0, whole) (subst (λ (p : Player n). KnowsSchedule p (line ∷ []) text) (one same) knows)
+    rw (known.0, whole) (subst (λ (p : RunLines n). KnowsSchedule p (line ∷ []) text) (one same) knows)
   where
-    one : {x y : Player n} → Some x ≡ Some y → x ≡ y
+    one : {x y : RunLines n} → Some x ≡ Some y → x ≡ y
     one e = cc
 
 -- the first line isn't there
@@ -117,7 +117,7 @@ lines-end : {w : ℕ} (trace : Bool) (world : Contained w) (lines : List (List �
 unfolding PlayedAfter
 lines-end trace world lines text k = rw (append-nil, append-nil) at (k.before [] [] Clean (refl, refl))
 
-module _ {w n : ℕ} (wrap : Contained w → Player n) (into : (m : Contained w) (lines : List (List ℕ)) (text : List ℕ) → KnowsSchedule (wrap m) lines text → KnowsPlay (is_trace n) m lines text)
+module _ {w n : ℕ} (wrap : Contained w → RunLines n) (into : (m : Contained w) (lines : List (List ℕ)) (text : List ℕ) → KnowsSchedule (wrap m) lines text → KnowsPlay (is_trace n) m lines text)
     (out : (m : Contained w) (lines : List (List ℕ)) (text : List ℕ) → KnowsPlay (is_trace n) m lines text → KnowsSchedule (wrap m) lines text) where
   judges : (old new : Contained w) (line was is : List ℕ) (answer : Option Fault) → PlaysLine (is_trace n) old new line was is answer
       → Judges KnowsSchedule (Played (is_trace n)) (wrap old) (wrap new) line was is answer
@@ -137,14 +137,14 @@ open-line : {w : ℕ} (trace : Bool) (world : Contained w) (line said : List ℕ
     → (more : List (List ℕ)) → Played trace (lines ++ line ∷ more) (before ++ (said ++ fault_text (length lines + 1) (NoEvent F1))) Broken
 open-line trace world line said wide is lines before k more = rw (← open-fault line is) (line-fails trace world lines before said line k (open-none line wide is) more)
 
-pub line-open : {n : ℕ} (player : Player n) → ((alloc : Global) → player ≡ Waiting alloc → ⊥) → (line said : List ℕ) → IsOpen line
-    → Stops KnowsSchedule (Played (is_trace n)) player line said said (NoEvent F1)
+pub line-open : {n : ℕ} (run_lines : RunLines n) → ((alloc : Global) → run_lines ≡ Waiting alloc → ⊥) → (line said : List ℕ) → IsOpen line
+    → Stops KnowsSchedule (Played (is_trace n)) run_lines line said said (NoEvent F1)
 line-open (Waiting alloc) read line said is = absurd (read alloc refl)
 line-open {n} (Four m) read line said is = λ lines before k. open-line (is_trace n) m line said (inl refl) is lines before k
 line-open {n} (Eight m) read line said is = λ lines before k. open-line (is_trace n) m line said (inr (inl refl)) is lines before k
 line-open {n} (Sixteen m) read line said is = λ lines before k. open-line (is_trace n) m line said (inr (inr refl)) is lines before k
 
-pub all-played : {n : ℕ} (player : Player n) → ((alloc : Global) → player ≡ Waiting alloc → ⊥) → (count : ℕ) (was : List ℕ) → Finishes KnowsSchedule (Played (is_trace n)) player count was was None
+pub all-played : {n : ℕ} (run_lines : RunLines n) → ((alloc : Global) → run_lines ≡ Waiting alloc → ⊥) → (count : ℕ) (was : List ℕ) → Finishes KnowsSchedule (Played (is_trace n)) run_lines count was was None
 all-played (Waiting alloc) read count was = absurd (read alloc refl)
 all-played {n} (Four m) read count was = λ lines before k counted. lines-end (is_trace n) m lines (before ++ was) k
 all-played {n} (Eight m) read count was = λ lines before k counted. lines-end (is_trace n) m lines (before ++ was) k

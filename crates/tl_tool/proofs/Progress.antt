@@ -25,9 +25,9 @@ empty_is (x ∷ xs) e = absurd (omega (arith, eqb-true (length (x ∷ xs)) 0 e))
 lacks-nil : LacksLf []
 lacks-nil = All-nil (λ b. (b == 10) ≡ false)
 
-module _ {J : Type 0} (knows : J → List (List ℕ) → List ℕ → Type 0) (tells : List (List ℕ) → List ℕ → Status → Type 0) where
+module _ {H : Type 0} (knows : H → List (List ℕ) → List ℕ → Type 0) (tells : List (List ℕ) → List ℕ → Status → Type 0) where
   -- the lines, where the one that has begun ends
-  cut_line : (state : Lines J) (read text line more : List ℕ) (p : Progress knows state read text) → IsLine line
+  cut_line : (state : Lines H) (read text line more : List ℕ) (p : Progress knows state read text) → IsLine line
       → lines_of ((read ++ line) ++ more) ≡ p.lines ++ (state.begun.items ++ line) ∷ lines_of more
   cut_line state read text line more p (front, none, is) =
       let whole : state.begun.items ++ line ≡ (state.begun.items ++ front) ++ 10 ∷ [] = rw is (sym (append_assoc state.begun.items front (10 ∷ []))) in
@@ -38,8 +38,8 @@ module _ {J : Type 0} (knows : J → List (List ℕ) → List ℕ → Type 0) (t
       ∙ ap (λ (rest : List (List ℕ)). p.lines ++ rest) first
 
   -- a line that ends with this piece was judged
-  pub feeds_line : (old new : Lines J) (line was is : List ℕ) (status : Status) → IsLine line → new.begun.items ≡ []
-      → CountsLine knows tells old.judge new.judge old.count new.count (old.begun.items ++ line) was is status → Feeds knows tells old new line was is status
+  pub feeds_line : (old new : Lines H) (line was is : List ℕ) (status : Status) → IsLine line → new.begun.items ≡ []
+      → CountsLine knows tells old.handler new.handler old.count new.count (old.begun.items ++ line) was is status → Feeds knows tells old new line was is status
   feeds_line old new line was is Clean ends none counts = λ read before p.
       let next : List (List ℕ) = p.lines ++ (old.begun.items ++ line) ∷ [] in
       record {
@@ -56,16 +56,16 @@ module _ {J : Type 0} (knows : J → List (List ℕ) → List ℕ → Type 0) (t
       rw (cut_line old read (before ++ was) line more p ends) (counts p.lines before p.known p.counted (lines_of more))
 
   -- the same, where no beginning of the line came before
-  pub feeds_at_hand : (r : Result Status ToolFault) (old new : Lines J) (line was is : List ℕ) → IsLine line → (length old.begun.items == 0) ≡ true → new.begun.items ≡ old.begun.items
-      → IfOk r (CountsLine knows tells old.judge new.judge old.count new.count line was is) → IfOk r (Feeds knows tells old new line was is)
+  pub feeds_at_hand : (r : Result Status ToolFault) (old new : Lines H) (line was is : List ℕ) → IsLine line → (length old.begun.items == 0) ≡ true → new.begun.items ≡ old.begun.items
+      → IfOk r (CountsLine knows tells old.handler new.handler old.count new.count line was is) → IfOk r (Feeds knows tells old new line was is)
   feeds_at_hand (Err fault) old new line was is ends empty same counts = tt
   feeds_at_hand (Ok status) old new line was is ends empty same counts =
       let none : old.begun.items ≡ [] = empty_is old.begun.items empty in
       feeds_line old new line was is status ends (same ∙ none) (rw none counts)
 
   -- a line that is too long is at fault
-  feeds_open : (old new : Lines J) (piece was is front back : List ℕ) → piece ≡ front ++ back → LacksLf front → 256 ≤ length old.begun.items + length front
-      → ((line : List ℕ) → IsOpen line → StopsAt knows tells old.judge old.count line was is) → Feeds knows tells old new piece was is Broken
+  feeds_open : (old new : Lines H) (piece was is front back : List ℕ) → piece ≡ front ++ back → LacksLf front → 256 ≤ length old.begun.items + length front
+      → ((line : List ℕ) → IsOpen line → StopsAt knows tells old.handler old.count line was is) → Feeds knows tells old new piece was is Broken
   feeds_open old new piece was is front back cut lacks long stops = λ read before p more.
       let begun = old.begun.items ++ front in
       let size : 256 ≤ length begun = omega (arith, length-append old.begun.items front) in
@@ -76,17 +76,17 @@ module _ {J : Type 0} (knows : J → List (List ℕ) → List ℕ → Type 0) (t
       ap lines_of (append_assoc read piece more) ∙ p.cut (piece ++ more) ∙ ap (λ (rest : List ℕ). p.lines ++ lines_of rest) same ∙ ap (λ (rest : List (List ℕ)). p.lines ++ rest) found.2 in
       rw all (stops (begun ++ found.0) (open_from begun found.0 unended size) p.lines before p.known p.counted found.1)
 
-  pub feeds_stopped : (r : Result Status ToolFault) (old new : Lines J) (piece was is front back : List ℕ) → piece ≡ front ++ back → LacksLf front → 256 ≤ length old.begun.items + length front
-      → IfOk r (λ status. status ≡ Broken) → IfOk r (λ _. (line : List ℕ) → IsOpen line → StopsAt knows tells old.judge old.count line was is) → IfOk r (Feeds knows tells old new piece was is)
+  pub feeds_stopped : (r : Result Status ToolFault) (old new : Lines H) (piece was is front back : List ℕ) → piece ≡ front ++ back → LacksLf front → 256 ≤ length old.begun.items + length front
+      → IfOk r (λ status. status ≡ Broken) → IfOk r (λ _. (line : List ℕ) → IsOpen line → StopsAt knows tells old.handler old.count line was is) → IfOk r (Feeds knows tells old new piece was is)
   feeds_stopped (Err fault) old new piece was is front back cut lacks long broken stops = tt
   feeds_stopped (Ok status) old new piece was is front back cut lacks long broken stops = rw broken (feeds_open old new piece was is front back cut lacks long stops)
 
   -- a piece that ends no line is kept
-  pub feeds_kept : (old new : Lines J) (piece was : List ℕ) → new.judge ≡ old.judge → new.count ≡ old.count → new.begun.items ≡ old.begun.items ++ piece
+  pub feeds_kept : (old new : Lines H) (piece was : List ℕ) → new.handler ≡ old.handler → new.count ≡ old.count → new.begun.items ≡ old.begun.items ++ piece
       → LacksLf piece → length new.begun.items ≤ 255 → Feeds knows tells old new piece was was Clean
-  feeds_kept old new piece was judge count begun lacks short = λ read before p. record {
+  feeds_kept old new piece was handler count begun lacks short = λ read before p. record {
     lines = p.lines;
-    known = rw judge p.known;
+    known = rw handler p.known;
     counted = count ∙ p.counted;
     cut = λ more. ap lines_of (append_assoc read piece more) ∙ p.cut (piece ++ more) ∙ rw (begun, append_assoc) refl;
     unended = rw begun (lacks-append old.begun.items piece p.unended lacks);
@@ -96,37 +96,37 @@ module _ {J : Type 0} (knows : J → List (List ℕ) → List ℕ → Type 0) (t
   }
 
   -- a piece behind another
-  pub feeds_then : (a b c : Lines J) (taken next piece was mid is : List ℕ) → taken ++ next ≡ piece → Feeds knows tells a b taken was mid Clean → Feeds knows tells b c next mid is Clean
+  pub feeds_then : (a b c : Lines H) (taken next piece was mid is : List ℕ) → taken ++ next ≡ piece → Feeds knows tells a b taken was mid Clean → Feeds knows tells b c next mid is Clean
       → Feeds knows tells a c piece was is Clean
   feeds_then a b c taken next piece was mid is cut first second = λ read before p.
       rw (← cut, ← append_assoc) (second (read ++ taken) before (first read before p))
 
-  pub feeds_until : (a b c : Lines J) (taken line after rest piece was mid is : List ℕ) → taken ++ rest ≡ piece → line ++ after ≡ rest → Feeds knows tells a b taken was mid Clean
+  pub feeds_until : (a b c : Lines H) (taken line after rest piece was mid is : List ℕ) → taken ++ rest ≡ piece → line ++ after ≡ rest → Feeds knows tells a b taken was mid Clean
       → Feeds knows tells b c line mid is Broken → Feeds knows tells a c piece was is Broken
   feeds_until a b c taken line after rest piece was mid is cut behind first second = λ read before p more.
       let same : ((read ++ taken) ++ line) ++ (after ++ more) ≡ (read ++ piece) ++ more = rw (← cut, ← behind) (simp append_assoc) in
       rw (← same) (second (read ++ taken) before (first read before p) (after ++ more))
 
-  pub feeds_last : (r : Result Status ToolFault) (a b c : Lines J) (taken next piece was mid is : List ℕ) → taken ++ next ≡ piece → Feeds knows tells a b taken was mid Clean
+  pub feeds_last : (r : Result Status ToolFault) (a b c : Lines H) (taken next piece was mid is : List ℕ) → taken ++ next ≡ piece → Feeds knows tells a b taken was mid Clean
       → IfOk r (Feeds knows tells b c next mid is) → IfOk r (Feeds knows tells a c piece was is)
   feeds_last (Err fault) a b c taken next piece was mid is cut first second = tt
   feeds_last (Ok Clean) a b c taken next piece was mid is cut first second = feeds_then a b c taken next piece was mid is cut first second
   feeds_last (Ok Broken) a b c taken next piece was mid is cut first second = feeds_until a b c taken next [] next piece was mid is cut (append-nil next) first second
 
   -- nothing more comes
-  pub all_lines : (state : Lines J) (read text : List ℕ) (p : Progress knows state read text) → lines_of read ≡ p.lines ++ lines_of state.begun.items
+  pub all_lines : (state : Lines H) (read text : List ℕ) (p : Progress knows state read text) → lines_of read ≡ p.lines ++ lines_of state.begun.items
   all_lines state read text p =
       ap lines_of (sym (append-nil read)) ∙ p.cut [] ∙ ap (λ (rest : List ℕ). p.lines ++ lines_of rest) (append-nil state.begun.items)
 
-  all_ended : (state : Lines J) (read text : List ℕ) (p : Progress knows state read text) → state.begun.items ≡ [] → lines_of read ≡ p.lines
+  all_ended : (state : Lines H) (read text : List ℕ) (p : Progress knows state read text) → state.begun.items ≡ [] → lines_of read ≡ p.lines
   unfolding lines_of
   all_ended state read text p none = all_lines state read text p ∙ rw none (append-nil p.lines)
 
-  pub finishes_clean : (state : Lines J) (was is : List ℕ) → state.begun.items ≡ [] → Finishes knows tells state.judge state.count was is None → FinishesInput knows tells state was is Clean
+  pub finishes_clean : (state : Lines H) (was is : List ℕ) → state.begun.items ≡ [] → Finishes knows tells state.handler state.count was is None → FinishesInput knows tells state was is Clean
   finishes_clean state was is none ends = λ read before p.
       rw (all_ended state read (before ++ was) p none) (ends p.lines before p.known p.counted)
 
-  pub finishes_broken : (state : Lines J) (was said is : List ℕ) (fault : Fault) → state.begun.items ≡ [] → Finishes knows tells state.judge state.count was said (Some fault)
+  pub finishes_broken : (state : Lines H) (was said is : List ℕ) (fault : Fault) → state.begun.items ≡ [] → Finishes knows tells state.handler state.count was said (Some fault)
       → is ≡ said ++ fault_text (state.count + 1) fault → FinishesInput knows tells state was is Broken
   finishes_broken state was said is fault none ends says = λ read before p. (
     rw (all_ended state read (before ++ was) p none, says, p.counted) (ends p.lines before p.known p.counted),
@@ -144,8 +144,8 @@ module _ {J : Type 0} (knows : J → List (List ℕ) → List ℕ → Type 0) (t
   )
 
   -- the rest has no LF
-  finishes_open : (state : Lines J) (was is : List ℕ) (fault : Fault) → 0 < length state.begun.items
-      → ((line : List ℕ) → IsOpen line → StopsAt knows tells state.judge state.count line was is) → is ≡ was ++ fault_text (state.count + 1) fault
+  finishes_open : (state : Lines H) (was is : List ℕ) (fault : Fault) → 0 < length state.begun.items
+      → ((line : List ℕ) → IsOpen line → StopsAt knows tells state.handler state.count line was is) → is ≡ was ++ fault_text (state.count + 1) fault
       → FinishesInput knows tells state was is Broken
   finishes_open state was is fault some stops says = λ read before p. (
     rw (all_lines state read (before ++ was) p, one_rest state.begun.items p.unended some)
@@ -167,8 +167,8 @@ module _ {J : Type 0} (knows : J → List (List ℕ) → List ℕ → Type 0) (t
       one_rest [] lacks some = absurd (omega arith)
       one_rest (b ∷ rest) lacks some = lines_of-rest b rest lacks
 
-  pub finishes_stopped : (r : Result Status ToolFault) (state : Lines J) (was is : List ℕ) → (length state.begun.items == 0) ≡ false
-      → IfOk r (λ status. status ≡ Broken) → IfOk r (λ _. (line : List ℕ) → IsOpen line → StopsAt knows tells state.judge state.count line was is)
+  pub finishes_stopped : (r : Result Status ToolFault) (state : Lines H) (was is : List ℕ) → (length state.begun.items == 0) ≡ false
+      → IfOk r (λ status. status ≡ Broken) → IfOk r (λ _. (line : List ℕ) → IsOpen line → StopsAt knows tells state.handler state.count line was is)
       → IfOk r (λ _. (fault : Fault) × (is ≡ was ++ fault_text (state.count + 1) fault)) → IfOk r (FinishesInput knows tells state was is)
   finishes_stopped (Err fault) state was is some broken stops says = tt
   finishes_stopped (Ok status) state was is some broken stops says =

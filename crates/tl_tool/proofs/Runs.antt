@@ -16,27 +16,27 @@ use Rattle.tl_tool.specs.code.Run.{Passes, FailsAfter, FailsAt, EndsAs}
 use Rattle.tl_tool.proofs.Parts.{longer, part_more}
 use Rattle.tl_tool.proofs.Progress.{all_lines}
 
-module _ {J : Type 0} (knows : J → List (List ℕ) → List ℕ → Type 0) (tells : List (List ℕ) → List ℕ → Status → Type 0) where
-  same_text : (state : Lines J) (read before : List ℕ) → Progress knows state read before → Progress knows state read (before ++ [])
+module _ {H : Type 0} (knows : H → List (List ℕ) → List ℕ → Type 0) (tells : List (List ℕ) → List ℕ → Status → Type 0) where
+  same_text : (state : Lines H) (read before : List ℕ) → Progress knows state read before → Progress knows state read (before ++ [])
   same_text state read before p = rw append-nil p
 
   -- nothing was written for the piece
-  pub fails_unjudged : IsTotal knows tells → (state : Lines J) (piece : List ℕ) (held : Option (List ℕ)) → FailsAfter knows tells state piece held held
+  pub fails_unjudged : IsTotal knows tells → (state : Lines H) (piece : List ℕ) (held : Option (List ℕ)) → FailsAfter knows tells state piece held held
   fails_unjudged total state piece held = λ read before p.
-      let rest = total state.judge p.lines before p.known (lines_of (state.begun.items ++ piece)) in
+      let rest = total state.handler p.lines before p.known (lines_of (state.begun.items ++ piece)) in
       (rest.0, rest.1, rw (p.cut piece) rest.2, ([], rest.0, refl, Appends-nil held))
 
   -- what was judged of the piece was written in part
-  pub fails_written : IsTotal knows tells → (status : Status) (old new : Lines J) (piece out : List ℕ) (held holds : Option (List ℕ)) → Feeds knows tells old new piece [] out status
+  pub fails_written : IsTotal knows tells → (status : Status) (old new : Lines H) (piece out : List ℕ) (held holds : Option (List ℕ)) → Feeds knows tells old new piece [] out status
       → AppendsPart held holds out → FailsAfter knows tells old piece held holds
   fails_written total Clean old new piece out held holds feeds part = λ read before p.
       let q = feeds read before (same_text old read before p) in
-      let rest = total new.judge q.lines (before ++ out) q.known (lines_of new.begun.items) in
+      let rest = total new.handler q.lines (before ++ out) q.known (lines_of new.begun.items) in
       (out ++ rest.0, rest.1, rw (all_lines knows tells new (read ++ piece) (before ++ out) q, ← append_assoc before out rest.0) rest.2, longer held holds out rest.0 part)
   fails_written total Broken old new piece out held holds feeds part = λ read before p.
       (out, Broken, rw append-nil at (feeds read before (same_text old read before p) []), part)
 
-  pub fails_closing : (status : Status) (state : Lines J) (out : List ℕ) (held holds : Option (List ℕ)) → FinishesInput knows tells state [] out status
+  pub fails_closing : (status : Status) (state : Lines H) (out : List ℕ) (held holds : Option (List ℕ)) → FinishesInput knows tells state [] out status
       → AppendsPart held holds out → FailsAfter knows tells state [] held holds
   fails_closing Clean state out held holds ends part = λ read before p.
       (out, Clean, rw append-nil (ends read before (same_text state read before p)), part)
@@ -44,24 +44,24 @@ module _ {J : Type 0} (knows : J → List (List ℕ) → List ℕ → Type 0) (t
       (out, Broken, rw append-nil (ends read before (same_text state read before p)).0, part)
 
   -- the piece was judged and written
-  pub passes : (status : Status) (old new : Lines J) (piece out : List ℕ) → Feeds knows tells old new piece [] out status → Passes knows tells old new piece out status
+  pub passes : (status : Status) (old new : Lines H) (piece out : List ℕ) → Feeds knows tells old new piece [] out status → Passes knows tells old new piece out status
   passes Clean old new piece out feeds = λ read before p. feeds read before (same_text old read before p)
   passes Broken old new piece out feeds = λ read before p. feeds read before (same_text old read before p)
 
   -- nothing was read
-  pub fails_at_start : IsTotal knows tells → (judge : J) (had held : Option (List ℕ)) → knows judge [] [] → FailsAt tells had had held held
+  pub fails_at_start : IsTotal knows tells → (handler : H) (had held : Option (List ℕ)) → knows handler [] [] → FailsAt tells had had held held
   unfolding lines_of
-  fails_at_start total judge had held known =
-      let rest = total judge [] [] known [] in
+  fails_at_start total handler had held known =
+      let rest = total handler [] [] known [] in
       ([], rest.0, rest.1, Consumes-nil had, rest.2, ([], rest.0, refl, Appends-nil held))
 
-  module _ (had left held holds : Option (List ℕ)) (state : Lines J)
+  module _ (had left held holds : Option (List ℕ)) (state : Lines H)
       (so_far : (read text : List ℕ) × Consumes had left read × Appends held holds text × Progress knows state read text) where
     -- no more could be read
     pub fails_reading : IsTotal knows tells → (now : Option (List ℕ)) → Keeps left now → FailsAt tells had now held holds
     fails_reading total now keeps =
         let (read, text, consumed, appended, p) = so_far in
-        let rest = total state.judge p.lines text p.known (lines_of state.begun.items) in
+        let rest = total state.handler p.lines text p.known (lines_of state.begun.items) in
         (read, text ++ rest.0, rest.1, Consumes-kept had left now read consumed keeps, rw (all_lines knows tells state read text p) rest.2, (text, rest.0, refl, appended))
 
     -- the piece that was read last was given up
@@ -78,7 +78,7 @@ module _ {J : Type 0} (knows : J → List (List ℕ) → List ℕ → Type 0) (t
         )
 
     -- a line of the piece that was read last is at fault
-    pub ends_broken : (now holds_now : Option (List ℕ)) (piece said : List ℕ) (new : Lines J) → Consumes left now piece → Appends holds holds_now said → Passes knows tells state new piece said Broken
+    pub ends_broken : (now holds_now : Option (List ℕ)) (piece said : List ℕ) (new : Lines H) → Consumes left now piece → Appends holds holds_now said → Passes knows tells state new piece said Broken
         → (read text : List ℕ) × Consumes had now read × Appends held holds_now text × tells (lines_of read) text Broken × EndsAs tells now read text Broken
     ends_broken now holds_now piece said new more written broken =
         let (read, text, consumed, appended, p) = so_far in (
@@ -91,7 +91,7 @@ module _ {J : Type 0} (knows : J → List (List ℕ) → List ℕ → Type 0) (t
         )
 
     -- the piece that was read last is judged
-    pub goes_on : (now holds_now : Option (List ℕ)) (piece said : List ℕ) (new : Lines J) → Consumes left now piece → Appends holds holds_now said → Passes knows tells state new piece said Clean
+    pub goes_on : (now holds_now : Option (List ℕ)) (piece said : List ℕ) (new : Lines H) → Consumes left now piece → Appends holds holds_now said → Passes knows tells state new piece said Clean
         → (read text : List ℕ) × Consumes had now read × Appends held holds_now text × Progress knows new read text
     goes_on now holds_now piece said new more written clean =
         let (read, text, consumed, appended, p) = so_far in

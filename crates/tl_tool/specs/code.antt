@@ -5,6 +5,6 @@ pub mod Parts
 pub mod Playing
 pub mod Progress
 pub mod Run
-pub mod Stage
+pub mod PlayableWorld
 pub mod TraceReading
 pub mod Watching

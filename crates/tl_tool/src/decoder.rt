@@ -4,7 +4,7 @@ ghost use Rattle.std.specs.Prelude.{IsTrue};
 ghost use Rattle.tl_tool.specs.statement.Decoded.{DecodesBefore, DecodesTo, is_width};
 
 use crate::fault::Fault;
-use crate::judge::Judge;
+use crate::line_handler::LineHandler;
 use crate::text::append_text;
 use std::alloc::AllocError;
 use tl_beat::fault::LineFault;
@@ -17,12 +17,12 @@ pub struct Decoder<const W: usize> {
     pub ghost width: { IsTrue (is_width W) },
 }
 
-impl<const W: usize> Judge for Decoder<W> {
+impl<const W: usize> LineHandler for Decoder<W> {
     ghost knows = { λ _ lines text. DecodesBefore W lines text };
 
     ghost tells = { DecodesTo W };
 
-    fn judge(&mut self, line: &[u8], out: &mut Vec<u8>) -> Result<Option<Fault>, AllocError> {
+    fn handle_line(&mut self, line: &[u8], out: &mut Vec<u8>) -> Result<Option<Fault>, AllocError> {
         match read_line::<W>(line) {
             Ok((_, beat)) => {
                 append_text(line, &beat, out)?;

@@ -1,4 +1,4 @@
-//! Reads an input to its end, and writes what a judge says of its lines.
+//! Reads an input to its end, and writes what a handler says of its lines.
 
 ghost use Rattle.std.specs.Prelude.{◌≡◌, ◌⊎◌, ◌+◌, ◌++◌, [], ◌≤◌, ◌<◌, ℕ, List, IfOk, OnOk, OnErr, IfErr, length, take, vec_len};
 ghost use Rattle.std.specs.Io.KnownBytes.{Appends, Consumes, IsAtEnd, Keeps};
@@ -9,7 +9,7 @@ ghost use Rattle.tl_tool.specs.code.Progress.{FinishesInput, GivesUp, Progress, 
 ghost use Rattle.tl_tool.specs.code.Run.{FailsAfter, FailsAt, Passes, RunsTo};
 ghost use Rattle.tl_tool.specs.declared.status.Status.{Status};
 
-use crate::judge::Judge;
+use crate::line_handler::LineHandler;
 use crate::lines::Lines;
 use crate::output::write_all;
 use crate::status::{Status, ToolFault};
@@ -43,18 +43,18 @@ fn next_piece<R: Read>(reader: &mut R, chunk: &mut Vec<u8>) -> Result<usize, Too
 }
 
 /// Judges a piece of the input, and writes what is said of it.
-fn pass<J: Judge, W: Write>(
-    lines: &mut Lines<J>,
+fn pass<H: LineHandler, W: Write>(
+    lines: &mut Lines<H>,
     piece: &[u8],
     out: &mut Vec<u8>,
     writer: &mut W,
 ) -> Result<Status, ToolFault>
     requires empty { out.old.items ≡ [] }
-    requires total { IsTotal J.knows J.tells }
+    requires total { IsTotal H.knows H.tells }
     ensures empty { OnOk result (out.new.items ≡ []) }
     ensures ok { IfOk result (λ status. (said : List ℕ) × Appends (W.contents writer.old) (W.contents writer.new) said
-        × Passes J.knows J.tells lines.old lines.new piece.now said status) }
-    ensures err { OnErr result (FailsAfter J.knows J.tells lines.old piece.now (W.contents writer.old) (W.contents writer.new)) }
+        × Passes H.knows H.tells lines.old lines.new piece.now said status) }
+    ensures err { OnErr result (FailsAfter H.knows H.tells lines.old piece.now (W.contents writer.old) (W.contents writer.new)) }
     ensures fault { IfErr result (λ fault. GivesUp (lines_judged lines.new) fault ⊎ (fault ≡ ToolFault.Write)) }
 {
     let status = lines.feed(piece, out)?;
@@ -64,16 +64,16 @@ fn pass<J: Judge, W: Write>(
 }
 
 /// Judges the end of the input, and writes what is said of it.
-fn close<J: Judge, W: Write>(
-    lines: &mut Lines<J>,
+fn close<H: LineHandler, W: Write>(
+    lines: &mut Lines<H>,
     out: &mut Vec<u8>,
     writer: &mut W,
 ) -> Result<Status, ToolFault>
     requires empty { out.old.items ≡ [] }
-    requires total { IsTotal J.knows J.tells }
+    requires total { IsTotal H.knows H.tells }
     ensures ok { IfOk result (λ status. (said : List ℕ) × Appends (W.contents writer.old) (W.contents writer.new) said
-        × FinishesInput J.knows J.tells lines.old [] said status) }
-    ensures err { OnErr result (FailsAfter J.knows J.tells lines.old [] (W.contents writer.old) (W.contents writer.new)) }
+        × FinishesInput H.knows H.tells lines.old [] said status) }
+    ensures err { OnErr result (FailsAfter H.knows H.tells lines.old [] (W.contents writer.old) (W.contents writer.new)) }
     ensures fault { IfErr result (λ fault. GivesUp (lines_judged lines.new) fault ⊎ (fault ≡ ToolFault.Write)) }
 {
     let status = lines.finish(out)?;
@@ -82,22 +82,22 @@ fn close<J: Judge, W: Write>(
 }
 
 /// Judges the lines of an input in turn, up to the first at fault, and writes what is said of each
-/// before more of the input is read. Apart from the judge's own, the memory that it takes doesn't grow
+/// before more of the input is read. Apart from the handler's own, the memory that it takes doesn't grow
 /// with the input.
-pub fn judge_input<J: Judge, R: Read, W: Write>(
+pub fn handle_input<H: LineHandler, R: Read, W: Write>(
     alloc: Global,
-    judge: J,
+    handler: H,
     reader: &mut R,
     writer: &mut W,
 ) -> Result<Status, ToolFault>
-    requires begins { J.knows judge [] [] }
-    requires total { IsTotal J.knows J.tells }
-    ensures ok { IfOk result (RunsTo J.tells (R.remaining reader.old) (R.remaining reader.new) (W.contents writer.old) (W.contents writer.new)) }
-    ensures err { OnErr result (FailsAt J.tells (R.remaining reader.old) (R.remaining reader.new) (W.contents writer.old) (W.contents writer.new)) }
+    requires begins { H.knows handler [] [] }
+    requires total { IsTotal H.knows H.tells }
+    ensures ok { IfOk result (RunsTo H.tells (R.remaining reader.old) (R.remaining reader.new) (W.contents writer.old) (W.contents writer.new)) }
+    ensures err { OnErr result (FailsAt H.tells (R.remaining reader.old) (R.remaining reader.new) (W.contents writer.old) (W.contents writer.new)) }
 {
     let mut chunk = new_chunk(alloc)?;
     let mut out = Vec::new(alloc);
-    let mut lines = Lines::new(judge);
+    let mut lines = Lines::new(handler);
     for _ in 0..u64::MAX {
         let count = next_piece(reader, &mut chunk)?;
         if count == 0 {

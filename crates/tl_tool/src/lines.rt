@@ -6,17 +6,17 @@ ghost use Rattle.tl_tool.specs.code.Lines.{IsLine, IsOpen, LacksLf};
 ghost use Rattle.tl_tool.specs.code.Progress.{CountsLine, Feeds, FinishesInput, GivesUp, Progress, StopsAt, lines_judged};
 
 use crate::fault::{Fault, append_fault};
-use crate::judge::Judge;
+use crate::line_handler::LineHandler;
 use crate::status::{Status, ToolFault};
 use arrayvec::ArrayVec;
 use memchr::memchr;
 use std::alloc::AllocError;
 
-/// A judge, with the number of lines that it has judged, and the beginning of a line whose end
+/// A handler, with the number of lines that it has judged, and the beginning of a line whose end
 /// hasn't come.
 #[derive(Drop)]
-pub struct Lines<J> {
-    judge: J,
+pub struct Lines<H> {
+    handler: H,
     count: u64,
     begun: ArrayVec<u8, 256>,
 }
@@ -48,17 +48,17 @@ fn number_after(count: u64) -> Result<u64, ToolFault>
 }
 
 /// Judges the line after these many, and appends its text or its fault.
-fn judge_line<J: Judge>(
-    judge: &mut J,
+fn handle_counted_line<H: LineHandler>(
+    handler: &mut H,
     count: &mut u64,
     line: &[u8],
     out: &mut Vec<u8>,
 ) -> Result<Status, ToolFault>
-    ensures counts { IfOk result (CountsLine J.knows J.tells judge.old judge.new count.old count.new line.now out.old.items out.new.items) }
+    ensures counts { IfOk result (CountsLine H.knows H.tells handler.old handler.new count.old count.new line.now out.old.items out.new.items) }
     ensures fault { IfErr result (GivesUp count.new) }
 {
     let number = number_after(*count)?;
-    match judge.judge(line, out)? {
+    match handler.handle_line(line, out)? {
         None => {
             *count = number;
             Ok(Status::Clean)
@@ -70,13 +70,13 @@ fn judge_line<J: Judge>(
     }
 }
 
-impl<J: Judge> Lines<J> {
+impl<H: LineHandler> Lines<H> {
     /// No line has been judged yet.
-    pub fn new(judge: J) -> Lines<J>
-        ensures { J.knows judge [] [] → Progress J.knows result [] [] }
+    pub fn new(handler: H) -> Lines<H>
+        ensures { H.knows handler [] [] → Progress H.knows result [] [] }
     {
         Lines {
-            judge,
+            handler,
             count: 0,
             begun: ArrayVec::new(),
         }
@@ -85,28 +85,28 @@ impl<J: Judge> Lines<J> {
     /// Appends the fault of a line that has no LF or more than 256 bytes.
     fn stop(&self, out: &mut Vec<u8>) -> Result<Status, ToolFault>
         ensures broken { IfOk result (λ status. status ≡ Status.Broken) }
-        ensures stops { IfOk result (λ _. (line : List ℕ) → IsOpen line → StopsAt J.knows J.tells self.now.judge self.now.count line out.old.items out.new.items) }
+        ensures stops { IfOk result (λ _. (line : List ℕ) → IsOpen line → StopsAt H.knows H.tells self.now.handler self.now.count line out.old.items out.new.items) }
         ensures says { IfOk result (λ _. (fault : Fault) × (out.new.items ≡ out.old.items ++ fault_text (self.now.count + 1) fault)) }
         ensures fault { IfErr result (GivesUp (lines_judged self.now)) }
     {
         let number = number_after(self.count)?;
-        append_fault(number, self.judge.open_fault(), out)?;
+        append_fault(number, self.handler.open_fault(), out)?;
         Ok(Status::Broken)
     }
 
     /// Judges a line, of which a beginning may have come with earlier pieces.
     fn take_line(&mut self, line: &[u8], out: &mut Vec<u8>) -> Result<Status, ToolFault>
         requires { IsLine line.now }
-        ensures feeds { IfOk result (Feeds J.knows J.tells self.old self.new line.now out.old.items out.new.items) }
+        ensures feeds { IfOk result (Feeds H.knows H.tells self.old self.new line.now out.old.items out.new.items) }
         ensures fault { IfErr result (GivesUp (lines_judged self.new)) }
     {
         if self.begun.is_empty() && line.len() <= 256 {
-            return judge_line(&mut self.judge, &mut self.count, line, out);
+            return handle_counted_line(&mut self.handler, &mut self.count, line, out);
         }
         if self.begun.try_extend_from_slice(line).is_err() {
             return self.stop(out);
         }
-        let status = judge_line(&mut self.judge, &mut self.count, self.begun.as_slice(), out)?;
+        let status = handle_counted_line(&mut self.handler, &mut self.count, self.begun.as_slice(), out)?;
         self.begun.clear();
         Ok(status)
     }
@@ -114,7 +114,7 @@ impl<J: Judge> Lines<J> {
     /// Keeps the beginning of a line. A line that has 256 bytes and no LF is at fault at once.
     fn keep(&mut self, rest: &[u8], out: &mut Vec<u8>) -> Result<Status, ToolFault>
         requires { LacksLf rest.now }
-        ensures feeds { IfOk result (Feeds J.knows J.tells self.old self.new rest.now out.old.items out.new.items) }
+        ensures feeds { IfOk result (Feeds H.knows H.tells self.old self.new rest.now out.old.items out.new.items) }
         ensures fault { IfErr result (GivesUp (lines_judged self.new)) }
     {
         if self.begun.try_extend_from_slice(rest).is_err() || self.begun.is_full() {
@@ -125,7 +125,7 @@ impl<J: Judge> Lines<J> {
 
     /// Judges the lines that end in a piece of the input, and keeps the beginning of the next.
     pub fn feed(&mut self, piece: &[u8], out: &mut Vec<u8>) -> Result<Status, ToolFault>
-        ensures feeds { IfOk result (Feeds J.knows J.tells self.old self.new piece.now out.old.items out.new.items) }
+        ensures feeds { IfOk result (Feeds H.knows H.tells self.old self.new piece.now out.old.items out.new.items) }
         ensures fault { IfErr result (GivesUp (lines_judged self.new)) }
     {
         let mut rest = piece;
@@ -140,13 +140,13 @@ impl<J: Judge> Lines<J> {
 
     /// Judges the end of the input. A rest without LF is a line too.
     pub fn finish(&mut self, out: &mut Vec<u8>) -> Result<Status, ToolFault>
-        ensures finishes { IfOk result (FinishesInput J.knows J.tells self.old out.old.items out.new.items) }
+        ensures finishes { IfOk result (FinishesInput H.knows H.tells self.old out.old.items out.new.items) }
         ensures fault { IfErr result (GivesUp (lines_judged self.new)) }
     {
         if !self.begun.is_empty() {
             return self.stop(out);
         }
-        match self.judge.finish(self.count, out)? {
+        match self.handler.finish(self.count, out)? {
             None => Ok(Status::Clean),
             Some(fault) => {
                 append_fault(number_after(self.count)?, fault, out)?;

@@ -6,10 +6,10 @@ ghost use Rattle.tl_params.specs.statement.Config.{config_fault};
 ghost use Rattle.tl_schedule.specs.statement.OutcomeLine.{HasLine};
 ghost use Rattle.tl_tool.specs.statement.Played.{event_text};
 ghost use Rattle.tl_tool.specs.code.Playing.{Drains, Happens, PlaysLine, PlaysOn};
-ghost use Rattle.tl_tool.specs.code.Stage.{IsPlayable, Reaches};
+ghost use Rattle.tl_tool.specs.code.PlayableWorld.{IsPlayable, Reaches};
 
 use crate::fault::Fault;
-use crate::opening::world_of;
+use crate::trace_header::world_of;
 use std::alloc::{AllocError, Global};
 use std::marker::Model;
 use tl_client::any::AnyClient;
@@ -39,7 +39,7 @@ fn append_event<const W: usize>(
 }
 
 /// An event happens, and what comes of it is appended.
-fn happen<const W: usize>(
+fn play_event<const W: usize>(
     trace: bool,
     world: &mut World<W, AnyClient<W>, BitDirectory>,
     event: Event<W>,
@@ -71,7 +71,7 @@ fn deliver_all<const W: usize>(
         match world.next_delivery() {
             None => return Ok(count),
             Some((link, channel)) => {
-                happen(trace, world, Event::Deliver { link, channel }, out)?;
+                play_event(trace, world, Event::Deliver { link, channel }, out)?;
             }
         }
     }
@@ -91,7 +91,7 @@ fn play_said<const W: usize>(
     ensures still { IsPlayable world.new }
 {
     match said {
-        Line::Event(event) => happen(trace, world, event, out),
+        Line::Event(event) => play_event(trace, world, event, out),
         Line::Drain => {
             let count = deliver_all(trace, world, out)?;
             if trace {
@@ -127,12 +127,12 @@ fn play<const W: usize>(
 /// A world to which only events have happened since it was made: so each beat that it delivers has room
 /// in its line.
 #[derive(Drop)]
-pub struct Stage<const W: usize> {
+pub struct PlayableWorld<const W: usize> {
     world: World<W, AnyClient<W>, BitDirectory>,
 }
 
-impl<const W: usize> Model for Stage<W> {
-    ghost use Rattle.tl_tool.specs.code.Stage.{Contained, IsPlayable};
+impl<const W: usize> Model for PlayableWorld<W> {
+    ghost use Rattle.tl_tool.specs.code.PlayableWorld.{Contained, IsPlayable};
 
     ghost Value = { Contained W };
 
@@ -141,15 +141,15 @@ impl<const W: usize> Model for Stage<W> {
     ghost invariant = { λ s. IsPlayable s.world };
 }
 
-impl<const W: usize> Stage<W> {
+impl<const W: usize> PlayableWorld<W> {
     /// A world of the clients of a configuration, to which nothing has happened.
     pub fn new(alloc: Global, config: Config) -> Result<Self, AllocError>
         requires width { IsWidth W }
         requires fits { config_fault config ≡ None }
-        ensures { IfOk result (λ stage. Reaches config stage []) }
+        ensures { IfOk result (λ world. Reaches config world []) }
     {
         let world = world_of(alloc, config)?;
-        Ok(Stage { world })
+        Ok(PlayableWorld { world })
     }
 
     /// Plays a line behind the header, its line feed included, or answers its fault.

@@ -7,7 +7,7 @@ ghost use Rattle.tl_beat.specs.statement.Width.{IsWidth};
 ghost use Rattle.tl_tool.specs.statement.Text.{text_of};
 ghost use Rattle.tl_tool.specs.code.Cuts.{IsShort, acknowledgement_text, address_text, head_text, release_text, request_text, response_text, size_and_source, tail_text};
 
-use crate::params::{name_on_a, name_on_b, name_on_c, name_on_d};
+use crate::param_names::{name_on_a, name_on_b, name_on_c, name_on_d};
 use arrayvec::ArrayVec;
 use std::alloc::AllocError;
 use tl_beat::beat::Beat;

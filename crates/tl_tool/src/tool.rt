@@ -5,10 +5,10 @@ ghost use Rattle.tl_tool.specs.code.Run.{FailsAt, RunsTo};
 ghost use Rattle.tl_tool.specs.statement.Told.{text_told};
 
 use crate::decoder::Decoder;
-use crate::engine::judge_input;
-use crate::player::Player;
+use crate::engine::handle_input;
+use crate::run_lines::RunLines;
 use crate::status::{Status, ToolFault};
-use crate::watcher::Watcher;
+use crate::monitor_lines::MonitorLines;
 use std::alloc::Global;
 use std::io::{Read, Write};
 use tl_words::command::{Command, Width};
@@ -33,16 +33,16 @@ pub fn run_tool<R: Read, W: Write>(
 {
     match command {
         Command::Decode { width } => match width {
-            Width::Four => judge_input(alloc, Decoder::<4> {}, reader, writer),
-            Width::Eight => judge_input(alloc, Decoder::<8> {}, reader, writer),
-            Width::Sixteen => judge_input(alloc, Decoder::<16> {}, reader, writer),
+            Width::Four => handle_input(alloc, Decoder::<4> {}, reader, writer),
+            Width::Eight => handle_input(alloc, Decoder::<8> {}, reader, writer),
+            Width::Sixteen => handle_input(alloc, Decoder::<16> {}, reader, writer),
         },
-        Command::Monitor => judge_input(alloc, Watcher::Waiting(alloc), reader, writer),
+        Command::Monitor => handle_input(alloc, MonitorLines::Waiting(alloc), reader, writer),
         Command::Run { trace: false } => {
-            judge_input(alloc, Player::<0>::Waiting(alloc), reader, writer)
+            handle_input(alloc, RunLines::<0>::Waiting(alloc), reader, writer)
         }
         Command::Run { trace: true } => {
-            judge_input(alloc, Player::<1>::Waiting(alloc), reader, writer)
+            handle_input(alloc, RunLines::<1>::Waiting(alloc), reader, writer)
         }
     }
 }

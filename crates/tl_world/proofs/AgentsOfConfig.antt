@@ -15,7 +15,7 @@ use Rattle.tl_client.specs.code.KnowsAny.{IsFaultAt}
 use Rattle.tl_params.specs.statement.Config.{config_fault, client_fault, blocks_fit, trackers_fit, all_sources_fit}
 use Rattle.tl_params.specs.statement.Range.{is_from_to}
 use Rattle.tl_params.specs.statement.Refusal.{ok_unless}
-use Rattle.tl_client.specs.statement.End.{Terms, End}
+use Rattle.tl_client.specs.statement.Endpoint.{EndConfig, Endpoint}
 use Rattle.tl_world.specs.code.Agents.{IsHired, AreMade}
 use Rattle.tl_world.specs.code.Holds.{clients_of}
 use Rattle.tl_coherence.specs.statement.System.{terms_at}
@@ -41,7 +41,7 @@ want-of-memory level.UH fault is = absurd cc
 
 -- ---- one more client
 
-pub hired : {w : ℕ} {A : Type 0} (knows : A → End w → Type 0) (terms : A → Terms) (config : Config) (i : ℕ) (agents new : List A) (agent : A) (d : ClientConfig)
+pub hired : {w : ℕ} {A : Type 0} (knows : A → Endpoint w → Type 0) (terms : A → EndConfig) (config : Config) (i : ℕ) (agents new : List A) (agent : A) (d : ClientConfig)
     → AreMade knows terms config i agents → new ≡ agents ++ agent ∷ [] → i < clients_of config
     → IsHired knows terms (slice_index_or config.clients.items i d) config.blocks config.profile agent
     → AreMade knows terms config (i + 1) new

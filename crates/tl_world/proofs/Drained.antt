@@ -38,7 +38,7 @@ still {w} config n (suc j) log none =
     ∙ ap (λ (l : Log w). with_delivery config (next_delivery config (system_after config l)) l) (still config n j log none)
     ∙ ap (λ (d : Option (Link × Channel)). with_delivery config d (drained config n log)) none)
 
--- so many deliveries, after which none is next
+-- this many deliveries, after which none is next
 pub drained-so : {w : ℕ} (config : Config) (n : ℕ) (log : Log w) → IsGiven config (drained config n log) → length (drained config n log) ≡ n + length log → n ≤ load log
     → next_delivery config (system_after config (drained config n log)) ≡ None → IsDrained config log n
 drained-so config n log given many few none = record {

@@ -6,12 +6,12 @@ use Rattle.tl_beat.specs.statement.Width.{IsWidth}
 use Rattle.tl_beat.specs.declared.beat.Beat.{Beat}
 use Rattle.tl_params.specs.declared.config.Config.{Config}
 use Rattle.tl_params.specs.declared.perm.Perm.{Perm}
-use Rattle.tl_client.specs.statement.End.{Terms, End}
+use Rattle.tl_client.specs.statement.Endpoint.{EndConfig, Endpoint}
 use Rattle.tl_manager.specs.code.Knows.{Knows}
 use Rattle.tl_manager.specs.statement.End as manager_end
 use Rattle.tl_coherence.specs.declared.event.Event.{Event}
 use Rattle.tl_coherence.specs.declared.event.Outcome.{Outcome}
-use Rattle.tl_world.specs.declared.contents.Contents.{Contents}
+use Rattle.tl_world.specs.declared.state.WorldState.{WorldState}
 use Rattle.tl_world.specs.code.Carrying.{AreClear, AreFresh}
 use Rattle.tl_coherence.specs.statement.Headline.{IsTyped, AreTyped, IsGiven}
 use Rattle.tl_world.specs.code.Holds.{clients_of, Holds, HasRoom, IsStepped}
@@ -42,10 +42,10 @@ room-next config log event given typed k ch =
     let o = (stepped config event (system_after config log)).outcome in
     channels config ((event, o) ∷ log) (given-more config log event o given typed refl) k ch
 
-pub reached-step : {w : ℕ} {A M : Type 0} (knows : A → End w → Type 0) (terms : A → Terms) (perm_of : M → ℕ → ℕ → Perm) (config : Config)
-    (old new : Contents w A M) (log : Log w) (event : Event w) (o : Outcome w)
+pub reached-step : {w : ℕ} {A M : Type 0} (knows : A → Endpoint w → Type 0) (terms : A → EndConfig) (perm_of : M → ℕ → ℕ → Perm) (config : Config)
+    (old new : WorldState w A M) (log : Log w) (event : Event w) (o : Outcome w)
     → IsReached knows terms perm_of config old log → IsTyped event
-    → ((s : System w) → Holds knows terms perm_of config old.parts s → HasRoom config (stepped config event s).after → IsStepped knows terms perm_of config old.parts new.parts event o s)
+    → ((s : System w) → Holds knows terms perm_of config old.network s → HasRoom config (stepped config event s).after → IsStepped knows terms perm_of config old.network new.network event o s)
     → new.outstanding.requests ≡ counted (starts_request event o) (ends_request o) old.outstanding.requests
     → new.outstanding.releases ≡ counted (starts_release event o) (ends_release o) old.outstanding.releases
     → IsReached knows terms perm_of config new ((event, o) ∷ log) × (o ≡ (stepped config event (system_after config log)).outcome)
@@ -80,24 +80,24 @@ logged-more (f ∷ events) (p ∷ outcomes) e o log same = logged-more events ou
 
 -- ---- a new world
 
-pub reached-new : {w : ℕ} {A M : Type 0} (knows : A → End w → Type 0) (terms : A → Terms) (perm_of : M → ℕ → ℕ → Perm) (config : Config)
-    (contents : Contents w A M) → IsWidth w → AreReady knows terms config contents.parts.clients.items
-    → Knows perm_of contents.parts.manager config manager_end.fresh → AreFresh config (5 * clients_of config) contents.parts.rings.all.items → AreClear contents.parts.rings.occupied
-    → contents.outstanding.requests ≡ 0 → contents.outstanding.releases ≡ 0 → IsReached knows terms perm_of config contents []
+pub reached-new : {w : ℕ} {A M : Type 0} (knows : A → Endpoint w → Type 0) (terms : A → EndConfig) (perm_of : M → ℕ → ℕ → Perm) (config : Config)
+    (state : WorldState w A M) → IsWidth w → AreReady knows terms config state.network.clients.items
+    → Knows perm_of state.network.manager config manager_end.fresh → AreFresh config (5 * clients_of config) state.network.rings.all.items → AreClear state.network.rings.non_empty
+    → state.outstanding.requests ≡ 0 → state.outstanding.releases ≡ 0 → IsReached knows terms perm_of config state []
 unfolding system_after AreTyped IsLog deepest requests releases
-reached-new {w} knows terms perm_of config contents width ready known are clear no_request no_release = record {
+reached-new {w} knows terms perm_of config state width ready known are clear no_request no_release = record {
   given = new;
   holds = record {
     one_client_each = ready.one_each;
     clients = ready.fresh;
     terms_are = ready.terms_are;
     manager = known;
-    channels = made-empty config contents.parts.rings are clear;
-    room = made-room config contents.parts.rings are;
+    channels = made-empty config state.network.rings are clear;
+    room = made-room config state.network.rings are;
   };
   requests_are = no_request;
   releases_are = no_release;
-  depths = made-flat config contents.parts.rings are;
+  depths = made-flat config state.network.rings are;
   sound = headline config [] new;
   carried = λ link ch. carries config [] new link ch;
   shallow = λ link ch. omega arith;

@@ -1,4 +1,3 @@
-mod Marks
 pub mod AgentsOfConfig
 pub mod Drained
 pub mod Happened

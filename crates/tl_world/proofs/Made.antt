@@ -59,11 +59,11 @@ module _ {w : ℕ} (config : Config) (rings : Rings w) (are : AreFresh config (5
   made-room k ch d lt =
       ap (λ (b : Buffer (Beat w)). b.capacity) (are.beats (place k ch) d (at-place k ch lt)) ∙ rw (link-of k ch, number-of k ch, back ch) refl
 
-  pub made-empty : AreClear rings.occupied → Carries (clients_of config) rings fresh
+  pub made-empty : AreClear rings.non_empty → Carries (clients_of config) rings fresh
   made-empty clear = record {
     five_each = are.so_many;
     beats = λ k ch d lt. ap (λ (b : Buffer (Beat w)). b.items) (are.beats (place k ch) d (at-place k ch lt));
-    occupied = λ k ch lt. clear k ch;
+    non_empty = λ k ch lt. clear k ch;
   }
 
   pub made-flat : (k : ℕ) (ch : Channel) (d : Ring w) → k < clients_of config → (slice_index_or rings.all.items (place k ch) d).deepest ≡ 0

@@ -10,7 +10,7 @@ use Rattle.tl_beat.specs.declared.channel.Channel.{Channel}
 use Rattle.tl_burst.specs.statement.Part.{is_empty}
 use Rattle.tl_params.specs.declared.config.Config.{Config}
 use Rattle.tl_params.specs.declared.perm.Perm.{Perm}
-use Rattle.tl_client.specs.statement.End.{Terms, End}
+use Rattle.tl_client.specs.statement.Endpoint.{EndConfig, Endpoint}
 use Rattle.tl_client.specs.statement.Offer as client
 use Rattle.tl_manager.specs.code.Bit.{bit_if}
 use Rattle.tl_manager.specs.code.Knows.{Knows}
@@ -21,7 +21,7 @@ use Rattle.tl_world.specs.code.Holds.{clients_of, Holds}
 use Rattle.tl_coherence.specs.statement.Movable.{moves, is_movable, first_movable, movable_on}
 use Rattle.tl_coherence.specs.statement.Step.{is_to_client}
 use Rattle.tl_coherence.specs.statement.System.{System, terms_at}
-use Rattle.tl_world.specs.declared.parts.Parts.{Parts}
+use Rattle.tl_world.specs.declared.network.Network.{Network}
 use Rattle.tl_world.specs.declared.rings.Rings.{Rings}
 use Rattle.tl_coherence.proofs.queues.QuiescentQueues.{empty-still}
 use Rattle.tl_world.proofs.Stepping.{member, first-is, none-left}
@@ -57,9 +57,9 @@ unset-still {w} config link ch s unset = go (s.channels link ch) refl unset
     go (x ∷ rest) e none = absurd (omega (arith, none))
 
 pub none-unset : {w : ℕ} (config : Config) (rings : Rings w) (ch : Channel) (s : System w) → Carries (clients_of config) rings s
-    → (k : ℕ) → bit_at (word_of rings.occupied ch) k ≡ 0 → is_movable config k ch s ≡ false
+    → (k : ℕ) → bit_at (word_of rings.non_empty ch) k ≡ 0 → is_movable config k ch s ≡ false
 none-unset config rings ch s carried k unset = elim (cases_lt k (clients_of config)) [
-  | inl below ↦ unset-still config k ch s (sym (carried.occupied k ch below) ∙ unset)
+  | inl below ↦ unset-still config k ch s (sym (carried.non_empty k ch below) ∙ unset)
   | inr past ↦ movable-past config k ch s past
 ]
 
@@ -78,24 +78,24 @@ lowest-first config ch links link s others lower is =
 
 -- ---- of one
 
-module _ {w : ℕ} {A M : Type 0} (knows : A → End w → Type 0) (terms : A → Terms) (perm_of : M → ℕ → ℕ → Perm) (config : Config) (parts : Parts w A M)
-    (s : System w) (h : Holds knows terms perm_of config parts s)
+module _ {w : ℕ} {A M : Type 0} (knows : A → Endpoint w → Type 0) (terms : A → EndConfig) (perm_of : M → ℕ → ℕ → Perm) (config : Config) (network : Network w A M)
+    (s : System w) (h : Holds knows terms perm_of config network s)
     (link : Link) (ch : Channel) where
   module _ (below : link.0 < clients_of config) where
-    inside : link.0 < length parts.clients.items
+    inside : link.0 < length network.clients.items
     inside = omega (arith, below, h.one_client_each)
 
     abbrev one : A
-    one = member parts.clients.items link.0 inside
+    one = member network.clients.items link.0 inside
 
     pub moves-client : (x : Beat w) (stalled : Bool) → is_to_client ch ≡ true
-        → ((e : End w) (d : A) → link.0 < length parts.clients.items → knows (slice_index_or parts.clients.items link.0 d) e
-        → stalled ≡ client.stalls (terms (slice_index_or parts.clients.items link.0 d)) ch x e)
+        → ((e : Endpoint w) (d : A) → link.0 < length network.clients.items → knows (slice_index_or network.clients.items link.0 d) e
+        → stalled ≡ client.stalls (terms (slice_index_or network.clients.items link.0 d)) ch x e)
         → moves config (terms_at config link.0) link.0 ch (x ∷ []) s ≡ not stalled
     moves-client x stalled up is = rw (h.terms_are link.0 one below, up) (ap not (sym (is (s.clients link.0) one inside (h.clients link.0 one below))))
 
     pub moves-manager : (x : Beat w) (stalled : Bool) → is_to_client ch ≡ false
-        → ((config : Config) (e : manager_end.End w) → Knows perm_of parts.manager config e → stalled ≡ manager.stalls config link ch x e)
+        → ((config : Config) (e : manager_end.End w) → Knows perm_of network.manager config e → stalled ≡ manager.stalls config link ch x e)
         → moves config (terms_at config link.0) link.0 ch (x ∷ []) s ≡ not stalled
     moves-manager x stalled down is = rw (h.terms_are link.0 one below, down) (ap not (sym (is config s.manager h.manager)))
 
@@ -106,14 +106,14 @@ module _ {w : ℕ} {A M : Type 0} (knows : A → End w → Type 0) (terms : A �
         let beats = first-is (s.channels link.0 ch) x first in
         rw (h.terms_are link.0 one below, beats) (sym (rw (h.terms_are link.0 one below) at is))
 
-  pub movable-empty : ((n : ℕ) (s : System w) → Carries n parts.rings s → link.0 < n → None ≡ slice_get (s.channels link.0 ch) 0) → false ≡ is_movable config link.0 ch s
+  pub movable-empty : ((n : ℕ) (s : System w) → Carries n network.rings s → link.0 < n → None ≡ slice_get (s.channels link.0 ch) 0) → false ≡ is_movable config link.0 ch s
   movable-empty first = elim (cases_lt link.0 (clients_of config)) [
     | inl below ↦ sym (empty-still config s link.0 ch (none-left (s.channels link.0 ch) (first (clients_of config) s h.channels below)))
     | inr past ↦ sym (movable-past config link.0 ch s past)
   ]
 
-  pub movable-first : (x : Beat w) (stalled : Bool) → ((n : ℕ) (s : System w) → Carries n parts.rings s → link.0 < n → Some x ≡ slice_get (s.channels link.0 ch) 0)
-      → ((n : ℕ) (s : System w) → Carries n parts.rings s → n ≤ link.0 → Some x ≡ None)
+  pub movable-first : (x : Beat w) (stalled : Bool) → ((n : ℕ) (s : System w) → Carries n network.rings s → link.0 < n → Some x ≡ slice_get (s.channels link.0 ch) 0)
+      → ((n : ℕ) (s : System w) → Carries n network.rings s → n ≤ link.0 → Some x ≡ None)
       → (link.0 < clients_of config → moves config (terms_at config link.0) link.0 ch (x ∷ []) s ≡ not stalled) → not stalled ≡ is_movable config link.0 ch s
   movable-first x stalled there nowhere is = elim (cases_lt link.0 (clients_of config)) [
     | inl below ↦ first-moves below x stalled (there (clients_of config) s h.channels below) (is below)

@@ -77,8 +77,8 @@ module _ {w : ℕ} where
       → ((d : Ring w) → (slice_index_or new.all.items (place k ch) d).deepest ≡ max (slice_index_or old.all.items (place k ch) d).deepest
       (length (slice_index_or new.all.items (place k ch) d).beats.items))
       → ((i : ℕ) (d : Ring w) → i ≢ place k ch → slice_index_or new.all.items i d ≡ slice_index_or old.all.items i d)
-      → (k < n → bit_at (word_of new.occupied ch) k ≡ bit_if (not (is_empty beats)))
-      → ((j : ℕ) (c : Channel) → place j c ≢ place k ch → bit_at (word_of new.occupied c) j ≡ bit_at (word_of old.occupied c) j)
+      → (k < n → bit_at (word_of new.non_empty ch) k ≡ bit_if (not (is_empty beats)))
+      → ((j : ℕ) (c : Channel) → place j c ≢ place k ch → bit_at (word_of new.non_empty c) j ≡ bit_at (word_of old.non_empty c) j)
       → AreMoved n old new (with_channel k ch beats s)
   moved-one n old new s k ch beats carried same_number here deeper others bit_here bit_others = record {
     carries = record {
@@ -88,10 +88,10 @@ module _ {w : ℕ} where
             | inl same ↦ rw (same.0, same.1, eq-eqb k k refl, same_self ch) (here d (let is = same.0 in omega (arith, is, lt)))
             | inr other ↦ rw (other.1, others (place j c) d other.0) (carried.beats j c d lt)
           ];
-      occupied = λ j c lt.
+      non_empty = λ j c lt.
           elim (places j k c ch) [
             | inl same ↦ rw (same.0, same.1, eq-eqb k k refl, same_self ch) (bit_here (let is = same.0 in omega (arith, is, lt)))
-            | inr other ↦ rw (other.1, bit_others j c other.0) (carried.occupied j c lt)
+            | inr other ↦ rw (other.1, bit_others j c other.0) (carried.non_empty j c lt)
           ];
     };
     deepen = λ j c d lt.
@@ -108,8 +108,8 @@ module _ {w : ℕ} where
       (slice_index_or old.all.items (place k ch) d).beats.capacity)
       → ((d : Ring w) → (slice_index_or new.all.items (place k ch) d).deepest ≡ (slice_index_or old.all.items (place k ch) d).deepest)
       → ((i : ℕ) (d : Ring w) → i ≢ place k ch → slice_index_or new.all.items i d ≡ slice_index_or old.all.items i d)
-      → (d : Ring w) → bit_at (word_of new.occupied ch) k ≡ bit_if (not (length (slice_index_or new.all.items (place k ch) d).beats.items == 0))
-      → ((j : ℕ) (c : Channel) → place j c ≢ place k ch → bit_at (word_of new.occupied c) j ≡ bit_at (word_of old.occupied c) j)
+      → (d : Ring w) → bit_at (word_of new.non_empty ch) k ≡ bit_if (not (length (slice_index_or new.all.items (place k ch) d).beats.items == 0))
+      → ((j : ℕ) (c : Channel) → place j c ≢ place k ch → bit_at (word_of new.non_empty c) j ≡ bit_at (word_of old.non_empty c) j)
       → AreMoved n old new (with_channel k ch rest s)
   moved-dropped n old new s k ch x rest carried inside first same_number dropped flat others d bit_here bit_others =
       moved-one n old new s k ch rest carried same_number (λ e lt. left e) deeper others (λ lt. bit_here ∙ ap bit_if (rw (left d) (some rest))) bit_others
@@ -135,7 +135,7 @@ module _ {w : ℕ} where
     carries = record {
       five_each = carried.five_each;
       beats = λ j c d lt. let other : (j ≡ k) → ⊥ = λ same. absurd (omega (arith, same, lt, past)) in rw (ne_eqb j k other) (carried.beats j c d lt);
-      occupied = λ j c lt. let other : (j ≡ k) → ⊥ = λ same. absurd (omega (arith, same, lt, past)) in rw (ne_eqb j k other) (carried.occupied j c lt);
+      non_empty = λ j c lt. let other : (j ≡ k) → ⊥ = λ same. absurd (omega (arith, same, lt, past)) in rw (ne_eqb j k other) (carried.non_empty j c lt);
     };
     deepen = λ j c d lt. deepest_kept (slice_index_or rings.all.items (place j c) d);
   }
@@ -188,8 +188,8 @@ module _ {w : ℕ} where
       (slice_index_or old.all.items (place l (channel_of_message m)) d).deepest
       (length (slice_index_or new.all.items (place l (channel_of_message m)) d).beats.items))
       → ((i : ℕ) (d : Ring w) → i ≢ place l (channel_of_message m) → slice_index_or new.all.items i d ≡ slice_index_or old.all.items i d)
-      → bit_at (word_of new.occupied (channel_of_message m)) l ≡ 1
-      → ((j : ℕ) (c : Channel) → place j c ≢ place l (channel_of_message m) → bit_at (word_of new.occupied c) j ≡ bit_at (word_of old.occupied c) j)
+      → bit_at (word_of new.non_empty (channel_of_message m)) l ≡ 1
+      → ((j : ℕ) (c : Channel) → place j c ≢ place l (channel_of_message m) → bit_at (word_of new.non_empty c) j ≡ bit_at (word_of old.non_empty c) j)
       → AreMoved n old new (with_message l m s)
   moved-sent n old new s l m width carried fits same_number sent deeper others bit_here bit_others =
       moved-one n old new s l ch (s.channels l ch ++ beats_from m 0 (beats_of m)) carried same_number here deeper others

@@ -28,10 +28,6 @@ clients-split first (suc n) m test =
     go true e = ap (λ (cs : List ℕ). first ∷ cs) e
     go false e = e
 
-one-client : (i : ℕ) (test : ℕ → Bool) (b : Bool) → test i ≡ b → clients_from i 1 test ≡ (if b then i ∷ [] else [])
-unfolding clients_from
-one-client i test b e = rw e refl
-
 pub probes-unsent : {w : ℕ} (block : ℕ) (cap : Cap) (test : ℕ → Bool) (i : ℕ) → test i ≡ false → probes {w = w} block cap (clients_from 0 (i + 1) test) ≡ probes block cap (clients_from 0 i test)
 probes-unsent {w} block given test i unset = ap (probes {w = w} block given) (clients-more i test false unset ∙ append-nil (clients_from 0 i test))
 

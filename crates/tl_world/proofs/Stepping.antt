@@ -15,7 +15,7 @@ use Rattle.tl_client.specs.declared.operation.Op.{Op}
 use Rattle.tl_client.specs.declared.reply.Reply.{Reply}
 use Rattle.tl_client.specs.declared.verdict.Verdict.{Verdict}
 use Rattle.tl_client.specs.statement.Ask.{asked}
-use Rattle.tl_client.specs.statement.End.{Terms, End}
+use Rattle.tl_client.specs.statement.Endpoint.{EndConfig, Endpoint}
 use Rattle.tl_client.specs.statement.Offer.{offered}
 use Rattle.tl_manager.specs.code.Bit.{bit_if}
 use Rattle.tl_manager.specs.statement.Handing.{Handed}
@@ -31,7 +31,7 @@ use Rattle.tl_coherence.specs.declared.event.Event.{Event}
 use Rattle.tl_coherence.specs.declared.event.Event.TheVariants.{Ask, Deliver}
 use Rattle.tl_coherence.specs.declared.event.Outcome.{Outcome}
 use Rattle.tl_coherence.specs.declared.event.Outcome.TheVariants as outcome
-use Rattle.tl_world.specs.declared.parts.Parts.{Parts}
+use Rattle.tl_world.specs.declared.network.Network.{Network}
 use Rattle.tl_world.specs.declared.rings.Rings.{Rings}
 use Rattle.tl_coherence.proofs.deliveries.Matching.{stepped-nobody}
 use Rattle.tl_world.proofs.Queues.{moved-still, moved-then, messages-grow}
@@ -61,11 +61,11 @@ carries-same : {w : ℕ} (n : ℕ) (rings : Rings w) (s s' : System w) → ((k :
 carries-same {w = w} n rings s s' same carried = record {
   five_each = carried.five_each;
   beats = λ k ch d lt. carried.beats k ch d lt ∙ sym (same k ch);
-  occupied = λ k ch lt. carried.occupied k ch lt ∙ ap (λ (xs : List (Beat w)). bit_if (not (is_empty xs))) (sym (same k ch));
+  non_empty = λ k ch lt. carried.non_empty k ch lt ∙ ap (λ (xs : List (Beat w)). bit_if (not (is_empty xs))) (sym (same k ch));
 }
 
-module _ {w : ℕ} {A M : Type 0} (knows : A → End w → Type 0) (terms : A → Terms) (perm_of : M → ℕ → ℕ → Perm) (config : Config) where
-  fits-in : (old : Parts w A M) (now : Rings w) (s s' : System w) → Holds knows terms perm_of config old s → AreKept old.rings now → HasRoom config s' → Fit (clients_of config) now s'
+module _ {w : ℕ} {A M : Type 0} (knows : A → Endpoint w → Type 0) (terms : A → EndConfig) (perm_of : M → ℕ → ℕ → Perm) (config : Config) where
+  fits-in : (old : Network w A M) (now : Rings w) (s s' : System w) → Holds knows terms perm_of config old s → AreKept old.rings now → HasRoom config s' → Fit (clients_of config) now s'
   fits-in old now s s' h kept room k ch d lt =
       let a = room k ch in
       let b = h.room k ch d lt in
@@ -76,7 +76,7 @@ module _ {w : ℕ} {A M : Type 0} (knows : A → End w → Type 0) (terms : A �
   room-after event s step is room = subst (λ (x : Step w). HasRoom config x.after) is room
 
   -- a step that is known
-  stepped-by : (old new : Parts w A M) (event : Event w) (s : System w) (step : Step w) (o : Outcome w) → stepped config event s ≡ step → o ≡ step.outcome
+  stepped-by : (old new : Network w A M) (event : Event w) (s : System w) (step : Step w) (o : Outcome w) → stepped config event s ≡ step → o ≡ step.outcome
       → Holds knows terms perm_of config new step.after
       → Deepen (clients_of config) old.rings new.rings → IsStepped knows terms perm_of config old new event o s
   stepped-by old new event s step o is same h deepen = record {
@@ -86,7 +86,7 @@ module _ {w : ℕ} {A M : Type 0} (knows : A → End w → Type 0) (terms : A �
   }
 
   -- one client changes, and channels
-  client-holds : (old new : Parts w A M) (s s' : System w) (i : ℕ) (e : End w) → Holds knows terms perm_of config old s → ((d : A) → knows (slice_index_or new.clients.items i d) e)
+  client-holds : (old new : Network w A M) (s s' : System w) (i : ℕ) (e : Endpoint w) → Holds knows terms perm_of config old s → ((d : A) → knows (slice_index_or new.clients.items i d) e)
       → ((d : A) → terms (slice_index_or new.clients.items i d) ≡ terms (slice_index_or old.clients.items i d))
       → ((k : ℕ) (d : A) → k ≢ i → slice_index_or new.clients.items k d ≡ slice_index_or old.clients.items k d)
       → length new.clients.items ≡ length old.clients.items → ((k : ℕ) → s'.clients k ≡ (with_client i e s).clients k) → s'.manager ≡ s.manager → new.manager ≡ old.manager
@@ -94,7 +94,7 @@ module _ {w : ℕ} {A M : Type 0} (knows : A → End w → Type 0) (terms : A �
   client-holds old new s s' i e h known same_terms others same_number clients_are manager_is same_manager kept carried = record {
     one_client_each = same_number ∙ h.one_client_each;
     clients = λ k d lt.
-        subst (λ (f : End w). knows (slice_index_or new.clients.items k d) f) (sym (clients_are k))
+        subst (λ (f : Endpoint w). knows (slice_index_or new.clients.items k d) f) (sym (clients_are k))
         (elim (cases_eq k i) [
           | inl same ↦ rw (same, eq-eqb i i refl) (known d)
           | inr other ↦ rw (ne_eqb k i other, others k d other) (h.clients k d lt)
@@ -110,25 +110,25 @@ module _ {w : ℕ} {A M : Type 0} (knows : A → End w → Type 0) (terms : A �
   }
 
   -- all of one client are made for the same
-  made-for : (old : Parts w A M) (s : System w) (i : ℕ) (d f : A) → Holds knows terms perm_of config old s → i < clients_of config
+  made-for : (old : Network w A M) (s : System w) (i : ℕ) (d f : A) → Holds knows terms perm_of config old s → i < clients_of config
       → terms (slice_index_or old.clients.items i d) ≡ terms (slice_index_or old.clients.items i f)
   made-for old s i d f h below = some_is (sym (h.terms_are i d below) ∙ h.terms_are i f below)
     where
-      some_is : {x y : Terms} → Some x ≡ Some y → x ≡ y
+      some_is : {x y : EndConfig} → Some x ≡ Some y → x ≡ y
       some_is e = cc
 
   -- ---- the first beat of a channel
 
-  pub first-brought : (parts : Parts w A M) (s : System w) (link : Link) (ch : Channel) (x : Beat w) → Holds knows terms perm_of config parts s → link.0 < length parts.clients.items
-      → ((n : ℕ) (s : System w) → Carries n parts.rings s → link.0 < n → Some x ≡ slice_get (s.channels link.0 ch) 0)
+  pub first-brought : (network : Network w A M) (s : System w) (link : Link) (ch : Channel) (x : Beat w) → Holds knows terms perm_of config network s → link.0 < length network.clients.items
+      → ((n : ℕ) (s : System w) → Carries n network.rings s → link.0 < n → Some x ≡ slice_get (s.channels link.0 ch) 0)
       → s.channels link.0 ch ≡ x ∷ drop 1 (s.channels link.0 ch)
-  first-brought parts s link ch x h inside first =
+  first-brought network s link ch x h inside first =
       let under : link.0 < clients_of config = omega (arith, inside, h.one_client_each) in
       first-is (s.channels link.0 ch) x (first (clients_of config) s h.channels under)
 
   -- ---- a client is asked
 
-  pub steps-asked : (old new : Parts w A M) (s : System w) (i : ℕ) (op : Op w) (answer : Reply × Option (Message w)) → Holds knows terms perm_of config old s → i < length old.clients.items
+  pub steps-asked : (old new : Network w A M) (s : System w) (i : ℕ) (op : Op w) (answer : Reply × Option (Message w)) → Holds knows terms perm_of config old s → i < length old.clients.items
       → IsAsked knows terms old.clients.items new.clients.items i op answer → new.manager ≡ old.manager → AreKept old.rings new.rings
       → ((n : ℕ) (s : System w) → Carries n old.rings s → Fit n old.rings (with_messages (handed_by i answer.1) s) → AreMoved n old.rings new.rings (with_messages (handed_by i answer.1) s))
       → HasRoom config (stepped config (Ask i op) s).after
@@ -136,7 +136,7 @@ module _ {w : ℕ} {A M : Type 0} (knows : A → End w → Type 0) (terms : A �
   steps-asked old new s i op answer h inside is same_manager kept sends room =
       stepped-by old new (Ask i op) s (handing (outcome.Replied answer.0) handed now) (outcome.Replied answer.0) step refl
       (client-holds old new s (with_messages handed now) i end h known is.same_terms is.others is.same_number
-      (λ k. ap (λ (f : ℕ → End w). f k) (clients-with_messages handed now)) (manager-with_messages handed now) same_manager kept moved.carries)
+      (λ k. ap (λ (f : ℕ → Endpoint w). f k) (clients-with_messages handed now)) (manager-with_messages handed now) same_manager kept moved.carries)
       moved.deepen
     where
       below : i < clients_of config
@@ -145,10 +145,10 @@ module _ {w : ℕ} {A M : Type 0} (knows : A → End w → Type 0) (terms : A �
       one : A
       one = member old.clients.items i inside
 
-      t : Terms
+      t : EndConfig
       t = terms (slice_index_or old.clients.items i one)
 
-      end : End w
+      end : Endpoint w
       end = (asked t op (s.clients i)).after
 
       handed : Handed w
@@ -163,7 +163,7 @@ module _ {w : ℕ} {A M : Type 0} (knows : A → End w → Type 0) (terms : A �
           ∙ rw (← is.reply (s.clients i) one (h.clients i one below), ← is.message (s.clients i) one (h.clients i one below)) refl
 
       known : (d : A) → knows (slice_index_or new.clients.items i d) end
-      known d = subst (λ (u : Terms). knows (slice_index_or new.clients.items i d) (asked u op (s.clients i)).after) (made-for old s i d one h below) (is.after (s.clients i) d (h.clients i d below))
+      known d = subst (λ (u : EndConfig). knows (slice_index_or new.clients.items i d) (asked u op (s.clients i)).after) (made-for old s i d one h below) (is.after (s.clients i) d (h.clients i d below))
 
       kept-still : AreKept old.rings old.rings
       kept-still = record { same_number = refl; same_capacity = λ k d. refl }
@@ -175,7 +175,7 @@ module _ {w : ℕ} {A M : Type 0} (knows : A → End w → Type 0) (terms : A �
 
   -- ---- a beat is brought to a client
 
-  module _ (old new : Parts w A M) (s : System w) (link : Link) (ch : Channel) (x : Beat w) (rest : List (Beat w))
+  module _ (old new : Network w A M) (s : System w) (link : Link) (ch : Channel) (x : Beat w) (rest : List (Beat w))
       (answer : Result (Verdict × Option (Message w)) Rule) (h : Holds knows terms perm_of config old s)
       (inside : link.0 < length old.clients.items) (first : s.channels link.0 ch ≡ x ∷ rest) (up : is_to_client ch ≡ true)
       (is : IsOffered knows terms old.clients.items new.clients.items link.0 ch x answer)
@@ -186,17 +186,17 @@ module _ {w : ℕ} {A M : Type 0} (knows : A → End w → Type 0) (terms : A �
     abbrev one : A
     one = member old.clients.items link.0 inside
 
-    abbrev t : Terms
+    abbrev t : EndConfig
     t = terms (slice_index_or old.clients.items link.0 one)
 
-    abbrev end : End w
+    abbrev end : Endpoint w
     end = (offered t ch x (s.clients link.0)).after
 
     answer_is : answer ≡ (offered t ch x (s.clients link.0)).answer
     answer_is = is.answer_is (s.clients link.0) one (h.clients link.0 one below)
 
     known : (d : A) → knows (slice_index_or new.clients.items link.0 d) end
-    known d = subst (λ (u : Terms). knows (slice_index_or new.clients.items link.0 d) (offered u ch x (s.clients link.0)).after)
+    known d = subst (λ (u : EndConfig). knows (slice_index_or new.clients.items link.0 d) (offered u ch x (s.clients link.0)).after)
         (made-for old s link.0 d one h below) (is.after (s.clients link.0) d (h.clients link.0 d below))
 
     taken-up : stepped config (Deliver link ch) s ≡ judged (offered t ch x (s.clients link.0)).answer link.0 ch x rest end s
@@ -233,7 +233,7 @@ module _ {w : ℕ} {A M : Type 0} (knows : A → End w → Type 0) (terms : A �
         let again : end ≡ s.clients link.0 = stayed-client t ch x (s.clients link.0) v m (sym stayed ∙ answer_is) stays in
         stepped-by old new (Deliver link ch) s (only outcome.Stalled s) outcome.Stalled
         (taken-up ∙ judged-stayed _ v m link.0 ch x rest end s (sym stayed ∙ answer_is) stays) refl
-        (client-holds old new s s link.0 (s.clients link.0) h (λ d. subst (λ (e : End w). knows (slice_index_or new.clients.items link.0 d) e) again (known d)) is.same_terms is.others is.same_number
+        (client-holds old new s s link.0 (s.clients link.0) h (λ d. subst (λ (e : Endpoint w). knows (slice_index_or new.clients.items link.0 d) e) again (known d)) is.same_terms is.others is.same_number
         unmoved refl same_manager (kept same) (carried s (λ k c. refl) same))
         (still same)
 
@@ -247,7 +247,7 @@ module _ {w : ℕ} {A M : Type 0} (knows : A → End w → Type 0) (terms : A �
     steps-taken mid v m taken moves first_kept then_kept drops sends room =
         stepped-by old new (Deliver link ch) s (handing (outcome_of x v) handed now) (outcome_of x v) step refl
         (client-holds old new s (with_messages handed now) link.0 end h known is.same_terms is.others is.same_number
-        (λ k. ap (λ (f : ℕ → End w). f k) (clients-with_messages handed now)) (manager-with_messages handed now) same_manager both_kept sent.carries)
+        (λ k. ap (λ (f : ℕ → Endpoint w). f k) (clients-with_messages handed now)) (manager-with_messages handed now) same_manager both_kept sent.carries)
         (moved-then (clients_of config) old.rings mid new.rings base (with_messages handed now) dropped sent (λ k c. messages-grow handed now k c)).deepen
       where
         base : System w
@@ -278,7 +278,7 @@ module _ {w : ℕ} {A M : Type 0} (knows : A → End w → Type 0) (terms : A �
 
   -- ---- a beat is brought to the manager
 
-  manager-holds : (old new : Parts w A M) (s s' : System w) → Holds knows terms perm_of config old s → new.clients.items ≡ old.clients.items
+  manager-holds : (old new : Network w A M) (s s' : System w) → Holds knows terms perm_of config old s → new.clients.items ≡ old.clients.items
       → ((k : ℕ) → s'.clients k ≡ s.clients k) → Knows perm_of new.manager config s'.manager
       → AreKept old.rings new.rings → Carries (clients_of config) new.rings s' → Holds knows terms perm_of config new s'
   manager-holds old new s s' h same_clients clients_are knowing as_made carrying = record {
@@ -290,7 +290,7 @@ module _ {w : ℕ} {A M : Type 0} (knows : A → End w → Type 0) (terms : A �
     room = λ k ch d lt. as_made.same_capacity (place k ch) d ∙ h.room k ch d lt;
   }
 
-  module _ (old new : Parts w A M) (s : System w) (link : Link) (ch : Channel) (x : Beat w) (rest : List (Beat w)) (answer : manager.Reception w) (h : Holds knows terms perm_of config old s)
+  module _ (old new : Network w A M) (s : System w) (link : Link) (ch : Channel) (x : Beat w) (rest : List (Beat w)) (answer : manager.Reception w) (h : Holds knows terms perm_of config old s)
       (inside : link.0 < length old.clients.items) (first : s.channels link.0 ch ≡ x ∷ rest) (down : is_to_client ch ≡ false) (same_clients : new.clients.items ≡ old.clients.items)
       (answers : (config : Config) (e : manager_end.End w) → Knows perm_of old.manager config e → answer ≡ (manager.offered config link ch x e).0)
       (knowing : (config : Config) (e : manager_end.End w) → Knows perm_of old.manager config e → Knows perm_of new.manager config (manager.offered config link ch x e).1) where
@@ -343,7 +343,7 @@ module _ {w : ℕ} {A M : Type 0} (knows : A → End w → Type 0) (terms : A �
         → IsStepped knows terms perm_of config old new (Deliver link ch) (outcome.Moved x) s
     manager-sent mid handed sent first_kept then_kept drops sends room =
         stepped-by old new (Deliver link ch) s (handing (outcome.Moved x) handed now) (outcome.Moved x) step refl
-        (manager-holds old new s (with_messages handed now) h same_clients (λ k. ap (λ (f : ℕ → End w). f k) (clients-with_messages handed now))
+        (manager-holds old new s (with_messages handed now) h same_clients (λ k. ap (λ (f : ℕ → Endpoint w). f k) (clients-with_messages handed now))
         (rw (manager-with_messages handed now) (knowing config s.manager h.manager)) both_kept moved.carries)
         (moved-then (clients_of config) old.rings mid new.rings base (with_messages handed now) dropped moved (λ k c. messages-grow handed now k c)).deepen
       where
@@ -372,20 +372,20 @@ module _ {w : ℕ} {A M : Type 0} (knows : A → End w → Type 0) (terms : A �
 
   -- ---- nothing changes
 
-  pub steps-nobody : (parts : Parts w A M) (s : System w) (event : Event w) → Holds knows terms perm_of config parts s → length parts.clients.items ≤ client_of event
-      → IsStepped knows terms perm_of config parts parts event outcome.NoSuchClient s
-  steps-nobody parts s event h past =
-      stepped-by parts parts event s (only outcome.NoSuchClient s) outcome.NoSuchClient
+  pub steps-nobody : (network : Network w A M) (s : System w) (event : Event w) → Holds knows terms perm_of config network s → length network.clients.items ≤ client_of event
+      → IsStepped knows terms perm_of config network network event outcome.NoSuchClient s
+  steps-nobody network s event h past =
+      stepped-by network network event s (only outcome.NoSuchClient s) outcome.NoSuchClient
       (stepped-nobody config event s (rw (slice_get_past config.clients.items (client_of event) (omega (arith, past, h.one_client_each))) refl)) refl h
-      (moved-still (clients_of config) parts.rings s h.channels).deepen
+      (moved-still (clients_of config) network.rings s h.channels).deepen
 
-  pub steps-empty : (parts : Parts w A M) (s : System w) (link : Link) (ch : Channel) → Holds knows terms perm_of config parts s → link.0 < length parts.clients.items
-      → ((n : ℕ) (s : System w) → Carries n parts.rings s → link.0 < n → None ≡ slice_get (s.channels link.0 ch) 0)
-      → IsStepped knows terms perm_of config parts parts (Deliver link ch) outcome.Empty s
-  steps-empty parts s link ch h inside first =
+  pub steps-empty : (network : Network w A M) (s : System w) (link : Link) (ch : Channel) → Holds knows terms perm_of config network s → link.0 < length network.clients.items
+      → ((n : ℕ) (s : System w) → Carries n network.rings s → link.0 < n → None ≡ slice_get (s.channels link.0 ch) 0)
+      → IsStepped knows terms perm_of config network network (Deliver link ch) outcome.Empty s
+  steps-empty network s link ch h inside first =
       let under : link.0 < clients_of config = omega (arith, inside, h.one_client_each) in
-      let some = member parts.clients.items link.0 inside in
-      stepped-by parts parts (Deliver link ch) s (only outcome.Empty s) outcome.Empty
-      (stepped-empty config link ch s (terms (slice_index_or parts.clients.items link.0 some)) (h.terms_are link.0 some under)
+      let some = member network.clients.items link.0 inside in
+      stepped-by network network (Deliver link ch) s (only outcome.Empty s) outcome.Empty
+      (stepped-empty config link ch s (terms (slice_index_or network.clients.items link.0 some)) (h.terms_are link.0 some under)
       (none-left (s.channels link.0 ch) (first (clients_of config) s h.channels under))) refl h
-      (moved-still (clients_of config) parts.rings s h.channels).deepen
+      (moved-still (clients_of config) network.rings s h.channels).deepen

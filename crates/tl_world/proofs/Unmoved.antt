@@ -9,7 +9,7 @@ use Rattle.tl_params.specs.declared.config.Config.{Config}
 use Rattle.tl_params.specs.declared.rule.Rule.{Rule}
 use Rattle.tl_client.specs.declared.verdict.Verdict.{Verdict}
 use Rattle.tl_client.specs.declared.verdict.Verdict.TheVariants as verdict
-use Rattle.tl_client.specs.statement.End.{Terms, End}
+use Rattle.tl_client.specs.statement.Endpoint.{EndConfig, Endpoint}
 use Rattle.tl_client.specs.statement.Offer as offer
 use Rattle.tl_client.specs.statement.Offer.{offered, is_stalled, silent, waits, broken_before, broken_later}
 use Rattle.tl_client.proofs.Stalls.{taken_now}
@@ -25,14 +25,14 @@ use Rattle.tl_coherence.specs.declared.event.Outcome.TheVariants as outcome
 
 module _ {w : ℕ} where
   -- the beat stays: what a client is stays the same
-  abbrev Stays : offer.Offered w → End w → Type 0
+  abbrev Stays : offer.Offered w → Endpoint w → Type 0
   Stays o e = is_stalled o.answer ≡ true → o.after ≡ e
 
-  later : (o : Option Rule) (x : Beat w) (e : End w) → Stays (offer.judged_later o x e) e
+  later : (o : Option Rule) (x : Beat w) (e : Endpoint w) → Stays (offer.judged_later o x e) e
   later (Some rule) x e stays = absurd cc
   later None x e stays = absurd (let no_stall = taken_now x e in cc)
 
-  before : (o : Option Rule) (terms : Terms) (x : Beat w) (e : End w) → Stays (offer.judged o terms x e) e
+  before : (o : Option Rule) (terms : EndConfig) (x : Beat w) (e : Endpoint w) → Stays (offer.judged o terms x e) e
   before (Some rule) terms x e stays = absurd cc
   before None terms x e stays = go (waits x e.past) stays
     where
@@ -45,17 +45,17 @@ module _ {w : ℕ} where
   is_stalled-stay verdict.Taken m e = absurd cc
   is_stalled-stay (verdict.Done source finish) m e = absurd cc
 
-  pub stayed-client : (terms : Terms) (ch : Channel) (x : Beat w) (e : End w) (v : Verdict) (m : Option (Message w)) → Ok (v, m) ≡ (offered terms ch x e).answer
+  pub stayed-client : (terms : EndConfig) (ch : Channel) (x : Beat w) (e : Endpoint w) (v : Verdict) (m : Option (Message w)) → Ok (v, m) ≡ (offered terms ch x e).answer
       → is_stay v ≡ true → (offered terms ch x e).after ≡ e
   unfolding offered
   stayed-client terms ch x e v m answer stay = before (broken_before terms ch x e) terms x e (ap is_stalled (sym answer) ∙ is_stalled-stay v m stay)
 
-  pub judged-refused : (answer : Result (Verdict × Option (Message w)) Rule) (rule : Rule) (link : ℕ) (ch : Channel) (x : Beat w) (rest : List (Beat w)) (e : End w) (s : System w) → Err rule ≡ answer
+  pub judged-refused : (answer : Result (Verdict × Option (Message w)) Rule) (rule : Rule) (link : ℕ) (ch : Channel) (x : Beat w) (rest : List (Beat w)) (e : Endpoint w) (s : System w) → Err rule ≡ answer
       → judged answer link ch x rest e s ≡ only outcome.Stalled (with_client link e s)
   judged-refused answer rule link ch x rest e s is = rw (← is) refl
 
   pub judged-stayed : (answer : Result (Verdict × Option (Message w)) Rule) (v : Verdict) (m : Option (Message w)) (link : ℕ) (ch : Channel) (x : Beat w)
-      (rest : List (Beat w)) (e : End w) (s : System w) → Ok (v, m) ≡ answer
+      (rest : List (Beat w)) (e : Endpoint w) (s : System w) → Ok (v, m) ≡ answer
       → is_stay v ≡ true → judged answer link ch x rest e s ≡ only outcome.Stalled s
   judged-stayed answer v m link ch x rest e s is stay = rw (← is) (go v stay)
     where
@@ -65,7 +65,7 @@ module _ {w : ℕ} where
       go (verdict.Done source finish) f = absurd cc
 
   pub judged-taken : (answer : Result (Verdict × Option (Message w)) Rule) (v : Verdict) (m : Option (Message w)) (link : ℕ) (ch : Channel) (x : Beat w)
-      (rest : List (Beat w)) (e : End w) (s : System w) → Ok (v, m) ≡ answer
+      (rest : List (Beat w)) (e : Endpoint w) (s : System w) → Ok (v, m) ≡ answer
       → is_stay v ≡ false → judged answer link ch x rest e s ≡ handing (outcome_of x v) (handed_by link m) (with_client link e (with_channel link ch rest s))
   judged-taken answer v m link ch x rest e s is moves = rw (← is) (go v moves)
     where

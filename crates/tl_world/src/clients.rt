@@ -1,8 +1,8 @@
 //! Calls on one of several clients.
 
 ghost use Rattle.std.specs.Prelude.{◌≡◌, ◌<◌, ◌≤◌, length, slice_index_or, true, None};
-ghost use Rattle.tl_client.specs.statement.End;
-ghost use Rattle.tl_client.specs.statement.End.{End};
+ghost use Rattle.tl_client.specs.statement.Endpoint;
+ghost use Rattle.tl_client.specs.statement.Endpoint.{Endpoint};
 ghost use Rattle.tl_client.specs.statement.Offer;
 ghost use Rattle.tl_params.specs.declared.perm.Perm.TheVariants as perm;
 ghost use Rattle.tl_world.specs.code.Called.{IsAsked, IsOffered};
@@ -24,7 +24,7 @@ pub fn ask_at<const W: usize, A: Agent<W>>(
     operation: Op<W>,
 ) -> (Reply, Option<Message<W>>)
     requires { i < length clients.old.items }
-    ensures { IsAsked A.knows A.terms clients.old.items clients.new.items i operation.entry result }
+    ensures { IsAsked A.represents A.terms clients.old.items clients.new.items i operation.entry result }
 {
     clients[i].ask(operation)
 }
@@ -37,15 +37,15 @@ pub fn offer_at<const W: usize, A: Agent<W>>(
     beat: &Beat<W>,
 ) -> Result<(Verdict, Option<Message<W>>), Rule>
     requires { i < length clients.old.items }
-    ensures { IsOffered A.knows A.terms clients.old.items clients.new.items i channel beat.now result }
+    ensures { IsOffered A.represents A.terms clients.old.items clients.new.items i channel beat.now result }
 {
     clients[i].offer(channel, beat)
 }
 
 /// What one client holds of a block: None where there is no such client.
 pub fn held_at<const W: usize, A: Agent<W>>(clients: &Vec<A>, i: usize, block: u16) -> Perm
-    ensures there { (e : End W) (d : A) → i < length clients.now.items → A.knows (slice_index_or clients.now.items i d) e →
-        result ≡ End.held_at e block }
+    ensures there { (e : Endpoint W) (d : A) → i < length clients.now.items → A.represents (slice_index_or clients.now.items i d) e →
+        result ≡ Endpoint.held_at e block }
     ensures nowhere { length clients.now.items ≤ i → result ≡ perm.None }
 {
     match clients.get(i) {
@@ -60,7 +60,7 @@ pub fn copy_at<const W: usize, A: Agent<W>>(
     i: usize,
     block: u16,
 ) -> Option<[u8; 64]>
-    ensures there { (e : End W) (d : A) → i < length clients.now.items → A.knows (slice_index_or clients.now.items i d) e →
+    ensures there { (e : Endpoint W) (d : A) → i < length clients.now.items → A.represents (slice_index_or clients.now.items i d) e →
         result ≡ e.copies block }
     ensures nowhere { length clients.now.items ≤ i → result ≡ None }
 {
@@ -70,14 +70,14 @@ pub fn copy_at<const W: usize, A: Agent<W>>(
     }
 }
 
-/// Whether one client stalls a beat: so it is where there is no such client.
+/// Whether one client stalls a beat: true where there is no such client.
 pub fn stalls_at<const W: usize, A: Agent<W>>(
     clients: &Vec<A>,
     i: usize,
     channel: Channel,
     beat: &Beat<W>,
 ) -> bool
-    ensures there { (e : End W) (d : A) → i < length clients.now.items → A.knows (slice_index_or clients.now.items i d) e →
+    ensures there { (e : Endpoint W) (d : A) → i < length clients.now.items → A.represents (slice_index_or clients.now.items i d) e →
         result ≡ Offer.stalls (A.terms (slice_index_or clients.now.items i d)) channel beat.now e }
     ensures nowhere { length clients.now.items ≤ i → result ≡ true }
 {

@@ -6,7 +6,7 @@ ghost use Rattle.tl_world.specs.code.Carrying;
 ghost use Rattle.tl_world.specs.code.Carrying.{AreClear, AreFresh};
 ghost use Rattle.tl_coherence.specs.statement.Delivery;
 
-use crate::occupied::Occupied;
+use crate::non_empty::NonEmptyChannels;
 use crate::ring::Ring;
 use crate::rings::Rings;
 use std::alloc::{AllocError, Global};
@@ -46,7 +46,7 @@ fn capacity<const W: usize>(sources: u8, trackers: u8, channel: Channel) -> u16
 pub fn make_rings<const W: usize>(alloc: Global, config: &Config) -> Result<Rings<W>, AllocError>
     requires { IsWidth W }
     ensures fresh { IfOk result (λ rings. AreFresh config.now (5 * length config.now.clients.items) rings.all.items) }
-    ensures clear { IfOk result (λ rings. AreClear rings.occupied) }
+    ensures clear { IfOk result (λ rings. AreClear rings.non_empty) }
 {
     let clients = config.clients.as_slice();
     let mut all = Vec::new(alloc);
@@ -54,6 +54,6 @@ pub fn make_rings<const W: usize>(alloc: Global, config: &Config) -> Result<Ring
         let capacity = capacity::<W>(clients[at / 5].sources, config.trackers, channel_at(at % 5));
         all.push(Ring::new(alloc, capacity)?)?;
     }
-    let occupied = Occupied::new();
-    Ok(Rings { all, occupied })
+    let non_empty = NonEmptyChannels::new();
+    Ok(Rings { all, non_empty })
 }

@@ -9,20 +9,20 @@ ghost use Rattle.tl_coherence.specs.statement.Movable.{is_movable};
 ghost use Rattle.tl_coherence.specs.statement.System.{System, terms_at};
 
 use crate::clients::stalls_at;
-use crate::happen::is_to_client;
-use crate::occupied::lowest;
-use crate::parts::Parts;
+use crate::network::Network;
+use crate::non_empty::lowest;
+use crate::step::is_to_client;
 use tl_beat::beat::{Beat, Link};
 use tl_beat::channel::Channel;
 use tl_client::agent::Agent;
 use tl_manager::directory::Directory;
 use tl_manager::word::with_bit;
 
-impl<const W: usize, A: Agent<W>, D: Directory> Parts<W, A, D> {
+impl<const W: usize, A: Agent<W>, D: Directory> Network<W, A, D> {
     /// Whether the end that takes the beat stalls it.
     fn stalls(&self, link: Link, channel: Channel, beat: &Beat<W>) -> bool
         requires width { IsWidth W }
-        ensures { (config : Config) (s : System W) → Holds A.knows A.terms D.perm_of config self.now s → link.0 < clients_of config →
+        ensures { (config : Config) (s : System W) → Holds A.represents A.terms D.perm_of config self.now s → link.0 < clients_of config →
             Movable.moves config (terms_at config link.0) link.0 channel (beat.now ∷ []) s ≡ not result }
     {
         if is_to_client(channel) {
@@ -35,7 +35,7 @@ impl<const W: usize, A: Agent<W>, D: Directory> Parts<W, A, D> {
     /// Whether a delivery moves a beat.
     fn moves(&self, link: Link, channel: Channel) -> bool
         requires width { IsWidth W }
-        ensures { (config : Config) (s : System W) → Holds A.knows A.terms D.perm_of config self.now s →
+        ensures { (config : Config) (s : System W) → Holds A.represents A.terms D.perm_of config self.now s →
             result ≡ is_movable config link.0 channel s }
     {
         match self.rings.first(link, channel) {
@@ -47,10 +47,10 @@ impl<const W: usize, A: Agent<W>, D: Directory> Parts<W, A, D> {
     /// The first delivery on a channel that moves a beat: only links are asked whose channel holds one.
     fn movable_on(&self, channel: Channel) -> Option<(Link, Channel)>
         requires { IsWidth W }
-        ensures { (config : Config) (s : System W) → Holds A.knows A.terms D.perm_of config self.now s →
+        ensures { (config : Config) (s : System W) → Holds A.represents A.terms D.perm_of config self.now s →
             result ≡ Movable.movable_on config channel s }
     {
-        let mut links = self.rings.occupied.links(channel);
+        let mut links = self.rings.non_empty.links(channel);
         while let Some(number) = lowest(links) {
             if self.moves(Link(number), channel) {
                 return Some((Link(number), channel));
@@ -64,7 +64,7 @@ impl<const W: usize, A: Agent<W>, D: Directory> Parts<W, A, D> {
     #[tactic(auto, unfolding(tl_coherence::specs::statement::Movable::next_delivery))]
     pub fn next_delivery(&self) -> Option<(Link, Channel)>
         requires { IsWidth W }
-        ensures { (config : Config) (s : System W) → Holds A.knows A.terms D.perm_of config self.now s →
+        ensures { (config : Config) (s : System W) → Holds A.represents A.terms D.perm_of config self.now s →
             result ≡ Movable.next_delivery config s }
     {
         if let Some(next) = self.movable_on(Channel::E) {

@@ -35,7 +35,7 @@ fn push_beats<const W: usize>(beats: &mut HeapCircularBuffer<Beat<W>>, message: 
 }
 
 impl<const W: usize> Ring<W> {
-    /// A channel for so many beats, which holds none.
+    /// A channel for this many beats, which holds none.
     pub fn new(alloc: Global, capacity: u16) -> Result<Self, AllocError>
         ensures { IfOk result (λ ring. (ring.beats ≡ buffer [] capacity) × (ring.deepest ≡ 0)) }
     {

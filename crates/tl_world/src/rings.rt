@@ -10,13 +10,13 @@ ghost use Rattle.tl_rules.specs.statement.Legality.{beats_from};
 ghost use Rattle.tl_world.specs.declared.ring.Ring.{Ring};
 ghost use Rattle.tl_coherence.specs.statement.System.{channel_of_message};
 
-use crate::occupied::Occupied;
+use crate::non_empty::NonEmptyChannels;
 use crate::place::place;
 use crate::ring::Ring;
 use tl_beat::beat::{Beat, Link};
 use tl_beat::channel::Channel;
 use tl_burst::message::Message;
-use tl_manager::manager::reply::{Sending, probe};
+use tl_manager::manager::reply::{Outbox, probe};
 use tl_rules::param::Cap;
 
 fn channel_of<const W: usize>(message: &Message<W>) -> Channel
@@ -60,13 +60,13 @@ fn drop_at<const W: usize>(rings: &mut Vec<Ring<W>>, at: usize)
 #[derive(Drop)]
 pub struct Rings<const W: usize> {
     pub all: Vec<Ring<W>>,
-    pub occupied: Occupied,
+    pub non_empty: NonEmptyChannels,
     pub ghost few: { length all.items ≤ 80 },
 }
 
 impl<const W: usize> Rings<W> {
-    ghost use Rattle.tl_manager.specs.code.Sending.{messages_of};
-    ghost use Rattle.tl_manager.specs.declared.manager.reply.Sending.TheVariants.{Probes};
+    ghost use Rattle.tl_manager.specs.code.Outbox.{messages_of};
+    ghost use Rattle.tl_manager.specs.declared.manager.reply.Outbox.TheVariants.{Probes};
     ghost use Rattle.tl_world.specs.code.Carrying;
     ghost use Rattle.tl_world.specs.code.Carrying.{Carries, Fit, AreKept, AreMoved};
     ghost use Rattle.tl_coherence.specs.statement.Step.{handed_by};
@@ -106,7 +106,7 @@ impl<const W: usize> Rings<W> {
         let at = place(link, channel);
         if at < self.all.len() {
             drop_at(&mut self.all, at);
-            self.occupied.mark(link, channel, !self.all[at].is_empty());
+            self.non_empty.mark(link, channel, !self.all[at].is_empty());
         }
     }
 
@@ -121,7 +121,7 @@ impl<const W: usize> Rings<W> {
         let at = place(link, channel);
         if at < self.all.len() {
             send_at(&mut self.all, at, message);
-            self.occupied.mark(link, channel, true);
+            self.non_empty.mark(link, channel, true);
         }
     }
 
@@ -155,16 +155,16 @@ impl<const W: usize> Rings<W> {
     }
 
     /// Puts the beats of what a manager hands out behind those of their channels.
-    pub fn send_out(&mut self, sending: &Sending<W>)
+    pub fn send_out(&mut self, outbox: &Outbox<W>)
         requires { IsWidth W }
         ensures kept { AreKept self.old self.new }
-        ensures moved { (n : ℕ) (s : System W) → Carries n self.old s → Fit n self.old (with_messages (messages_of sending.now) s) →
-            AreMoved n self.old self.new (with_messages (messages_of sending.now) s) }
+        ensures moved { (n : ℕ) (s : System W) → Carries n self.old s → Fit n self.old (with_messages (messages_of outbox.now) s) →
+            AreMoved n self.old self.new (with_messages (messages_of outbox.now) s) }
     {
-        match sending {
-            Sending::Nothing => {}
-            Sending::One(sent) => self.send(sent.0, &sent.1),
-            Sending::Probes {
+        match outbox {
+            Outbox::Nothing => {}
+            Outbox::One(sent) => self.send(sent.0, &sent.1),
+            Outbox::Probes {
                 block,
                 cap,
                 clients,

@@ -8,18 +8,18 @@ use tl_client::operation::Op;
 use tl_coherence::event::Event;
 
 /// A block has 64 bytes.
-fn long(block: &[u8; 64])
+fn prove_long(block: &[u8; 64])
     ensures { length block.now ≡ 64 }
 {}
 
 /// The blocks of bytes that an event carries have 64 bytes each.
-pub fn typed<const W: usize>(event: &Event<W>)
+pub fn prove_typed<const W: usize>(event: &Event<W>)
     ensures { IsTyped event.now }
 {
     match event {
         Event::Ask { operation, .. } => match operation {
-            Op::AcquireWhole { bytes, .. } => long(bytes),
-            Op::Access(Message::A(message)) => long(&message.payload),
+            Op::AcquireWhole { bytes, .. } => prove_long(bytes),
+            Op::Access(Message::A(message)) => prove_long(&message.payload),
             _ => {}
         },
         Event::Deliver { .. } => {}

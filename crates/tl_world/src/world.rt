@@ -3,7 +3,7 @@
 ghost use Rattle.std.specs.Prelude.{ℕ, [], ◌∷◌, ◌≡◌, ◌≤◌, ◌<◌, ◌+◌, ◌/◌, length, slice_set, is_some};
 ghost use Rattle.tl_beat.specs.statement.Width.{IsWidth};
 ghost use Rattle.tl_params.specs.declared.config.Config.{Config};
-ghost use Rattle.tl_client.specs.statement.Kept.{holds};
+ghost use Rattle.tl_client.specs.statement.EndpointInvariant.{holds};
 ghost use Rattle.tl_coherence.specs.statement.Delivery.{capacity, sources_of};
 ghost use Rattle.tl_coherence.specs.statement.Load;
 ghost use Rattle.tl_coherence.specs.statement.Load.{IsBalanced};
@@ -16,11 +16,11 @@ ghost use Rattle.tl_coherence.specs.statement.Movable.{drained};
 ghost use Rattle.tl_coherence.specs.statement.Draining.{IsDrained};
 
 use crate::clients::{copy_at, held_at};
-use crate::contents::Contents;
 use crate::make::make_rings;
-use crate::open::Open;
-use crate::parts::Parts;
-use crate::typed::typed;
+use crate::network::Network;
+use crate::outstanding::Outstanding;
+use crate::state::WorldState;
+use crate::typed::prove_typed;
 use std::alloc::Global;
 use std::marker::Model;
 use tl_beat::beat::Link;
@@ -44,16 +44,16 @@ fn set_outcome<const W: usize>(outcomes: &mut [Outcome<W>], i: usize, outcome: O
 /// configuration and log by which the world is reached: of all that can have happened to it.
 #[derive(Drop)]
 pub struct World<const W: usize, A: Agent<W>, D: Directory> {
-    contents: Contents<W, A, D>,
+    state: WorldState<W, A, D>,
 }
 
 impl<const W: usize, A: Agent<W>, D: Directory> Model for World<W, A, D> {
     ghost use Rattle.tl_beat.specs.statement.Width.{IsWidth};
-    ghost use Rattle.tl_world.specs.declared.contents.Contents.{Contents};
+    ghost use Rattle.tl_world.specs.declared.state.WorldState.{WorldState};
 
-    ghost Value = { Contents W A D };
+    ghost Value = { WorldState W A D };
 
-    ghost view = { λ w. w.contents };
+    ghost view = { λ w. w.state };
 
     ghost invariant = { λ w. IsWidth W };
 }
@@ -68,45 +68,48 @@ impl<const W: usize, A: Agent<W>, D: Directory> World<W, A, D> {
         directory: D,
     ) -> Result<Self, NewFault>
         requires width { IsWidth W }
-        requires clients { AreReady A.knows A.terms config clients.items }
+        requires clients { AreReady A.represents A.terms config clients.items }
         requires directory { IsEmpty D.perm_of D.blocks D.clients config directory }
-        ensures { IsNewWorld A.knows A.terms D.perm_of config result }
+        ensures { IsNewWorld A.represents A.terms D.perm_of config result }
     {
         let manager = Manager::new(alloc, &config, directory)?;
         let rings = make_rings(alloc, &config)?;
-        let parts = Parts {
+        let network = Network {
             clients,
             manager,
             rings,
         };
-        let outstanding = Open {
+        let outstanding = Outstanding {
             requests: 0,
             releases: 0,
         };
         Ok(World {
-            contents: Contents { parts, outstanding },
+            state: WorldState {
+                network,
+                outstanding,
+            },
         })
     }
 
     /// Something happens: what comes of it.
     pub fn step(&mut self, event: Event<W>) -> Outcome<W>
-        ensures reached { (config : Config) (log : Log W) → IsReached A.knows A.terms D.perm_of config self.old log →
-            IsReached A.knows A.terms D.perm_of config self.new ((event.entry, result) ∷ log) }
-        ensures outcome { (config : Config) (log : Log W) → IsReached A.knows A.terms D.perm_of config self.old log →
+        ensures reached { (config : Config) (log : Log W) → IsReached A.represents A.terms D.perm_of config self.old log →
+            IsReached A.represents A.terms D.perm_of config self.new ((event.entry, result) ∷ log) }
+        ensures outcome { (config : Config) (log : Log W) → IsReached A.represents A.terms D.perm_of config self.old log →
             result ≡ (stepped config event.entry (system_after config log)).outcome }
     {
-        typed(&event);
+        prove_typed(&event);
         let mut outcome = Outcome::Empty;
-        self.contents.parts.happen(event, &mut outcome);
-        self.contents.outstanding.count(&event, &outcome);
+        self.state.network.step(event, &mut outcome);
+        self.state.outstanding.count(&event, &outcome);
         outcome
     }
 
     /// The events happen one after another: what comes of each.
     pub fn run(&mut self, events: &[Event<W>], outcomes: &mut [Outcome<W>])
         requires { length events.now ≡ length outcomes.old }
-        ensures reached { (config : Config) (log : Log W) → IsReached A.knows A.terms D.perm_of config self.old log →
-            IsReached A.knows A.terms D.perm_of config self.new (logged events.now outcomes.new log) }
+        ensures reached { (config : Config) (log : Log W) → IsReached A.represents A.terms D.perm_of config self.old log →
+            IsReached A.represents A.terms D.perm_of config self.new (logged events.now outcomes.new log) }
         ensures number { length outcomes.new ≡ length outcomes.old }
     {
         for (i, event) in events.iter().enumerate() {
@@ -125,10 +128,10 @@ impl<const W: usize, A: Agent<W>, D: Directory> World<W, A, D> {
         outcomes: &mut [Outcome<W>],
     ) -> Result<Self, NewFault>
         requires width { IsWidth W }
-        requires clients { AreReady A.knows A.terms config clients.items }
+        requires clients { AreReady A.represents A.terms config clients.items }
         requires directory { IsEmpty D.perm_of D.blocks D.clients config directory }
         requires number { length events.now ≡ length outcomes.old }
-        ensures { IsReplayed A.knows A.terms D.perm_of config events.now outcomes.old outcomes.new result }
+        ensures { IsReplayed A.represents A.terms D.perm_of config events.now outcomes.old outcomes.new result }
     {
         let mut world = World::new(alloc, config, clients, directory)?;
         world.run(events, outcomes);
@@ -138,21 +141,22 @@ impl<const W: usize, A: Agent<W>, D: Directory> World<W, A, D> {
     /// The next delivery: the first on a client's link that finds a beat which isn't stalled, in the
     /// order E, D, C, B, A of the channels, and of the links within one.
     pub fn next_delivery(&self) -> Option<(Link, Channel)>
-        ensures { (config : Config) (log : Log W) → IsReached A.knows A.terms D.perm_of config self.now log →
+        ensures { (config : Config) (log : Log W) → IsReached A.represents A.terms D.perm_of config self.now log →
             result ≡ Movable.next_delivery config (system_after config log) }
     {
-        self.contents.parts.next_delivery()
+        self.state.network.next_delivery()
     }
 
     /// Delivers what is next until nothing is, and nothing is outstanding: the number of deliveries, which
     /// is at most the load before.
     pub fn drain(&mut self) -> u64
-        ensures reached { (config : Config) (log : Log W) → IsReached A.knows A.terms D.perm_of config self.old log →
-            IsReached A.knows A.terms D.perm_of config self.new (drained config result log) }
-        ensures drained { (config : Config) (log : Log W) → IsReached A.knows A.terms D.perm_of config self.old log →
+        ensures reached { (config : Config) (log : Log W) → IsReached A.represents A.terms D.perm_of config self.old log →
+            IsReached A.represents A.terms D.perm_of config self.new (drained config result log) }
+        ensures drained { (config : Config) (log : Log W) → IsReached A.represents A.terms D.perm_of config self.old log →
             IsDrained config log result }
     {
-        let _ = &self.contents;
+        // A field is named so that the prover has the invariant of the world here.
+        let _ = &self.state;
         let load = self.load();
         for count in 0..load {
             match self.next_delivery() {
@@ -167,41 +171,41 @@ impl<const W: usize, A: Agent<W>, D: Directory> World<W, A, D> {
 
     /// What a client holds of a block: None where there is no such client.
     pub fn held(&self, client: u8, block: u16) -> Perm
-        ensures { (config : Config) (log : Log W) → IsReached A.knows A.terms D.perm_of config self.now log →
+        ensures { (config : Config) (log : Log W) → IsReached A.represents A.terms D.perm_of config self.now log →
             result ≡ held_by config client block (system_after config log) }
     {
-        held_at(&self.contents.parts.clients, usize::from(client), block)
+        held_at(&self.state.network.clients, usize::from(client), block)
     }
 
     /// The bytes of a client's copy of a block: there is a copy exactly where the client holds something.
     pub fn copy(&self, client: u8, block: u16) -> Option<[u8; 64]>
-        ensures copy { (config : Config) (log : Log W) → IsReached A.knows A.terms D.perm_of config self.now log →
+        ensures copy { (config : Config) (log : Log W) → IsReached A.represents A.terms D.perm_of config self.now log →
             result ≡ copy_by config client block (system_after config log) }
-        ensures held { (config : Config) (log : Log W) → IsReached A.knows A.terms D.perm_of config self.now log →
+        ensures held { (config : Config) (log : Log W) → IsReached A.represents A.terms D.perm_of config self.now log →
             is_some result ≡ holds (held_by config client block (system_after config log)) }
     {
-        copy_at(&self.contents.parts.clients, usize::from(client), block)
+        copy_at(&self.state.network.clients, usize::from(client), block)
     }
 
     /// The greatest number of beats that ever stood in a channel, which is no more than it is made for:
     /// 0 for a link without a client.
     pub fn deepest(&self, link: Link, channel: Channel) -> u16
-        ensures deepest { (config : Config) (log : Log W) → IsReached A.knows A.terms D.perm_of config self.now log →
+        ensures deepest { (config : Config) (log : Log W) → IsReached A.represents A.terms D.perm_of config self.now log →
             result ≡ deepest_by config log link.0 channel }
-        ensures room { (config : Config) (log : Log W) → IsReached A.knows A.terms D.perm_of config self.now log →
+        ensures room { (config : Config) (log : Log W) → IsReached A.represents A.terms D.perm_of config self.now log →
             result ≤ capacity (64 / W) (sources_of (terms_at config link.0)) config.trackers channel }
     {
-        self.contents.parts.rings.deepest(link, channel)
+        self.state.network.rings.deepest(link, channel)
     }
 
     /// How many deliveries what is outstanding can still need.
     pub fn load(&self) -> u64
-        ensures load { (config : Config) (log : Log W) → IsReached A.knows A.terms D.perm_of config self.now log →
+        ensures load { (config : Config) (log : Log W) → IsReached A.represents A.terms D.perm_of config self.now log →
             result ≡ Load.load log }
-        ensures balanced { (config : Config) (log : Log W) → IsReached A.knows A.terms D.perm_of config self.now log →
+        ensures balanced { (config : Config) (log : Log W) → IsReached A.represents A.terms D.perm_of config self.now log →
             IsBalanced log }
     {
-        self.contents.outstanding.load::<W>()
+        self.state.outstanding.load::<W>()
     }
 }
 

@@ -19,9 +19,9 @@ use Rattle.tl_client.specs.declared.reply.Reply.TheVariants as reply
 use Rattle.tl_client.specs.declared.sources.Sources.{Sources}
 use Rattle.tl_client.specs.laws.After.{copy_left, waiting_left}
 use Rattle.tl_client.specs.statement.Ask.{least_free, breaks_b3, breaks_b4, op_block, is_formed, is_transfer, loaded, whole_grow}
-use Rattle.tl_client.specs.statement.End.{zeros}
+use Rattle.tl_client.specs.statement.Endpoint.{zeros}
 use Rattle.tl_client.specs.laws.Held.{left_by}
-use Rattle.tl_client.specs.statement.Kept.{holds}
+use Rattle.tl_client.specs.statement.EndpointInvariant.{holds}
 use Rattle.tl_client.specs.code.KnowsCaching.{terms_of}
 use Rattle.tl_client.specs.statement.Requests.{acquires_block, releases_block, opened_by, released_by, start_with}
 use Rattle.tl_client.specs.statement.Send.{acquisition, release}

@@ -8,15 +8,15 @@ use Rattle.tl_params.specs.declared.profile.Profile.{Profile}
 use Rattle.tl_params.specs.statement.Config.{client_fault}
 use Rattle.tl_client.specs.declared.any.AnyClient.{AnyClient}
 use Rattle.tl_client.specs.declared.any.AnyClient.TheVariants as any
-use Rattle.tl_client.specs.statement.End.{Terms, End, fresh}
+use Rattle.tl_client.specs.statement.Endpoint.{EndConfig, Endpoint, fresh}
 use Rattle.tl_client.specs.code.KnowsCaching as caching
 use Rattle.tl_client.specs.code.KnowsPlain as plain
 
-abbrev pub any_terms : {w : ℕ} → AnyClient w → Terms
+abbrev pub any_terms : {w : ℕ} → AnyClient w → EndConfig
 any_terms (any.Caching c) = caching.terms_of c
 any_terms (any.Plain p) = plain.terms_of p
 
-abbrev pub KnowsAny : {w : ℕ} → AnyClient w → End w → Type 0
+abbrev pub KnowsAny : {w : ℕ} → AnyClient w → Endpoint w → Type 0
 KnowsAny (any.Caching c) e = caching.KnowsCaching c e
 KnowsAny (any.Plain p) e = plain.KnowsPlain p e
 

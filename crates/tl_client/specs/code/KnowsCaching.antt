@@ -12,15 +12,15 @@ use Rattle.tl_rules.specs.statement.History.{held}
 use Rattle.tl_client.specs.declared.caching.Caching.{Caching}
 use Rattle.tl_client.specs.declared.caching.Granting.{Granting}
 use Rattle.tl_client.specs.laws.Accounted.{IsAccounted, comes_granting}
-use Rattle.tl_client.specs.statement.End.{Terms, End, fresh}
+use Rattle.tl_client.specs.statement.Endpoint.{EndConfig, Endpoint, fresh}
 use Rattle.tl_client.specs.laws.Inside.{IsInside}
-use Rattle.tl_client.specs.statement.Kept.{IsKept}
+use Rattle.tl_client.specs.statement.EndpointInvariant.{IsEndpointInvariant}
 use Rattle.tl_client.specs.statement.Requests.{open_beat, open_release, fields_of, release_fields}
 use Rattle.tl_client.specs.code.Sources.{open_at}
 use Rattle.tl_client.specs.code.Table.{held_in, copy_in, waiting_in}
 
 -- what a caching client was made for
-abbrev pub terms_of : {w : ℕ} → Caching w → Terms
+abbrev pub terms_of : {w : ℕ} → Caching w → EndConfig
 terms_of c = record { level = c.config.level; profile = c.profile; sources = c.config.sources; blocks = c.blocks }
 
 -- the Grant that is unfinished is one of the block, or has this sink
@@ -34,7 +34,7 @@ has_sink s (Some g) = g.sink == s
 
 -- A caching client knows this end of its link: it keeps what is held of each block with its bytes, the
 -- open requests and Releases, the unfinished response, and the mark of a refusal.
-pub record KnowsCaching {w : ℕ} (c : Caching w) (e : End w) : Type 0 where
+pub record KnowsCaching {w : ℕ} (c : Caching w) (e : Endpoint w) : Type 0 where
   pub closed_is : c.closed ≡ e.closed
   pub held_is : (k : ℕ) → held_in c.table k ≡ held k e.past
   pub copies_are : (k : ℕ) → copy_in c.table k ≡ e.copies k
@@ -45,7 +45,7 @@ pub record KnowsCaching {w : ℕ} (c : Caching w) (e : End w) : Type 0 where
   pub granting_is : (k : ℕ) → is_granting k c.granting ≡ comes_granting k (unfinished channel.D e.past) e.past
   pub sink_is : (s : ℕ) → has_sink s c.granting ≡ comes_in_grant s (unfinished channel.D e.past)
   -- what its calls keep
-  pub kept : IsKept e
+  pub kept : IsEndpointInvariant e
   pub accounted : IsAccounted e.past
   pub inside : IsInside (terms_of c) e.past
 
@@ -64,4 +64,4 @@ IsNewCaching config blocks profile (Err f) = IsFault (client_fault config blocks
 
 -- it knows an end with this history
 abbrev pub KnowsPast : {w : ℕ} → Caching w → History w → Type 0
-KnowsPast {w} c t = (e : End w) × KnowsCaching c e × (e.past ≡ t)
+KnowsPast {w} c t = (e : Endpoint w) × KnowsCaching c e × (e.past ≡ t)

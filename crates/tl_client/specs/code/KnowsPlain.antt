@@ -13,12 +13,12 @@ use Rattle.tl_params.specs.declared.profile.Profile.{Profile}
 use Rattle.tl_params.specs.statement.Config.{client_fault}
 use Rattle.tl_rules.specs.statement.History.{pending, held}
 use Rattle.tl_client.specs.declared.plain.Plain.{Plain}
-use Rattle.tl_client.specs.statement.End.{Terms, End, fresh}
+use Rattle.tl_client.specs.statement.Endpoint.{EndConfig, Endpoint, fresh}
 use Rattle.tl_client.specs.code.Sources.{open_at}
 use Rattle.tl_client.specs.statement.Requests.{open_request}
 
 -- what a plain client was made for
-abbrev pub terms_of : {w : ℕ} → Plain w → Terms
+abbrev pub terms_of : {w : ℕ} → Plain w → EndConfig
 terms_of p = record { level = p.config.level; profile = p.profile; sources = p.config.sources; blocks = p.blocks }
 
 -- the request that an unfinished response answers is pending
@@ -33,7 +33,7 @@ is_request _ = false
 
 -- A plain client knows this end of its link: it keeps the open requests, the unfinished response and
 -- the mark of a refusal, and holds nothing.
-pub record KnowsPlain {w : ℕ} (p : Plain w) (e : End w) : Type 0 where
+pub record KnowsPlain {w : ℕ} (p : Plain w) (e : Endpoint w) : Type 0 where
   pub closed_is : p.closed ≡ e.closed
   pub requests_are : (s : ℕ) → open_at p.requests s ≡ open_request s e.past
   pub response_is : p.responses ≡ unfinished channel.D e.past
@@ -53,4 +53,4 @@ IsNewPlain config blocks profile (Err fault) = client_fault config blocks ≡ So
 
 -- it knows an end with this history
 abbrev pub KnowsPast : {w : ℕ} → Plain w → History w → Type 0
-KnowsPast {w} p t = (e : End w) × KnowsPlain p e × (e.past ≡ t)
+KnowsPast {w} p t = (e : Endpoint w) × KnowsPlain p e × (e.past ≡ t)

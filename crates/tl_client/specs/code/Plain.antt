@@ -14,7 +14,7 @@ use Rattle.tl_burst.specs.statement.Part.{is_empty, completes}
 use Rattle.tl_params.specs.declared.level.Level.{Level}
 use Rattle.tl_params.specs.declared.rule.Rule.{Rule}
 use Rattle.tl_params.specs.declared.rule.Rule.TheVariants.{L1, S1, H2, H3, A2, A3}
-use Rattle.tl_rules.specs.statement.Agent.{payload_of}
+use Rattle.tl_rules.specs.statement.Admission.{payload_of}
 use Rattle.tl_rules.specs.statement.Conformance.{answers}
 use Rattle.tl_rules.specs.statement.Legality.{illegal}
 use Rattle.tl_client.specs.declared.operation.Op.{Op}

@@ -19,8 +19,8 @@ use Rattle.tl_client.specs.declared.request.Request.{Request}
 use Rattle.tl_client.specs.declared.verdict.Verdict.{Verdict}
 use Rattle.tl_client.specs.declared.verdict.Verdict.TheVariants.{Stalled, Taken}
 use Rattle.tl_client.specs.code.Caching.{bytes_in}
-use Rattle.tl_client.specs.statement.End.{Terms, End}
-use Rattle.tl_client.specs.statement.Kept.{holds, is_acquire_perm}
+use Rattle.tl_client.specs.statement.Endpoint.{EndConfig, Endpoint}
+use Rattle.tl_client.specs.statement.EndpointInvariant.{holds, is_acquire_perm}
 use Rattle.tl_client.specs.code.KnowsCaching.{terms_of}
 use Rattle.tl_client.specs.statement.Offer.{report_for, offered, refused, silent, waits, broken_before, broken_later}
 use Rattle.tl_client.specs.statement.Send.{probe_ack, grant_ack}
@@ -133,7 +133,7 @@ Takes c d (beat.D x) r =
 Takes c d _ r = ⊤
 
 -- what is judged of a beat: the rule that it breaks, that it has to wait, or that it is taken
-abbrev pub IsJudged : {w : ℕ} → Terms → Channel → Beat w → End w → Result Bool Rule → Type 0
+abbrev pub IsJudged : {w : ℕ} → EndConfig → Channel → Beat w → Endpoint w → Result Bool Rule → Type 0
 IsJudged terms ch x e (Err rule) = offered terms ch x e ≡ refused rule e
 IsJudged terms ch x e (Ok true) = offered terms ch x e ≡ silent Stalled e
 IsJudged terms ch x e (Ok false) = (broken_before terms ch x e ≡ None) × (waits x e.past ≡ false) × (broken_later terms x e ≡ None)

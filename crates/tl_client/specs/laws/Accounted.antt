@@ -7,7 +7,7 @@ use Rattle.tl_burst.specs.statement.Messages.{History, unfinished}
 use Rattle.tl_params.specs.declared.key.Key.TheVariants.{AcquireOf, ReleaseOf, GrantSink, GrantAckOf, ProbeOf}
 use Rattle.tl_rules.specs.statement.Conformance.{admits, comes_in_grant}
 use Rattle.tl_rules.specs.statement.History.{grants, grant_sink, pending, releases}
-use Rattle.tl_client.specs.statement.Kept.{acquires}
+use Rattle.tl_client.specs.statement.EndpointInvariant.{acquires}
 use Rattle.tl_client.specs.statement.Requests.{open_beat, open_release}
 
 -- Of each block an Acquire or a Release is pending, never both, and each is one open message.

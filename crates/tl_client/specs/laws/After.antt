@@ -15,7 +15,7 @@ use Rattle.tl_params.specs.declared.perm.Perm.{Perm}
 use Rattle.tl_params.specs.declared.perm.Perm.TheVariants as perm
 use Rattle.tl_params.specs.declared.rule.Rule.{Rule}
 use Rattle.tl_params.specs.statement.Param.{prune_right, report_right}
-use Rattle.tl_rules.specs.statement.Agent.{payload_of}
+use Rattle.tl_rules.specs.statement.Admission.{payload_of}
 use Rattle.tl_rules.specs.statement.Conformance.{same_perm}
 use Rattle.tl_rules.specs.statement.History.{block_at, ends, is_release_ack, pending, request_of, held}
 use Rattle.tl_client.specs.declared.busy.Busy.{Busy}
@@ -26,8 +26,8 @@ use Rattle.tl_client.specs.declared.reply.Reply.TheVariants.{Started}
 use Rattle.tl_client.specs.declared.verdict.Verdict.{Verdict}
 use Rattle.tl_client.specs.declared.verdict.Verdict.TheVariants.{Stalled}
 use Rattle.tl_client.specs.statement.Ask.{copy_stored}
-use Rattle.tl_client.specs.statement.End.{End, zeros}
-use Rattle.tl_client.specs.statement.Kept.{holds, is_acquire_perm}
+use Rattle.tl_client.specs.statement.Endpoint.{Endpoint, zeros}
+use Rattle.tl_client.specs.statement.EndpointInvariant.{holds, is_acquire_perm}
 use Rattle.tl_client.specs.statement.Offer.{report_for}
 use Rattle.tl_client.specs.statement.Requests.{open_beat, open_release}
 
@@ -60,13 +60,13 @@ copy_left None (Release block prune) k p copy = if (k == block) && not (holds (p
 copy_left _ _ k p copy = copy
 
 -- after the last beat of a Grant that answers this request: the Grant's data, or the bytes that waited
-abbrev pub copy_granted : {w : ℕ} → OpD → Option (BeatA w) → List ℕ → ℕ → End w → Option (List ℕ)
+abbrev pub copy_granted : {w : ℕ} → OpD → Option (BeatA w) → List ℕ → ℕ → Endpoint w → Option (List ℕ)
 copy_granted d.GrantData (Some r) payload k e = if k == block_at r.address then Some payload else e.copies k
 copy_granted d.Grant (Some r) payload k e = if (k == block_at r.address) && is_acquire_perm r.opcode then e.waiting k else e.copies k
 copy_granted _ _ payload k e = e.copies k
 
 -- after a beat that is taken: a Probe that leaves nothing drops it
-abbrev pub copy_with : {w : ℕ} → Beat w → ℕ → End w → Option (List ℕ)
+abbrev pub copy_with : {w : ℕ} → Beat w → ℕ → Endpoint w → Option (List ℕ)
 copy_with (beat.B x) k e =
     if (k == block_at x.address) && not (holds (report_right (report_for x (held (block_at x.address) e.past)))) then None else e.copies k
 copy_with (beat.D x) k e =
@@ -75,7 +75,7 @@ copy_with (beat.D x) k e =
     else e.copies k
 copy_with _ k e = e.copies k
 
-abbrev pub copy_by : {w : ℕ} → Result (Verdict × Option (Message w)) Rule → Beat w → ℕ → End w → Option (List ℕ)
+abbrev pub copy_by : {w : ℕ} → Result (Verdict × Option (Message w)) Rule → Beat w → ℕ → Endpoint w → Option (List ℕ)
 copy_by (Err rule) x k e = e.copies k
 copy_by (Ok (Stalled, m)) x k e = e.copies k
 copy_by (Ok _) x k e = copy_with x k e
@@ -90,11 +90,11 @@ abbrev pub waiting_granted : {w : ℕ} → OpD → Option (BeatA w) → ℕ → 
 waiting_granted d.Grant (Some r) k waiting = if (k == block_at r.address) && is_acquire_perm r.opcode then None else waiting
 waiting_granted _ _ k waiting = waiting
 
-abbrev pub waiting_with : {w : ℕ} → Beat w → ℕ → End w → Option (List ℕ)
+abbrev pub waiting_with : {w : ℕ} → Beat w → ℕ → Endpoint w → Option (List ℕ)
 waiting_with (beat.D x) k e = if ends (beat.D x) e.past then waiting_granted x.opcode (request_of x.source e.past) k (e.waiting k) else e.waiting k
 waiting_with _ k e = e.waiting k
 
-abbrev pub waiting_by : {w : ℕ} → Result (Verdict × Option (Message w)) Rule → Beat w → ℕ → End w → Option (List ℕ)
+abbrev pub waiting_by : {w : ℕ} → Result (Verdict × Option (Message w)) Rule → Beat w → ℕ → Endpoint w → Option (List ℕ)
 waiting_by (Err rule) x k e = e.waiting k
 waiting_by (Ok (Stalled, m)) x k e = e.waiting k
 waiting_by (Ok _) x k e = waiting_with x k e

@@ -7,7 +7,7 @@ use Rattle.tl_burst.specs.statement.Messages.{burst_length, unfinished}
 use Rattle.tl_rules.specs.laws.Typed.{AreTyped, HasBlock}
 use Rattle.tl_client.specs.declared.operation.Op.{Op}
 use Rattle.tl_client.specs.declared.operation.Op.TheVariants.{AcquireWhole, Access}
-use Rattle.tl_client.specs.statement.End.{End}
+use Rattle.tl_client.specs.statement.Endpoint.{Endpoint}
 
 abbrev pub IsLong : Option (List ℕ) → Type 0
 IsLong bytes = IfSome bytes (λ b. length b ≡ 64)
@@ -23,7 +23,7 @@ abbrev pub IsShort : {w : ℕ} → List (Beat w) → Type 0
 IsShort (beat.D x ∷ burst) = (x.size ≤ 6) × (length (beat.D x ∷ burst) < burst_length (beat.D x))
 IsShort _ = ⊤
 
-pub record HasBytes {w : ℕ} (e : End w) : Type 0 where
+pub record HasBytes {w : ℕ} (e : Endpoint w) : Type 0 where
   pub long_copies : (k : ℕ) → IsLong (e.copies k)
   pub long_waiting : (k : ℕ) → IsLong (e.waiting k)
   pub typed_burst : AreTyped (unfinished channel.D e.past)

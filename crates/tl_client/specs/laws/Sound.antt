@@ -7,7 +7,7 @@ use Rattle.tl_burst.specs.statement.Messages.{History, channel_of}
 use Rattle.tl_params.specs.declared.level.Level.{Level}
 use Rattle.tl_params.specs.declared.profile.Profile.{Profile}
 use Rattle.tl_params.specs.declared.rule.Rule.{Rule}
-use Rattle.tl_rules.specs.statement.Agent.{is_outside}
+use Rattle.tl_rules.specs.statement.Admission.{is_outside}
 use Rattle.tl_rules.specs.statement.Conformance.{broken_in_order, broken_after}
 use Rattle.tl_rules.specs.statement.Legality.{illegal_message}
 use Rattle.tl_rules.specs.laws.Typed.{HasBlock}
@@ -33,7 +33,7 @@ abbrev pub IsSoundAnswer : {w : ℕ} → Level → Result (Verdict × Option (Me
 IsSoundAnswer l (Ok v) = IsSoundIfAny l v.1
 IsSoundAnswer l (Err rule) = ⊤
 
--- its payload has 64 bytes, all that no beat of it carries is zero, and it is of a map of so many blocks
+-- its payload has 64 bytes, all that no beat of it carries is zero, and it is of a map of this many blocks
 pub record IsProper {w : ℕ} (blocks : ℕ) (m : Message w) : Type 0 where
   pub has_block : HasBlock m
   pub is_blank : IsBlankAfter (beats_of m) m

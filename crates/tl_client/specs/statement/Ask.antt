@@ -27,7 +27,7 @@ use Rattle.tl_client.specs.declared.operation.Op.{Op}
 use Rattle.tl_client.specs.declared.operation.Op.TheVariants.{Load, Store, Acquire, AcquireWhole, Release, Access}
 use Rattle.tl_client.specs.declared.reply.Reply.{Reply}
 use Rattle.tl_client.specs.declared.reply.Reply.TheVariants as reply
-use Rattle.tl_client.specs.statement.End.{Terms, End, copy_at, held_at, with_copy, with_waiting, kept_for, sending}
+use Rattle.tl_client.specs.statement.Endpoint.{EndConfig, Endpoint, copy_at, held_at, with_copy, with_waiting, kept_for, sending}
 use Rattle.tl_client.specs.statement.Send.{access, acquire, release}
 
 -- ---- B4: the operation isn't of the level
@@ -82,7 +82,7 @@ is_formed l (Store address size value) = is_word address size
 is_formed l (Access m) = is_sound l m
 is_formed l _ = true
 
-abbrev pub breaks_b5 : {w : ℕ} → Terms → Op w → Bool
+abbrev pub breaks_b5 : {w : ℕ} → EndConfig → Op w → Bool
 breaks_b5 terms op = nat_le terms.blocks (op_block op) || not (is_formed terms.level op)
 
 -- ---- B2: a transfer of the block is outstanding
@@ -111,13 +111,13 @@ unfoldable pub least_free : (ℕ → Bool) → ℕ → ℕ → Option ℕ
 least_free taken s zero = None
 least_free taken s (suc n) = if taken s then least_free taken (s + 1) n else Some s
 
-abbrev pub free_request : {w : ℕ} → Terms → History w → Option ℕ
+abbrev pub free_request : {w : ℕ} → EndConfig → History w → Option ℕ
 free_request terms t = least_free (λ s. pending (RequestSource s) t) 0 terms.sources
 
-abbrev pub free_release : {w : ℕ} → Terms → History w → Option ℕ
+abbrev pub free_release : {w : ℕ} → EndConfig → History w → Option ℕ
 free_release terms t = least_free (λ s. pending (ReleaseSource s) t) 0 terms.sources
 
-abbrev pub breaks_b1 : {w : ℕ} → Terms → Op w → History w → Bool
+abbrev pub breaks_b1 : {w : ℕ} → EndConfig → Op w → History w → Bool
 breaks_b1 terms (Load address size) t = false
 breaks_b1 terms (Store address size value) t = false
 breaks_b1 terms (Release block prune) t = is_none (free_release terms t)
@@ -125,7 +125,7 @@ breaks_b1 terms _ t = is_none (free_request terms t)
 
 -- ---- the first that applies
 
-unfoldable pub busy : {w : ℕ} → Terms → Op w → End w → Option Busy
+unfoldable pub busy : {w : ℕ} → EndConfig → Op w → Endpoint w → Option Busy
 busy terms op e =
     first_if (breaks_b4 terms.level op) B4
     (first_if (breaks_b5 terms op) B5
@@ -140,14 +140,14 @@ busy terms op e =
 pub record Asked (w : ℕ) : Type 0 where
   pub reply : Reply
   pub message : Option (Message w)
-  pub after : End w
+  pub after : Endpoint w
 
 -- nothing is handed out, and nothing changes
-abbrev pub only : {w : ℕ} → Reply → End w → Asked w
+abbrev pub only : {w : ℕ} → Reply → Endpoint w → Asked w
 only r e = record { reply = r; message = None; after = e }
 
 -- the message is handed out with the source that was chosen
-abbrev pub started : {w : ℕ} → ℕ → Message w → End w → Asked w
+abbrev pub started : {w : ℕ} → ℕ → Message w → Endpoint w → Asked w
 started source m e = record { reply = reply.Started source; message = Some m; after = sending m e }
 
 -- the number that a Load reads in a copy
@@ -163,11 +163,11 @@ low_bytes value i (suc n) = byte_of value i ∷ low_bytes value (i + 1) n
 abbrev pub copy_stored : ℕ → ℕ → ℕ → List ℕ → List ℕ
 copy_stored address size value copy = take (address % 64) copy ++ low_bytes value 0 (2 ^ size) ++ drop (address % 64 + 2 ^ size) copy
 
-abbrev pub load : {w : ℕ} → ℕ → ℕ → Perm → End w → Asked w
+abbrev pub load : {w : ℕ} → ℕ → ℕ → Perm → Endpoint w → Asked w
 load address size perm.None e = only reply.Miss e
 load address size _ e = only (reply.Value (loaded address size (copy_at e (block_at address)))) e
 
-abbrev pub store : {w : ℕ} → ℕ → ℕ → ℕ → Perm → End w → Asked w
+abbrev pub store : {w : ℕ} → ℕ → ℕ → ℕ → Perm → Endpoint w → Asked w
 store address size value perm.Trunk e =
     only reply.Stored (with_copy (block_at address) (Some (copy_stored address size value (copy_at e (block_at address)))) e)
 store address size value _ e = only reply.Miss e
@@ -181,14 +181,14 @@ whole_grow _ = grow.NtoT
 abbrev pub source_or_0 : Option ℕ → ℕ
 source_or_0 source = unwrap_or source 0
 
-abbrev pub start_request : {w : ℕ} → Terms → (ℕ → Message w) → End w → Asked w
+abbrev pub start_request : {w : ℕ} → EndConfig → (ℕ → Message w) → Endpoint w → Asked w
 start_request terms m e = started (source_or_0 (free_request terms e.past)) (m (source_or_0 (free_request terms e.past))) e
 
-abbrev pub start_release : {w : ℕ} → Terms → (ℕ → Message w) → End w → Asked w
+abbrev pub start_release : {w : ℕ} → EndConfig → (ℕ → Message w) → Endpoint w → Asked w
 start_release terms m e = started (source_or_0 (free_release terms e.past)) (m (source_or_0 (free_release terms e.past))) e
 
 -- the answer to an operation that isn't busy
-abbrev pub done : {w : ℕ} → Terms → Op w → End w → Asked w
+abbrev pub done : {w : ℕ} → EndConfig → Op w → Endpoint w → Asked w
 done terms (Load address size) e = load address size (held_at e (block_at address)) e
 done terms (Store address size value) e = store address size value (held_at e (block_at address)) e
 done terms (Acquire block grow) e = start_request terms (λ s. acquire a.AcquireBlock grow s block) e
@@ -201,10 +201,10 @@ done terms (Release block prune) e =
 done terms (Access (message.A m)) e = start_request terms (λ s. access s m) e
 done terms (Access _) e = only (reply.Busy B4) e
 
-abbrev pub asked_given : {w : ℕ} → Option Busy → Terms → Op w → End w → Asked w
+abbrev pub asked_given : {w : ℕ} → Option Busy → EndConfig → Op w → Endpoint w → Asked w
 asked_given (Some b) terms op e = only (reply.Busy b) e
 asked_given None terms op e = done terms op e
 
 -- what a client answers to an operation
-unfoldable pub asked : {w : ℕ} → Terms → Op w → End w → Asked w
+unfoldable pub asked : {w : ℕ} → EndConfig → Op w → Endpoint w → Asked w
 asked terms op e = asked_given (busy terms op e) terms op e

@@ -21,7 +21,7 @@ use Rattle.tl_params.specs.declared.param.Report.{Report}
 use Rattle.tl_params.specs.declared.perm.Perm.{Perm}
 use Rattle.tl_params.specs.declared.rule.Rule.{Rule}
 use Rattle.tl_params.specs.declared.rule.Rule.TheVariants.{L1, A1, A2, A3}
-use Rattle.tl_rules.specs.statement.Agent.{is_outside, is_spoiled, payload_of}
+use Rattle.tl_rules.specs.statement.Admission.{is_outside, is_spoiled, payload_of}
 use Rattle.tl_rules.specs.statement.Conformance.{broken_in_order}
 use Rattle.tl_rules.specs.statement.History.{block_at, ends, is_probe, capped, pending, request_of}
 use Rattle.tl_rules.specs.statement.Legality.{illegal}
@@ -30,7 +30,7 @@ use Rattle.tl_client.specs.declared.verdict.Finish.{Finish}
 use Rattle.tl_client.specs.declared.verdict.Finish.TheVariants as finish
 use Rattle.tl_client.specs.declared.verdict.Verdict.{Verdict}
 use Rattle.tl_client.specs.declared.verdict.Verdict.TheVariants as verdict
-use Rattle.tl_client.specs.statement.End.{Terms, End, copy_at, held_at, with_past, with_copy, with_waiting, kept_for, sending, shut}
+use Rattle.tl_client.specs.statement.Endpoint.{EndConfig, Endpoint, copy_at, held_at, with_past, with_copy, with_waiting, kept_for, sending, shut}
 use Rattle.tl_client.specs.statement.Send.{probe_ack, grant_ack}
 
 -- ---- the rules in the order in which a client judges them
@@ -42,11 +42,11 @@ is_sent_on channel.D = false
 is_sent_on _ = true
 
 -- before a stall: A3, and the L rules
-abbrev pub broken_before : {w : ℕ} → Terms → Channel → Beat w → End w → Option Rule
+abbrev pub broken_before : {w : ℕ} → EndConfig → Channel → Beat w → Endpoint w → Option Rule
 broken_before terms ch x e = first_if e.closed A3 (first_if (is_sent_on ch) L1 (illegal terms.level ch x))
 
 -- after it: S1, the H rules, A1 and A2
-abbrev pub broken_later : {w : ℕ} → Terms → Beat w → End w → Option Rule
+abbrev pub broken_later : {w : ℕ} → EndConfig → Beat w → Endpoint w → Option Rule
 broken_later terms x e =
     option_or (broken_in_order terms.profile x e.past)
     (first_if (is_outside terms.blocks x) A1
@@ -58,7 +58,7 @@ waits (beat.B x) t = is_probe x.opcode && pending (ReleaseOf (block_at x.address
 waits _ t = false
 
 -- the beat is stalled
-unfoldable pub stalls : {w : ℕ} → Terms → Channel → Beat w → End w → Bool
+unfoldable pub stalls : {w : ℕ} → EndConfig → Channel → Beat w → Endpoint w → Bool
 stalls terms ch x e = is_none (broken_before terms ch x e) && waits x e.past
 
 -- ---- the answer
@@ -67,16 +67,16 @@ stalls terms ch x e = is_none (broken_before terms ch x e) && waits x e.past
 -- that it hands out, and its end of the link afterwards
 pub record Offered (w : ℕ) : Type 0 where
   pub answer : Result (Verdict × Option (Message w)) Rule
-  pub after : End w
+  pub after : Endpoint w
 
-abbrev pub refused : {w : ℕ} → Rule → End w → Offered w
+abbrev pub refused : {w : ℕ} → Rule → Endpoint w → Offered w
 refused rule e = record { answer = Err rule; after = shut e }
 
 -- nothing is handed out
-abbrev pub silent : {w : ℕ} → Verdict → End w → Offered w
+abbrev pub silent : {w : ℕ} → Verdict → Endpoint w → Offered w
 silent v e = record { answer = Ok (v, None); after = e }
 
-abbrev pub answered : {w : ℕ} → Verdict → Message w → End w → Offered w
+abbrev pub answered : {w : ℕ} → Verdict → Message w → Endpoint w → Offered w
 answered v m e = record { answer = Ok (v, Some m); after = sending m e }
 
 -- ---- Probes
@@ -86,7 +86,7 @@ abbrev pub report_for : {w : ℕ} → BeatB w → Perm → Report
 report_for x p = report_at (unwrap_or (cap_of x.param) cap.ToN) p
 
 -- the Probe of a block of which this is held
-abbrev pub probed : {w : ℕ} → BeatB w → ℕ → Perm → End w → Offered w
+abbrev pub probed : {w : ℕ} → BeatB w → ℕ → Perm → Endpoint w → Offered w
 probed x block p e =
     let told = answered verdict.Taken (probe_ack x.opcode p (report_for x p) block (copy_at e block)) (with_past (beat.B x ∷ e.past) e) in
     record told { after = kept_for block (report_right (report_for x p)) told.after }
@@ -115,29 +115,29 @@ finish_of w d.GrantData param size address payload = finish.Granted (capped para
 finish_of w d.ReleaseAck param size address payload = finish.Released
 
 -- the copy after a Grant without data: the bytes that wait for it, where it answers an AcquirePerm
-abbrev pub granted_perm : {w : ℕ} → OpA → ℕ → End w → End w
+abbrev pub granted_perm : {w : ℕ} → OpA → ℕ → Endpoint w → Endpoint w
 granted_perm a.AcquirePerm block e = with_waiting block None (with_copy block (e.waiting block) e)
 granted_perm _ block e = e
 
-abbrev pub granted : {w : ℕ} → OpD → Option (BeatA w) → List ℕ → End w → End w
+abbrev pub granted : {w : ℕ} → OpD → Option (BeatA w) → List ℕ → Endpoint w → Endpoint w
 granted d.Grant (Some r) payload e = granted_perm r.opcode (block_at r.address) e
 granted d.GrantData (Some r) payload e = with_copy (block_at r.address) (Some payload) e
 granted _ _ payload e = e
 
 -- the last beat of a Grant hands a GrantAck out
-abbrev pub ended : {w : ℕ} → OpD → BeatD w → Finish → End w → Offered w
+abbrev pub ended : {w : ℕ} → OpD → BeatD w → Finish → Endpoint w → Offered w
 ended d.Grant x f e = answered (verdict.Done x.source f) (grant_ack x.sink) e
 ended d.GrantData x f e = answered (verdict.Done x.source f) (grant_ack x.sink) e
 ended _ x f e = silent (verdict.Done x.source f) e
 
 -- the last beat of a response, to this request
-abbrev pub responded : {w : ℕ} → BeatD w → Option (BeatA w) → List ℕ → End w → Offered w
+abbrev pub responded : {w : ℕ} → BeatD w → Option (BeatA w) → List ℕ → Endpoint w → Offered w
 responded {w} x r payload e =
     ended x.opcode x (finish_of w x.opcode x.param x.size (address_asked r) payload) (granted x.opcode r payload (with_past (beat.D x ∷ e.past) e))
 
 -- ---- what is taken
 
-abbrev pub taken : {w : ℕ} → Beat w → End w → Offered w
+abbrev pub taken : {w : ℕ} → Beat w → Endpoint w → Offered w
 taken (beat.B x) e = probed x (block_at x.address) (held_at e (block_at x.address)) e
 taken (beat.D x) e =
     if ends (beat.D x) e.past
@@ -145,16 +145,16 @@ taken (beat.D x) e =
     else silent verdict.Taken (with_past (beat.D x ∷ e.past) e)
 taken x e = silent verdict.Taken (with_past (x ∷ e.past) e)
 
-abbrev pub judged_later : {w : ℕ} → Option Rule → Beat w → End w → Offered w
+abbrev pub judged_later : {w : ℕ} → Option Rule → Beat w → Endpoint w → Offered w
 judged_later (Some rule) x e = refused rule e
 judged_later None x e = taken x e
 
-abbrev pub judged : {w : ℕ} → Option Rule → Terms → Beat w → End w → Offered w
+abbrev pub judged : {w : ℕ} → Option Rule → EndConfig → Beat w → Endpoint w → Offered w
 judged (Some rule) terms x e = refused rule e
 judged None terms x e = if waits x e.past then silent verdict.Stalled e else judged_later (broken_later terms x e) x e
 
 -- what a client answers to a beat of the channel named
-unfoldable pub offered : {w : ℕ} → Terms → Channel → Beat w → End w → Offered w
+unfoldable pub offered : {w : ℕ} → EndConfig → Channel → Beat w → Endpoint w → Offered w
 offered terms ch x e = judged (broken_before terms ch x e) terms x e
 
 -- ---- whether a beat is stalled, by the answer

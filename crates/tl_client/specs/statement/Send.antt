@@ -17,7 +17,7 @@ use Rattle.tl_params.specs.declared.param.Report.{Report}
 use Rattle.tl_params.specs.declared.perm.Perm.{Perm}
 use Rattle.tl_params.specs.declared.perm.Perm.TheVariants as perm
 use Rattle.tl_params.specs.statement.Param.{grow_code, prune_code, report_code}
-use Rattle.tl_client.specs.statement.End.{zeros}
+use Rattle.tl_client.specs.statement.Endpoint.{zeros}
 
 -- an access with the source that the client chose
 abbrev pub sourced : {w : ℕ} → ℕ → MessageA w → MessageA w

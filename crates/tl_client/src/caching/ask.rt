@@ -17,6 +17,7 @@ use crate::request::{is_acquiring, start};
 use crate::send::{acquisition, release};
 use tl_beat::opcode::OpA;
 use tl_burst::message::{Message, MessageA};
+use tl_rules::key::block_at;
 use tl_rules::param::{Grow, Prune};
 use tl_rules::perm::Perm;
 use tl_rules::place::{Span, number_at, write_number};
@@ -79,7 +80,7 @@ impl<const W: usize> Caching<W> {
         requires aligned { IsTrue (is_aligned address size) }
         ensures { result ≡ load_reply self.now address size }
     {
-        let block = address / 64;
+        let block = block_at(address);
         if self.table.held(block) == Perm::None {
             return Reply::Miss;
         }
@@ -94,7 +95,7 @@ impl<const W: usize> Caching<W> {
         requires inside { address / 64 < self.old.blocks }
         ensures { Does self.old self.new (Op.Store address size value) (result, None) }
     {
-        let block = address / 64;
+        let block = block_at(address);
         if self.table.held(block) != Perm::Trunk {
             return Reply::Miss;
         }

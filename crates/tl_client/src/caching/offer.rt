@@ -5,11 +5,11 @@ ghost use Rattle.tl_params.specs.statement.Refusal.{ok_unless};
 ghost use Rattle.tl_beat.specs.declared.beat.BeatD.{BeatD};
 ghost use Rattle.tl_burst.specs.statement.Messages.{breaks_burst};
 ghost use Rattle.tl_burst.specs.statement.Part.{IsTakeable};
-ghost use Rattle.tl_client.specs.statement.End.{End};
+ghost use Rattle.tl_client.specs.statement.Endpoint.{Endpoint};
 ghost use Rattle.tl_client.specs.code.KnowsCaching.{KnowsCaching, terms_of};
 ghost use Rattle.tl_client.specs.statement.Offer;
 ghost use Rattle.tl_client.specs.code.Takes.{IsJudged, Takes};
-ghost use Rattle.tl_rules.specs.statement.Agent;
+ghost use Rattle.tl_rules.specs.statement.Admission;
 ghost use Rattle.tl_rules.specs.statement.Conformance;
 
 use super::Caching;
@@ -19,7 +19,8 @@ use crate::verdict::Verdict;
 use tl_beat::beat::Beat;
 use tl_beat::channel::Channel;
 use tl_burst::message::Message;
-use tl_rules::agent::{is_outside, is_spoiled};
+use tl_rules::admission::{is_outside, is_spoiled};
+use tl_rules::key::block_at;
 use tl_rules::kind::is_probe;
 use tl_rules::order::broken_order;
 use tl_rules::rule::Rule;
@@ -27,11 +28,11 @@ use tl_rules::rule::Rule;
 impl<const W: usize> Caching<W> {
     /// Whether a Probe waits for the answer to a Release of its block.
     pub(super) fn waits(&self, beat: &Beat<W>) -> bool
-        ensures { (e : End W) → KnowsCaching self.now e → result ≡ Offer.waits beat.now e.past }
+        ensures { (e : Endpoint W) → KnowsCaching self.now e → result ≡ Offer.waits beat.now e.past }
     {
         match beat {
             Beat::B(probe) => {
-                is_probe(probe.opcode) && is_releasing(&self.releases, probe.address / 64)
+                is_probe(probe.opcode) && is_releasing(&self.releases, block_at(probe.address))
             }
             _ => false,
         }
@@ -40,7 +41,7 @@ impl<const W: usize> Caching<W> {
     /// The S or H rule that a beat breaks.
     fn broken_in_order(&self, beat: &Beat<W>) -> Option<Rule>
         requires { IsTakeable beat.now }
-        ensures rule { (e : End W) → KnowsCaching self.now e →
+        ensures rule { (e : Endpoint W) → KnowsCaching self.now e →
             result ≡ Conformance.broken_in_order self.now.profile beat.now e.past }
         ensures continues { (x : BeatD W) → beat.now ≡ Beat.D x → result ≡ None → breaks_burst beat.now self.now.responses ≡ false }
     {
@@ -53,9 +54,9 @@ impl<const W: usize> Caching<W> {
     /// The rule that a beat breaks which breaks none by itself and needn't wait.
     pub(super) fn check_order(&self, beat: &Beat<W>) -> Result<(), Rule>
         requires { IsTakeable beat.now }
-        ensures rule { (e : End W) → KnowsCaching self.now e →
+        ensures rule { (e : Endpoint W) → KnowsCaching self.now e →
             result ≡ ok_unless (Offer.broken_later (terms_of self.now) beat.now e) }
-        ensures inside { OnOk result (Agent.is_outside self.now.blocks beat.now ≡ false) }
+        ensures inside { OnOk result (Admission.is_outside self.now.blocks beat.now ≡ false) }
         ensures continues { (x : BeatD W) → beat.now ≡ Beat.D x → OnOk result (breaks_burst beat.now self.now.responses ≡ false) }
     {
         if let Some(rule) = self.broken_in_order(beat) {
@@ -72,9 +73,9 @@ impl<const W: usize> Caching<W> {
 
     /// The rule that a beat breaks, or whether it has to wait.
     pub(super) fn judge(&self, channel: Channel, beat: &Beat<W>) -> Result<bool, Rule>
-        ensures judged { (e : End W) → KnowsCaching self.now e → IsJudged (terms_of self.now) channel beat.now e result }
+        ensures judged { (e : Endpoint W) → KnowsCaching self.now e → IsJudged (terms_of self.now) channel beat.now e result }
         ensures takeable { result ≡ Ok false → IsTakeable beat.now }
-        ensures inside { result ≡ Ok false → Agent.is_outside self.now.blocks beat.now ≡ false }
+        ensures inside { result ≡ Ok false → Admission.is_outside self.now.blocks beat.now ≡ false }
         ensures continues { result ≡ Ok false → (x : BeatD W) → beat.now ≡ Beat.D x → breaks_burst beat.now self.now.responses ≡ false }
     {
         check_alone(self.closed, self.config.level, channel, beat)?;
@@ -88,7 +89,7 @@ impl<const W: usize> Caching<W> {
     /// Takes a beat that breaks no rule.
     pub(super) fn take(&mut self, beat: &Beat<W>) -> (Verdict, Option<Message<W>>)
         requires takeable { IsTakeable beat.now }
-        requires inside { Agent.is_outside self.old.blocks beat.now ≡ false }
+        requires inside { Admission.is_outside self.old.blocks beat.now ≡ false }
         requires continues { (x : BeatD W) → beat.now ≡ Beat.D x → breaks_burst beat.now self.old.responses ≡ false }
         ensures taken { Takes self.old self.new beat.now result }
         ensures terms { terms_of self.new ≡ terms_of self.old }

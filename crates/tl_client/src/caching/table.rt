@@ -1,7 +1,7 @@
 //! What a client keeps of each block.
 
 ghost use Rattle.std.specs.Prelude.{ℕ, ◌≡◌, ◌<◌, ◌==◌, ◌&&◌, not, if◌then◌else◌, length, IfOk, Option};
-ghost use Rattle.tl_client.specs.statement.Kept.{holds};
+ghost use Rattle.tl_client.specs.statement.EndpointInvariant.{holds};
 ghost use Rattle.tl_client.specs.code.Table.{held_in, copy_in, waiting_in, block_count};
 ghost use Rattle.tl_params.specs.declared.perm.Perm.TheVariants as perm;
 
@@ -25,7 +25,7 @@ pub struct Table {
 }
 
 impl Table {
-    /// So many blocks, of which nothing is held.
+    /// This many blocks, of which nothing is held.
     pub fn new(alloc: Global, count: u16) -> Result<Self, AllocError>
         ensures count { IfOk result (λ t. block_count t ≡ count) }
         ensures held { IfOk result (λ t. (k : ℕ) → held_in t k ≡ perm.None) }

@@ -18,6 +18,7 @@ use crate::verdict::{Finish, Verdict};
 use tl_beat::beat::{Beat, BeatB, BeatD};
 use tl_beat::opcode::{OpA, OpD};
 use tl_burst::message::{Message, MessageD, MessageE};
+use tl_rules::key::block_at;
 use tl_rules::kind::{capped, is_grant, is_release_ack};
 use tl_rules::param::{Cap, Report};
 use tl_rules::perm::Perm;
@@ -53,7 +54,7 @@ impl<const W: usize> Caching<W> {
         requires inside { probe.now.address / 64 < self.old.blocks }
         ensures { Probes self.old self.new probe.now result }
     {
-        let block = probe.address / 64;
+        let block = block_at(probe.address);
         let held = self.table.held(block);
         let report = report_for(probe, held);
         let message = probe_ack(probe.opcode, held, report, block, self.bytes(block));
@@ -66,7 +67,7 @@ impl<const W: usize> Caching<W> {
         requires { is_grant grant.now.opcode ≡ true }
         ensures { Grants self.old self.new (in_message grant.now) request }
     {
-        let block = request.address / 64;
+        let block = block_at(request.address);
         self.table.hold(block, capped(grant.param));
         if grant.opcode == OpD::GrantData {
             self.table.set_copy(block, Some(grant.payload));
@@ -104,7 +105,7 @@ impl<const W: usize> Caching<W> {
         match self.requests.at(response.source) {
             None => None,
             Some(request) => Some(Granting {
-                block: request.address / 64,
+                block: block_at(request.address),
                 sink: response.sink,
             }),
         }

@@ -8,7 +8,7 @@ use Rattle.tl_beat.specs.declared.channel.Channel.{Channel}
 use Rattle.tl_burst.specs.statement.Burst.{beats_of}
 use Rattle.tl_burst.specs.statement.Part.{completes}
 use Rattle.tl_params.specs.declared.config.Config.{Config}
-use Rattle.tl_client.specs.statement.End.{Terms}
+use Rattle.tl_client.specs.statement.Endpoint.{EndConfig}
 use Rattle.tl_coherence.specs.declared.event.Event.TheVariants.{Deliver}
 use Rattle.tl_coherence.specs.statement.Draining.{is_moving}
 use Rattle.tl_coherence.specs.refinement.AbstractStep.{AbstractState, abstract_step, kind_taken, packet_taken}
@@ -96,7 +96,7 @@ module _ {w : ℕ} (config : Config) (log : Log w) (h : AbstractState w) (width 
           let h' : AbstractState w = abstract_step config (Deliver link ch) sys h in
           kept-matched config ((Deliver link ch, (stepped config (Deliver link ch) sys).outcome) ∷ log) h'.mail h'.request h'.state sys' (matched-event config log h (Deliver link ch) width tt matched)
 
-      taken : (x : Beat w) (queue : List (Beat w)) (terms : Terms) → terms_at config link.0 ≡ Some terms → sys.channels link.0 ch ≡ x ∷ queue → (b : Bool)
+      taken : (x : Beat w) (queue : List (Beat w)) (terms : EndConfig) → terms_at config link.0 ≡ Some terms → sys.channels link.0 ch ≡ x ∷ queue → (b : Bool)
           → completes x (unfinished_at sys link.0 ch) ≡ b → IsLess (abstract_step config (Deliver link ch) sys h) sys'
       taken x queue terms known beats true last =
           subst (λ (z : AbstractState w). IsLess z sys') (sym follows)
@@ -123,7 +123,7 @@ module _ {w : ℕ} (config : Config) (log : Log w) (h : AbstractState w) (width 
           follows = followed-moving config link ch sys h x queue moving beats
               ∙ ap (λ (b : Bool). if b then packet_taken config (next_tracker sys) link.0 (packets_on ch (h.state.link link.0)) h else h) part
 
-      go : ((x : Beat w) × (queue : List (Beat w)) × (terms : Terms) × ((sys.channels link.0 ch ≡ x ∷ queue) × (terms_at config link.0 ≡ Some terms)))
+      go : ((x : Beat w) × (queue : List (Beat w)) × (terms : EndConfig) × ((sys.channels link.0 ch ≡ x ∷ queue) × (terms_at config link.0 ≡ Some terms)))
           → IsLess (abstract_step config (Deliver link ch) sys h) sys'
       go p = taken p.0 p.1 p.2 p.3.1 p.3.0 (completes p.0 (unfinished_at sys link.0 ch)) refl
 

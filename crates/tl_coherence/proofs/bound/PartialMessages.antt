@@ -8,10 +8,10 @@ use Rattle.tl_beat.specs.declared.channel.Channel.{Channel}
 use Rattle.tl_burst.specs.statement.Messages.{grown}
 use Rattle.tl_burst.specs.statement.Part.{completes}
 use Rattle.tl_params.specs.declared.config.Config.{Config}
-use Rattle.tl_client.specs.statement.End.{Terms}
+use Rattle.tl_client.specs.statement.Endpoint.{EndConfig}
 use Rattle.tl_client.specs.statement.Offer as offer
 use Rattle.tl_manager.specs.statement.Offer as manager_offer
-use Rattle.tl_manager.specs.statement.Deed.{deed}
+use Rattle.tl_manager.specs.statement.Reaction.{reaction}
 use Rattle.tl_coherence.specs.declared.event.Event.TheVariants.{Deliver}
 use Rattle.tl_coherence.specs.statement.Draining.{is_moving}
 use Rattle.tl_coherence.specs.refinement.AbstractStep.{AbstractState}
@@ -33,7 +33,7 @@ use Rattle.tl_coherence.proofs.queues.Steps.{same_channel-refl}
 abbrev pub IsGrown : {w : ℕ} → ℕ → Channel → Beat w → System w → System w → Type 0
 IsGrown c ch x sys sys' = (d : ℕ) (at : Channel) → unfinished_at sys' d at ≡ (if (d == c) && same_channel at ch then grown x (unfinished_at sys d at) else unfinished_at sys d at)
 
-pub grown-moved : {w : ℕ} (config : Config) (log : Log w) (h : AbstractState w) (link : Link) (ch : Channel) (terms : Terms) (x : Beat w) (queue : List (Beat w))
+pub grown-moved : {w : ℕ} (config : Config) (log : Log w) (h : AbstractState w) (link : Link) (ch : Channel) (terms : EndConfig) (x : Beat w) (queue : List (Beat w))
     → IsWidth w → SimulationRelation config log h.mail h.request h.state (system_after config log)
     → terms_at config link.0 ≡ Some terms → (system_after config log).channels link.0 ch ≡ x ∷ queue → is_moving (stepped config (Deliver link ch) (system_after config log)).outcome ≡ true
     → IsGrown link.0 ch x (system_after config log) (stepped config (Deliver link ch) (system_after config log)).after
@@ -54,7 +54,7 @@ grown-moved {w} config log h link ch terms x queue width is known beats moving =
     go false down =
         let at : IsAtManager config log link ch h x queue = at-manager config log link ch h terms x queue width is known down beats moving in
         subst (λ (y : Step w). IsGrown link.0 ch x sys y.after) (sym at.step_is)
-        (rests-manager link.0 ch x queue (deed config link x sys.manager).handed (manager_offer.taken link x (deed config link x sys.manager) sys.manager) sys down on_ch at.heard)
+        (rests-manager link.0 ch x queue (reaction config link x sys.manager).handed (manager_offer.taken link x (reaction config link x sys.manager) sys.manager) sys down on_ch at.heard)
 
 -- with the last beat of a message it has nothing of the next
 pub grown-received : {w : ℕ} (c : ℕ) (ch : Channel) (x : Beat w) (sys sys' : System w) → IsGrown c ch x sys sys' → completes x (unfinished_at sys c ch) ≡ true → IsReceived c ch sys sys'

@@ -21,7 +21,7 @@ use Rattle.tl_client.specs.declared.operation.Op.TheVariants as op
 use Rattle.tl_client.specs.declared.reply.Reply.TheVariants as reply
 use Rattle.tl_client.specs.statement.Ask as ask
 use Rattle.tl_client.specs.statement.Ask.{done, load, store, free_request, free_release, source_or_0}
-use Rattle.tl_client.specs.statement.End.{Terms, End, held_at}
+use Rattle.tl_client.specs.statement.Endpoint.{EndConfig, Endpoint, held_at}
 use Rattle.tl_client.proofs.Cases.{NotBusy, asked-cases}
 use Rattle.tl_client.proofs.Free.{least_free-some}
 use Rattle.tl_manager.specs.statement.Offer.{level_of}
@@ -124,23 +124,23 @@ busy_may caching c (op.AcquireWhole n bytes) b h = tt
 busy_may caching c (op.Release n r) b h = tt
 busy_may caching c (op.Access m) b h = tt
 
-store_may : {w : ℕ} (caching : ℕ → Bool) (c address size value : ℕ) (p : Perm) (e : End w) (h : AbstractState w) → p ≡ ((h.state.block (block_at address)).pair c).held
+store_may : {w : ℕ} (caching : ℕ → Bool) (c address size value : ℕ) (p : Perm) (e : Endpoint w) (h : AbstractState w) → p ≡ ((h.state.block (block_at address)).pair c).held
     → IsAskable caching c (op.Store address size value) (store address size value p e).reply h
 store_may caching c address size value perm.None e h is = tt
 store_may caching c address size value perm.Branch e h is = tt
 store_may caching c address size value perm.Trunk e h is = rw (sym is) refl
 
 -- what is given of a client that is asked
-record IsAt {w : ℕ} (config : Config) (c : ℕ) (terms : Terms) (h : AbstractState w) (e : End w) : Type 0 where
+record IsAt {w : ℕ} (config : Config) (c : ℕ) (terms : EndConfig) (h : AbstractState w) (e : Endpoint w) : Type 0 where
   end : IsEnd (asked_by h.mail h.state c) c h.state e
   level_is : level_of config c ≡ Some terms.level
   closes : (source : ℕ) → is_some (asked_by h.mail h.state c source) ≡ false → h.state.uses c source ≡ SourceFree
 
-free_use : {w : ℕ} (config : Config) (c source : ℕ) (terms : Terms) (h : AbstractState w) (e : End w) → IsAt config c terms h e
+free_use : {w : ℕ} (config : Config) (c source : ℕ) (terms : EndConfig) (h : AbstractState w) (e : Endpoint w) → IsAt config c terms h e
     → pending (RequestSource source) e.past ≡ false → h.state.uses c source ≡ SourceFree
 free_use config c source terms h e at free = at.closes source (sym (at.end.opened.requests source) ∙ free)
 
-done_may : {w : ℕ} (config : Config) (c : ℕ) (terms : Terms) (o : Op w) (h : AbstractState w) (e : End w) → IsAt config c terms h e → NotBusy terms o e
+done_may : {w : ℕ} (config : Config) (c : ℕ) (terms : EndConfig) (o : Op w) (h : AbstractState w) (e : Endpoint w) → IsAt config c terms h e → NotBusy terms o e
     → IsAskable (is_caching config) c o (done terms o e).reply h
 done_may config c terms (op.Load address size) h e at free = tt
 done_may config c terms (op.Store address size value) h e at free = store_may (is_caching config) c address size value (held_at e (block_at address)) e h (at.end.known.held_is (block_at address))
@@ -178,7 +178,7 @@ done_may config c terms (op.Access (message.D m)) h e at free = tt
 done_may config c terms (op.Access (message.E m)) h e at free = tt
 
 -- What a client answers to an operation, the protocol allows.
-pub askable : {w : ℕ} (config : Config) (log : Log w) (mail : AccessMessages w) (request : ℕ → MessageA w) (s : State (List ℕ)) (sys : System w) (terms : Terms) (c : ℕ)
+pub askable : {w : ℕ} (config : Config) (log : Log w) (mail : AccessMessages w) (request : ℕ → MessageA w) (s : State (List ℕ)) (sys : System w) (terms : EndConfig) (c : ℕ)
     (o : Op w) → SimulationRelation config log mail request s sys
     → terms_at config c ≡ Some terms
     → IsAskable (is_caching config) c o (ask.asked terms o (sys.clients c)).reply (shadow_of mail request s)

@@ -20,7 +20,7 @@ use Rattle.tl_params.specs.declared.param.Prune.TheVariants as prune
 use Rattle.tl_params.specs.declared.perm.Perm.{Perm}
 use Rattle.tl_params.specs.declared.perm.Perm.TheVariants as perm
 use Rattle.tl_params.specs.statement.Param.{prune_code, prune_left, prune_right}
-use Rattle.tl_rules.specs.statement.Agent.{sent}
+use Rattle.tl_rules.specs.statement.Admission.{sent}
 use Rattle.tl_rules.specs.statement.History.{block_at, is_acquire, is_release, held, pending}
 use Rattle.tl_rules.specs.statement.Conformance.{same_perm}
 use Rattle.tl_client.specs.declared.busy.Busy.{Busy}
@@ -29,8 +29,8 @@ use Rattle.tl_client.specs.declared.operation.Op.TheVariants as op
 use Rattle.tl_client.specs.declared.reply.Reply.TheVariants as reply
 use Rattle.tl_client.specs.statement.Ask as ask
 use Rattle.tl_client.specs.statement.Ask.{done, only, load, store, copy_stored, whole_grow, free_request, free_release, source_or_0, is_access_of}
-use Rattle.tl_client.specs.statement.End.{Terms, End, zeros, copy_at, held_at, with_copy, with_waiting, sending, kept_for}
-use Rattle.tl_client.specs.statement.Kept.{holds}
+use Rattle.tl_client.specs.statement.Endpoint.{EndConfig, Endpoint, zeros, copy_at, held_at, with_copy, with_waiting, sending, kept_for}
+use Rattle.tl_client.specs.statement.EndpointInvariant.{holds}
 use Rattle.tl_client.specs.statement.Send.{sourced, acquisition, about, release}
 use Rattle.tl_client.proofs.Accounted.{accounted-asked}
 use Rattle.tl_client.proofs.AfterAsked.{kept_copies, kept_closed}
@@ -79,7 +79,7 @@ asks_access {w} c i m mail s = elim (cases_eq i m.source) [
     s' : State (List ℕ)
     s' = access_asked c m.source s
 
-pub end-access_asked : {w : ℕ} (c : ℕ) (m : MessageA w) (mail : AccessMessages w) (s : State (List ℕ)) (e : End w) → IsWidth w → is_acquire m.opcode ≡ false
+pub end-access_asked : {w : ℕ} (c : ℕ) (m : MessageA w) (mail : AccessMessages w) (s : State (List ℕ)) (e : Endpoint w) → IsWidth w → is_acquire m.opcode ≡ false
     → IsWellKept (sending (message.A m) e) → IsEnd (asked_by mail s c) c s e
     → IsEnd (asked_by (record { request = set_at c m.source (message.A m) mail.request; answer = mail.answer }) (access_asked c m.source s) c) c (access_asked c m.source s) (sending (message.A m) e)
 end-access_asked {w} c m mail s e width plain kept end =
@@ -138,7 +138,7 @@ asks_acquire {w} c n source i whole g bytes mail s named calm = elim (cases_eq i
     apart : (j : ℕ) → s.uses c i ≡ Acquires j → j ≡ n → ⊥
     apart j used same = unused c n i s named calm (used ∙ ap Acquires same)
 
-pub end-acquire_asked : {w : ℕ} (c n source : ℕ) (whole : Bool) (g : Grow) (bytes : List ℕ) (mail : AccessMessages w) (s : State (List ℕ)) (e f : End w) → IsWidth w → AreNamed s
+pub end-acquire_asked : {w : ℕ} (c n source : ℕ) (whole : Bool) (g : Grow) (bytes : List ℕ) (mail : AccessMessages w) (s : State (List ℕ)) (e f : Endpoint w) → IsWidth w → AreNamed s
     → pending (AcquireOf n) e.past ≡ false
     → f.past ≡ (sending (message.A (acquisition (acquire_opcode whole) g source n)) e).past → f.copies ≡ e.copies → f.closed ≡ e.closed
     → ((i : ℕ) → (i ≡ n → ⊥) → f.waiting i ≡ e.waiting i) → (whole ≡ true → f.waiting n ≡ Some bytes) → IsWellKept f → IsEnd (asked_by mail s c) c s e
@@ -208,7 +208,7 @@ release_message prune.TtoB source n copy = (about opc.ReleaseData (prune_code pr
 release_message prune.TtoN source n copy = (about opc.ReleaseData (prune_code prune.TtoN) source n copy, refl, record { releases = refl; of_block = same_block n; whole = refl; from = refl })
 release_message prune.BtoN source n copy = (about opc.Release (prune_code prune.BtoN) source n zeros, refl, record { releases = refl; of_block = same_block n; whole = refl; from = refl })
 
-pub end-release_asked : {w : ℕ} (c n source : ℕ) (r : Prune) (copy : List ℕ) (mail : AccessMessages w) (s : State (List ℕ)) (e : End w) → IsWidth w
+pub end-release_asked : {w : ℕ} (c n source : ℕ) (r : Prune) (copy : List ℕ) (mail : AccessMessages w) (s : State (List ℕ)) (e : Endpoint w) → IsWidth w
     → same_perm (prune_left r) (held n e.past) ≡ true → IsWellKept (kept_for n (prune_right r) (sending (release r source n copy) e)) → IsEnd (asked_by mail s c) c s e
     → IsEnd (asked_by mail (release_asked c n source r s) c) c (release_asked c n source r s) (kept_for n (prune_right r) (sending (release r source n copy) e))
 end-release_asked {w} c n source r copy mail s e width begins kept end =
@@ -230,7 +230,7 @@ end-release_asked {w} c n source r copy mail s e width begins kept end =
       live = kept_closed n (prune_right r) (sending (release r source n copy) e) ∙ end.live;
     }
   where
-    f : End w
+    f : Endpoint w
     f = kept_for n (prune_right r) (sending (release r source n copy) e)
 
     new : Block (List ℕ)
@@ -280,7 +280,7 @@ end-release_asked {w} c n source r copy mail s e width begins kept end =
 
 -- ---- a store
 
-pub end-stored : {w : ℕ} (c n : ℕ) (bytes : List ℕ) (mail : AccessMessages w) (s : State (List ℕ)) (e : End w) → IsWellKept (with_copy n (Some bytes) e) → IsEnd (asked_by mail s c) c s e
+pub end-stored : {w : ℕ} (c n : ℕ) (bytes : List ℕ) (mail : AccessMessages w) (s : State (List ℕ)) (e : Endpoint w) → IsWellKept (with_copy n (Some bytes) e) → IsEnd (asked_by mail s c) c s e
     → IsEnd (asked_by mail (block_stored c n bytes s) c) c (block_stored c n bytes s) (with_copy n (Some bytes) e)
 end-stored {w} c n bytes mail s e kept end = record {
   known = known-same c (asked_by mail s c) (asked_by mail s' c) (unfinished channel.D e.past) s s' e.past same end.known;
@@ -317,13 +317,13 @@ end-stored {w} c n bytes mail s e kept end = record {
 -- ---- all operations
 
 -- the client's end beside the protocol
-abbrev pub IsEndOf : {w : ℕ} → ℕ → AbstractState w → End w → Type 0
+abbrev pub IsEndOf : {w : ℕ} → ℕ → AbstractState w → Endpoint w → Type 0
 IsEndOf c h e = IsEnd (asked_by h.mail h.state c) c h.state e
 
 abbrev IsAfter : {w : ℕ} → ℕ → Op w → AbstractState w → ask.Asked w → Type 0
 IsAfter c o h x = IsWellKept x.after → IsEndOf c (world.asked c o x.reply h) x.after
 
-end_busy : {w : ℕ} (c : ℕ) (o : Op w) (b : Busy) (h : AbstractState w) (e : End w) → IsEndOf c h e → IsEndOf c (world.asked c o (reply.Busy b) h) e
+end_busy : {w : ℕ} (c : ℕ) (o : Op w) (b : Busy) (h : AbstractState w) (e : Endpoint w) → IsEndOf c h e → IsEndOf c (world.asked c o (reply.Busy b) h) e
 end_busy c (op.Load address size) b h e end = end
 end_busy c (op.Store address size value) b h e end = end
 end_busy c (op.Acquire n g) b h e end = end
@@ -335,12 +335,12 @@ end_busy c (op.Access (message.C m)) b h e end = end
 end_busy c (op.Access (message.D m)) b h e end = end
 end_busy c (op.Access (message.E m)) b h e end = end
 
-end_load : {w : ℕ} (c address size : ℕ) (p : Perm) (h : AbstractState w) (e : End w) → IsEndOf c h e → IsAfter c (op.Load address size) h (load address size p e)
+end_load : {w : ℕ} (c address size : ℕ) (p : Perm) (h : AbstractState w) (e : Endpoint w) → IsEndOf c h e → IsAfter c (op.Load address size) h (load address size p e)
 end_load c address size perm.None h e end kept = end
 end_load c address size perm.Branch h e end kept = end
 end_load c address size perm.Trunk h e end kept = end
 
-end_store : {w : ℕ} (c address size value : ℕ) (p : Perm) (h : AbstractState w) (e : End w) → ((h.state.block (block_at address)).pair c).held ≡ p → IsEndOf c h e
+end_store : {w : ℕ} (c address size value : ℕ) (p : Perm) (h : AbstractState w) (e : Endpoint w) → ((h.state.block (block_at address)).pair c).held ≡ p → IsEndOf c h e
     → IsAfter c (op.Store address size value) h (store address size value p e)
 end_store c address size value perm.None h e is end kept = end
 end_store c address size value perm.Branch h e is end kept = end
@@ -353,7 +353,7 @@ end_store {w} c address size value perm.Trunk h e is end kept =
     (block_stored c n (copy_stored address size value ((h.state.block n).copy c)) h.state) (with_copy n (Some x) e))
     (sym bytes) (λ k. end-stored c n (copy_stored address size value ((h.state.block n).copy c)) h.mail h.state e k end) kept
 
-end_done : {w : ℕ} (terms : Terms) (c : ℕ) (o : Op w) (h : AbstractState w) (e : End w) → IsWidth w → AreNamed h.state → IsEndOf c h e → NotBusy terms o e → IsAfter c o h (done terms o e)
+end_done : {w : ℕ} (terms : EndConfig) (c : ℕ) (o : Op w) (h : AbstractState w) (e : Endpoint w) → IsWidth w → AreNamed h.state → IsEndOf c h e → NotBusy terms o e → IsAfter c o h (done terms o e)
 end_done terms c (op.Load address size) h e width named end free kept = end_load c address size (held_at e (block_at address)) h e end kept
 end_done terms c (op.Store address size value) h e width named end free kept = end_store c address size value (held_at e (block_at address)) h e (sym (end.known.held_is (block_at address))) end kept
 end_done terms c (op.Acquire n g) h e width named end free kept =
@@ -365,7 +365,7 @@ end_done {w} terms c (op.AcquireWhole n bytes) h e width named end free kept =
     let idle = or_parts (pending (AcquireOf n) e.past) (pending (ReleaseOf n) e.past) free.b2 in
     let source = source_or_0 (free_request terms e.past) in
     let m : Perm → Message w = λ p. message.A (acquisition a.AcquirePerm (whole_grow p) source n) in
-    let f : End w = with_waiting n (Some bytes) (sending (m (held_at e n)) e) in
+    let f : Endpoint w = with_waiting n (Some bytes) (sending (m (held_at e n)) e) in
     end-acquire_asked c n source true (whole_grow ((h.state.block n).pair c).held) bytes h.mail h.state e f width named
     idle.0 (ap (λ (p : Perm). sent (m p) e.past) (end.known.held_is n)) refl refl
     (λ i other. passed (i == n) (Some bytes) (e.waiting i) (ne_eqb i n other)) (λ whole. chosen (n == n) (Some bytes) (e.waiting n) (same_number n)) kept end
@@ -381,7 +381,7 @@ end_done terms c (op.Access (message.D m)) h e width named end free kept = end
 end_done terms c (op.Access (message.E m)) h e width named end free kept = end
 
 -- a client's end is that of the protocol after it was asked, whatever it answers
-pub end-asked : {w : ℕ} (terms : Terms) (c : ℕ) (o : Op w) (h : AbstractState w) (e : End w) → IsWidth w → AreNamed h.state → IsEndOf c h e
+pub end-asked : {w : ℕ} (terms : EndConfig) (c : ℕ) (o : Op w) (h : AbstractState w) (e : Endpoint w) → IsWidth w → AreNamed h.state → IsEndOf c h e
     → IsEndOf c (world.asked c o (ask.asked terms o e).reply h) (ask.asked terms o e).after
 end-asked terms c o h e width named end =
     asked-cases terms o e (IsAfter c o h) (λ b kept. end_busy c o b h e end) (end_done terms c o h e width named end)

@@ -14,11 +14,11 @@ use Rattle.tl_burst.specs.statement.Messages.{History, unfinished}
 use Rattle.tl_burst.proofs.Splitting.{beats-positive}
 use Rattle.tl_params.specs.declared.key.Key.TheVariants.{RequestSource, ReleaseSource, AcquireOf, ReleaseOf}
 use Rattle.tl_params.specs.declared.perm.Perm.{Perm}
-use Rattle.tl_rules.specs.statement.Agent.{sent}
+use Rattle.tl_rules.specs.statement.Admission.{sent}
 use Rattle.tl_rules.specs.statement.History.{block_at, ends, grants, releases, capped, is_grant, is_release_ack, held, pending, request_of, release_of}
 use Rattle.tl_rules.proofs.Handed.{held-whole, pending-whole, release_of-whole}
 use Rattle.tl_rules.proofs.Sent.{pending-closed}
-use Rattle.tl_client.specs.statement.End.{End}
+use Rattle.tl_client.specs.statement.Endpoint.{Endpoint}
 use Rattle.tl_client.specs.statement.Requests.{open_beat}
 use Rattle.tl_client.proofs.AccountedResponse.{release_of-d}
 use Rattle.tl_client.proofs.HeldAfter.{held-beat_d}
@@ -107,7 +107,7 @@ given_cond a true p q r e f = rw (e, f refl) refl
 given_cond a false p q r e f = rw e refl
 
 pub known-heard : {w : ℕ} (c : ℕ) (x : BeatD w) (t : History w) (p : Perm) (closes_block closes_release closes_source closes_let : ℕ → Bool)
-    (asked asked' : ℕ → Option (BeatA w)) (s s' : State (List ℕ)) (f : End w)
+    (asked asked' : ℕ → Option (BeatA w)) (s s' : State (List ℕ)) (f : Endpoint w)
     → IsEcho x t f.past → IsWellKept f
     → IsHeard c x t p closes_block closes_release closes_source closes_let asked asked' s s' → ClientRelation asked (unfinished channel.D t) c s t → ClientRelation asked' (unfinished channel.D f.past) c s' f.past
 known-heard {w} c x t p closes_block closes_release closes_source closes_let asked asked' s s' f echo well event known = known-kept asked' c s' f well

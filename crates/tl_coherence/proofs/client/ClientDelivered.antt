@@ -23,12 +23,12 @@ use Rattle.tl_params.specs.declared.config.Config.{Config}
 use Rattle.tl_params.specs.declared.param.Cap.{Cap}
 use Rattle.tl_params.specs.declared.perm.Perm.{Perm}
 use Rattle.tl_params.specs.declared.perm.Perm.TheVariants as perm
-use Rattle.tl_rules.specs.statement.Agent.{payload_of}
+use Rattle.tl_rules.specs.statement.Admission.{payload_of}
 use Rattle.tl_rules.specs.statement.History.{ends, is_grant, is_release_ack, request_of}
 use Rattle.tl_rules.proofs.Payload.{payload-d}
 use Rattle.tl_rules.specs.statement.Conformance.{same_perm}
 use Rattle.tl_client.specs.declared.verdict.Finish.{Finish}
-use Rattle.tl_client.specs.statement.End.{Terms, End, with_past}
+use Rattle.tl_client.specs.statement.Endpoint.{EndConfig, Endpoint, with_past}
 use Rattle.tl_client.specs.statement.Offer.{Offered, offered, taken, ended, granted, responded, silent}
 use Rattle.tl_client.specs.declared.verdict.Verdict.TheVariants as verdict
 use Rattle.tl_client.proofs.Accounted.{accounted-offered}
@@ -53,16 +53,16 @@ use Rattle.tl_rules.proofs.Widths.{whole_block}
 
 -- ---- what a client does at a beat of channel D
 
-part_end : {w : ℕ} (y : BeatD w) (e : End w) → ends (beat.D y) e.past ≡ false → (taken (beat.D y) e).after ≡ with_past (beat.D y ∷ e.past) e
+part_end : {w : ℕ} (y : BeatD w) (e : Endpoint w) → ends (beat.D y) e.past ≡ false → (taken (beat.D y) e).after ≡ with_past (beat.D y ∷ e.past) e
 part_end {w} y e more = ap (λ (b : Bool). (cond b (responded y (request_of y.source e.past) (payload_of (beat.D y ∷ unfinished channel.D e.past)) e)
     (silent verdict.Taken (with_past (beat.D y ∷ e.past) e))).after) more
 
-last_end : {w : ℕ} (y : BeatD w) (e : End w) → ends (beat.D y) e.past ≡ true
+last_end : {w : ℕ} (y : BeatD w) (e : Endpoint w) → ends (beat.D y) e.past ≡ true
     → (taken (beat.D y) e).after ≡ (responded y (request_of y.source e.past) (payload_of (beat.D y ∷ unfinished channel.D e.past)) e).after
 last_end {w} y e last = ap (λ (b : Bool). (cond b (responded y (request_of y.source e.past) (payload_of (beat.D y ∷ unfinished channel.D e.past)) e)
     (silent verdict.Taken (with_past (beat.D y ∷ e.past) e))).after) last
 
-ended_plain : {w : ℕ} (o : OpD) (y : BeatD w) (f : Finish) (r : Option (BeatA w)) (payload : List ℕ) (e : End w) → is_grant o ≡ false → (ended o y f (granted o r payload e)).after ≡ e
+ended_plain : {w : ℕ} (o : OpD) (y : BeatD w) (f : Finish) (r : Option (BeatA w)) (payload : List ℕ) (e : Endpoint w) → is_grant o ≡ false → (ended o y f (granted o r payload e)).after ≡ e
 ended_plain opd.AccessAck y f r payload e plain = refl
 ended_plain opd.AccessAckData y f r payload e plain = refl
 ended_plain opd.HintAck y f r payload e plain = refl
@@ -70,29 +70,29 @@ ended_plain opd.ReleaseAck y f r payload e plain = refl
 ended_plain opd.Grant y f r payload e plain = absurd cc
 ended_plain opd.GrantData y f r payload e plain = absurd cc
 
-plain_end : {w : ℕ} (y : BeatD w) (e : End w) → ends (beat.D y) e.past ≡ true → is_grant y.opcode ≡ false → (taken (beat.D y) e).after ≡ with_past (beat.D y ∷ e.past) e
+plain_end : {w : ℕ} (y : BeatD w) (e : Endpoint w) → ends (beat.D y) e.past ≡ true → is_grant y.opcode ≡ false → (taken (beat.D y) e).after ≡ with_past (beat.D y ∷ e.past) e
 plain_end {w} y e last plain = last_end y e last ∙ ended_plain y.opcode y _ (request_of y.source e.past) (payload_of (beat.D y ∷ unfinished channel.D e.past)) (with_past (beat.D y ∷ e.past) e) plain
 
 -- ---- the end afterwards
 
 -- the beat is taken; the end is that of the protocol as it was, or after its event where the beat is the last of its message
-pub record IsTakenBy {w : ℕ} (config : Config) (terms : Terms) (tracker c : ℕ) (h : AbstractState w) (x : Beat w) (e : End w) : Type 0 where
+pub record IsTakenBy {w : ℕ} (config : Config) (terms : EndConfig) (tracker c : ℕ) (h : AbstractState w) (x : Beat w) (e : Endpoint w) : Type 0 where
   pub takes : offered terms channel.D x e ≡ taken x e
   pub more : completes x (unfinished channel.D e.past) ≡ false → IsEndOf c h (taken x e).after
   pub last : completes x (unfinished channel.D e.past) ≡ true → IsEndOf c (packet_taken config tracker c (h.state.link c).d h) (taken x e).after
 
-well-taken : {w : ℕ} (terms : Terms) (x : Beat w) (e f : End w) → IsWidth w → offered terms channel.D x e ≡ taken x e → f ≡ (taken x e).after → IsWellKept e → IsWellKept f
+well-taken : {w : ℕ} (terms : EndConfig) (x : Beat w) (e f : Endpoint w) → IsWidth w → offered terms channel.D x e ≡ taken x e → f ≡ (taken x e).after → IsWellKept e → IsWellKept f
 well-taken {w} terms x e f width takes is well =
     let same : (offered terms channel.D x e).after ≡ f = ap (λ (o : Offered w). o.after) takes ∙ sym is in
-    subst (λ (g : End w). IsWellKept g) same (record { kept = kept-offered terms channel.D x e width well.kept; accounted = accounted-offered terms channel.D x e width well.kept well.accounted })
+    subst (λ (g : Endpoint w). IsWellKept g) same (record { kept = kept-offered terms channel.D x e width well.kept; accounted = accounted-offered terms channel.D x e width well.kept well.accounted })
 
 -- the end before, as the protocol has it
-well-of : {w : ℕ} (c : ℕ) (h : AbstractState w) (e : End w) → IsEndOf c h e → IsWellKept e
+well-of : {w : ℕ} (c : ℕ) (h : AbstractState w) (e : Endpoint w) → IsEndOf c h e → IsWellKept e
 well-of c h e end = record { kept = end.kept; accounted = end.accounted }
 
 -- what its message tells of a beat
-taken-by : {w : ℕ} (config : Config) (terms : Terms) (tracker c : ℕ) (h : AbstractState w) (m : MessageD w) (ms : List (Message w)) (x : Beat w)
-    (queue : List (Beat w)) (e : End w) → IsWidth w → IsEndOf c h e
+taken-by : {w : ℕ} (config : Config) (terms : EndConfig) (tracker c : ℕ) (h : AbstractState w) (m : MessageD w) (ms : List (Message w)) (x : Beat w)
+    (queue : List (Beat w)) (e : Endpoint w) → IsWidth w → IsEndOf c h e
     → IsNext x (unfinished channel.D e.past) (message.D m) ms queue → offered terms channel.D x e ≡ taken x e
     → ((y : BeatD w) → x ≡ beat.D y → y.opcode ≡ m.opcode → y.source ≡ m.source → y.param ≡ m.param → ends (beat.D y) e.past ≡ true
     → x ∷ unfinished channel.D e.past ≡ burst_of (message.D m) → IsWellKept (taken (beat.D y) e).after
@@ -129,12 +129,12 @@ abbrev pub shadow_of : {w : ℕ} → AccessMessages w → (ℕ → MessageA w) �
 shadow_of mail request s = record { state = s; mail = mail; request = request }
 
 -- with the first token of channel D
-taken_token : {w : ℕ} (config : Config) (tracker c : ℕ) (k : Kind) (n : ℕ) (rest : List Packet) (h : AbstractState w) (e : End w)
+taken_token : {w : ℕ} (config : Config) (tracker c : ℕ) (k : Kind) (n : ℕ) (rest : List Packet) (h : AbstractState w) (e : Endpoint w)
     → (h.state.link c).d ≡ packet k n ∷ rest → IsEndOf c (kind_taken config tracker c k n rest h) e
     → IsEndOf c (packet_taken config tracker c (h.state.link c).d h) e
 taken_token config tracker c k n rest h e first end = subst (λ (xs : List Packet). IsEndOf c (packet_taken config tracker c xs h) e) (sym first) end
 
-pub answer-delivered : {w : ℕ} (config : Config) (log : Log w) (mail : AccessMessages w) (request : ℕ → MessageA w) (s : State (List ℕ)) (sys : System w) (terms : Terms)
+pub answer-delivered : {w : ℕ} (config : Config) (log : Log w) (mail : AccessMessages w) (request : ℕ → MessageA w) (s : State (List ℕ)) (sys : System w) (terms : EndConfig)
     (tracker c source : ℕ) (rest : List Packet) (ms : List (Message w)) (x : Beat w) (queue : List (Beat w))
     → IsWidth w → SimulationRelation config log mail request s sys → terms_at config c ≡ Some terms → sys.channels c channel.D ≡ x ∷ queue → (s.link c).d ≡ packet Answer source ∷ rest
     → IsNext x (unfinished channel.D (sys.clients c).past) (mail.answer c source) ms queue
@@ -150,10 +150,10 @@ answer-delivered {w} config log mail request s sys terms tracker c source rest m
     (end-answer_taken c source y rest mail s e (taken (beat.D y) e).after (plain_end y e last (ap is_grant opcode ∙ kind.0)) last (ap is_grant opcode ∙ kind.0)
     (ap is_release_ack opcode ∙ kind.1) (from ∙ due.from) well end))
   where
-    e : End w
+    e : Endpoint w
     e = sys.clients c
 
-pub ack-delivered : {w : ℕ} (config : Config) (log : Log w) (mail : AccessMessages w) (request : ℕ → MessageA w) (s : State (List ℕ)) (sys : System w) (terms : Terms)
+pub ack-delivered : {w : ℕ} (config : Config) (log : Log w) (mail : AccessMessages w) (request : ℕ → MessageA w) (s : State (List ℕ)) (sys : System w) (terms : EndConfig)
     (tracker c n : ℕ) (rest : List Packet) (ms : List (Message w)) (x : Beat w) (queue : List (Beat w))
     → IsWidth w → SimulationRelation config log mail request s sys → terms_at config c ≡ Some terms → sys.channels c channel.D ≡ x ∷ queue → (s.link c).d ≡ packet ReleaseAck n ∷ rest
     → IsNext x (unfinished channel.D (sys.clients c).past) (message.D (ack_message ((s.block n).release_source c))) ms queue
@@ -167,7 +167,7 @@ ack-delivered {w} config log mail request s sys terms tracker c n rest ms x queu
     (end-release_ack_taken c n y rest mail s e (taken (beat.D y) e).after (plain_end y e last (ap is_grant opcode)) last (ap is_grant opcode)
     (ap is_release_ack opcode) from (ap (s.lets c) from ∙ let_) well end))
   where
-    e : End w
+    e : Endpoint w
     e = sys.clients c
 
     m : MessageD w
@@ -188,7 +188,7 @@ grant_bytes {w} true k source sink payload beats width long burst carries =
     payload-d (grant_message true k source sink payload) beats width long (burst, grant_blank {w = w} true k source sink payload width long)
 grant_bytes false k source sink payload beats width long burst carries = absurd cc
 
-pub grant-delivered : {w : ℕ} (config : Config) (log : Log w) (mail : AccessMessages w) (request : ℕ → MessageA w) (s : State (List ℕ)) (sys : System w) (terms : Terms)
+pub grant-delivered : {w : ℕ} (config : Config) (log : Log w) (mail : AccessMessages w) (request : ℕ → MessageA w) (s : State (List ℕ)) (sys : System w) (terms : EndConfig)
     (tracker c n : ℕ) (rest : List Packet) (ms : List (Message w)) (x : Beat w) (queue : List (Beat w))
     → IsWidth w → SimulationRelation config log mail request s sys → terms_at config c ≡ Some terms → sys.channels c channel.D ≡ x ∷ queue → (s.link c).d ≡ packet Grant n ∷ rest
     → IsNext x (unfinished channel.D (sys.clients c).past) (block_message Grant c n (s.block n)) ms queue
@@ -210,7 +210,7 @@ grant-delivered {w} config log mail request s sys terms tracker c n rest ms x qu
           (beat.D y ∷ unfinished channel.D e.past) width (h.sized n).truth (ap (λ (z : Beat w). z ∷ unfinished channel.D e.past) (sym y_is) ∙ burst) carries;
     }) (last_end y e last) last well end)))
   where
-    e : End w
+    e : Endpoint w
     e = sys.clients c
 
     due : IsGrantDue c n s
@@ -251,7 +251,7 @@ pub ack_next : {w : ℕ} (c n : ℕ) (s : State (List ℕ)) (x : Beat w) (rest :
 unfolding block_message
 ack_next c n s x rest ms queue is = is
 
-pub delivered-d : {w : ℕ} (config : Config) (log : Log w) (mail : AccessMessages w) (request : ℕ → MessageA w) (s : State (List ℕ)) (sys : System w) (terms : Terms)
+pub delivered-d : {w : ℕ} (config : Config) (log : Log w) (mail : AccessMessages w) (request : ℕ → MessageA w) (s : State (List ℕ)) (sys : System w) (terms : EndConfig)
     (tracker c : ℕ) (x : Beat w) (queue : List (Beat w)) → IsWidth w
     → SimulationRelation config log mail request s sys → terms_at config c ≡ Some terms → sys.channels c channel.D ≡ x ∷ queue
     → IsTakenBy config terms tracker c (shadow_of mail request s) x (sys.clients c)

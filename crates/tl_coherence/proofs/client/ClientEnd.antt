@@ -18,9 +18,9 @@ use Rattle.tl_rules.specs.statement.History.{is_grant, asks_for, held, pending, 
 use Rattle.tl_rules.specs.statement.Conformance.{same_perm}
 use Rattle.tl_client.specs.laws.Accounted as accounted
 use Rattle.tl_client.specs.laws.Accounted.{IsAccounted}
-use Rattle.tl_client.specs.statement.End.{End}
-use Rattle.tl_client.specs.statement.Kept as client
-use Rattle.tl_client.specs.statement.Kept.{IsGranting, is_acquire_beat}
+use Rattle.tl_client.specs.statement.Endpoint.{Endpoint}
+use Rattle.tl_client.specs.statement.EndpointInvariant as client
+use Rattle.tl_client.specs.statement.EndpointInvariant.{IsGranting, is_acquire_beat}
 use Rattle.tl_client.specs.statement.Requests.{open_beat}
 use Rattle.tl_client.specs.statement.Send.{acquisition}
 use Rattle.tl_coherence.specs.refinement.AbstractStep.{acquire_opcode}
@@ -37,10 +37,10 @@ use Rattle.tl_coherence.specs.refinement.SimulationRelation.{SimulationRelation,
 -- ---- one client's end
 
 -- The end of client c: `asked` is the first beat of the open request of each source.
-pub record IsEnd {w : ℕ} (asked : ℕ → Option (BeatA w)) (c : ℕ) (s : State (List ℕ)) (e : End w) : Type 0 where
+pub record IsEnd {w : ℕ} (asked : ℕ → Option (BeatA w)) (c : ℕ) (s : State (List ℕ)) (e : Endpoint w) : Type 0 where
   pub known : ClientRelation asked (unfinished channel.D e.past) c s e.past
   pub opened : OpenSourceRelation asked c s e.past
-  pub kept : client.IsKept e
+  pub kept : client.IsEndpointInvariant e
   pub accounted : IsAccounted e.past
   pub copies : (n : ℕ) → same_perm ((s.block n).pair c).held perm.None ≡ false → e.copies n ≡ Some ((s.block n).copy c)
   pub waiting : (n : ℕ) → is_storing ((s.block n).pair c).acquiring ≡ true → e.waiting n ≡ Some ((s.block n).waiting c)
@@ -52,8 +52,8 @@ end-matched config log mail request s sys h c = record
     { known = h.known c; opened = h.opened c; kept = h.kept c; accounted = h.accounted c; copies = h.copies c; waiting = h.waiting c; live = h.live c }
 
 -- what each call keeps of an end by itself
-pub record IsWellKept {w : ℕ} (e : End w) : Type 0 where
-  pub kept : client.IsKept e
+pub record IsWellKept {w : ℕ} (e : Endpoint w) : Type 0 where
+  pub kept : client.IsEndpointInvariant e
   pub accounted : IsAccounted e.past
 
 -- a pending request is the open one
@@ -78,7 +78,7 @@ coming_is {w} asked n (beat.D x ∷ rest) t granting opens = go (is_grant x.opco
     go false e = refl
 
 -- what is known of a well kept end, given what it holds and has open
-pub known-kept : {w : ℕ} (asked : ℕ → Option (BeatA w)) (c : ℕ) (s : State (List ℕ)) (e : End w) → IsWellKept e → ((n : ℕ) → held n e.past ≡ ((s.block n).pair c).held)
+pub known-kept : {w : ℕ} (asked : ℕ → Option (BeatA w)) (c : ℕ) (s : State (List ℕ)) (e : Endpoint w) → IsWellKept e → ((n : ℕ) → held n e.past ≡ ((s.block n).pair c).held)
     → ((n : ℕ) → pending (AcquireOf n) e.past ≡ is_wanting ((s.block n).pair c).acquiring) → ((n : ℕ) → pending (ReleaseOf n) e.past ≡ not (is_unreleased ((s.block n).pair c).letting))
     → ((source : ℕ) → open_beat source e.past ≡ asked source) → ClientRelation asked (unfinished channel.D e.past) c s e.past
 known-kept asked c s e well held_is acquires releases opens = record {
@@ -138,7 +138,7 @@ pub record IsSameCopy (c : ℕ) (s s' : State (List ℕ)) : Type 0 where
   pub waiting : (n : ℕ) → (s'.block n).waiting c ≡ (s.block n).waiting c
 
 -- an end of which the protocol says the same is kept
-pub end-same : {w : ℕ} (c : ℕ) (asked asked' : ℕ → Option (BeatA w)) (s s' : State (List ℕ)) (e : End w) → IsSame c asked asked' s s' → IsSameCopy c s s' → IsEnd asked c s e → IsEnd asked' c s' e
+pub end-same : {w : ℕ} (c : ℕ) (asked asked' : ℕ → Option (BeatA w)) (s s' : State (List ℕ)) (e : Endpoint w) → IsSame c asked asked' s s' → IsSameCopy c s s' → IsEnd asked c s e → IsEnd asked' c s' e
 end-same c asked asked' s s' e same bytes end = record {
   known = known-same c asked asked' (unfinished channel.D e.past) s s' e.past same end.known;
   opened = opened-same c asked asked' s s' e.past same end.opened;
@@ -233,7 +233,7 @@ pub record IsAside {w : ℕ} (c : ℕ) (mail mail' : AccessMessages w) (s s' : S
   pub uses : (source : ℕ) → IsSameUse (s.uses c source) (s'.uses c source)
   pub request : (source : ℕ) → mail'.request c source ≡ mail.request c source
 
-pub end-aside : {w : ℕ} (c : ℕ) (mail mail' : AccessMessages w) (s s' : State (List ℕ)) (e : End w) → IsAside c mail mail' s s' → IsEnd (asked_by mail s c) c s e → IsEnd (asked_by mail' s' c) c s' e
+pub end-aside : {w : ℕ} (c : ℕ) (mail mail' : AccessMessages w) (s s' : State (List ℕ)) (e : Endpoint w) → IsAside c mail mail' s s' → IsEnd (asked_by mail s c) c s e → IsEnd (asked_by mail' s' c) c s' e
 end-aside c mail mail' s s' e aside end = end-same c (asked_by mail s c) (asked_by mail' s' c) s s' e (record {
   held = aside.held;
   acquiring = aside.acquiring;

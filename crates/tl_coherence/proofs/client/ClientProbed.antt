@@ -13,8 +13,8 @@ use Rattle.tl_params.specs.declared.perm.Perm.{Perm}
 use Rattle.tl_params.specs.declared.perm.Perm.TheVariants as perm
 use Rattle.tl_params.specs.statement.Param.{report_at, report_right}
 use Rattle.tl_rules.specs.statement.Conformance.{same_perm}
-use Rattle.tl_client.specs.statement.End.{End, copy_at, held_at, sending, with_past}
-use Rattle.tl_client.specs.statement.Kept.{holds}
+use Rattle.tl_client.specs.statement.Endpoint.{Endpoint, copy_at, held_at, sending, with_past}
+use Rattle.tl_client.specs.statement.EndpointInvariant.{holds}
 use Rattle.tl_client.specs.statement.Offer.{probed, report_for}
 use Rattle.tl_client.specs.statement.Send.{probe_ack}
 use Rattle.tl_client.proofs.AfterAsked.{kept_copies, kept_closed}
@@ -32,7 +32,7 @@ use Rattle.tl_coherence.proofs.client.KnownProbed.{report_is, known-probed, open
 use Rattle.tl_coherence.proofs.queues.Tokens.{set-same, set-part}
 use Rattle.tl_coherence.proofs.queues.Perms.{held-some}
 
-pub end-probe_taken : {w : ℕ} (c n : ℕ) (k : Cap) (rest : List Packet) (mail : AccessMessages w) (s : State (List ℕ)) (e : End w) → IsWidth w
+pub end-probe_taken : {w : ℕ} (c n : ℕ) (k : Cap) (rest : List Packet) (mail : AccessMessages w) (s : State (List ℕ)) (e : Endpoint w) → IsWidth w
     → IsWellKept (probed (probe_beat n k) n (held_at e n) e).after → IsEnd (asked_by mail s c) c s e
     → IsEnd (asked_by mail (probe_taken c n k rest s) c) c (probe_taken c n k rest s) (probed (probe_beat n k) n (held_at e n) e).after
 end-probe_taken {w} c n k rest mail s e width well end =
@@ -58,10 +58,10 @@ end-probe_taken {w} c n k rest mail s e width well end =
     left : Perm
     left = report_right (report_for (probe_beat {w = w} n k) p)
 
-    g : End w
+    g : Endpoint w
     g = sending (probe_ack opb.ProbeBlock p (report_for (probe_beat {w = w} n k) p) n (copy_at e n)) (with_past (beat.B (probe_beat n k) ∷ e.past) e)
 
-    f : End w
+    f : Endpoint w
     f = (probed (probe_beat n k) n (held_at e n) e).after
 
     new : Block (List ℕ)

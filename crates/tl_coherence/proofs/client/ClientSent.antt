@@ -13,10 +13,10 @@ use Rattle.tl_burst.specs.statement.Messages.{History, unfinished}
 use Rattle.tl_burst.proofs.Splitting.{beats-positive}
 use Rattle.tl_params.specs.declared.key.Key.TheVariants.{RequestSource, ReleaseSource, AcquireOf, ReleaseOf}
 use Rattle.tl_params.specs.declared.perm.Perm.{Perm}
-use Rattle.tl_rules.specs.statement.Agent.{sent}
+use Rattle.tl_rules.specs.statement.Admission.{sent}
 use Rattle.tl_rules.specs.statement.History.{block_at, is_acquire, is_release, held, pending, release_of}
 use Rattle.tl_rules.proofs.Handed.{held-whole, pending-whole, release_of-whole}
-use Rattle.tl_client.specs.statement.End.{End}
+use Rattle.tl_client.specs.statement.Endpoint.{Endpoint}
 use Rattle.tl_client.specs.statement.Requests.{open_beat}
 use Rattle.tl_client.proofs.Opens.{open_beat-a, open_beat-c}
 use Rattle.tl_coherence.specs.refinement.ClientRelation.{ClientRelation}
@@ -35,7 +35,7 @@ pub record IsRequested {w : ℕ} (c : ℕ) (m : MessageA w) (asked asked' : ℕ 
   pub acquiring : (n : ℕ) → is_wanting ((s'.block n).pair c).acquiring ≡ cond (is_acquire m.opcode && (block_at m.address == n)) true (is_wanting ((s.block n).pair c).acquiring)
   pub asks : (source : ℕ) → asked' source ≡ cond (m.source == source) (Some (a_beat_of m 0)) (asked source)
 
-pub known-requested : {w : ℕ} (c : ℕ) (m : MessageA w) (asked asked' : ℕ → Option (BeatA w)) (s s' : State (List ℕ)) (t : History w) (f : End w) → IsWidth w
+pub known-requested : {w : ℕ} (c : ℕ) (m : MessageA w) (asked asked' : ℕ → Option (BeatA w)) (s s' : State (List ℕ)) (t : History w) (f : Endpoint w) → IsWidth w
     → f.past ≡ sent (A m) t → unfinished channel.A t ≡ []
     → IsWellKept f → IsRequested c m asked asked' s s' → ClientRelation asked (unfinished channel.D t) c s t → ClientRelation asked' (unfinished channel.D f.past) c s' f.past
 known-requested {w} c m asked asked' s s' t f width past none well event known =
@@ -77,7 +77,7 @@ pub record IsReleased {w : ℕ} (c i : ℕ) (m : MessageC w) (p : Perm) (asked a
   pub acquiring : (n : ℕ) → is_wanting ((s'.block n).pair c).acquiring ≡ is_wanting ((s.block n).pair c).acquiring
   pub asks : (source : ℕ) → asked' source ≡ asked source
 
-pub known-released : {w : ℕ} (c i : ℕ) (m : MessageC w) (p : Perm) (asked asked' : ℕ → Option (BeatA w)) (s s' : State (List ℕ)) (t : History w) (f : End w) → IsWidth w → f.past ≡ sent (C m) t
+pub known-released : {w : ℕ} (c i : ℕ) (m : MessageC w) (p : Perm) (asked asked' : ℕ → Option (BeatA w)) (s s' : State (List ℕ)) (t : History w) (f : Endpoint w) → IsWidth w → f.past ≡ sent (C m) t
     → unfinished channel.C t ≡ [] → ((n : ℕ) → held n (sent (C m) t) ≡ cond (n == i) p (held n t))
     → IsWellKept f → IsReleased c i m p asked asked' s s' → ClientRelation asked (unfinished channel.D t) c s t → ClientRelation asked' (unfinished channel.D f.past) c s' f.past
 known-released {w} c i m p asked asked' s s' t f width past none left well event known =

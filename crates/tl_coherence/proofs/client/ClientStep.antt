@@ -22,7 +22,7 @@ use Rattle.tl_client.specs.declared.verdict.Verdict.{Verdict}
 use Rattle.tl_client.specs.declared.verdict.Verdict.TheVariants as verdict
 use Rattle.tl_client.specs.laws.After.{is_refused}
 use Rattle.tl_client.specs.statement.Ask as ask
-use Rattle.tl_client.specs.statement.End.{Terms, End}
+use Rattle.tl_client.specs.statement.Endpoint.{EndConfig, Endpoint}
 use Rattle.tl_client.specs.statement.Offer.{Offered, offered, taken, ended, is_stalled}
 use Rattle.tl_client.proofs.Stalls.{taken_now}
 use Rattle.tl_manager.specs.statement.Service.{services, least_untaken, trackers_of}
@@ -59,29 +59,29 @@ abbrev AreEnds : {w : ℕ} → Config → Event w → System w → AbstractState
 AreEnds config event sys h c step = IsEndOf c (abstract_step_by config event step.outcome sys h) (step.after.clients c)
 
 -- an end that is left alone
-left_alone : {w : ℕ} (c : ℕ) (h h' : AbstractState w) (e f : End w) → Leaves c h h' → f ≡ e → IsEndOf c h e → IsEndOf c h' f
-left_alone {w} c h h' e f leaves same end = subst (λ (x : End w). IsEndOf c h' x) (sym same) (end-aside c h.mail h'.mail h.state h'.state e leaves end)
+left_alone : {w : ℕ} (c : ℕ) (h h' : AbstractState w) (e f : Endpoint w) → Leaves c h h' → f ≡ e → IsEndOf c h e → IsEndOf c h' f
+left_alone {w} c h h' e f leaves same end = subst (λ (x : Endpoint w). IsEndOf c h' x) (sym same) (end-aside c h.mail h'.mail h.state h'.state e leaves end)
 
 -- ---- a client is asked
 
-own_client : {w : ℕ} (c : ℕ) (e : End w) (s : System w) → (with_client c e s).clients c ≡ e
+own_client : {w : ℕ} (c : ℕ) (e : Endpoint w) (s : System w) → (with_client c e s).clients c ≡ e
 own_client {w} c e s = here (c == c) (same_number c)
   where
     here : (b : Bool) → b ≡ true → cond b e (s.clients c) ≡ e
     here b f = rw f refl
 
-other_client : {w : ℕ} (k c : ℕ) (e : End w) (s : System w) → (k ≡ c → ⊥) → (with_client c e s).clients k ≡ s.clients k
+other_client : {w : ℕ} (k c : ℕ) (e : Endpoint w) (s : System w) → (k ≡ c → ⊥) → (with_client c e s).clients k ≡ s.clients k
 other_client {w} k c e s ne = there (k == c) (ne_eqb k c ne)
   where
     there : (b : Bool) → b ≡ false → cond b e (s.clients k) ≡ s.clients k
     there b f = rw f refl
 
-asked_ends : {w : ℕ} (config : Config) (log : Log w) (mail : AccessMessages w) (request : ℕ → MessageA w) (s : State (List ℕ)) (sys : System w) (terms : Terms) (c k : ℕ)
+asked_ends : {w : ℕ} (config : Config) (log : Log w) (mail : AccessMessages w) (request : ℕ → MessageA w) (s : State (List ℕ)) (sys : System w) (terms : EndConfig) (c k : ℕ)
     (o : Op w) → IsWidth w → SimulationRelation config log mail request s sys
     → AreEnds config (Ask c o) sys (shadow_of mail request s) k (replied c (ask.asked terms o (sys.clients c)) sys)
 asked_ends {w} config log mail request s sys terms c k o width h = elim (cases_eq k c) [
   | inl same ↦ subst (λ (i : ℕ). AreEnds config (Ask c o) sys (shadow_of mail request s) i (replied c a sys)) (sym same)
-      (subst (λ (x : End w). IsEndOf c (asked c o a.reply (shadow_of mail request s)) x) (sym (now c ∙ own_client c a.after sys))
+      (subst (λ (x : Endpoint w). IsEndOf c (asked c o a.reply (shadow_of mail request s)) x) (sym (now c ∙ own_client c a.after sys))
       (end-asked terms c o (shadow_of mail request s) (sys.clients c) width h.invariant.named (end-matched config log mail request s sys h c)))
   | inr other ↦ left_alone k (shadow_of mail request s) (asked c o a.reply (shadow_of mail request s)) (sys.clients k) ((replied c a sys).after.clients k)
       (leaves-asked c o a.reply (shadow_of mail request s) k other) (now k ∙ other_client k c a.after sys other) (end-matched config log mail request s sys h k)
@@ -91,7 +91,7 @@ asked_ends {w} config log mail request s sys terms c k o width h = elim (cases_e
     a = ask.asked terms o (sys.clients c)
 
     now : (i : ℕ) → (replied c a sys).after.clients i ≡ (with_client c a.after sys).clients i
-    now i = ap (λ (f : ℕ → End w). f i) (clients-with_messages (handed_by c a.message) (with_client c a.after sys))
+    now i = ap (λ (f : ℕ → Endpoint w). f i) (clients-with_messages (handed_by c a.message) (with_client c a.after sys))
 
 -- ---- the manager takes a beat
 
@@ -222,7 +222,7 @@ manager_ends {w} config log mail request s sys link ch k x queue (manager.Sent h
     tracker = least_untaken (trackers_of (services sys.manager.trace))
 
     same : (with_messages handed (with_manager e (with_channel link.0 ch queue sys))).clients k ≡ sys.clients k
-    same = ap (λ (f : ℕ → End w). f k) (clients-with_messages handed (with_manager e (with_channel link.0 ch queue sys)))
+    same = ap (λ (f : ℕ → Endpoint w). f k) (clients-with_messages handed (with_manager e (with_channel link.0 ch queue sys)))
 
     go : (b : Bool) → IsEndOf k (if b then packet_taken config tracker link.0 (packets_on ch (s.link link.0)) before else before)
         ((with_messages handed (with_manager e (with_channel link.0 ch queue sys))).clients k)
@@ -237,7 +237,7 @@ manager_ends {w} config log mail request s sys link ch k x queue (manager.Sent h
 
 -- ---- a client takes a beat
 
-ended_unrefused : {w : ℕ} (opcode : OpD) (x : BeatD w) (f : Finish) (e : End w) → is_refused (ended opcode x f e).answer ≡ false
+ended_unrefused : {w : ℕ} (opcode : OpD) (x : BeatD w) (f : Finish) (e : Endpoint w) → is_refused (ended opcode x f e).answer ≡ false
 ended_unrefused opd.AccessAck x f e = refl
 ended_unrefused opd.AccessAckData x f e = refl
 ended_unrefused opd.HintAck x f e = refl
@@ -246,7 +246,7 @@ ended_unrefused opd.GrantData x f e = refl
 ended_unrefused opd.ReleaseAck x f e = refl
 
 -- a beat that is taken is moved, and the client's end is that of the answer
-moved : {w : ℕ} (a : Result (Verdict × Option (Message w)) Rule) (c : ℕ) (ch : Channel) (x : Beat w) (queue : List (Beat w)) (e : End w) (s : System w) → is_refused a ≡ false → is_stalled a ≡ false
+moved : {w : ℕ} (a : Result (Verdict × Option (Message w)) Rule) (c : ℕ) (ch : Channel) (x : Beat w) (queue : List (Beat w)) (e : Endpoint w) (s : System w) → is_refused a ≡ false → is_stalled a ≡ false
     → (is_moving (judged a c ch x queue e s).outcome ≡ true) × ((judged a c ch x queue e s).after.clients ≡ (with_client c e (with_channel c ch queue s)).clients)
 moved (Err rule) c ch x queue e s unrefused moves = absurd cc
 moved (Ok (verdict.Stalled, m)) c ch x queue e s unrefused moves = absurd cc
@@ -273,7 +273,7 @@ taken_ends : {w : ℕ} (config : Config) (log : Log w) (mail : AccessMessages w)
 taken_ends {w} config log mail request s sys link ch k x queue o width h beats up takes more last =
     subst (λ (y : Offered w). AreEnds config (Deliver link ch) sys before k (client_took link.0 ch x queue y sys)) (sym takes)
     (subst (λ (b : Bool). IsEndOf k (if b && is_last (sys.channels link.0 ch) rest_now then event else before) ((client_took link.0 ch x queue t sys).after.clients k)) (sym moves.0)
-    (subst (λ (f : ℕ → End w). IsEndOf k (if is_last (sys.channels link.0 ch) rest_now then event else before) (f k)) (sym moves.1)
+    (subst (λ (f : ℕ → Endpoint w). IsEndOf k (if is_last (sys.channels link.0 ch) rest_now then event else before) (f k)) (sym moves.1)
     (subst (λ (b : Bool). IsEndOf k (if b then event else before) ((with_client link.0 t.after (with_channel link.0 ch queue sys)).clients k))
     (sym (ap (λ (beats_ : List (Beat w)). is_last beats_ rest_now) beats)) (go (completes x rest_now) refl (cases_eq k link.0)))))
   where
@@ -303,8 +303,8 @@ taken_ends {w} config log mail request s sys link ch k x queue o width h beats u
     own same = ap after.clients same ∙ own_client link.0 t.after (with_channel link.0 ch queue sys)
 
     go : (b : Bool) → completes x rest_now ≡ b → (k ≡ link.0) ⊎ (k ≡ link.0 → ⊥) → IsEndOf k (if b then event else before) (after.clients k)
-    go true done (inl same) = subst (λ (e : End w). IsEndOf k event e) (sym (own same)) (subst (λ (i : ℕ). IsEndOf i event t.after) (sym same) (last done))
-    go false goes (inl same) = subst (λ (e : End w). IsEndOf k before e) (sym (own same)) (subst (λ (i : ℕ). IsEndOf i before t.after) (sym same) (more goes))
+    go true done (inl same) = subst (λ (e : Endpoint w). IsEndOf k event e) (sym (own same)) (subst (λ (i : ℕ). IsEndOf i event t.after) (sym same) (last done))
+    go false goes (inl same) = subst (λ (e : Endpoint w). IsEndOf k before e) (sym (own same)) (subst (λ (i : ℕ). IsEndOf i before t.after) (sym same) (more goes))
     go true done (inr ne) =
         left_alone k before event (sys.clients k) (after.clients k)
         (client_leaves config (least_untaken (trackers_of (services sys.manager.trace))) link.0 ch before k sys x queue up ne
@@ -312,7 +312,7 @@ taken_ends {w} config log mail request s sys link ch k x queue o width h beats u
         (end-matched config log mail request s sys h k)
     go false goes (inr ne) = left_alone k before before (sys.clients k) (after.clients k) (leaves-none k before) (others ne) (end-matched config log mail request s sys h k)
 
-d_ends : {w : ℕ} (config : Config) (log : Log w) (mail : AccessMessages w) (request : ℕ → MessageA w) (s : State (List ℕ)) (sys : System w) (terms : Terms) (link : Link)
+d_ends : {w : ℕ} (config : Config) (log : Log w) (mail : AccessMessages w) (request : ℕ → MessageA w) (s : State (List ℕ)) (sys : System w) (terms : EndConfig) (link : Link)
     (k : ℕ) (x : Beat w) (queue : List (Beat w)) → IsWidth w
     → SimulationRelation config log mail request s sys → terms_at config link.0 ≡ Some terms → sys.channels link.0 channel.D ≡ x ∷ queue
     → AreEnds config (Deliver link channel.D) sys (shadow_of mail request s) k (client_took link.0 channel.D x queue (offered terms channel.D x (sys.clients link.0)) sys)
@@ -320,7 +320,7 @@ d_ends {w} config log mail request s sys terms link k x queue width h at beats =
     let is = delivered-d config log mail request s sys terms (least_untaken (trackers_of (services sys.manager.trace))) link.0 x queue width h at beats in
     taken_ends config log mail request s sys link channel.D k x queue (offered terms channel.D x (sys.clients link.0)) width h beats refl is.takes is.more is.last
 
-b_ends : {w : ℕ} (config : Config) (log : Log w) (mail : AccessMessages w) (request : ℕ → MessageA w) (s : State (List ℕ)) (sys : System w) (terms : Terms) (link : Link)
+b_ends : {w : ℕ} (config : Config) (log : Log w) (mail : AccessMessages w) (request : ℕ → MessageA w) (s : State (List ℕ)) (sys : System w) (terms : EndConfig) (link : Link)
     (k : ℕ) (x : Beat w) (queue : List (Beat w)) → IsWidth w
     → SimulationRelation config log mail request s sys → terms_at config link.0 ≡ Some terms → sys.channels link.0 channel.B ≡ x ∷ queue
     → AreEnds config (Deliver link channel.B) sys (shadow_of mail request s) k (client_took link.0 channel.B x queue (offered terms channel.B x (sys.clients link.0)) sys)
@@ -340,7 +340,7 @@ b_ends {w} config log mail request s sys terms link k x queue width h at beats =
 
 -- ---- every event
 
-delivered_ends : {w : ℕ} (config : Config) (log : Log w) (mail : AccessMessages w) (request : ℕ → MessageA w) (s : State (List ℕ)) (sys : System w) (terms : Terms)
+delivered_ends : {w : ℕ} (config : Config) (log : Log w) (mail : AccessMessages w) (request : ℕ → MessageA w) (s : State (List ℕ)) (sys : System w) (terms : EndConfig)
     (link : Link) (ch : Channel) (k : ℕ) (beats : List (Beat w)) → IsWidth w
     → SimulationRelation config log mail request s sys → terms_at config link.0 ≡ Some terms → sys.channels link.0 ch ≡ beats
     → AreEnds config (Deliver link ch) sys (shadow_of mail request s) k (step.delivered config terms link.0 ch beats sys)
@@ -355,7 +355,7 @@ delivered_ends config log mail request s sys terms link channel.E k (x ∷ queue
     manager_ends config log mail request s sys link channel.E k x queue (manager.offered config (record { 0 = link.0 }) channel.E x sys.manager) width h beats refl
 
 event_ends : {w : ℕ} (config : Config) (log : Log w) (mail : AccessMessages w) (request : ℕ → MessageA w) (s : State (List ℕ)) (sys : System w) (event : Event w)
-    (o : Option Terms) (k : ℕ) → IsWidth w → SimulationRelation config log mail request s sys
+    (o : Option EndConfig) (k : ℕ) → IsWidth w → SimulationRelation config log mail request s sys
     → terms_at config (client_of event) ≡ o → AreEnds config event sys (shadow_of mail request s) k (stepped_at config o event sys)
 event_ends config log mail request s sys (Ask c o) None k width h at = end-matched config log mail request s sys h k
 event_ends config log mail request s sys (Deliver link ch) None k width h at = end-matched config log mail request s sys h k

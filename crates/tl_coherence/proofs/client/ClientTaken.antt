@@ -16,13 +16,13 @@ use Rattle.tl_params.specs.declared.param.Grow.{Grow}
 use Rattle.tl_params.specs.declared.perm.Perm.{Perm}
 use Rattle.tl_params.specs.declared.perm.Perm.TheVariants as perm
 use Rattle.tl_params.specs.statement.Param.{cap_code, cap_right}
-use Rattle.tl_rules.specs.statement.Agent.{sent}
+use Rattle.tl_rules.specs.statement.Admission.{sent}
 use Rattle.tl_rules.specs.statement.History.{block_at, ends, capped, is_grant, is_release_ack, request_of}
 use Rattle.tl_rules.specs.statement.Conformance.{same_perm}
 use Rattle.tl_client.specs.laws.After.{copy_granted, waiting_granted}
 use Rattle.tl_client.specs.declared.verdict.Finish.{Finish}
-use Rattle.tl_client.specs.statement.End.{End, with_past, sending}
-use Rattle.tl_client.specs.statement.Kept.{is_acquire_beat, is_acquire_perm}
+use Rattle.tl_client.specs.statement.Endpoint.{Endpoint, with_past, sending}
+use Rattle.tl_client.specs.statement.EndpointInvariant.{is_acquire_beat, is_acquire_perm}
 use Rattle.tl_client.specs.statement.Offer.{address_asked, finish_of, granted, ended, responded}
 use Rattle.tl_client.specs.statement.Requests.{open_beat}
 use Rattle.tl_client.specs.statement.Send.{acquisition, grant_ack}
@@ -49,24 +49,24 @@ use Rattle.tl_manager.proofs.Performed.{grants_by_opcode}
 
 -- ---- a beat that isn't the last of its message
 
-pub end-part : {w : ℕ} (asked : ℕ → Option (BeatA w)) (c : ℕ) (x : BeatD w) (s : State (List ℕ)) (e f : End w) → f ≡ with_past (beat.D x ∷ e.past) e → ends (beat.D x) e.past ≡ false → IsWellKept f
+pub end-part : {w : ℕ} (asked : ℕ → Option (BeatA w)) (c : ℕ) (x : BeatD w) (s : State (List ℕ)) (e f : Endpoint w) → f ≡ with_past (beat.D x ∷ e.past) e → ends (beat.D x) e.past ≡ false → IsWellKept f
     → IsEnd asked c s e → IsEnd asked c s f
 end-part {w} asked c x s e f is more well end =
     let event = heard-part c x e.past perm.None asked s more in
-    let echo : IsEcho x e.past f.past = subst (IsEcho x e.past) (sym (ap (λ (g : End w). g.past) is)) (echo-none x e.past) in
+    let echo : IsEcho x e.past f.past = subst (IsEcho x e.past) (sym (ap (λ (g : Endpoint w). g.past) is)) (echo-none x e.past) in
     record {
       known = known-heard c x e.past perm.None (λ k. false) (λ k. false) (λ k. false) (λ k. false) asked asked s s f echo well event end.known;
       opened = opened-heard c x e.past f.past perm.None (λ k. false) (λ k. false) (λ k. false) (λ k. false) asked asked s s echo event end.opened;
       kept = well.kept;
       accounted = well.accounted;
-      copies = λ n some. ap (λ (g : End w). g.copies n) is ∙ end.copies n some;
-      waiting = λ n storing. ap (λ (g : End w). g.waiting n) is ∙ end.waiting n storing;
-      live = ap (λ (g : End w). g.closed) is ∙ end.live;
+      copies = λ n some. ap (λ (g : Endpoint w). g.copies n) is ∙ end.copies n some;
+      waiting = λ n storing. ap (λ (g : Endpoint w). g.waiting n) is ∙ end.waiting n storing;
+      live = ap (λ (g : Endpoint w). g.closed) is ∙ end.live;
     }
 
 -- ---- the answer to an access
 
-pub end-answer_taken : {w : ℕ} (c source : ℕ) (x : BeatD w) (rest : List Packet) (mail : AccessMessages w) (s : State (List ℕ)) (e f : End w) → f ≡ with_past (beat.D x ∷ e.past) e → ends (beat.D x) e.past ≡ true
+pub end-answer_taken : {w : ℕ} (c source : ℕ) (x : BeatD w) (rest : List Packet) (mail : AccessMessages w) (s : State (List ℕ)) (e f : Endpoint w) → f ≡ with_past (beat.D x ∷ e.past) e → ends (beat.D x) e.past ≡ true
     → is_grant x.opcode ≡ false → is_release_ack x.opcode ≡ false → x.source ≡ source → IsWellKept f → IsEnd (asked_by mail s c) c s e
     → IsEnd (asked_by mail (answer_taken c source rest s) c) c (answer_taken c source rest s) f
 end-answer_taken {w} c source x rest mail s e f is last plain other from well end =
@@ -83,15 +83,15 @@ end-answer_taken {w} c source x rest mail s e f is last plain other from well en
       lets = λ i. refl;
       asks = λ i. asks_now i (cases_eq i source);
     } in
-    let echo : IsEcho x e.past f.past = subst (IsEcho x e.past) (sym (ap (λ (g : End w). g.past) is)) (echo-none x e.past) in
+    let echo : IsEcho x e.past f.past = subst (IsEcho x e.past) (sym (ap (λ (g : Endpoint w). g.past) is)) (echo-none x e.past) in
     record {
       known = known-heard c x e.past perm.None (λ k. false) (λ k. false) (λ i. x.source == i) (λ k. false) (asked_by mail s c) (asked_by mail s' c) s s' f echo well event end.known;
       opened = opened-heard c x e.past f.past perm.None (λ k. false) (λ k. false) (λ i. x.source == i) (λ k. false) (asked_by mail s c) (asked_by mail s' c) s s' echo event end.opened;
       kept = well.kept;
       accounted = well.accounted;
-      copies = λ n some. ap (λ (g : End w). g.copies n) is ∙ end.copies n some;
-      waiting = λ n storing. ap (λ (g : End w). g.waiting n) is ∙ end.waiting n storing;
-      live = ap (λ (g : End w). g.closed) is ∙ end.live;
+      copies = λ n some. ap (λ (g : Endpoint w). g.copies n) is ∙ end.copies n some;
+      waiting = λ n storing. ap (λ (g : Endpoint w). g.waiting n) is ∙ end.waiting n storing;
+      live = ap (λ (g : Endpoint w). g.closed) is ∙ end.live;
     }
   where
     s' : State (List ℕ)
@@ -105,7 +105,7 @@ end-answer_taken {w} c source x rest mail s e f is last plain other from well en
 
 -- ---- a ReleaseAck
 
-pub end-release_ack_taken : {w : ℕ} (c n : ℕ) (x : BeatD w) (rest : List Packet) (mail : AccessMessages w) (s : State (List ℕ)) (e f : End w) → f ≡ with_past (beat.D x ∷ e.past) e → ends (beat.D x) e.past ≡ true
+pub end-release_ack_taken : {w : ℕ} (c n : ℕ) (x : BeatD w) (rest : List Packet) (mail : AccessMessages w) (s : State (List ℕ)) (e f : Endpoint w) → f ≡ with_past (beat.D x ∷ e.past) e → ends (beat.D x) e.past ≡ true
     → is_grant x.opcode ≡ false → is_release_ack x.opcode ≡ true → x.source ≡ (s.block n).release_source c → s.lets c x.source ≡ Some n → IsWellKept f → IsEnd (asked_by mail s c) c s e
     → IsEnd (asked_by mail (release_ack_taken c n rest s) c) c (release_ack_taken c n rest s) f
 end-release_ack_taken {w} c n x rest mail s e f is last plain acks from let_ well end =
@@ -126,19 +126,19 @@ end-release_ack_taken {w} c n x rest mail s e f is last plain acks from let_ wel
           (λ j used. set-part (λ (b : Block (List ℕ)). (b.pair c).acquiring) n new s.block (ap (λ (q : ClientBlock). q.acquiring) pair_is) j)
           (λ j used. set-part (λ (b : Block (List ℕ)). b.source c) n new s.block refl j);
     } in
-    let echo : IsEcho x e.past f.past = subst (IsEcho x e.past) (sym (ap (λ (g : End w). g.past) is)) (echo-none x e.past) in
+    let echo : IsEcho x e.past f.past = subst (IsEcho x e.past) (sym (ap (λ (g : Endpoint w). g.past) is)) (echo-none x e.past) in
     record {
       known = known-heard c x e.past perm.None (λ k. false) (λ k. n == k) (λ i. false) (λ i. x.source == i) (asked_by mail s c) (asked_by mail s' c) s s' f echo well event end.known;
       opened = opened-heard c x e.past f.past perm.None (λ k. false) (λ k. n == k) (λ i. false) (λ i. x.source == i) (asked_by mail s c) (asked_by mail s' c) s s' echo event end.opened;
       kept = well.kept;
       accounted = well.accounted;
-      copies = λ k some. ap (λ (g : End w). g.copies k) is
+      copies = λ k some. ap (λ (g : Endpoint w). g.copies k) is
           ∙ end.copies k (sym (ap (λ (q : Perm). same_perm q perm.None) (set-part (λ (b : Block (List ℕ)). (b.pair c).held) n new s.block (ap (λ (q : ClientBlock). q.held) pair_is) k)) ∙ some)
           ∙ ap Some (sym (set-part (λ (b : Block (List ℕ)). b.copy c) n new s.block refl k));
-      waiting = λ k storing. ap (λ (g : End w). g.waiting k) is
+      waiting = λ k storing. ap (λ (g : Endpoint w). g.waiting k) is
           ∙ end.waiting k (sym (set-part (λ (b : Block (List ℕ)). is_storing (b.pair c).acquiring) n new s.block (ap (λ (q : ClientBlock). is_storing q.acquiring) pair_is) k) ∙ storing)
           ∙ ap Some (sym (set-part (λ (b : Block (List ℕ)). b.waiting c) n new s.block refl k));
-      live = ap (λ (g : End w). g.closed) is ∙ end.live;
+      live = ap (λ (g : Endpoint w). g.closed) is ∙ end.live;
     }
   where
     new : Block (List ℕ)
@@ -170,38 +170,38 @@ pub record IsGrantOf {w : ℕ} (c n : ℕ) (whole data_too : Bool) (g : Grow) (k
   pub bytes : data_too ≡ true → payload ≡ (s.block n).truth
 
 -- what the client does at the last beat of a Grant
-record IsGrantTaken {w : ℕ} (data_too : Bool) (x : BeatD w) (r : BeatA w) (payload : List ℕ) (e f : End w) : Type 0 where
+record IsGrantTaken {w : ℕ} (data_too : Bool) (x : BeatD w) (r : BeatA w) (payload : List ℕ) (e f : Endpoint w) : Type 0 where
   past_is : f.past ≡ sent (E (record { sink = x.sink })) (beat.D x ∷ e.past)
   same_closed : f.closed ≡ e.closed
   new_copies : (k : ℕ) → f.copies k ≡ copy_granted (grant_opcode data_too) (Some r) payload k e
   new_waiting : (k : ℕ) → f.waiting k ≡ waiting_granted (grant_opcode data_too) (Some r) k (e.waiting k)
 
-ended_end : {w : ℕ} (o : OpD) (data_too : Bool) (x : BeatD w) (finish : Finish) (g : End w) → o ≡ grant_opcode data_too → (ended o x finish g).after ≡ sending (grant_ack x.sink) g
+ended_end : {w : ℕ} (o : OpD) (data_too : Bool) (x : BeatD w) (finish : Finish) (g : Endpoint w) → o ≡ grant_opcode data_too → (ended o x finish g).after ≡ sending (grant_ack x.sink) g
 ended_end o true x finish g e = rw e refl
 ended_end o false x finish g e = rw e refl
 
-same_copy : {w : ℕ} (data_too : Bool) (r : BeatA w) (payload : List ℕ) (k : ℕ) (t : History w) (e : End w)
+same_copy : {w : ℕ} (data_too : Bool) (r : BeatA w) (payload : List ℕ) (k : ℕ) (t : History w) (e : Endpoint w)
     → copy_granted (grant_opcode data_too) (Some r) payload k (with_past t e) ≡ copy_granted (grant_opcode data_too) (Some r) payload k e
 same_copy true r payload k t e = refl
 same_copy false r payload k t e = refl
 
-grant_end : {w : ℕ} (data_too : Bool) (x : BeatD w) (r : BeatA w) (payload : List ℕ) (e f : End w) → x.opcode ≡ grant_opcode data_too
+grant_end : {w : ℕ} (data_too : Bool) (x : BeatD w) (r : BeatA w) (payload : List ℕ) (e f : Endpoint w) → x.opcode ≡ grant_opcode data_too
     → f ≡ (responded x (Some r) payload e).after → IsGrantTaken data_too x r payload e f
 grant_end {w} data_too x r payload e f opcode is =
-    let before : End w = with_past (beat.D x ∷ e.past) e in
-    let g : End w = granted x.opcode (Some r) payload before in
+    let before : Endpoint w = with_past (beat.D x ∷ e.past) e in
+    let g : Endpoint w = granted x.opcode (Some r) payload before in
     let does = granted_is x.opcode (Some r) payload before in
     let sends : f ≡ sending (grant_ack x.sink) g = is ∙ ended_end x.opcode data_too x (finish_of w x.opcode x.param x.size (address_asked (Some r)) payload) g opcode in
     record {
-      past_is = ap (λ (h : End w). h.past) sends ∙ ap (λ (t : History w). sent (E (record { sink = x.sink })) t) does.same_past;
-      same_closed = ap (λ (h : End w). h.closed) sends ∙ does.same_closed;
-      new_copies = λ k. ap (λ (h : End w). h.copies k) sends ∙ does.new_copies k ∙ ap (λ (o : OpD). copy_granted o (Some r) payload k before) opcode
+      past_is = ap (λ (h : Endpoint w). h.past) sends ∙ ap (λ (t : History w). sent (E (record { sink = x.sink })) t) does.same_past;
+      same_closed = ap (λ (h : Endpoint w). h.closed) sends ∙ does.same_closed;
+      new_copies = λ k. ap (λ (h : Endpoint w). h.copies k) sends ∙ does.new_copies k ∙ ap (λ (o : OpD). copy_granted o (Some r) payload k before) opcode
           ∙ same_copy data_too r payload k (beat.D x ∷ e.past) e;
-      new_waiting = λ k. ap (λ (h : End w). h.waiting k) sends ∙ does.new_waiting k ∙ ap (λ (o : OpD). waiting_granted o (Some r) k (e.waiting k)) opcode;
+      new_waiting = λ k. ap (λ (h : Endpoint w). h.waiting k) sends ∙ does.new_waiting k ∙ ap (λ (o : OpD). waiting_granted o (Some r) k (e.waiting k)) opcode;
     }
 
 pub end-grant_taken : {w : ℕ} (c n : ℕ) (whole data_too : Bool) (g : Grow) (k : Cap) (x : BeatD w) (payload : List ℕ) (rest : List Packet) (mail : AccessMessages w)
-    (s : State (List ℕ)) (e f : End w) → IsWidth w → AreNamed s
+    (s : State (List ℕ)) (e f : Endpoint w) → IsWidth w → AreNamed s
     → IsGrantOf c n whole data_too g k x payload s → f ≡ (responded x (request_of x.source e.past) payload e).after → ends (beat.D x) e.past ≡ true → IsWellKept f → IsEnd (asked_by mail s c) c s e
     → IsEnd (asked_by mail (grant_taken c n whole data_too k rest s) c) c (grant_taken c n whole data_too k rest s) f
 end-grant_taken {w} c n whole data_too g k x payload rest mail s e f width named is taken last well end =

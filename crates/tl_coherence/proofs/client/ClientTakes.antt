@@ -25,13 +25,13 @@ use Rattle.tl_params.specs.declared.perm.Perm.TheVariants as perm
 use Rattle.tl_params.specs.declared.profile.Profile.{Profile}
 use Rattle.tl_params.specs.declared.profile.Profile.TheVariants as profile
 use Rattle.tl_params.specs.statement.Param.{cap_code, grow_code}
-use Rattle.tl_rules.specs.statement.Agent.{is_outside}
+use Rattle.tl_rules.specs.statement.Admission.{is_outside}
 use Rattle.tl_rules.specs.statement.Conformance as rules
 use Rattle.tl_rules.specs.statement.Conformance.{answers, fits_grow, is_acquire_block, is_grant_without_data, broken_in_order, same_perm}
 use Rattle.tl_rules.specs.statement.History.{held, pending, request_of}
 use Rattle.tl_rules.specs.statement.Legality.{illegal}
 use Rattle.tl_rules.proofs.Later.{later-legal}
-use Rattle.tl_client.specs.statement.End.{Terms, End}
+use Rattle.tl_client.specs.statement.Endpoint.{EndConfig, Endpoint}
 use Rattle.tl_client.specs.statement.Offer.{offered, taken, waits}
 use Rattle.tl_client.specs.statement.Requests.{open_beat}
 use Rattle.tl_client.specs.statement.Send.{acquisition}
@@ -58,15 +58,15 @@ use Rattle.tl_manager.proofs.Answered.{no_ack_grant}
 -- ---- what a client was made for
 
 -- the terms of a client are those of the configuration
-pub record AreTermsOf (config : Config) (c : ℕ) (terms : Terms) : Type 0 where
+pub record AreTermsOf (config : Config) (c : ℕ) (terms : EndConfig) : Type 0 where
   pub level : level_of config c ≡ Some terms.level
   pub profile : terms.profile ≡ config.profile
   pub blocks : terms.blocks ≡ config.blocks
 
-pub terms-are : (config : Config) (c : ℕ) (terms : Terms) → terms_at config c ≡ Some terms → AreTermsOf config c terms
+pub terms-are : (config : Config) (c : ℕ) (terms : EndConfig) → terms_at config c ≡ Some terms → AreTermsOf config c terms
 terms-are config c terms e = go (slice_get config.clients.items c) refl
   where
-    some_is : (x y : Terms) → Some x ≡ Some y → x ≡ y
+    some_is : (x y : EndConfig) → Some x ≡ Some y → x ≡ y
     some_is x y f = cc
 
     go : (o : Option ClientConfig) → slice_get config.clients.items c ≡ o → AreTermsOf config c terms
@@ -84,9 +84,9 @@ terms-are config c terms e = go (slice_get config.clients.items c) refl
         (sym (ap (option_map (λ (y : ClientConfig). record { level = y.level; profile = config.profile; sources = y.sources; blocks = config.blocks })) f)
         ∙ e) in
         record {
-          level = ap (option_map (λ (y : ClientConfig). y.level)) f ∙ ap (λ (t : Terms). Some t.level) is;
-          profile = ap (λ (t : Terms). t.profile) (sym is);
-          blocks = ap (λ (t : Terms). t.blocks) (sym is);
+          level = ap (option_map (λ (y : ClientConfig). y.level)) f ∙ ap (λ (t : EndConfig). Some t.level) is;
+          profile = ap (λ (t : EndConfig). t.profile) (sym is);
+          blocks = ap (λ (t : EndConfig). t.blocks) (sym is);
         }
 
 -- ---- a beat that comes
@@ -107,7 +107,7 @@ pub next-legal : {w : ℕ} (p : Profile) (m : MessageD w) (k : ℕ) (t : History
 next-legal p m zero t rest first = first rest
 next-legal p m (suc i) t rest first = later-legal p (message.D m) i t rest
 
-pub taken-d : {w : ℕ} (config : Config) (log : Log w) (mail : AccessMessages w) (request : ℕ → MessageA w) (s : State (List ℕ)) (sys : System w) (terms : Terms) (c : ℕ)
+pub taken-d : {w : ℕ} (config : Config) (log : Log w) (mail : AccessMessages w) (request : ℕ → MessageA w) (s : State (List ℕ)) (sys : System w) (terms : EndConfig) (c : ℕ)
     (m : MessageD w) (ms : List (Message w)) (x : Beat w) (queue : List (Beat w))
     → SimulationRelation config log mail request s sys → terms_at config c ≡ Some terms → sys.channels c channel.D ≡ x ∷ queue → IsNext x (unfinished channel.D (sys.clients c).past) (message.D m) ms queue
     → (unfinished channel.D (sys.clients c).past ≡ [] → broken_in_order config.profile (beat_of (message.D m) 0) (sys.clients c).past ≡ None)
@@ -141,7 +141,7 @@ live_request {w} source r t e = go (pending (RequestSource source) t) refl e
     go true f g = (refl, g)
     go false f g = absurd cc
 
-pub answer-first : {w : ℕ} (p : Profile) (c source : ℕ) (mail : AccessMessages w) (s : State (List ℕ)) (e : End w) → IsEnd (asked_by mail s c) c s e
+pub answer-first : {w : ℕ} (p : Profile) (c source : ℕ) (mail : AccessMessages w) (s : State (List ℕ)) (e : Endpoint w) → IsEnd (asked_by mail s c) c s e
     → (due : IsAnswerDue c source mail s) → unfinished channel.D e.past ≡ []
     → broken_in_order p (beat_of (message.D due.answer) 0) e.past ≡ None
 answer-first {w} p c source mail s e end due whole =
@@ -214,7 +214,7 @@ has_data false false perm.Branch e = refl
 has_data false false perm.None e = absurd cc
 has_data false false perm.Trunk e = absurd cc
 
-pub grant-first : {w : ℕ} (p : Profile) (c n : ℕ) (mail : AccessMessages w) (s : State (List ℕ)) (e : End w) → IsEnd (asked_by mail s c) c s e → (due : IsGrantDue c n s)
+pub grant-first : {w : ℕ} (p : Profile) (c n : ℕ) (mail : AccessMessages w) (s : State (List ℕ)) (e : Endpoint w) → IsEnd (asked_by mail s c) c s e → (due : IsGrantDue c n s)
     → gives_asked p (AcquireOpen due.whole due.g) due.k ≡ true
     → unfinished channel.D e.past ≡ []
     → broken_in_order p (beat_of (message.D (grant_message due.data_too due.k ((s.block n).source c) (s.block n).tracker (s.block n).truth)) 0) e.past ≡ None
@@ -239,7 +239,7 @@ grant-first {w} p c n mail s e end due given whole =
 
 -- ---- a ReleaseAck
 
-pub ack-first : {w : ℕ} (p : Profile) (c n : ℕ) (mail : AccessMessages w) (s : State (List ℕ)) (e : End w) → IsEnd (asked_by mail s c) c s e
+pub ack-first : {w : ℕ} (p : Profile) (c n : ℕ) (mail : AccessMessages w) (s : State (List ℕ)) (e : Endpoint w) → IsEnd (asked_by mail s c) c s e
     → s.lets c ((s.block n).release_source c) ≡ Some n → unfinished channel.D e.past ≡ []
     → broken_in_order p (beat_of (release_ack ((s.block n).release_source c)) 0) e.past ≡ None
 ack-first {w} p c n mail s e end let_ whole =

@@ -24,12 +24,12 @@ use Rattle.tl_params.specs.declared.param.Report.{Report}
 use Rattle.tl_params.specs.declared.perm.Perm.{Perm}
 use Rattle.tl_params.specs.declared.perm.Perm.TheVariants as perm
 use Rattle.tl_params.specs.statement.Param.{report_at, report_code, report_right}
-use Rattle.tl_rules.specs.statement.Agent.{sent, is_outside}
+use Rattle.tl_rules.specs.statement.Admission.{sent, is_outside}
 use Rattle.tl_rules.specs.statement.Conformance.{broken_order, broken_in_order}
 use Rattle.tl_rules.specs.statement.History.{block_at, opens, closes, held, pending, is_release, is_probe_ack, release_of}
 use Rattle.tl_rules.specs.statement.Legality.{illegal}
 use Rattle.tl_rules.proofs.Sent.{unfinished-sent_other, pending-quiet, held_unsaid}
-use Rattle.tl_client.specs.statement.End.{Terms, End, zeros, copy_at, held_at, with_past, sending}
+use Rattle.tl_client.specs.statement.Endpoint.{EndConfig, Endpoint, zeros, copy_at, held_at, with_past, sending}
 use Rattle.tl_client.specs.statement.Offer.{silent, offered, broken_before, broken_later, waits, judged, judged_later, taken, probed, report_for}
 use Rattle.tl_client.specs.declared.verdict.Verdict.TheVariants as verdict
 use Rattle.tl_client.specs.statement.Send.{about, probe_ack}
@@ -59,10 +59,10 @@ pub in_order : {w : ℕ} (profile : Profile) (n : ℕ) (k : Cap) (t : History w)
 unfolding broken_order
 in_order profile n k t none unprobed ungranted = rw (none, same_block n, unprobed, ungranted) refl
 
-before-none : {w : ℕ} (terms : Terms) (x : BeatB w) (e : End w) → e.closed ≡ false → illegal terms.level channel.B (beat.B x) ≡ None → broken_before terms channel.B (beat.B x) e ≡ None
+before-none : {w : ℕ} (terms : EndConfig) (x : BeatB w) (e : Endpoint w) → e.closed ≡ false → illegal terms.level channel.B (beat.B x) ≡ None → broken_before terms channel.B (beat.B x) e ≡ None
 before-none terms x e live lawful = rw (live, lawful) refl
 
-later-none : {w : ℕ} (terms : Terms) (n : ℕ) (k : Cap) (e : End w) → broken_in_order terms.profile (beat.B (probe_beat n k)) e.past ≡ None → nat_le terms.blocks n ≡ false
+later-none : {w : ℕ} (terms : EndConfig) (n : ℕ) (k : Cap) (e : Endpoint w) → broken_in_order terms.profile (beat.B (probe_beat n k)) e.past ≡ None → nat_le terms.blocks n ≡ false
     → broken_later terms (beat.B (probe_beat n k)) e ≡ None
 later-none {w} terms n k e order inside =
     let outside : is_outside terms.blocks (beat.B (probe_beat {w = w} n k)) ≡ false = rw (same_block n) inside in
@@ -72,7 +72,7 @@ waits-not : {w : ℕ} (n : ℕ) (k : Cap) (t : History w) → pending (key.Relea
 waits-not n k t released = rw (same_block n, released) refl
 
 -- a Probe of a block of the map that breaks no L rule is taken, where the client holds no more of its block on its way
-pub probe-taken : {w : ℕ} (terms : Terms) (n : ℕ) (k : Cap) (e : End w) → e.closed ≡ false → illegal {w = w} terms.level channel.B (beat.B (probe_beat n k)) ≡ None
+pub probe-taken : {w : ℕ} (terms : EndConfig) (n : ℕ) (k : Cap) (e : Endpoint w) → e.closed ≡ false → illegal {w = w} terms.level channel.B (beat.B (probe_beat n k)) ≡ None
     → nat_le terms.blocks n ≡ false → unfinished channel.B e.past ≡ []
     → pending (key.ReleaseOf n) e.past ≡ false → pending (key.ProbeOf n) e.past ≡ false → pending (key.GrantAckOf n) e.past ≡ false
     → offered terms channel.B (beat.B (probe_beat n k)) e ≡ probed (probe_beat n k) n (held_at e n) e
@@ -84,15 +84,15 @@ probe-taken {w} terms n k e live lawful inside none released unprobed ungranted 
     ∙ later (broken_later terms x e) x e (later-none terms n k e (in_order terms.profile n k e.past none unprobed ungranted) inside)
     ∙ ap (λ (i : ℕ). probed (probe_beat n k) i (held_at e i) e) (same_block n)
   where
-    judged_none : (o : Option Rule) (terms : Terms) (x : Beat w) (e : End w) → o ≡ None
+    judged_none : (o : Option Rule) (terms : EndConfig) (x : Beat w) (e : Endpoint w) → o ≡ None
         → judged o terms x e ≡ (if waits x e.past then silent verdict.Stalled e else judged_later (broken_later terms x e) x e)
     judged_none o terms x e f = rw f refl
 
-    unstalled : (stalled : Bool) (terms : Terms) (x : Beat w) (e : End w) → stalled ≡ false
+    unstalled : (stalled : Bool) (terms : EndConfig) (x : Beat w) (e : Endpoint w) → stalled ≡ false
         → (if stalled then silent verdict.Stalled e else judged_later (broken_later terms x e) x e) ≡ judged_later (broken_later terms x e) x e
     unstalled stalled terms x e f = rw f refl
 
-    later : (o : Option Rule) (x : Beat w) (e : End w) → o ≡ None → judged_later o x e ≡ taken x e
+    later : (o : Option Rule) (x : Beat w) (e : Endpoint w) → o ≡ None → judged_later o x e ≡ taken x e
     later o x e f = rw f refl
 
 -- ---- the ProbeAck
@@ -168,7 +168,7 @@ same_part part c n k rest s e i = elim (cases_eq i n) [
   | inr other ↦ rw (set-other n i (probed_block c k (s.block n)) s.block other) refl
 ]
 
-pub known-probed : {w : ℕ} {X : Type 0} (asked : ℕ → Option (BeatA w)) (burst : List (Beat w)) (c n : ℕ) (k : Cap) (rest : List Packet) (s : State X) (e : End w) → IsWidth w
+pub known-probed : {w : ℕ} {X : Type 0} (asked : ℕ → Option (BeatA w)) (burst : List (Beat w)) (c n : ℕ) (k : Cap) (rest : List Packet) (s : State X) (e : Endpoint w) → IsWidth w
     → unfinished channel.C e.past ≡ []
     → ClientRelation asked burst c s e.past → ClientRelation asked burst c (probe_taken c n k rest s) (probed (probe_beat n k) n (held_at e n) e).after.past
 known-probed {w} {X} asked burst c n k rest s e width none known =
@@ -212,7 +212,7 @@ unfolding release_of
 same_release source x m t width off none = release_of-whole source (message.C m) (beat.B x ∷ t) (still_whole x t ∙ none) (beats-positive (message.C m) width) ∙ rw off refl
 
 -- no source is opened or closed
-pub opened-probed : {w : ℕ} {X : Type 0} (asked : ℕ → Option (BeatA w)) (c n : ℕ) (k : Cap) (rest : List Packet) (s : State X) (e : End w) → IsWidth w → unfinished channel.C e.past ≡ []
+pub opened-probed : {w : ℕ} {X : Type 0} (asked : ℕ → Option (BeatA w)) (c n : ℕ) (k : Cap) (rest : List Packet) (s : State X) (e : Endpoint w) → IsWidth w → unfinished channel.C e.past ≡ []
     → OpenSourceRelation asked c s e.past → OpenSourceRelation asked c (probe_taken c n k rest s) (probed (probe_beat n k) n (held_at e n) e).after.past
 opened-probed {w} asked c n k rest s e width none open_ =
     let p : Perm = held_at e n in

@@ -21,11 +21,11 @@ use Rattle.tl_params.specs.declared.key.Key.TheVariants.{ReleaseOf}
 use Rattle.tl_params.specs.declared.level.Level.{Level}
 use Rattle.tl_params.specs.declared.param.Cap.{Cap}
 use Rattle.tl_params.specs.declared.rule.Rule.{Rule}
-use Rattle.tl_rules.specs.statement.Agent.{is_outside}
+use Rattle.tl_rules.specs.statement.Admission.{is_outside}
 use Rattle.tl_rules.specs.statement.History.{is_grant, asks_for, pending}
 use Rattle.tl_rules.specs.statement.Legality.{illegal}
 use Rattle.tl_client.specs.declared.verdict.Verdict.TheVariants as verdict
-use Rattle.tl_client.specs.statement.End.{Terms, End, held_at}
+use Rattle.tl_client.specs.statement.Endpoint.{EndConfig, Endpoint, held_at}
 use Rattle.tl_client.specs.statement.Offer.{Offered, offered, taken, probed, silent, judged, judged_later, waits, broken_before, broken_later}
 use Rattle.tl_client.proofs.Accounted.{accounted-offered}
 use Rattle.tl_client.proofs.Cases.{passes_before}
@@ -150,14 +150,14 @@ not_coming {w} config log mail request s sys c n h sent = go (s.link c).d refl (
 -- ---- the Probe
 
 -- A Probe that comes waits where a Release of its block is open, and is taken otherwise.
-pub record IsProbed {w : ℕ} (config : Config) (terms : Terms) (tracker c n : ℕ) (h : AbstractState w) (x : Beat w) (e : End w) : Type 0 where
+pub record IsProbed {w : ℕ} (config : Config) (terms : EndConfig) (tracker c n : ℕ) (h : AbstractState w) (x : Beat w) (e : Endpoint w) : Type 0 where
   pub beat_is : x ≡ beat.B (probe_beat n (cap_sent ((h.state.block n).pair c).probing))
   pub whole : completes x (unfinished channel.B e.past) ≡ true
   pub waits_for : is_unreleased ((h.state.block n).pair c).letting ≡ false → offered terms channel.B x e ≡ silent verdict.Stalled e
   pub takes : is_unreleased ((h.state.block n).pair c).letting ≡ true → offered terms channel.B x e ≡ taken x e
   pub last : is_unreleased ((h.state.block n).pair c).letting ≡ true → IsEndOf c (packet_taken config tracker c (h.state.link c).b h) (taken x e).after
 
-stalls : {w : ℕ} (terms : Terms) (x : Beat w) (e : End w) → broken_before terms channel.B x e ≡ None → waits x e.past ≡ true → offered terms channel.B x e ≡ silent verdict.Stalled e
+stalls : {w : ℕ} (terms : EndConfig) (x : Beat w) (e : Endpoint w) → broken_before terms channel.B x e ≡ None → waits x e.past ≡ true → offered terms channel.B x e ≡ silent verdict.Stalled e
 unfolding offered
 stalls {w} terms x e lawful held = judged_none (broken_before terms channel.B x e) lawful ∙ stalled (waits x e.past) held
   where
@@ -185,7 +185,7 @@ probe-beat {w} c n s x rest ms queue next =
     let here : IsNext x rest (probe_of_block n k) ms queue = subst (λ (m : Message w). IsNext x rest m ms queue) (probe_rendered c n s) next in
     here.beat_is ∙ ap (beat_of (probe_of_block n k)) (first_beat here.k (beats_of (probe_of_block {w = w} n k)) here.within (one_beat w n k))
 
-pub probe-delivered : {w : ℕ} (config : Config) (log : Log w) (mail : AccessMessages w) (request : ℕ → MessageA w) (s : State (List ℕ)) (sys : System w) (terms : Terms)
+pub probe-delivered : {w : ℕ} (config : Config) (log : Log w) (mail : AccessMessages w) (request : ℕ → MessageA w) (s : State (List ℕ)) (sys : System w) (terms : EndConfig)
     (tracker c n : ℕ) (rest : List Packet) (ms : List (Message w)) (x : Beat w) (queue : List (Beat w))
     → IsWidth w → SimulationRelation config log mail request s sys → terms_at config c ≡ Some terms → sys.channels c channel.B ≡ x ∷ queue → (s.link c).b ≡ packet Probe n ∷ rest
     → IsNext x (unfinished channel.B (sys.clients c).past) (block_message Probe c n (s.block n)) ms queue
@@ -193,7 +193,7 @@ pub probe-delivered : {w : ℕ} (config : Config) (log : Log w) (mail : AccessMe
 probe-delivered {w} config log mail request s sys terms tracker c n rest ms x queue width h at beats first next =
     record { beat_is = beat_is; whole = whole; waits_for = λ open_. stalls terms x e (before beat_is) (ap (λ (y : Beat w). waits y e.past) beat_is ∙ pends open_); takes = takes; last = last }
   where
-    e : End w
+    e : Endpoint w
     e = sys.clients c
 
     k : Cap
@@ -261,7 +261,7 @@ probe-delivered {w} config log mail request s sys terms tracker c n rest ms x qu
 
 -- ---- all of channel B
 
-pub delivered-b : {w : ℕ} (config : Config) (log : Log w) (mail : AccessMessages w) (request : ℕ → MessageA w) (s : State (List ℕ)) (sys : System w) (terms : Terms)
+pub delivered-b : {w : ℕ} (config : Config) (log : Log w) (mail : AccessMessages w) (request : ℕ → MessageA w) (s : State (List ℕ)) (sys : System w) (terms : EndConfig)
     (tracker c : ℕ) (x : Beat w) (queue : List (Beat w)) → IsWidth w
     → SimulationRelation config log mail request s sys → terms_at config c ≡ Some terms → sys.channels c channel.B ≡ x ∷ queue
     → (n : ℕ) × IsProbed config terms tracker c n (shadow_of mail request s) x (sys.clients c)

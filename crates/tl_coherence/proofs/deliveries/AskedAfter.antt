@@ -19,7 +19,7 @@ use Rattle.tl_client.specs.declared.reply.Reply.{Reply}
 use Rattle.tl_client.specs.declared.reply.Reply.TheVariants as reply
 use Rattle.tl_client.specs.statement.Ask as ask
 use Rattle.tl_client.specs.statement.Ask.{whole_grow}
-use Rattle.tl_client.specs.statement.End as client
+use Rattle.tl_client.specs.statement.Endpoint as client
 use Rattle.tl_client.specs.statement.Send.{access, sourced, acquisition, release}
 use Rattle.tl_client.proofs.Outstanding.{unfinished-asked}
 use Rattle.tl_coherence.specs.declared.event.Event.TheVariants.{Ask}
@@ -129,7 +129,7 @@ unfolding block_message
 rendered_releasing {w} c n source p b = rw (set-same c (after_release p (b.pair c)) b.pair, set-same c source b.release_source) refl
 
 abbrev CarriesAsked : {w : ℕ} → Config → ℕ → AbstractState w → System w → Op w → Reply → Type 0
-CarriesAsked {w} config c h sys o r = (m : Option (Message w)) (e : client.End w) → IsAskable (is_caching config) c o r h
+CarriesAsked {w} config c h sys o r = (m : Option (Message w)) (e : client.Endpoint w) → IsAskable (is_caching config) c o r h
     → IsInvariant (is_caching config) (asked c o r h).state → IsHandedOut c o r h m
     → IsHanded (pushes_at c (pushes_of m)) sys (with_messages (handed_by c m) (with_client c e sys))
     → ChannelRelation (asked c o r h).mail (asked c o r h).state (with_messages (handed_by c m) (with_client c e sys))
@@ -141,12 +141,12 @@ carried_asked {w} config log h sys c o r width is may_be = reply-cases (CarriesA
     s : State (List ℕ)
     s = h.state
 
-    handed_as : (m n : Option (Message w)) (e : client.End w) → m ≡ n
+    handed_as : (m n : Option (Message w)) (e : client.Endpoint w) → m ≡ n
         → IsHanded (pushes_at c (pushes_of m)) sys (with_messages (handed_by c m) (with_client c e sys))
         → IsHanded (pushes_at c (pushes_of n)) sys (with_messages (handed_by c n) (with_client c e sys))
     handed_as m n e f i = subst (λ (x : Option (Message w)). IsHanded (pushes_at c (pushes_of x)) sys (with_messages (handed_by c x) (with_client c e sys))) f i
 
-    carried_as : (m n : Option (Message w)) (mail : AccessMessages w) (z : State (List ℕ)) (e : client.End w) → m ≡ n
+    carried_as : (m n : Option (Message w)) (mail : AccessMessages w) (z : State (List ℕ)) (e : client.Endpoint w) → m ≡ n
         → ChannelRelation mail z (with_messages (handed_by c n) (with_client c e sys)) → ChannelRelation mail z (with_messages (handed_by c m) (with_client c e sys))
     carried_as m n mail z e f i = subst (λ (x : Option (Message w)). ChannelRelation mail z (with_messages (handed_by c x) (with_client c e sys))) (sym f) i
 
@@ -196,7 +196,7 @@ carried_asked {w} config log h sys c o r width is may_be = reply-cases (CarriesA
         subst (λ (x : AbstractState w). ChannelRelation x.mail x.state (with_messages (handed_by c m) (with_client c e sys))) (sym (plain c h).0)
         (carried_as m None _ _ e none (nothing_asked-carried (is_caching config) c h.mail s sys _ width is.invariant (handed_as m None e none queued) is.carried))
 
-pub carried-ask : {w : ℕ} (config : Config) (log : Log w) (h : AbstractState w) (sys : System w) (c : ℕ) (terms : client.Terms) (o : Op w) → IsWidth w
+pub carried-ask : {w : ℕ} (config : Config) (log : Log w) (h : AbstractState w) (sys : System w) (c : ℕ) (terms : client.EndConfig) (o : Op w) → IsWidth w
     → SimulationRelation config log h.mail h.request h.state sys → terms_at config c ≡ Some terms
     → ChannelRelation (asked c o (ask.asked terms o (sys.clients c)).reply h).mail (asked c o (ask.asked terms o (sys.clients c)).reply h).state (stepped config (Ask c o) sys).after
 carried-ask {w} config log h sys c terms o width is known =
@@ -227,7 +227,7 @@ none_answered {w} c o r h m may_be = reply-cases (λ i j. IsHandedOut c i j h m 
     released prune.TtoN source n bytes e = rw e refl
     released prune.BtoN source n bytes e = rw e refl
 
-pub beside-ask : {w : ℕ} (config : Config) (log : Log w) (h : AbstractState w) (c : ℕ) (terms : client.Terms) (o : Op w) → IsWidth w
+pub beside-ask : {w : ℕ} (config : Config) (log : Log w) (h : AbstractState w) (c : ℕ) (terms : client.EndConfig) (o : Op w) → IsWidth w
     → SimulationRelation config log h.mail h.request h.state (system_after config log) → terms_at config c ≡ Some terms
     → MemoryRelation (asked c o (ask.asked terms o ((system_after config log).clients c)).reply h).mail (asked c o (ask.asked terms o ((system_after config log).clients c)).reply h).state
     (one_memory_after config ((Ask c o, outcome.Replied (ask.asked terms o ((system_after config log).clients c)).reply) ∷ log))
@@ -242,7 +242,7 @@ beside-ask {w} config log h c terms o width is known =
     subst (λ (l : List (ℕ × ℕ)). MemoryRelation (asked c o x.reply h).mail (asked c o x.reply h).state (performing l (after_reply c o x.reply (one_memory_after config log)))) (sym none)
     (beside-asked (is_caching config) c o x.reply h (one_memory_after config log) is.invariant is.sized well.reply well.may well.word is.beside)
 
-pub continues-ask : {w : ℕ} (config : Config) (log : Log w) (h : AbstractState w) (c : ℕ) (terms : client.Terms) (o : Op w) → IsWidth w
+pub continues-ask : {w : ℕ} (config : Config) (log : Log w) (h : AbstractState w) (c : ℕ) (terms : client.EndConfig) (o : Op w) → IsWidth w
     → SimulationRelation config log h.mail h.request h.state (system_after config log) → terms_at config c ≡ Some terms
     → Continues config (Ask c o, outcome.Replied (ask.asked terms o ((system_after config log).clients c)).reply) log
 unfolding one_memory_after performing Performs

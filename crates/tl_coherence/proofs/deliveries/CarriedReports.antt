@@ -16,10 +16,10 @@ use Rattle.tl_burst.specs.declared.message.MessageC.{MessageC}
 use Rattle.tl_burst.specs.statement.Burst.{beat_of}
 use Rattle.tl_burst.specs.statement.Messages.{unfinished}
 use Rattle.tl_burst.specs.statement.Part.{completes}
-use Rattle.tl_client.specs.statement.End.{Terms}
+use Rattle.tl_client.specs.statement.Endpoint.{EndConfig}
 use Rattle.tl_manager.specs.statement.Handing.{Handed, access_answer}
 use Rattle.tl_manager.specs.code.Kept as manager
-use Rattle.tl_manager.specs.statement.Deed.{deed}
+use Rattle.tl_manager.specs.statement.Reaction.{reaction}
 use Rattle.tl_manager.specs.statement.End.{End}
 use Rattle.tl_coherence.specs.declared.event.Event.TheVariants.{Deliver}
 use Rattle.tl_coherence.specs.declared.event.Outcome.TheVariants as outcome
@@ -129,10 +129,10 @@ no-messages : {w : ℕ} (s : System w) (d : ℕ) (at : Channel) → (with_messag
 unfolding with_messages
 no-messages s d at = refl
 
-pub landed-taken : {w : ℕ} (config : Config) (c : ℕ) (ch : Channel) (x : Beat w) (queue : List (Beat w)) (sys : System w) (t : Terms) (handed : Handed w)
+pub landed-taken : {w : ℕ} (config : Config) (c : ℕ) (ch : Channel) (x : Beat w) (queue : List (Beat w)) (sys : System w) (t : EndConfig) (handed : Handed w)
     (pushes : ℕ → Channel → Option (Message w)) → IsWidth w → manager.IsKept config sys.manager
     → manager.IsTyped x → is_to_client ch ≡ false → IsOn ch x → terms_at config c ≡ Some t → sys.channels c ch ≡ x ∷ queue → IsTakenUp config c ch x sys.manager
-    → (deed config (record { 0 = c }) x sys.manager).handed ≡ handed
+    → (reaction config (record { 0 = c }) x sys.manager).handed ≡ handed
     → ((s : System w) (d : ℕ) (at : Channel) → (with_messages handed s).channels d at ≡ behind (pushes d at) (s.channels d at))
     → IsLanded c ch x queue pushes sys (stepped config (Deliver (record { 0 = c }) ch) sys).after
 landed-taken {w} config c ch x queue sys t handed pushes width kept typed down on_ch terms beats up is pushed =
@@ -140,12 +140,12 @@ landed-taken {w} config c ch x queue sys t handed pushes width kept typed down o
     (landed-manager c ch x queue pushes handed e sys down beats on_ch heard (pushed base))
   where
     e : End w
-    e = left c x (deed config (record { 0 = c }) x sys.manager) sys.manager
+    e = left c x (reaction config (record { 0 = c }) x sys.manager) sys.manager
 
     base : System w
     base = with_manager e (with_channel c ch queue sys)
 
-    step : stepped config (Deliver (record { 0 = c }) ch) sys ≡ handing (outcome.Moved x) (deed config (record { 0 = c }) x sys.manager).handed base
+    step : stepped config (Deliver (record { 0 = c }) ch) sys ≡ handing (outcome.Moved x) (reaction config (record { 0 = c }) x sys.manager).handed base
     step = step-taken config c ch x queue sys t terms beats down up
 
     heard : HasTaken c x sys.manager e
@@ -170,7 +170,7 @@ record IsReceived {w : ℕ} (config : Config) (log : Log w) (h : AbstractState w
 
 landed-received : {w : ℕ} (config : Config) (log : Log w) (h : AbstractState w) (sys : System w) (c : ℕ) (ch : Channel) (x : Beat w) (queue : List (Beat w))
     (handed : Handed w) (pushes : ℕ → Channel → Option (Message w)) → IsReceived config log h sys c ch x queue
-    → (deed config (record { 0 = c }) x sys.manager).handed ≡ handed → ((s : System w) (d : ℕ) (at : Channel) → (with_messages handed s).channels d at ≡ behind (pushes d at) (s.channels d at))
+    → (reaction config (record { 0 = c }) x sys.manager).handed ≡ handed → ((s : System w) (d : ℕ) (at : Channel) → (with_messages handed s).channels d at ≡ behind (pushes d at) (s.channels d at))
     → IsLanded c ch x queue pushes sys (stepped config (Deliver (record { 0 = c }) ch) sys).after
 landed-received {w} config log h sys c ch x queue handed pushes at is pushed =
     let t = client-of config c ch x queue sys at.beats (at.is.sound c ch) in
@@ -184,7 +184,7 @@ CarriesAfter config c ch sys h = ChannelRelation h.mail h.state (stepped config 
 
 -- a beat that isn't the last of its message
 part-carried : {w : ℕ} (config : Config) (log : Log w) (h : AbstractState w) (sys : System w) (c : ℕ) (ch : Channel) (x : Beat w) (queue : List (Beat w))
-    → IsReceived config log h sys c ch x queue → (deed config (record { 0 = c }) x sys.manager).handed ≡ []
+    → IsReceived config log h sys c ch x queue → (reaction config (record { 0 = c }) x sys.manager).handed ≡ []
     → completes x (unfinished ch (receiver ch c sys)) ≡ false → CarriesAfter config c ch sys h
 part-carried config log h sys c ch x queue at none part =
     carried-part h.mail h.state c ch x queue no_pushes sys (stepped config (Deliver (record { 0 = c }) ch) sys).after at.width
@@ -192,14 +192,14 @@ part-carried config log h sys c ch x queue at none part =
 
 -- its last beat, for which one message is handed out, or none
 last-quietly : {w : ℕ} (config : Config) (log : Log w) (h : AbstractState w) (sys : System w) (c : ℕ) (ch : Channel) (x : Beat w) (queue : List (Beat w))
-    → IsReceived config log h sys c ch x queue → (deed config (record { 0 = c }) x sys.manager).handed ≡ []
+    → IsReceived config log h sys c ch x queue → (reaction config (record { 0 = c }) x sys.manager).handed ≡ []
     → completes x (unfinished ch (receiver ch c sys)) ≡ true → IsTaken c ch x queue no_pushes sys (stepped config (Deliver (record { 0 = c }) ch) sys).after
 last-quietly config log h sys c ch x queue at none last =
     taken-landed c ch x queue no_pushes sys (stepped config (Deliver (record { 0 = c }) ch) sys).after (landed-received config log h sys c ch x queue [] no_pushes at none no-messages) last
 
 last-handing : {w : ℕ} (config : Config) (log : Log w) (h : AbstractState w) (sys : System w) (c q : ℕ) (ch : Channel) (x : Beat w) (queue : List (Beat w))
     (m : Message w) → IsReceived config log h sys c ch x queue
-    → (deed config (record { 0 = c }) x sys.manager).handed ≡ (record { 0 = q }, m) ∷ [] → completes x (unfinished ch (receiver ch c sys)) ≡ true
+    → (reaction config (record { 0 = c }) x sys.manager).handed ≡ (record { 0 = q }, m) ∷ [] → completes x (unfinished ch (receiver ch c sys)) ≡ true
     → IsTaken c ch x queue (pushes_at q (pushes_of (Some m))) sys (stepped config (Deliver (record { 0 = c }) ch) sys).after
 last-handing config log h sys c q ch x queue m at one last =
     taken-landed c ch x queue (pushes_at q (pushes_of (Some m))) sys (stepped config (Deliver (record { 0 = c }) ch) sys).after
@@ -225,7 +225,7 @@ ack_on_d w c n b = refl
 reports-last : {w : ℕ} (config : Config) (log : Log w) (h : AbstractState w) (sys : System w) (c n : ℕ) (rest : List Packet) (x : Beat w) (queue : List (Beat w))
     → IsReceived config log h sys c channel.C x queue
     → (h.state.link c).c ≡ packet ProbeAck n ∷ rest → completes x (unfinished channel.C (receiver channel.C c sys)) ≡ true
-    → (deed config (record { 0 = c }) x sys.manager).handed ≡ pushed config c ProbeAck n h
+    → (reaction config (record { 0 = c }) x sys.manager).handed ≡ pushed config c ProbeAck n h
     (ack_taken (length config.clients.items) config.profile c n (report_told ((h.state.block n).pair c).probing) rest h)
     → CarriesAfter config c channel.C sys (ack_taken (length config.clients.items) config.profile c n (report_told ((h.state.block n).pair c).probing) rest h)
 reports-last {w} config log h sys c n rest x queue at tokens whole handed =
@@ -250,7 +250,7 @@ reports-last {w} config log h sys c n rest x queue at tokens whole handed =
     seen = answered_other r (b.pair c) (view b.service c) ((inv.blocks n).phases c) answered
 
     Hands : Handed w → Type 0
-    Hands pushes = (deed config (record { 0 = c }) x sys.manager).handed ≡ pushes
+    Hands pushes = (reaction config (record { 0 = c }) x sys.manager).handed ≡ pushes
 
     last : some_below (length config.clients.items) (others_probed c b.pair) ≡ false → (service : Service) → b.service ≡ service
         → IsInvariant (is_caching config) (last_taken (length config.clients.items) config.profile c n r service rest h).state
@@ -307,12 +307,12 @@ reports-last {w} config log h sys c n rest x queue at tokens whole handed =
 -- where the beat isn't the last of its message, and where it is
 by-place : {w : ℕ} (config : Config) (log : Log w) (h h' : AbstractState w) (pushes : Handed w) (sys : System w) (c : ℕ) (ch : Channel) (x : Beat w)
     (queue : List (Beat w)) → IsReceived config log h sys c ch x queue
-    → (deed config (record { 0 = c }) x sys.manager).handed ≡ (if completes x (unfinished ch (receiver ch c sys)) then pushes else [])
-    → (completes x (unfinished ch (receiver ch c sys)) ≡ true → (deed config (record { 0 = c }) x sys.manager).handed ≡ pushes → CarriesAfter config c ch sys h')
+    → (reaction config (record { 0 = c }) x sys.manager).handed ≡ (if completes x (unfinished ch (receiver ch c sys)) then pushes else [])
+    → (completes x (unfinished ch (receiver ch c sys)) ≡ true → (reaction config (record { 0 = c }) x sys.manager).handed ≡ pushes → CarriesAfter config c ch sys h')
     → CarriesAfter config c ch sys (if completes x (unfinished ch (receiver ch c sys)) then h' else h)
 by-place {w} config log h h' pushes sys c ch x queue at handed last = go (completes x (unfinished ch (receiver ch c sys))) refl handed
   where
-    go : (b : Bool) → completes x (unfinished ch (receiver ch c sys)) ≡ b → (deed config (record { 0 = c }) x sys.manager).handed ≡ (if b then pushes else [])
+    go : (b : Bool) → completes x (unfinished ch (receiver ch c sys)) ≡ b → (reaction config (record { 0 = c }) x sys.manager).handed ≡ (if b then pushes else [])
         → CarriesAfter config c ch sys (if b then h' else h)
     go true e f = last e f
     go false e f = part-carried config log h sys c ch x queue at f e
@@ -348,7 +348,7 @@ carried-followed_c {w} config log h sys c x queue width is beats =
     before : List (Beat w)
     before = unfinished channel.C (receiver channel.C c sys)
 
-    t : (t : Terms) × (terms_at config c ≡ Some t)
+    t : (t : EndConfig) × (terms_at config c ≡ Some t)
     t = client-of config c channel.C x queue sys beats (is.sound c channel.C)
 
     any : Delivered config c channel.C before h (packet_taken config (next_tracker sys) c (h.state.link c).c h)
@@ -359,7 +359,7 @@ carried-followed_c {w} config log h sys c x queue width is beats =
     at = record { width = width; is = is; beats = beats; down = refl; on_ch = received_on config log h sys c x queue width is beats; up = any.up }
 
     releases-last : (n : ℕ) (rest : List Packet) → (h.state.link c).c ≡ packet Release n ∷ rest → completes x before ≡ true
-        → (deed config (record { 0 = c }) x sys.manager).handed
+        → (reaction config (record { 0 = c }) x sys.manager).handed
         ≡ (
           record { 0 = c },
           block_message ReleaseAck c n (set n

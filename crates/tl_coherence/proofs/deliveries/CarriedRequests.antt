@@ -22,15 +22,15 @@ use Rattle.tl_rules.specs.statement.Conformance.{on_link, same_perm}
 use Rattle.tl_rules.specs.declared.answer.Answer.{Answer}
 use Rattle.tl_rules.specs.declared.answer.Answer.TheVariants as answer
 use Rattle.tl_rules.specs.statement.Effect.{effect, answer_of}
-use Rattle.tl_manager.specs.statement.Handing.{Handed, Deed, access_answer, probes}
+use Rattle.tl_manager.specs.statement.Handing.{Handed, Reaction, access_answer, probes}
 use Rattle.tl_manager.specs.statement.Holders as holders
 use Rattle.tl_manager.specs.statement.Holders.{recorded, probed, cap_probed, is_spared}
 use Rattle.tl_rules.specs.statement.History.{block_at, is_acquire}
 use Rattle.tl_rules.proofs.Sent.{is_last}
 use Rattle.tl_client.proofs.HeldAfter.{same_block, swapped}
-use Rattle.tl_manager.specs.statement.Deed.{deed}
+use Rattle.tl_manager.specs.statement.Reaction.{reaction}
 use Rattle.tl_manager.specs.statement.Offer.{must_wait}
-use Rattle.tl_manager.proofs.Events.{deed-part}
+use Rattle.tl_manager.proofs.Events.{reaction-part}
 use Rattle.tl_coherence.specs.declared.event.Outcome.TheVariants as outcome
 use Rattle.tl_coherence.specs.statement.Log.{Log}
 use Rattle.tl_coherence.specs.refinement.ChannelRelation.{ChannelRelation}
@@ -46,7 +46,7 @@ use Rattle.tl_coherence.specs.protocol.Packet.{Kind, Request, Acquire, Grant, Pa
 use Rattle.tl_coherence.specs.refinement.SimulationRelation.{SimulationRelation, is_caching}
 use Rattle.tl_coherence.proofs.manager.Admitted.{offered-taken}
 use Rattle.tl_coherence.proofs.manager.Arrivals.{link_of, with_beat, IsComing, ends-coming, service_for}
-use Rattle.tl_coherence.proofs.manager.AtRequests.{end_after, deed-probing}
+use Rattle.tl_coherence.proofs.manager.AtRequests.{end_after, reaction-probing}
 use Rattle.tl_coherence.proofs.simulation.CarriedEvents.{access_answered-carried, acquire_granted-carried}
 use Rattle.tl_coherence.proofs.simulation.CarriedProbes.{probe_pushes, channels-probes, access_served-carried, acquire_served-carried}
 use Rattle.tl_coherence.proofs.protocol.FollowKept.{some-none, leaves-bytes, IsReady}
@@ -69,7 +69,7 @@ use Rattle.tl_coherence.proofs.bound.RankAfter.{once_on_d}
 -- it, where the manager takes the beat
 abbrev pub system_after : {w : ℕ} → Config → ℕ → ℕ → MessageA w → List (Beat w) → System w → System w
 system_after config c k m queue sys =
-    with_messages (deed config (link_of c) (beat.A (a_beat_of m k)) sys.manager).handed (with_manager (end_after config c k m sys.manager) (with_channel c channel.A queue sys))
+    with_messages (reaction config (link_of c) (beat.A (a_beat_of m k)) sys.manager).handed (with_manager (end_after config c k m sys.manager) (with_channel c channel.A queue sys))
 
 on_a : {w : ℕ} (x : BeatA w) → IsOn channel.A (beat.A x)
 on_a x channel.A = refl
@@ -82,17 +82,17 @@ heard-coming : {w : ℕ} (config : Config) (c k : ℕ) (m : MessageA w) (queue :
     → HasTaken c (beat.A (a_beat_of m k)) sys.manager (end_after config c k m sys.manager)
 heard-coming {w} config c k m queue sys is =
     let x : Beat w = beat.A (a_beat_of m k) in
-    let step : Step w = handing (outcome.Moved x) (deed config (link_of c) x sys.manager).handed (with_manager (end_after config c k m sys.manager) (with_channel c channel.A queue sys)) in
+    let step : Step w = handing (outcome.Moved x) (reaction config (link_of c) x sys.manager).handed (with_manager (end_after config c k m sys.manager) (with_channel c channel.A queue sys)) in
     manager-heard config (link_of c) channel.A x queue sys step is.width is.typed is.kept (record { takes = offered-taken config (link_of c) channel.A x sys.manager is.passes; step_is = refl })
 
 -- what is handed out stands behind what was on the channels
 pub landed-coming : {w : ℕ} (config : Config) (c k : ℕ) (m : MessageA w) (queue : List (Beat w)) (sys : System w) (handed : Handed w)
     (pushes : ℕ → Channel → Option (Message w)) → IsComing config c k m sys.manager
-    → sys.channels c channel.A ≡ beat.A (a_beat_of m k) ∷ queue → (deed config (link_of c) (beat.A (a_beat_of m k)) sys.manager).handed ≡ handed
+    → sys.channels c channel.A ≡ beat.A (a_beat_of m k) ∷ queue → (reaction config (link_of c) (beat.A (a_beat_of m k)) sys.manager).handed ≡ handed
     → ((s : System w) (d : ℕ) (at : Channel) → (with_messages handed s).channels d at ≡ behind (pushes d at) (s.channels d at))
     → IsLanded c channel.A (beat.A (a_beat_of m k)) queue pushes sys (system_after config c k m queue sys)
 landed-coming {w} config c k m queue sys handed pushes is beats done pushed =
-    landed-manager c channel.A (beat.A (a_beat_of m k)) queue pushes (deed config (link_of c) (beat.A (a_beat_of m k)) sys.manager).handed
+    landed-manager c channel.A (beat.A (a_beat_of m k)) queue pushes (reaction config (link_of c) (beat.A (a_beat_of m k)) sys.manager).handed
     (end_after config c k m sys.manager) sys refl beats (on_a (a_beat_of m k)) (heard-coming config c k m queue sys is)
     (λ d at. ap (λ (i : Handed w). (with_messages i base).channels d at) done ∙ pushed base d at)
   where
@@ -111,7 +111,7 @@ pub carried-more : {w : ℕ} (config : Config) (log : Log w) (mail : AccessMessa
     → ChannelRelation mail s (system_after config c k m queue sys)
 carried-more {w} config log mail request s sys c k m queue is comes beats part =
     let x : Beat w = beat.A (a_beat_of m k) in
-    let done : (deed config (link_of c) x sys.manager).handed ≡ [] = ap (λ (d : Deed w). d.handed) (deed-part config (link_of c) x sys.manager part) in
+    let done : (reaction config (link_of c) x sys.manager).handed ≡ [] = ap (λ (d : Reaction w). d.handed) (reaction-part config (link_of c) x sys.manager part) in
     carried-part mail s c channel.A x queue (λ d at. None) sys (system_after config c k m queue sys) comes.width
     (landed-coming config c k m queue sys [] (λ d at. None) comes beats done nothing-handed) (λ d at. refl) part is.carried
 
@@ -128,7 +128,7 @@ nothing_above cap.ToN false = refl
 pub taken-probing : {w : ℕ} (config : Config) (log : Log w) (mail : AccessMessages w) (request : ℕ → MessageA w) (s : State (List ℕ)) (sys : System w) (c k n : ℕ)
     (own : Bool) (j : Cap) (m : MessageA w) (queue : List (Beat w)) → SimulationRelation config log mail request s sys
     → IsComing config c k m sys.manager → sys.channels c channel.A ≡ beat.A (a_beat_of m k) ∷ queue → beats_of (message.A m) ≡ suc k → is_acquire m.opcode ≡ own → block_at m.address ≡ n
-    → (deed config (link_of c) (beat.A (a_beat_of m k)) sys.manager).handed ≡ probes n j (probed config (service_for c m sys.manager.trace) j (with_beat c m k sys.manager.trace))
+    → (reaction config (link_of c) (beat.A (a_beat_of m k)) sys.manager).handed ≡ probes n j (probed config (service_for c m sys.manager.trace) j (with_beat c m k sys.manager.trace))
     → IsTaken c channel.A (beat.A (a_beat_of m k)) queue (probe_pushes n j (λ d. is_probed c own j ((s.block n).pair d).recorded d)) sys (system_after config c k m queue sys)
 taken-probing {w} config log mail request s sys c k n own j m queue is comes beats last kind block done =
     taken-landed c channel.A (beat.A (a_beat_of m k)) queue pushes sys (system_after config c k m queue sys)
@@ -155,7 +155,7 @@ taken-probing {w} config log mail request s sys c k n own j m queue is comes bea
 
 pub taken-answering : {w : ℕ} (config : Config) (c k : ℕ) (m : MessageA w) (i : Message w) (queue : List (Beat w)) (sys : System w)
     → IsComing config c k m sys.manager → sys.channels c channel.A ≡ beat.A (a_beat_of m k) ∷ queue → beats_of (message.A m) ≡ suc k
-    → (deed config (link_of c) (beat.A (a_beat_of m k)) sys.manager).handed ≡ (link_of c, i) ∷ []
+    → (reaction config (link_of c) (beat.A (a_beat_of m k)) sys.manager).handed ≡ (link_of c, i) ∷ []
     → IsTaken c channel.A (beat.A (a_beat_of m k)) queue (pushes_at c (pushes_of (Some i))) sys (system_after config c k m queue sys)
 taken-answering {w} config c k m i queue sys comes beats last done =
     taken-landed c channel.A (beat.A (a_beat_of m k)) queue (pushes_at c (pushes_of (Some i))) sys (system_after config c k m queue sys)
@@ -221,7 +221,7 @@ carried-acquire_taken {w} config log h sys c n k rest queue is first asked comes
         let some = somebody-probed config log h.mail h.request h.state sys c k n true m is (acquires-so asked.whole) (same_block n) (rw caps f) in
         acquire_served-carried (is_caching config) c n (b.source c) tracker j rest h.mail h.state sys after (beat.A (a_beat_of m k)) queue comes.width is.invariant kept first ready.0
         (taken-probing config log h.mail h.request h.state sys c k n true j m queue is comes beats last (acquires-so asked.whole) (same_block n)
-        (ap (λ (d : Deed w). d.handed) (deed-probing config c k n j m sys.manager comes last (same_block n) caps
+        (ap (λ (d : Reaction w). d.handed) (reaction-probing config c k n j m sys.manager comes last (same_block n) caps
         (probed-some config log h.mail h.request h.state sys c k n true j m is (acquires-so asked.whole) (same_block n) ∙ ap not f))))
         is.carried
     go false f kept =
@@ -318,6 +318,6 @@ carried-request_taken {w} config log h sys c source k rest queue is first asked 
         let some : some_below clients (λ d. is_probed c false j (b.pair d).recorded d) ≡ true = rw g at f in
         access_served-carried (is_caching config) c n source tracker j rest h.mail h.state sys after (beat.A (a_beat_of m k)) queue comes.width is.invariant kept first free
         (taken-probing config log h.mail h.request h.state sys c k n false j m queue is comes beats last asked.access refl
-        (ap (λ (d : Deed w). d.handed) (deed-probing config c k n j m sys.manager comes last refl g
+        (ap (λ (d : Reaction w). d.handed) (reaction-probing config c k n j m sys.manager comes last refl g
         (probed-some config log h.mail h.request h.state sys c k n false j m is asked.access refl ∙ ap not some))))
         is.carried

@@ -26,7 +26,7 @@ use Rattle.tl_params.specs.declared.rule.Rule.{Rule}
 use Rattle.tl_rules.specs.statement.Conformance.{on_link, same_perm}
 use Rattle.tl_client.specs.declared.verdict.Verdict.{Verdict}
 use Rattle.tl_client.specs.declared.verdict.Verdict.TheVariants as verdict
-use Rattle.tl_client.specs.statement.End as client
+use Rattle.tl_client.specs.statement.Endpoint as client
 use Rattle.tl_client.specs.statement.Offer as offer
 use Rattle.tl_client.proofs.Calls.{refusal-offered}
 use Rattle.tl_manager.specs.statement.End as manager_end
@@ -123,7 +123,7 @@ pub record IsUnmoved {w : ℕ} (sys : System w) (x : Step w) : Type 0 where
 only_unmoved : {w : ℕ} (o : Outcome w) (sys : System w) → ((link : Link) (ch : Channel) (m : Machine w) → moved (Deliver link ch) o m ≡ m) → IsUnmoved sys (only o sys)
 only_unmoved o sys still = record { channels = λ d at. refl; rests = λ d at. refl; pasts = λ d. refl; trace = refl; handed = refl; machine = still }
 
-refused_unmoved : {w : ℕ} (c : ℕ) (e : client.End w) (sys : System w) → e.past ≡ (sys.clients c).past → IsUnmoved sys (only outcome.Stalled (with_client c e sys))
+refused_unmoved : {w : ℕ} (c : ℕ) (e : client.Endpoint w) (sys : System w) → e.past ≡ (sys.clients c).past → IsUnmoved sys (only outcome.Stalled (with_client c e sys))
 refused_unmoved {w} c e sys same = record { channels = λ d at. refl; rests = rests; pasts = past_of; trace = refl; handed = refl; machine = λ link ch m. refl }
   where
     past_of : (d : ℕ) → (if d == c then e else sys.clients d).past ≡ (sys.clients d).past
@@ -157,11 +157,11 @@ unmoved {w} config link ch sys still = at (terms_at config link.0) still
     c : ℕ
     c = link.0
 
-    by_client : (terms : client.Terms) (x : Beat w) (queue : List (Beat w)) (a : Result (Verdict × Option (Message w)) Rule) → (offer.offered terms ch x (sys.clients c)).answer ≡ a
+    by_client : (terms : client.EndConfig) (x : Beat w) (queue : List (Beat w)) (a : Result (Verdict × Option (Message w)) Rule) → (offer.offered terms ch x (sys.clients c)).answer ≡ a
         → is_moving (judged a c ch x queue (offer.offered terms ch x (sys.clients c)).after sys).outcome ≡ false
         → IsUnmoved sys (judged a c ch x queue (offer.offered terms ch x (sys.clients c)).after sys)
     by_client terms x queue (Err rule) e s = refused_unmoved c (offer.offered terms ch x (sys.clients c)).after sys
-        (ap (λ (i : client.End w). i.past) (refusal-offered terms ch x (sys.clients c) rule e))
+        (ap (λ (i : client.Endpoint w). i.past) (refusal-offered terms ch x (sys.clients c) rule e))
     by_client terms x queue (Ok (verdict.Stalled, m)) e s = only_unmoved outcome.Stalled sys (λ l i m. refl)
     by_client terms x queue (Ok (verdict.Taken, m)) e s = absurd cc
     by_client terms x queue (Ok (verdict.Done source f, m)) e s = absurd cc
@@ -173,7 +173,7 @@ unmoved {w} config link ch sys still = at (terms_at config link.0) still
     by_manager x queue manager_offer.Waits s = only_unmoved outcome.Stalled sys (λ l i m. refl)
     by_manager x queue manager_offer.Passes s = absurd cc
 
-    delivered_to : (terms : client.Terms) (beats : List (Beat w)) → is_moving (step.delivered config terms c ch beats sys).outcome ≡ false → IsUnmoved sys (step.delivered config terms c ch beats sys)
+    delivered_to : (terms : client.EndConfig) (beats : List (Beat w)) → is_moving (step.delivered config terms c ch beats sys).outcome ≡ false → IsUnmoved sys (step.delivered config terms c ch beats sys)
     delivered_to terms [] s = only_unmoved outcome.Empty sys (λ l i m. refl)
     delivered_to terms (x ∷ queue) s = to (is_to_client ch) s
       where
@@ -184,7 +184,7 @@ unmoved {w} config link ch sys still = at (terms_at config link.0) still
         to true s = by_client terms x queue (offer.offered terms ch x (sys.clients c)).answer refl s
         to false s = by_manager x queue (manager_offer.judged config (record { 0 = c }) ch x sys.manager) s
 
-    at : (o : Option client.Terms) → is_moving (stepped_at config o (Deliver link ch) sys).outcome ≡ false → IsUnmoved sys (stepped_at config o (Deliver link ch) sys)
+    at : (o : Option client.EndConfig) → is_moving (stepped_at config o (Deliver link ch) sys).outcome ≡ false → IsUnmoved sys (stepped_at config o (Deliver link ch) sys)
     at None s = only_unmoved outcome.NoSuchClient sys (λ l i m. refl)
     at (Some terms) s = delivered_to terms (sys.channels c ch) s
 
@@ -235,7 +235,7 @@ pub remembered_after : {w : ℕ} (config : Config) (log : Log w) (link : Link) (
 unfolding one_memory_after
 remembered_after {w} config log link ch x e = ap (λ (y : Step w). performing (accesses_answered y.handed) (moved (Deliver link ch) y.outcome (one_memory_after config log))) e
 
-last_d : {w : ℕ} (config : Config) (log : Log w) (link : Link) (h h' : AbstractState w) (terms : client.Terms) (x : Beat w) (queue : List (Beat w)) (mm : MessageD w)
+last_d : {w : ℕ} (config : Config) (log : Log w) (link : Link) (h h' : AbstractState w) (terms : client.EndConfig) (x : Beat w) (queue : List (Beat w)) (mm : MessageD w)
     (is : IsLastBeat link.0 x queue (system_after config log) mm)
     → IsTakenByClient terms link.0 channel.D x queue (system_after config log) (stepped config (Deliver link channel.D) (system_after config log))
     → abstract_step config (Deliver link channel.D) (system_after config log) h ≡ h'
@@ -251,7 +251,7 @@ last_d {w} config log link h h' terms x queue mm is t same responded =
     sys : System w
     sys = system_after config log
 
-    e : client.End w
+    e : client.Endpoint w
     e = sys.clients link.0
 
     last : completes (beat.D is.y) (unfinished channel.D e.past) ≡ true
@@ -276,7 +276,7 @@ none_pushed : (w : ℕ) (at : Channel) (b : Bool) → (if b then pushes_of {w = 
 none_pushed w at true = refl
 none_pushed w at false = refl
 
-part_d : {w : ℕ} (config : Config) (log : Log w) (link : Link) (h : AbstractState w) (terms : client.Terms) (x : Beat w) (queue : List (Beat w)) (mm : MessageD w)
+part_d : {w : ℕ} (config : Config) (log : Log w) (link : Link) (h : AbstractState w) (terms : client.EndConfig) (x : Beat w) (queue : List (Beat w)) (mm : MessageD w)
     (k : ℕ) → IsWidth w → SimulationRelation config log h.mail h.request h.state (system_after config log)
     → (system_after config log).channels link.0 channel.D ≡ x ∷ queue → x ≡ beat.D (d_beat_of mm k) → completes x (unfinished channel.D ((system_after config log).clients link.0).past) ≡ false
     → IsTakenByClient terms link.0 channel.D x queue (system_after config log) (stepped config (Deliver link channel.D) (system_after config log))
@@ -294,7 +294,7 @@ part_d {w} config log link h terms x queue mm k width is first x_is part t same 
     sys : System w
     sys = system_after config log
 
-    e : client.End w
+    e : client.Endpoint w
     e = sys.clients link.0
 
     y : BeatD w
@@ -319,7 +319,7 @@ pub rendered_release_ack : {w : ℕ} (c n : ℕ) (b : Block (List ℕ)) → bloc
 unfolding block_message
 rendered_release_ack c n b = refl
 
-pub delivered-d : {w : ℕ} (config : Config) (log : Log w) (link : Link) (h : AbstractState w) (terms : client.Terms) (x : Beat w) (queue : List (Beat w)) → IsWidth w
+pub delivered-d : {w : ℕ} (config : Config) (log : Log w) (link : Link) (h : AbstractState w) (terms : client.EndConfig) (x : Beat w) (queue : List (Beat w)) → IsWidth w
     → SimulationRelation config log h.mail h.request h.state (system_after config log)
     → terms_at config link.0 ≡ Some terms → (system_after config log).channels link.0 channel.D ≡ x ∷ queue
     → is_moving (stepped config (Deliver link channel.D) (system_after config log)).outcome ≡ true → IsDelivered config log link channel.D h
@@ -331,7 +331,7 @@ delivered-d {w} config log link h terms x queue width is known beats moving = ki
     c : ℕ
     c = link.0
 
-    e : client.End w
+    e : client.Endpoint w
     e = sys.clients c
 
     first : IsFirst channel.D c h.mail h.state sys x queue

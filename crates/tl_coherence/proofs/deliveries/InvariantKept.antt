@@ -11,7 +11,7 @@ use Rattle.tl_burst.specs.declared.message.Message.TheVariants as message
 use Rattle.tl_burst.specs.declared.message.MessageA.{MessageA}
 use Rattle.tl_burst.specs.statement.Burst.{a_beat_of, beats_of}
 use Rattle.tl_params.specs.declared.config.Config.{Config}
-use Rattle.tl_client.specs.statement.End.{Terms}
+use Rattle.tl_client.specs.statement.Endpoint.{EndConfig}
 use Rattle.tl_manager.specs.statement.End as manager_end
 use Rattle.tl_manager.specs.statement.Offer as manager
 use Rattle.tl_manager.specs.statement.Offer.{must_wait}
@@ -44,14 +44,14 @@ pub request-moves : {w : ℕ} (config : Config) (log : Log w) (mail : AccessMess
     → must_wait config (record { 0 = link.0 }) x sys.manager.trace ≡ false
 request-moves {w} config log mail request s sys link x queue h moving beats arrives = go (must_wait config (record { 0 = link.0 }) x sys.manager.trace) refl
   where
-    stands : (terms : Terms) → terms_at config link.0 ≡ Some terms → must_wait config (record { 0 = link.0 }) x sys.manager.trace ≡ true
+    stands : (terms : EndConfig) → terms_at config link.0 ≡ Some terms → must_wait config (record { 0 = link.0 }) x sys.manager.trace ≡ true
         → is_moving (stepped config (Deliver link channel.A) sys).outcome ≡ false
     stands terms at waits =
         ap (λ (i : Step w). is_moving i.outcome) (stepped-to-manager config link channel.A sys terms x queue at beats refl)
         ∙ ap (λ (a : manager.Reception w × manager_end.End w). is_moving (manager_took link.0 channel.A x queue a sys).outcome)
         (request-stalled config log (shadow_of mail request s) sys link.0 x queue h beats arrives waits)
 
-    at_terms : (o : Option Terms) → terms_at config link.0 ≡ o → must_wait config (record { 0 = link.0 }) x sys.manager.trace ≡ true
+    at_terms : (o : Option EndConfig) → terms_at config link.0 ≡ o → must_wait config (record { 0 = link.0 }) x sys.manager.trace ≡ true
         → is_moving (stepped config (Deliver link channel.A) sys).outcome ≡ false
     at_terms None at waits = nobody_moves config sys link channel.A at
     at_terms (Some terms) at waits = stands terms at waits

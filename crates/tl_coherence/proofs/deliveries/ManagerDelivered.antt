@@ -6,8 +6,8 @@ use Rattle.tl_coherence.specs.protocol.Protocol as protocol
 use Rattle.tl_coherence.proofs.manager.RequestsTaken.{invariant-taken}
 use Rattle.tl_coherence.proofs.manager.ManagersEnd.{at_manager-matched}
 use Rattle.tl_coherence.proofs.manager.ManagerHanded.{grant-rendered}
-use Rattle.tl_manager.proofs.Events.{deed-part, deed-ack}
-use Rattle.tl_manager.specs.statement.Handing.{Deed, Handed, release_ack}
+use Rattle.tl_manager.proofs.Events.{reaction-part, reaction-ack}
+use Rattle.tl_manager.specs.statement.Handing.{Reaction, Handed, release_ack}
 use Rattle.std.proofs.Common.{[], ◌≡◌, ℕ, ◌+◌, Bool, true, false, ◌&&◌, List, ◌∷◌, None, length, refl, sym, ◌∙◌, ap, subst}
 use Rattle.std.specs.Prelude.{◌==◌, if◌then◌else◌, map}
 use Rattle.std.proofs.lemmas.Bool.{eqb-true}
@@ -34,10 +34,10 @@ use Rattle.tl_params.specs.statement.Param.{grow_code, prune_code, prune_left, r
 use Rattle.tl_rules.specs.statement.Conformance.{on_link, broken_in_order, same_perm}
 use Rattle.tl_rules.specs.statement.History.{pending}
 use Rattle.tl_params.specs.declared.key.Key.TheVariants.{GrantSink}
-use Rattle.tl_manager.proofs.Links.{whole-e}
+use Rattle.tl_manager.proofs.LinkHistories.{whole-e}
 use Rattle.tl_coherence.specs.refinement.SourceRelation.{IsFor}
 use Rattle.tl_manager.specs.code.Kept as manager
-use Rattle.tl_manager.specs.statement.Deed.{deed}
+use Rattle.tl_manager.specs.statement.Reaction.{reaction}
 use Rattle.tl_manager.specs.statement.End.{End}
 use Rattle.tl_coherence.specs.refinement.AbstractStep.{AbstractState, acquire_opcode, ack_taken, granted_after, last_taken, some_below, packet_taken, with_state, answers}
 use Rattle.tl_coherence.specs.protocol.Invariant.{IsInvariant, IsOwnSource, IsWell}
@@ -52,8 +52,8 @@ use Rattle.tl_coherence.specs.refinement.SimulationRelation.{SimulationRelation,
 use Rattle.tl_coherence.proofs.queues.Carried.{IsNext}
 use Rattle.tl_coherence.proofs.queues.Facts.{answered_other, is_other, own_wants}
 use Rattle.tl_coherence.proofs.manager.ManagedAcks.{IsAcked}
-use Rattle.tl_coherence.proofs.manager.ManagerAfter.{IsManagerOf, left, IsEnd, others_probed, report_part-left, reported-left, released-left, acked-left, deed-reported, deed-released}
-use Rattle.tl_coherence.proofs.manager.ManagerSettles.{IsWanted, IsSettling, ended-left, conceded-left, deed-ended, deed-conceded, gift_after}
+use Rattle.tl_coherence.proofs.manager.ManagerAfter.{IsManagerOf, left, IsEnd, others_probed, report_part-left, reported-left, released-left, acked-left, reaction-reported, reaction-released}
+use Rattle.tl_coherence.proofs.manager.ManagerSettles.{IsWanted, IsSettling, ended-left, conceded-left, reaction-ended, reaction-conceded, gift_after}
 use Rattle.tl_coherence.proofs.manager.ManagerTakes.{IsTakenUp, ack-order, by-first_c, by-first_e, release-order, report-order, takes}
 use Rattle.tl_coherence.proofs.manager.Reporting.{IsAbout, report-about, release-about}
 use Rattle.tl_coherence.proofs.queues.Tokens.{holds-first, same_number, set-same, set_at-same}
@@ -98,7 +98,7 @@ pushed config c _ n h h' = []
 -- what is kept of the manager's end after this beat, and what it hands out
 abbrev pub Does : {w : ℕ} → Config → ℕ → AbstractState w → AbstractState w → Kind → ℕ → End w → Beat w → Type 0
 Does config c h h' kind n e x =
-    IsManagerOf config h' (left c x (deed config (record { 0 = c }) x e) e) × ((deed config (record { 0 = c }) x e).handed ≡ pushed config c kind n h h')
+    IsManagerOf config h' (left c x (reaction config (record { 0 = c }) x e) e) × ((reaction config (record { 0 = c }) x e).handed ≡ pushed config c kind n h h')
 
 -- ---- a ProbeAck
 
@@ -126,7 +126,7 @@ reported-last {w} config log h sys c n k rest m is tokens answered up end =
 
     -- what is kept, and what is handed out
     Result : AbstractState w → Handed w → Type 0
-    Result h' pushes = IsManagerOf config h' (left c x (deed config (record { 0 = c }) x e) e) × ((deed config (record { 0 = c }) x e).handed ≡ pushes)
+    Result h' pushes = IsManagerOf config h' (left c x (reaction config (record { 0 = c }) x e) e) × ((reaction config (record { 0 = c }) x e).handed ≡ pushes)
 
     seen : is_other (view b.service c) ≡ true
     seen = answered_other r (b.pair c) (view b.service c) ((is.invariant.blocks n).phases c) answered
@@ -153,7 +153,7 @@ reported-last {w} config log h sys c n k rest m is tokens answered up end =
               at_manager-matched config log h.mail h.request h.state sys is;
         } in (
           ended-left config c q n source k low r rest m h e at,
-          ap (λ (d : Deed w). d.handed) (deed-ended config c q n source k low r m h e at)
+          ap (λ (d : Reaction w). d.handed) (reaction-ended config c q n source k low r m h e at)
               ∙ rw (set_at-same q source (answers (h.request n) (protocol.written r b.truth b.memory)) h.mail.answer) refl,
         )
     last alone (Waits q true source low) f inv = go (b.pair q).acquiring refl inv
@@ -190,7 +190,7 @@ reported-last {w} config log h sys c n k rest m is tokens answered up end =
             let new : Block (List ℕ) = granted_block c q r (is_granted_data whole grow (b.pair q).recorded) (gift_after config c n r whole grow h) b in
             let here : set n new h.state.block n ≡ new = set-same n new h.state.block in (
               conceded-left config c q n source k low r whole grow rest m h e at wanted,
-              ap (λ (d : Deed w). d.handed) (deed-conceded config c q n source k low r whole grow m h e at wanted)
+              ap (λ (d : Reaction w). d.handed) (reaction-conceded config c q n source k low r whole grow m h e at wanted)
                   ∙ ap (λ (i : Message w). (record { 0 = q }, i) ∷ [])
                   (grant-rendered config (is_caching config) c q n source r whole grow h own_source
                   (subst (IsWell (is_caching config)) here (after.blocks n)) ∙ ap (block_message Grant q n) (sym here)),
@@ -203,7 +203,7 @@ reported-last {w} config log h sys c n k rest m is tokens answered up end =
         (if y then with_state (report_taken c n r rest h.state) h else last_taken (length config.clients.items) config.profile c n r b.service rest h))
     others true f inv = (
       reported-left config c n k r rest m h e up end f (at_manager-matched config log h.mail h.request h.state sys is),
-      ap (λ (d : Deed w). d.handed) (deed-reported config c n k r m h e end f is.managed) ∙ rw f refl,
+      ap (λ (d : Reaction w). d.handed) (reaction-reported config c n k r m h e end f is.managed) ∙ rw f refl,
     )
     others false f inv =
         let done = last f b.service refl inv in
@@ -220,8 +220,8 @@ pushed_by config c (x ∷ rest) h h' = pushed config c x.kind x.number h h'
 -- of its message, and `pushes` is what is handed out then.
 pub record Delivered {w : ℕ} (config : Config) (c : ℕ) (ch : Channel) (rest : List (Beat w)) (h h' : AbstractState w) (pushes : Handed w) (e : End w) (x : Beat w) : Type 0 where
   pub up : IsTakenUp config c ch x e
-  pub manager : IsManagerOf config (if completes x rest then h' else h) (left c x (deed config (record { 0 = c }) x e) e)
-  pub handed : (deed config (record { 0 = c }) x e).handed ≡ (if completes x rest then pushes else [])
+  pub manager : IsManagerOf config (if completes x rest then h' else h) (left c x (reaction config (record { 0 = c }) x e) e)
+  pub handed : (reaction config (record { 0 = c }) x e).handed ≡ (if completes x rest then pushes else [])
 
 delivered-c : {w : ℕ} (config : Config) (h h' : AbstractState w) (kind : Kind) (c n : ℕ) (x : Beat w) (m : MessageC w) (ms : List (Message w)) (queue : List (Beat w))
     (e : End w) → IsWidth w → IsManagerOf config h e → manager.IsSound config (record { 0 = c }, x)
@@ -254,16 +254,16 @@ delivered-c {w} config h h' kind c n x m ms queue e width is sound next order la
         let done = last next.k (eqb-true (next.k + 1) (beats_of (message.C m)) f) next.rest_is up in
         record {
           up = up;
-          manager = subst (λ (b : Bool). IsManagerOf config (if b then h' else h) (left c y (deed config (record { 0 = c }) y e) e)) (sym ended) done.0;
+          manager = subst (λ (b : Bool). IsManagerOf config (if b then h' else h) (left c y (reaction config (record { 0 = c }) y e) e)) (sym ended) done.0;
           handed = done.1 ∙ sym (ap (λ (b : Bool). if b then pushes else []) ended);
         }
     go false f =
         let part : completes y rest ≡ false = completes_it ∙ f in
         record {
           up = up;
-          manager = subst (λ (b : Bool). IsManagerOf config (if b then h' else h) (left c y (deed config (record { 0 = c }) y e) e)) (sym part)
+          manager = subst (λ (b : Bool). IsManagerOf config (if b then h' else h) (left c y (reaction config (record { 0 = c }) y e) e)) (sym part)
               (report_part-left config c (c_beat_of m next.k) h e width up part is);
-          handed = ap (λ (d : Deed w). d.handed) (deed-part config (record { 0 = c }) y e part) ∙ sym (ap (λ (b : Bool). if b then pushes else []) part);
+          handed = ap (λ (d : Reaction w). d.handed) (reaction-part config (record { 0 = c }) y e part) ∙ sym (ap (λ (b : Bool). if b then pushes else []) part);
         }
 
 pub reports-delivered : {w : ℕ} (config : Config) (log : Log w) (h : AbstractState w) (sys : System w) (c n : ℕ) (rest : List Packet) (x : Beat w)
@@ -315,7 +315,7 @@ releases-delivered {w} config log h sys c n rest x queue ms width is beats token
     let end : IsEnd false c n (prune_code r) (same_perm (prune_left r) perm.Trunk) (h.state.block n).truth k m sys.manager =
     record { width = width; about = about.2; rest = before; last = all; long = (is.sized n).truth } in (
       released-left config c n k r rest m h sys.manager up end (at_manager-matched config log h.mail h.request h.state sys is),
-      ap (λ (d : Deed w). d.handed) (deed-released config c n k r m h sys.manager end)
+      ap (λ (d : Reaction w). d.handed) (reaction-released config c n k r m h sys.manager end)
           ∙ ap (λ (i : ℕ). (record { 0 = c }, release_ack {w = w} i) ∷ []) about.3
           ∙ sym (ap (λ (b : Block (List ℕ)). (record { 0 = c }, block_message {w = w} ReleaseAck c n b) ∷ [])
           (set-same n (let_block c r (h.state.block n)) h.state.block)),
@@ -348,9 +348,9 @@ acks-delivered {w} config log h sys c n rest x queue ms width is beats tokens ne
     subst (Delivered config c channel.E before h after [] e) (sym next.beat_is) (record {
       up = up;
       manager =
-          subst (λ (b : Bool). IsManagerOf config (if b then after else h) (left c (beat.E y) (deed config (record { 0 = c }) (beat.E y) e) e)) (sym whole)
+          subst (λ (b : Bool). IsManagerOf config (if b then after else h) (left c (beat.E y) (reaction config (record { 0 = c }) (beat.E y) e) e)) (sym whole)
           (acked-left config c n rest y h e width up acks (at_manager-matched config log h.mail h.request h.state sys is));
-      handed = ap (λ (d : Deed w). d.handed) (deed-ack config (record { 0 = c }) y e) ∙ sym (ap (λ (b : Bool). if b then [] else []) whole);
+      handed = ap (λ (d : Reaction w). d.handed) (reaction-ack config (record { 0 = c }) y e) ∙ sym (ap (λ (b : Bool). if b then [] else []) whole);
     })
   where
     e : End w

@@ -9,12 +9,12 @@ use Rattle.tl_burst.specs.statement.Messages.{unfinished}
 use Rattle.tl_burst.specs.statement.Part.{completes}
 use Rattle.tl_params.specs.declared.config.Config.{Config}
 use Rattle.tl_params.specs.declared.config.ClientConfig.{ClientConfig}
-use Rattle.tl_client.specs.statement.End.{Terms}
+use Rattle.tl_client.specs.statement.Endpoint.{EndConfig}
 use Rattle.tl_manager.specs.code.Kept as manager
 use Rattle.tl_manager.specs.code.Kept.{illegal_at}
 use Rattle.tl_manager.specs.statement.Service.{services, least_untaken, trackers_of}
 use Rattle.tl_manager.specs.statement.Offer as manager_offer
-use Rattle.tl_manager.specs.statement.Deed.{deed}
+use Rattle.tl_manager.specs.statement.Reaction.{reaction}
 use Rattle.tl_manager.specs.statement.End.{End}
 use Rattle.tl_manager.specs.statement.Offer.{level_of}
 use Rattle.tl_coherence.specs.declared.event.Event.TheVariants.{Deliver}
@@ -34,35 +34,35 @@ use Rattle.tl_coherence.proofs.queues.Steps.{manager-with_messages, stepped-to-m
 -- a link that has a beat is a client's
 pub client-of : {w : ℕ} (config : Config) (c : ℕ) (ch : Channel) (x : Beat w) (queue : List (Beat w)) (sys : System w) → sys.channels c ch ≡ x ∷ queue
     → All (λ y. manager.IsSound config (record { 0 = c }, y)) (sys.channels c ch)
-    → (t : Terms) × (terms_at config c ≡ Some t)
+    → (t : EndConfig) × (terms_at config c ≡ Some t)
 client-of {w} config c ch x queue sys beats sound =
     let all : All (λ y. manager.IsSound config (record { 0 = c }, y)) (x ∷ queue) = rw beats at sound in
     let first : manager.IsSound config (record { 0 = c }, x) = all 0 x (omega arith) in
     go (slice_get config.clients.items c) first.lawful
   where
     go : (o : Option ClientConfig) → illegal_at (option_map (λ (i : ClientConfig). i.level) o) x ≡ None
-        → (t : Terms) × (option_map (λ (i : ClientConfig). record { level = i.level; profile = config.profile; sources = i.sources; blocks = config.blocks }) o ≡ Some t)
+        → (t : EndConfig) × (option_map (λ (i : ClientConfig). record { level = i.level; profile = config.profile; sources = i.sources; blocks = config.blocks }) o ≡ Some t)
     go None e = absurd cc
     go (Some i) e = (_, refl)
 
 -- what the step is
-pub step-taken : {w : ℕ} (config : Config) (c : ℕ) (ch : Channel) (x : Beat w) (queue : List (Beat w)) (sys : System w) (t : Terms) → terms_at config c ≡ Some t
+pub step-taken : {w : ℕ} (config : Config) (c : ℕ) (ch : Channel) (x : Beat w) (queue : List (Beat w)) (sys : System w) (t : EndConfig) → terms_at config c ≡ Some t
     → sys.channels c ch ≡ x ∷ queue → is_to_client ch ≡ false → IsTakenUp config c ch x sys.manager
     → stepped config (Deliver (record { 0 = c }) ch) sys
-    ≡ handing (outcome.Moved x) (deed config (record { 0 = c }) x sys.manager).handed (with_manager (left c x (deed config (record { 0 = c }) x sys.manager) sys.manager) (with_channel c ch queue sys))
+    ≡ handing (outcome.Moved x) (reaction config (record { 0 = c }) x sys.manager).handed (with_manager (left c x (reaction config (record { 0 = c }) x sys.manager) sys.manager) (with_channel c ch queue sys))
 step-taken {w} config c ch x queue sys t terms beats down up =
     stepped-to-manager config (record { 0 = c }) ch sys t x queue terms beats down ∙ ap (λ (p : manager_offer.Reception w × End w). manager_took c ch x queue p sys) up.answer
 
-pub manager-taken : {w : ℕ} (config : Config) (c : ℕ) (ch : Channel) (x : Beat w) (queue : List (Beat w)) (sys : System w) (t : Terms)
+pub manager-taken : {w : ℕ} (config : Config) (c : ℕ) (ch : Channel) (x : Beat w) (queue : List (Beat w)) (sys : System w) (t : EndConfig)
     → terms_at config c ≡ Some t → sys.channels c ch ≡ x ∷ queue → is_to_client ch ≡ false → IsTakenUp config c ch x sys.manager
-    → (stepped config (Deliver (record { 0 = c }) ch) sys).after.manager ≡ left c x (deed config (record { 0 = c }) x sys.manager) sys.manager
+    → (stepped config (Deliver (record { 0 = c }) ch) sys).after.manager ≡ left c x (reaction config (record { 0 = c }) x sys.manager) sys.manager
 manager-taken {w} config c ch x queue sys t terms beats down up =
     ap (λ (s : Step w). s.after.manager) (step-taken config c ch x queue sys t terms beats down up)
-    ∙ manager-with_messages (deed config (record { 0 = c }) x sys.manager).handed
-    (with_manager (left c x (deed config (record { 0 = c }) x sys.manager) sys.manager) (with_channel c ch queue sys))
+    ∙ manager-with_messages (reaction config (record { 0 = c }) x sys.manager).handed
+    (with_manager (left c x (reaction config (record { 0 = c }) x sys.manager) sys.manager) (with_channel c ch queue sys))
 
 -- and what the protocol does then
-pub followed-taken : {w : ℕ} (config : Config) (c : ℕ) (ch : Channel) (x : Beat w) (queue : List (Beat w)) (sys : System w) (h : AbstractState w) (t : Terms)
+pub followed-taken : {w : ℕ} (config : Config) (c : ℕ) (ch : Channel) (x : Beat w) (queue : List (Beat w)) (sys : System w) (h : AbstractState w) (t : EndConfig)
     → terms_at config c ≡ Some t → sys.channels c ch ≡ x ∷ queue → is_to_client ch ≡ false
     → IsTakenUp config c ch x sys.manager
     → abstract_step config (Deliver (record { 0 = c }) ch) sys h
@@ -79,7 +79,7 @@ manager-followed_c {w} config log h sys c x queue width is beats =
     let t = client-of config c channel.C x queue sys beats (is.sound c channel.C) in
     let d = channel_c-delivered config log (least_untaken (trackers_of (services sys.manager.trace))) h sys c x queue width is beats in
     subst (λ (i : End w). IsManagerOf config (abstract_step config (Deliver (record { 0 = c }) channel.C) sys h) i) (sym (manager-taken config c channel.C x queue sys t.0 t.1 beats refl d.up))
-    (subst (λ (i : AbstractState w). IsManagerOf config i (left c x (deed config (record { 0 = c }) x sys.manager) sys.manager))
+    (subst (λ (i : AbstractState w). IsManagerOf config i (left c x (reaction config (record { 0 = c }) x sys.manager) sys.manager))
     (sym (followed-taken config c channel.C x queue sys h t.0 t.1 beats refl d.up)) d.manager)
 
 pub manager-followed_e : {w : ℕ} (config : Config) (log : Log w) (h : AbstractState w) (sys : System w) (c : ℕ) (x : Beat w) (queue : List (Beat w)) → IsWidth w
@@ -89,5 +89,5 @@ manager-followed_e {w} config log h sys c x queue width is beats =
     let t = client-of config c channel.E x queue sys beats (is.sound c channel.E) in
     let d = channel_e-delivered config log (least_untaken (trackers_of (services sys.manager.trace))) h sys c x queue width is beats in
     subst (λ (i : End w). IsManagerOf config (abstract_step config (Deliver (record { 0 = c }) channel.E) sys h) i) (sym (manager-taken config c channel.E x queue sys t.0 t.1 beats refl d.up))
-    (subst (λ (i : AbstractState w). IsManagerOf config i (left c x (deed config (record { 0 = c }) x sys.manager) sys.manager))
+    (subst (λ (i : AbstractState w). IsManagerOf config i (left c x (reaction config (record { 0 = c }) x sys.manager) sys.manager))
     (sym (followed-taken config c channel.E x queue sys h t.0 t.1 beats refl d.up)) d.manager)

@@ -22,14 +22,14 @@ use Rattle.tl_params.specs.declared.perm.Perm.TheVariants as perm
 use Rattle.tl_params.specs.statement.Param.{report_left}
 use Rattle.tl_rules.specs.statement.Conformance.{on_link}
 use Rattle.tl_rules.specs.statement.History.{ends}
-use Rattle.tl_client.specs.statement.End as client
+use Rattle.tl_client.specs.statement.Endpoint as client
 use Rattle.tl_client.specs.statement.Send.{release, probe_ack}
 use Rattle.tl_manager.specs.statement.Handing.{Handed}
 use Rattle.tl_manager.specs.code.Kept as manager
 use Rattle.tl_manager.specs.statement.End as manager_end
 use Rattle.tl_manager.specs.statement.Offer as manager_offer
-use Rattle.tl_manager.specs.statement.Deed.{deed}
-use Rattle.tl_manager.proofs.Events.{deed-part}
+use Rattle.tl_manager.specs.statement.Reaction.{reaction}
+use Rattle.tl_manager.proofs.Events.{reaction-part}
 use Rattle.tl_coherence.specs.declared.event.Event.TheVariants.{Deliver}
 use Rattle.tl_coherence.specs.declared.event.Outcome.TheVariants as outcome
 use Rattle.tl_coherence.specs.refinement.MemoryRelation.{MemoryRelation}
@@ -154,15 +154,15 @@ pub record IsAtManager {w : ℕ} (config : Config) (log : Log w) (link : Link) (
   pub on_it : IsOn ch x
   pub of_it : channel_of x ≡ ch
   pub beats : (system_after config log).channels link.0 ch ≡ x ∷ queue
-  pub heard : HasTaken link.0 x (system_after config log).manager (manager_offer.taken link x (deed config link x (system_after config log).manager) (system_after config log).manager)
+  pub heard : HasTaken link.0 x (system_after config log).manager (manager_offer.taken link x (reaction config link x (system_after config log).manager) (system_after config log).manager)
   pub step_is : stepped config (Deliver link ch) (system_after config log)
-      ≡ handing (outcome.Moved x) (deed config link x (system_after config log).manager).handed
-      (with_manager (manager_offer.taken link x (deed config link x (system_after config log).manager) (system_after config log).manager)
+      ≡ handing (outcome.Moved x) (reaction config link x (system_after config log).manager).handed
+      (with_manager (manager_offer.taken link x (reaction config link x (system_after config log).manager) (system_after config log).manager)
       (with_channel link.0 ch queue (system_after config log)))
   pub follows : abstract_step config (Deliver link ch) (system_after config log) h
       ≡ (if completes x (unfinished ch (receiver ch link.0 (system_after config log))) then kind_taken config (next_tracker (system_after config log)) link.0 first.kind first.number first.rest h else h)
 
-pub at-manager : {w : ℕ} (config : Config) (log : Log w) (link : Link) (ch : Channel) (h : AbstractState w) (terms : client.Terms) (x : Beat w) (queue : List (Beat w))
+pub at-manager : {w : ℕ} (config : Config) (log : Log w) (link : Link) (ch : Channel) (h : AbstractState w) (terms : client.EndConfig) (x : Beat w) (queue : List (Beat w))
     → IsWidth w → SimulationRelation config log h.mail h.request h.state (system_after config log)
     → terms_at config link.0 ≡ Some terms → is_to_client ch ≡ false → (system_after config log).channels link.0 ch ≡ x ∷ queue
     → is_moving (stepped config (Deliver link ch) (system_after config log)).outcome ≡ true → IsAtManager config log link ch h x queue
@@ -221,13 +221,13 @@ at-manager {w} config log link ch h terms x queue width is known down beats movi
 
 -- the whole where these messages were handed out
 abbrev pub after_taken : {w : ℕ} → Config → Link → Channel → Beat w → List (Beat w) → System w → Handed w → System w
-after_taken config link ch x queue sys handed = with_messages handed (with_manager (manager_offer.taken link x (deed config link x sys.manager) sys.manager) (with_channel link.0 ch queue sys))
+after_taken config link ch x queue sys handed = with_messages handed (with_manager (manager_offer.taken link x (reaction config link x sys.manager) sys.manager) (with_channel link.0 ch queue sys))
 
 -- What is left to show of the last beat of a message: what the manager hands out, and that the channels and the one
 -- memory are those of the protocol then.
 pub delivered-last : {w : ℕ} (config : Config) (log : Log w) (link : Link) (ch : Channel) (h : AbstractState w) (x : Beat w) (queue : List (Beat w))
     (handed : Handed w) (pushes : ℕ → Channel → Option (Message w)) → is_to_client ch ≡ false
-    → (is : IsAtManager config log link ch h x queue) → completes x (unfinished ch (receiver ch link.0 (system_after config log))) ≡ true → (deed config link x (system_after config log).manager).handed ≡ handed
+    → (is : IsAtManager config log link ch h x queue) → completes x (unfinished ch (receiver ch link.0 (system_after config log))) ≡ true → (reaction config link x (system_after config log).manager).handed ≡ handed
     → ((d : ℕ) (at : Channel) → (after_taken config link ch x queue (system_after config log) handed).channels d at ≡ behind (pushes d at) ((with_channel link.0 ch queue (system_after config log)).channels d at))
     → (IsTaken link.0 ch x queue pushes (system_after config log) (after_taken config link ch x queue (system_after config log) handed)
     → ChannelRelation (kind_taken config (next_tracker (system_after config log)) link.0 is.first.kind is.first.number is.first.rest h).mail
@@ -251,7 +251,7 @@ delivered-last {w} config log link ch h x queue handed pushes down is last gives
     h' = kind_taken config (next_tracker sys) link.0 is.first.kind is.first.number is.first.rest h
 
     e : manager_end.End w
-    e = manager_offer.taken link x (deed config link x sys.manager) sys.manager
+    e = manager_offer.taken link x (reaction config link x sys.manager) sys.manager
 
     now : Step w
     now = handing (outcome.Moved x) handed (with_manager e (with_channel link.0 ch queue sys))
@@ -283,7 +283,7 @@ delivered-part {w} config log link ch h x queue width matched down is part =
     sys = system_after config log
 
     e : manager_end.End w
-    e = manager_offer.taken link x (deed config link x sys.manager) sys.manager
+    e = manager_offer.taken link x (reaction config link x sys.manager) sys.manager
 
     now : Step w
     now = handing (outcome.Moved x) [] (with_manager e (with_channel link.0 ch queue sys))
@@ -292,4 +292,4 @@ delivered-part {w} config log link ch h x queue width matched down is part =
     unended = ap (λ (i : Channel). completes x (unfinished i (on_link link.0 sys.manager.trace))) is.of_it ∙ ap (λ t. completes x (unfinished ch t)) (sym (receiver_down ch link.0 sys down)) ∙ part
 
     step_is : stepped config (Deliver link ch) sys ≡ now
-    step_is = is.step_is ∙ ap (λ (l : Handed w). handing (outcome.Moved x) l (with_manager e (with_channel link.0 ch queue sys))) (ap (λ d. d.handed) (deed-part config link x sys.manager unended))
+    step_is = is.step_is ∙ ap (λ (l : Handed w). handing (outcome.Moved x) l (with_manager e (with_channel link.0 ch queue sys))) (ap (λ d. d.handed) (reaction-part config link x sys.manager unended))

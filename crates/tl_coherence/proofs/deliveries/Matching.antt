@@ -8,7 +8,7 @@ use Rattle.tl_beat.specs.declared.channel.Channel.TheVariants as channel
 use Rattle.tl_params.specs.declared.config.Config.{Config}
 use Rattle.tl_client.specs.declared.operation.Op.{Op}
 use Rattle.tl_client.specs.statement.Ask as ask
-use Rattle.tl_client.specs.statement.End.{Terms}
+use Rattle.tl_client.specs.statement.Endpoint.{EndConfig}
 use Rattle.tl_coherence.specs.declared.event.Event.{Event}
 use Rattle.tl_coherence.specs.declared.event.Event.TheVariants.{Ask, Deliver}
 use Rattle.tl_coherence.specs.declared.event.Outcome.{Outcome}
@@ -59,7 +59,7 @@ not_moving {w} x y e moving still = let no : true ≡ false = sym moving ∙ ap 
 
 -- ---- the channels and the one memory after any delivery
 
-delivered-a : {w : ℕ} (config : Config) (log : Log w) (c : ℕ) (h : AbstractState w) (terms : Terms) → IsWidth w
+delivered-a : {w : ℕ} (config : Config) (log : Log w) (c : ℕ) (h : AbstractState w) (terms : EndConfig) → IsWidth w
     → SimulationRelation config log h.mail h.request h.state (system_after config log) → terms_at config c ≡ Some terms
     → IsDelivered config log (record { 0 = c }) channel.A h
 unfolding one_memory_after
@@ -81,7 +81,7 @@ delivered-all {w} config log link ch h width is = go (is_moving (stepped config 
     sys : System w
     sys = system_after config log
 
-    moves : (at : Channel) (terms : Terms) (beats : List (Beat w)) → terms_at config link.0 ≡ Some terms → sys.channels link.0 at ≡ beats
+    moves : (at : Channel) (terms : EndConfig) (beats : List (Beat w)) → terms_at config link.0 ≡ Some terms → sys.channels link.0 at ≡ beats
         → is_moving (stepped config (Deliver link at) sys).outcome ≡ true → IsDelivered config log link at h
     moves at terms [] known none moving = absurd (not_moving _ _ (stepped-empty config link at sys terms known none) moving refl)
     moves channel.A terms (x ∷ queue) known beats moving = delivered-a config log link.0 h terms width is known
@@ -90,7 +90,7 @@ delivered-all {w} config log link ch h width is = go (is_moving (stepped config 
     moves channel.D terms (x ∷ queue) known beats moving = delivered-d config log link h terms x queue width is known beats moving
     moves channel.E terms (x ∷ queue) known beats moving = delivered-e config log link h terms x queue width is known beats moving
 
-    found : (o : Option Terms) → terms_at config link.0 ≡ o → is_moving (stepped config (Deliver link ch) sys).outcome ≡ true → IsDelivered config log link ch h
+    found : (o : Option EndConfig) → terms_at config link.0 ≡ o → is_moving (stepped config (Deliver link ch) sys).outcome ≡ true → IsDelivered config log link ch h
     found None none moving = absurd (not_moving _ _ (stepped-nobody config (Deliver link ch) sys none) moving refl)
     found (Some terms) known moving = moves ch terms (sys.channels link.0 ch) known refl moving
 
@@ -120,7 +120,7 @@ asked-all {w} config log c o h width is = go (terms_at config c) refl
     sys : System w
     sys = system_after config log
 
-    go : (i : Option Terms) → terms_at config c ≡ i → FollowedBy config log (Ask c o) h (stepped config (Ask c o) sys)
+    go : (i : Option EndConfig) → terms_at config c ≡ i → FollowedBy config log (Ask c o) h (stepped config (Ask c o) sys)
     go None none = subst (FollowedBy config log (Ask c o) h) (sym (stepped-nobody config (Ask c o) sys none)) (is.carried, is.beside)
     go (Some terms) known =
         let r = (ask.asked terms o (sys.clients c)).reply in
@@ -175,7 +175,7 @@ acquired-followed {w} config log h sys event width is =
     (λ link ch x queue d. kind_taken-acquired config (next_tracker sys) link.0 d.first.kind d.first.number d.first.rest h is.acquired)
 
 allowed : {w : ℕ} (config : Config) (log : Log w) (h : AbstractState w) (sys : System w) (event : Event w) → IsWidth w
-    → SimulationRelation config log h.mail h.request h.state sys → (terms : Terms) → terms_at config (client_of event) ≡ Some terms
+    → SimulationRelation config log h.mail h.request h.state sys → (terms : EndConfig) → terms_at config (client_of event) ≡ Some terms
     → IsAllowed config event terms sys h
 allowed config log h sys (Ask c o) width is terms at = askable config log h.mail h.request h.state sys terms c o is at
 allowed config log h sys (Deliver link channel.A) width is terms at = tt

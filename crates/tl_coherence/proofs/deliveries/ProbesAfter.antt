@@ -21,8 +21,8 @@ use Rattle.tl_rules.specs.statement.History.{block_at}
 use Rattle.tl_rules.specs.statement.Conformance.{same_perm}
 use Rattle.tl_client.specs.declared.verdict.Verdict.{Verdict}
 use Rattle.tl_client.specs.declared.verdict.Verdict.TheVariants as verdict
-use Rattle.tl_client.specs.statement.End as client
-use Rattle.tl_client.specs.statement.End.{zeros, copy_at, held_at}
+use Rattle.tl_client.specs.statement.Endpoint as client
+use Rattle.tl_client.specs.statement.Endpoint.{zeros, copy_at, held_at}
 use Rattle.tl_client.specs.statement.Offer as offer
 use Rattle.tl_client.specs.statement.Offer.{report_for}
 use Rattle.tl_client.specs.statement.Send.{probe_ack}
@@ -94,10 +94,10 @@ unfolding block_message
 rendered_probed {w} c n k b = rw (set-same c (after_probe k (b.pair c)) b.pair, left_is k (b.pair c).held) refl
 
 -- the message that the client hands out
-abbrev handed_for : {w : ℕ} → BeatB w → client.End w → Message w
+abbrev handed_for : {w : ℕ} → BeatB w → client.Endpoint w → Message w
 handed_for x e = probe_ack x.opcode (held_at e (block_at x.address)) (report_for x (held_at e (block_at x.address))) (block_at x.address) (copy_at e (block_at x.address))
 
-answer_b : {w : ℕ} (x : BeatB w) (e : client.End w) → (offer.taken (beat.B x) e).answer ≡ Ok (verdict.Taken, Some (handed_for x e))
+answer_b : {w : ℕ} (x : BeatB w) (e : client.Endpoint w) → (offer.taken (beat.B x) e).answer ≡ Ok (verdict.Taken, Some (handed_for x e))
 answer_b x e = refl
 
 on_b : {w : ℕ} (y : BeatB w) → IsOn channel.B (beat.B y)
@@ -110,7 +110,7 @@ on_b y channel.E = refl
 taken_stalls : verdict.Taken ≡ verdict.Stalled → ⊥
 taken_stalls f = absurd cc
 
-pub delivered-b : {w : ℕ} (config : Config) (log : Log w) (link : Link) (h : AbstractState w) (terms : client.Terms) (x : Beat w) (queue : List (Beat w)) → IsWidth w
+pub delivered-b : {w : ℕ} (config : Config) (log : Log w) (link : Link) (h : AbstractState w) (terms : client.EndConfig) (x : Beat w) (queue : List (Beat w)) → IsWidth w
     → SimulationRelation config log h.mail h.request h.state (system_after config log)
     → terms_at config link.0 ≡ Some terms → (system_after config log).channels link.0 channel.B ≡ x ∷ queue
     → is_moving (stepped config (Deliver link channel.B) (system_after config log)).outcome ≡ true → IsDelivered config log link channel.B h
@@ -123,7 +123,7 @@ delivered-b {w} config log link h terms x queue width is known beats moving = ki
     c : ℕ
     c = link.0
 
-    e : client.End w
+    e : client.Endpoint w
     e = sys.clients c
 
     first : IsFirst channel.B c h.mail h.state sys x queue

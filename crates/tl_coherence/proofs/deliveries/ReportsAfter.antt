@@ -13,7 +13,7 @@ use Rattle.tl_params.specs.declared.param.Prune.{Prune}
 use Rattle.tl_params.specs.declared.param.Report.{Report}
 use Rattle.tl_rules.specs.statement.Conformance.{on_link}
 use Rattle.tl_manager.specs.statement.Handing.{Handed}
-use Rattle.tl_manager.specs.statement.Deed.{deed}
+use Rattle.tl_manager.specs.statement.Reaction.{reaction}
 use Rattle.tl_coherence.specs.declared.event.Event.TheVariants.{Deliver}
 use Rattle.tl_coherence.specs.refinement.MemoryRelation.{MemoryRelation, IsAccess, IsOpened}
 use Rattle.tl_coherence.specs.refinement.AbstractStep.{AbstractState, ack_taken, answers, kind_taken, last_taken, some_below, packet_taken, with_state}
@@ -127,19 +127,19 @@ pub beside-followed_c : {w : ℕ} (config : Config) (log : Log w) (h : AbstractS
     → IsWidth w → SimulationRelation config log h.mail h.request h.state sys → sys.channels c channel.C ≡ x ∷ queue → MemoryRelation h.mail h.state m
     → MemoryRelation (if completes x (unfinished channel.C (on_link c sys.manager.trace)) then packet_taken config (next_tracker sys) c (h.state.link c).c h else h).mail
     (if completes x (unfinished channel.C (on_link c sys.manager.trace)) then packet_taken config (next_tracker sys) c (h.state.link c).c h else h).state
-    (performing (accesses_answered (deed config (record { 0 = c }) x sys.manager).handed) m)
+    (performing (accesses_answered (reaction config (record { 0 = c }) x sys.manager).handed) m)
 unfolding performing
 beside-followed_c {w} config log h sys c x queue m width is beats beside =
     by-first_c
     (λ i. MemoryRelation (if completes x before then packet_taken config (next_tracker sys) c i h else h).mail (if completes x before then packet_taken config (next_tracker sys) c i h else h).state
-    (performing (accesses_answered (deed config (record { 0 = c }) x sys.manager).handed) m)) c h.mail h.state sys x queue
+    (performing (accesses_answered (reaction config (record { 0 = c }) x sys.manager).handed) m)) c h.mail h.state sys x queue
     (first-token (is_caching config) channel.C c h.mail h.state sys x queue width is.invariant is.carried beats)
     (λ n rest tokens next.
     let d = reports-delivered config log h sys c n rest x queue (map (message_of h.mail h.state c) rest) width is beats tokens next in
-    by-place h (kind_taken config (next_tracker sys) c ProbeAck n rest h) _ (deed config (record { 0 = c }) x sys.manager).handed m (completes x before) d.handed beside (reported n rest tokens))
+    by-place h (kind_taken config (next_tracker sys) c ProbeAck n rest h) _ (reaction config (record { 0 = c }) x sys.manager).handed m (completes x before) d.handed beside (reported n rest tokens))
     (λ n rest tokens next.
     let d = releases-delivered config log h sys c n rest x queue (map (message_of h.mail h.state c) rest) width is beats tokens next in
-    by-place h (kind_taken config (next_tracker sys) c Release n rest h) _ (deed config (record { 0 = c }) x sys.manager).handed m (completes x before) d.handed beside (released n rest))
+    by-place h (kind_taken config (next_tracker sys) c Release n rest h) _ (reaction config (record { 0 = c }) x sys.manager).handed m (completes x before) d.handed beside (released n rest))
   where
     before : List (Beat w)
     before = unfinished channel.C (on_link c sys.manager.trace)
@@ -193,18 +193,18 @@ once-place h pushes handed m false e last = rw e (inl refl)
 
 pub once-followed_c : {w : ℕ} (config : Config) (log : Log w) (h : AbstractState w) (sys : System w) (c : ℕ) (x : Beat w) (queue : List (Beat w)) (m : Machine w)
     → IsWidth w → SimulationRelation config log h.mail h.request h.state sys → sys.channels c channel.C ≡ x ∷ queue → MemoryRelation h.mail h.state m
-    → IsOnce (accesses_answered (deed config (record { 0 = c }) x sys.manager).handed) h m
+    → IsOnce (accesses_answered (reaction config (record { 0 = c }) x sys.manager).handed) h m
 once-followed_c {w} config log h sys c x queue m width is beats beside =
-    by-first_c (λ i. IsOnce (accesses_answered (deed config (record { 0 = c }) x sys.manager).handed) h m) c h.mail h.state sys x queue
+    by-first_c (λ i. IsOnce (accesses_answered (reaction config (record { 0 = c }) x sys.manager).handed) h m) c h.mail h.state sys x queue
     (first-token (is_caching config) channel.C c h.mail h.state sys x queue width is.invariant is.carried beats)
     (λ n rest tokens next.
     let d = reports-delivered config log h sys c n rest x queue (map (message_of h.mail h.state c) rest) width is beats tokens next in
-    once-place h _ (deed config (record { 0 = c }) x sys.manager).handed m (completes x (unfinished channel.C (on_link c sys.manager.trace))) d.handed
+    once-place h _ (reaction config (record { 0 = c }) x sys.manager).handed m (completes x (unfinished channel.C (on_link c sys.manager.trace))) d.handed
     (subst (λ (l : List (ℕ × ℕ)). IsOnce l h m) (sym (report-answered config c n (report_told ((h.state.block n).pair c).probing) rest h
     (is.served.requests n))) (report-once config log h sys c n m width is beside)))
     (λ n rest tokens next.
     let d = releases-delivered config log h sys c n rest x queue (map (message_of h.mail h.state c) rest) width is beats tokens next in
-    once-place h _ (deed config (record { 0 = c }) x sys.manager).handed m (completes x (unfinished channel.C (on_link c sys.manager.trace))) d.handed
+    once-place h _ (reaction config (record { 0 = c }) x sys.manager).handed m (completes x (unfinished channel.C (on_link c sys.manager.trace))) d.handed
     (inl (ack-quiet w (record { 0 = c }) c n ((release_taken c n (prune_told ((h.state.block n).pair c).letting) rest h.state).block n))))
 
 -- the channels and the one memory after any delivery on channel C that finds a beat

@@ -16,11 +16,11 @@ use Rattle.tl_params.specs.declared.config.Config.{Config}
 use Rattle.tl_rules.specs.statement.Conformance.{on_link, broken_in_order}
 use Rattle.tl_rules.specs.statement.History.{ends, block_at}
 use Rattle.tl_rules.proofs.Sent.{is_last, not_last}
-use Rattle.tl_client.specs.statement.End.{Terms}
+use Rattle.tl_client.specs.statement.Endpoint.{EndConfig}
 use Rattle.tl_client.proofs.HeldAfter.{same_block}
 use Rattle.tl_manager.specs.statement.Service.{services, is_in_service}
 use Rattle.tl_manager.specs.statement.Offer as manager
-use Rattle.tl_manager.specs.statement.Deed.{deed}
+use Rattle.tl_manager.specs.statement.Reaction.{reaction}
 use Rattle.tl_manager.specs.statement.End.{End}
 use Rattle.tl_manager.specs.statement.Offer.{Passes, before_stall, must_wait, judged, offered}
 use Rattle.tl_coherence.specs.refinement.Carried.{IsCarried}
@@ -40,8 +40,8 @@ use Rattle.tl_coherence.specs.refinement.MemoryRelation.{MemoryRelation}
 use Rattle.tl_coherence.specs.statement.Machine.{Machine}
 use Rattle.tl_coherence.specs.refinement.ChannelRelation.{ChannelRelation}
 use Rattle.tl_coherence.specs.statement.OneMemory.{accesses_answered, performing}
-use Rattle.tl_manager.specs.statement.Handing.{Handed, Deed}
-use Rattle.tl_manager.proofs.Events.{deed-part}
+use Rattle.tl_manager.specs.statement.Handing.{Handed, Reaction}
+use Rattle.tl_manager.proofs.Events.{reaction-part}
 use Rattle.tl_coherence.proofs.memory.BesideRequests.{IsOnce, acquire-accesses, beside-request_taken, beside-acquire_taken, request-once}
 use Rattle.tl_coherence.proofs.manager.Arrivals.{link_of, IsComing, ends-coming}
 use Rattle.tl_coherence.proofs.deliveries.CarriedRequests.{system_after, carried-more, carried-request_taken, carried-acquire_taken}
@@ -79,9 +79,9 @@ pub record IsOnLink {w : ℕ} (config : Config) (h : AbstractState w) (sys : Sys
       → ChannelRelation (kind_taken config (next_tracker sys) c kind i rest h).mail (kind_taken config (next_tracker sys) c kind i rest h).state (system_after config c k m queue sys)
   pub beside : (k : ℕ) (machine : Machine w) → IsComing config c k m sys.manager → beats_of (message.A m) ≡ suc k → MemoryRelation h.mail h.state machine
       → MemoryRelation (kind_taken config (next_tracker sys) c kind i rest h).mail (kind_taken config (next_tracker sys) c kind i rest h).state
-      (performing (accesses_answered (deed config (link_of c) (beat.A (a_beat_of m k)) sys.manager).handed) machine)
+      (performing (accesses_answered (reaction config (link_of c) (beat.A (a_beat_of m k)) sys.manager).handed) machine)
   pub once : (k : ℕ) (machine : Machine w) → IsComing config c k m sys.manager → beats_of (message.A m) ≡ suc k → MemoryRelation h.mail h.state machine
-      → IsOnce (accesses_answered (deed config (link_of c) (beat.A (a_beat_of m k)) sys.manager).handed) h machine
+      → IsOnce (accesses_answered (reaction config (link_of c) (beat.A (a_beat_of m k)) sys.manager).handed) h machine
 
 pub ends-burst : {w : ℕ} (c k : ℕ) (m : MessageA w) (e : End w) → unfinished channel.A (on_link c e.trace) ≡ begun (message.A m) k
     → ends (beat.A (a_beat_of m k)) (on_link c e.trace) ≡ (k + 1 == beats_of (message.A m))
@@ -213,7 +213,7 @@ coming-arrival {w} config log h sys c x queue width is beats arrives moves =
 -- a beat that is delivered on channel A and needn't wait is taken
 pub request-taken : {w : ℕ} (config : Config) (log : Log w) (h : AbstractState w) (sys : System w) (c : ℕ) (x : Beat w) (queue : List (Beat w)) → IsWidth w → SimulationRelation config log h.mail h.request h.state sys
     → sys.channels c channel.A ≡ x ∷ queue → (arrives : IsArrival config h sys c x queue) → must_wait config (link_of c) x sys.manager.trace ≡ false
-    → offered config (link_of c) channel.A x sys.manager ≡ (manager.Sent (deed config (link_of c) x sys.manager).handed, end_after config c arrives.next.k arrives.request sys.manager)
+    → offered config (link_of c) channel.A x sys.manager ≡ (manager.Sent (reaction config (link_of c) x sys.manager).handed, end_after config c arrives.next.k arrives.request sys.manager)
 request-taken {w} config log h sys c x queue width is beats arrives moves =
     let comes = coming-arrival config log h sys c x queue width is beats arrives moves in
     rw arrives.next.beat_is (offered-taken config (link_of c) channel.A (beat.A (a_beat_of arrives.request arrives.next.k)) sys.manager comes.passes)
@@ -268,10 +268,10 @@ moved-a {w} config h sys c x queue P beats arrives last more =
 -- the step at a beat that is taken
 abbrev pub step_moved : {w : ℕ} → Config → ℕ → ℕ → MessageA w → Beat w → List (Beat w) → System w → Step w
 step_moved config c k m x queue sys =
-    handing (outcome.Moved x) (deed config (link_of c) x sys.manager).handed (with_manager (end_after config c k m sys.manager) (with_channel c channel.A queue sys))
+    handing (outcome.Moved x) (reaction config (link_of c) x sys.manager).handed (with_manager (end_after config c k m sys.manager) (with_channel c channel.A queue sys))
 
 -- A delivery finds no beat, or one that has to wait, or one that is taken.
-pub delivery-a : {w : ℕ} (config : Config) (log : Log w) (h : AbstractState w) (sys : System w) (c : ℕ) (terms : Terms) (P : Step w → Type 0) → IsWidth w
+pub delivery-a : {w : ℕ} (config : Config) (log : Log w) (h : AbstractState w) (sys : System w) (c : ℕ) (terms : EndConfig) (P : Step w → Type 0) → IsWidth w
     → SimulationRelation config log h.mail h.request h.state sys → terms_at config c ≡ Some terms
     → (sys.channels c channel.A ≡ [] → P (only outcome.Empty sys))
     → ((x : Beat w) (queue : List (Beat w)) → sys.channels c channel.A ≡ x ∷ queue → must_wait config (link_of c) x sys.manager.trace ≡ true
@@ -302,7 +302,7 @@ delivery-a {w} config log h sys c terms P width is client empty stalled moved = 
     go (x ∷ queue) e = taken_or_not x queue e (arrival-first config log h sys c x queue width is e) (must_wait config (link_of c) x sys.manager.trace) refl
 
 -- and what the manager knows is what the protocol says then
-pub at_manager-delivered_a : {w : ℕ} (config : Config) (log : Log w) (h : AbstractState w) (sys : System w) (c : ℕ) (terms : Terms) → IsWidth w
+pub at_manager-delivered_a : {w : ℕ} (config : Config) (log : Log w) (h : AbstractState w) (sys : System w) (c : ℕ) (terms : EndConfig) → IsWidth w
     → SimulationRelation config log h.mail h.request h.state sys → terms_at config c ≡ Some terms
     → IsManagerOf config (abstract_step config (Deliver (link_of c) channel.A) sys h) (stepped config (Deliver (link_of c) channel.A) sys).after.manager
 at_manager-delivered_a {w} config log h sys c terms width is client =
@@ -313,12 +313,12 @@ at_manager-delivered_a {w} config log h sys c terms width is client =
     let k : ℕ = arrives.next.k in
     let after : End w = end_after config c k arrives.request sys.manager in
     subst (IsManagerOf config (delivered config c channel.A (outcome.Moved x) sys h))
-    (sym (manager-with_messages (deed config (link_of c) x sys.manager).handed (with_manager after (with_channel c channel.A queue sys))))
+    (sym (manager-with_messages (reaction config (link_of c) x sys.manager).handed (with_manager after (with_channel c channel.A queue sys))))
     (moved-a config h sys c x queue (λ (i : AbstractState w). IsManagerOf config i after) beats arrives (λ last. arrives.is_it.after k comes last (rw arrives.next.beat_is at moves))
     (λ more. at_manager-more (is_caching config) config h.mail h.request h.state c k arrives.request sys.manager is.invariant comes more (arrives.is_it.unwaited k more) known)))
 
 -- and the channels carry the messages of the tokens
-pub carried-delivered_a : {w : ℕ} (config : Config) (log : Log w) (h : AbstractState w) (sys : System w) (c : ℕ) (terms : Terms) → IsWidth w
+pub carried-delivered_a : {w : ℕ} (config : Config) (log : Log w) (h : AbstractState w) (sys : System w) (c : ℕ) (terms : EndConfig) → IsWidth w
     → SimulationRelation config log h.mail h.request h.state sys → terms_at config c ≡ Some terms
     → ChannelRelation (abstract_step config (Deliver (link_of c) channel.A) sys h).mail (abstract_step config (Deliver (link_of c) channel.A) sys h).state (stepped config (Deliver (link_of c) channel.A) sys).after
 carried-delivered_a {w} config log h sys c terms width is client =
@@ -340,7 +340,7 @@ carried-delivered_a {w} config log h sys c terms width is client =
     (carried-more config log h.mail h.request h.state sys c k m queue is comes first (ends-coming config c k m sys.manager comes ∙ not_last k (beats_of (message.A m)) more))))
 
 -- and the one-memory machine is beside the protocol, once the accesses that are answered are performed
-pub beside-delivered_a : {w : ℕ} (config : Config) (log : Log w) (h : AbstractState w) (sys : System w) (c : ℕ) (terms : Terms) (machine : Machine w) → IsWidth w
+pub beside-delivered_a : {w : ℕ} (config : Config) (log : Log w) (h : AbstractState w) (sys : System w) (c : ℕ) (terms : EndConfig) (machine : Machine w) → IsWidth w
     → SimulationRelation config log h.mail h.request h.state sys → terms_at config c ≡ Some terms
     → MemoryRelation h.mail h.state machine
     → MemoryRelation (abstract_step config (Deliver (link_of c) channel.A) sys h).mail (abstract_step config (Deliver (link_of c) channel.A) sys h).state
@@ -354,21 +354,21 @@ beside-delivered_a {w} config log h sys c terms machine width is client beside =
     let comes = coming-arrival config log h sys c x queue width is beats arrives moves in
     let k : ℕ = arrives.next.k in
     let m : MessageA w = arrives.request in
-    let same : (deed config (link_of c) (beat.A (a_beat_of m k)) sys.manager).handed ≡ (deed config (link_of c) x sys.manager).handed =
-    ap (λ (y : Beat w). (deed config (link_of c) y sys.manager).handed) (sym arrives.next.beat_is) in
-    moved-a config h sys c x queue (λ (i : AbstractState w). MemoryRelation i.mail i.state (performing (accesses_answered (deed config (link_of c) x sys.manager).handed) machine)) beats arrives
+    let same : (reaction config (link_of c) (beat.A (a_beat_of m k)) sys.manager).handed ≡ (reaction config (link_of c) x sys.manager).handed =
+    ap (λ (y : Beat w). (reaction config (link_of c) y sys.manager).handed) (sym arrives.next.beat_is) in
+    moved-a config h sys c x queue (λ (i : AbstractState w). MemoryRelation i.mail i.state (performing (accesses_answered (reaction config (link_of c) x sys.manager).handed) machine)) beats arrives
     (λ last.
     subst
     (λ (i : Handed w). MemoryRelation (kind_taken config (next_tracker sys) c arrives.kind arrives.number arrives.rest h).mail
     (kind_taken config (next_tracker sys) c arrives.kind arrives.number arrives.rest h).state (performing (accesses_answered i) machine))
     same (arrives.is_it.beside k machine comes last beside))
     (λ more.
-    let part : (deed config (link_of c) (beat.A (a_beat_of m k)) sys.manager).handed ≡ [] =
-    ap (λ (d : Deed w). d.handed) (deed-part config (link_of c) (beat.A (a_beat_of m k)) sys.manager (ends-coming config c k m sys.manager comes ∙ not_last k (beats_of (message.A m)) more)) in
+    let part : (reaction config (link_of c) (beat.A (a_beat_of m k)) sys.manager).handed ≡ [] =
+    ap (λ (d : Reaction w). d.handed) (reaction-part config (link_of c) (beat.A (a_beat_of m k)) sys.manager (ends-coming config c k m sys.manager comes ∙ not_last k (beats_of (message.A m)) more)) in
     subst (λ (i : Handed w). MemoryRelation h.mail h.state (performing (accesses_answered i) machine)) (sym part ∙ same) beside))
 
 -- at most one access is answered then, and it can be performed
-pub once-delivered_a : {w : ℕ} (config : Config) (log : Log w) (h : AbstractState w) (sys : System w) (c : ℕ) (terms : Terms) (machine : Machine w) → IsWidth w
+pub once-delivered_a : {w : ℕ} (config : Config) (log : Log w) (h : AbstractState w) (sys : System w) (c : ℕ) (terms : EndConfig) (machine : Machine w) → IsWidth w
     → SimulationRelation config log h.mail h.request h.state sys → terms_at config c ≡ Some terms
     → MemoryRelation h.mail h.state machine → IsOnce (accesses_answered (stepped config (Deliver (link_of c) channel.A) sys).handed) h machine
 unfolding accesses_answered
@@ -378,11 +378,11 @@ once-delivered_a {w} config log h sys c terms machine width is client beside =
     let comes = coming-arrival config log h sys c x queue width is beats arrives moves in
     let k : ℕ = arrives.next.k in
     let m : MessageA w = arrives.request in
-    let same : (deed config (link_of c) (beat.A (a_beat_of m k)) sys.manager).handed ≡ (deed config (link_of c) x sys.manager).handed =
-    ap (λ (y : Beat w). (deed config (link_of c) y sys.manager).handed) (sym arrives.next.beat_is) in
-    moved-a config h sys c x queue (λ (i : AbstractState w). IsOnce (accesses_answered (deed config (link_of c) x sys.manager).handed) h machine) beats arrives
+    let same : (reaction config (link_of c) (beat.A (a_beat_of m k)) sys.manager).handed ≡ (reaction config (link_of c) x sys.manager).handed =
+    ap (λ (y : Beat w). (reaction config (link_of c) y sys.manager).handed) (sym arrives.next.beat_is) in
+    moved-a config h sys c x queue (λ (i : AbstractState w). IsOnce (accesses_answered (reaction config (link_of c) x sys.manager).handed) h machine) beats arrives
     (λ last. subst (λ (i : Handed w). IsOnce (accesses_answered i) h machine) same (arrives.is_it.once k machine comes last beside))
     (λ more.
-    let part : (deed config (link_of c) (beat.A (a_beat_of m k)) sys.manager).handed ≡ [] =
-    ap (λ (d : Deed w). d.handed) (deed-part config (link_of c) (beat.A (a_beat_of m k)) sys.manager (ends-coming config c k m sys.manager comes ∙ not_last k (beats_of (message.A m)) more)) in
+    let part : (reaction config (link_of c) (beat.A (a_beat_of m k)) sys.manager).handed ≡ [] =
+    ap (λ (d : Reaction w). d.handed) (reaction-part config (link_of c) (beat.A (a_beat_of m k)) sys.manager (ends-coming config c k m sys.manager comes ∙ not_last k (beats_of (message.A m)) more)) in
     inl (ap accesses_answered (sym same ∙ part))))

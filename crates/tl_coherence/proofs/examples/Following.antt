@@ -23,7 +23,7 @@ use Rattle.tl_params.specs.declared.param.Grow.TheVariants as grow
 use Rattle.tl_params.specs.declared.param.Prune.TheVariants as prune
 use Rattle.tl_params.specs.declared.perm.Perm.TheVariants as perm
 use Rattle.tl_params.specs.declared.profile.Profile.TheVariants as profile
-use Rattle.tl_rules.specs.statement.Agent.{bytes_carried}
+use Rattle.tl_rules.specs.statement.Admission.{bytes_carried}
 use Rattle.tl_rules.specs.statement.Conformance.{Trace, on_link, comes_in_request, comes_in_grant, broken_order, same_perm}
 use Rattle.tl_rules.specs.statement.Effect.{bytes_from, number_from, effect}
 use Rattle.tl_rules.specs.statement.History.{held, pending, block_at, is_acquire, request_of, release_of, probe_of, grant_sink}
@@ -38,7 +38,7 @@ use Rattle.tl_manager.specs.code.Releases.{comes_of, comes_with}
 use Rattle.tl_manager.specs.statement.Request.{masks_carried, corrupt_carried, request_carried}
 use Rattle.tl_manager.specs.statement.Service as service
 use Rattle.tl_manager.specs.statement.Service.{services, service_of_block}
-use Rattle.tl_manager.specs.statement.Deed as manager_deed
+use Rattle.tl_manager.specs.statement.Reaction as manager_reaction
 use Rattle.tl_manager.specs.statement.Offer as manager_offer
 use Rattle.tl_coherence.specs.declared.event.Event.{Event}
 use Rattle.tl_coherence.specs.declared.event.Event.TheVariants.{Deliver}
@@ -264,7 +264,7 @@ plain_accesses_of_what_a_cache_holds : Follows {w = 8} 2 (world profile.One 2 1 
 unfolding faults faults_draining block_message some_below spelled ok performs all_below flow started requests releases accesses_answered performing stepped
     with_messages is_movable first_movable next_delivery ask.asked ask.busy ask.least_free ask.low_bytes offer.offered offer.stalls bytes_carried number_from
     unfinished request_of release_of probe_of grant_sink pending held illegal first_illegal beats_from each_below broken_order on_link bytes_from effect
-    with_handed clients_from masks_carried corrupt_carried request_carried service.least_untaken service.services manager_offer.judged_at manager_deed.deed
+    with_handed clients_from masks_carried corrupt_carried request_carried service.least_untaken service.services manager_offer.judged_at manager_reaction.reaction
     manager_offer.offered manager_offer.stalls
 plain_accesses_of_what_a_cache_holds = refl
 
@@ -273,7 +273,7 @@ bytes_of_a_word : Follows {w = 8} 2 (world profile.One 1 1 ((level.UL, 1) ∷ []
 unfolding faults faults_draining block_message some_below spelled ok performs all_below flow started requests releases accesses_answered performing stepped
     with_messages is_movable first_movable next_delivery ask.asked ask.busy ask.least_free ask.low_bytes offer.offered offer.stalls bytes_carried number_from
     unfinished request_of release_of probe_of grant_sink pending held illegal first_illegal beats_from each_below broken_order on_link bytes_from effect
-    with_handed clients_from masks_carried corrupt_carried request_carried service.least_untaken service.services manager_offer.judged_at manager_deed.deed
+    with_handed clients_from masks_carried corrupt_carried request_carried service.least_untaken service.services manager_offer.judged_at manager_reaction.reaction
     manager_offer.offered manager_offer.stalls
 bytes_of_a_word = refl
 
@@ -284,7 +284,7 @@ a_put_counts_from_its_last_beat : Follows {w = 8} 2 (world profile.One 1 1 ((lev
 unfolding faults faults_draining block_message some_below spelled ok performs all_below flow started requests releases accesses_answered performing stepped
     with_messages is_movable first_movable next_delivery ask.asked ask.busy ask.least_free ask.low_bytes offer.offered offer.stalls bytes_carried number_from
     unfinished request_of release_of probe_of grant_sink pending held illegal first_illegal beats_from each_below broken_order on_link bytes_from effect
-    with_handed clients_from masks_carried corrupt_carried request_carried service.least_untaken service.services manager_offer.judged_at manager_deed.deed
+    with_handed clients_from masks_carried corrupt_carried request_carried service.least_untaken service.services manager_offer.judged_at manager_reaction.reaction
     manager_offer.offered manager_offer.stalls
 a_put_counts_from_its_last_beat = refl
 
@@ -295,7 +295,7 @@ min_by_sign_and_without : Follows {w = 8} 2 (world profile.One 1 1 ((level.UH, 1
 unfolding faults faults_draining block_message some_below spelled ok performs all_below flow started requests releases accesses_answered performing stepped
     with_messages is_movable first_movable next_delivery ask.asked ask.busy ask.least_free ask.low_bytes offer.offered offer.stalls bytes_carried number_from
     unfinished request_of release_of probe_of grant_sink pending held illegal first_illegal beats_from each_below broken_order on_link bytes_from effect
-    with_handed clients_from masks_carried corrupt_carried request_carried service.least_untaken service.services manager_offer.judged_at manager_deed.deed
+    with_handed clients_from masks_carried corrupt_carried request_carried service.least_untaken service.services manager_offer.judged_at manager_reaction.reaction
     manager_offer.offered manager_offer.stalls
 min_by_sign_and_without = refl
 
@@ -305,7 +305,7 @@ add_wraps : Follows {w = 8} 2 (world profile.One 1 1 ((level.UH, 1) ∷ []))
 unfolding faults faults_draining block_message some_below spelled ok performs all_below flow started requests releases accesses_answered performing stepped
     with_messages is_movable first_movable next_delivery ask.asked ask.busy ask.least_free ask.low_bytes offer.offered offer.stalls bytes_carried number_from
     unfinished request_of release_of probe_of grant_sink pending held illegal first_illegal beats_from each_below broken_order on_link bytes_from effect
-    with_handed clients_from masks_carried corrupt_carried request_carried service.least_untaken service.services manager_offer.judged_at manager_deed.deed
+    with_handed clients_from masks_carried corrupt_carried request_carried service.least_untaken service.services manager_offer.judged_at manager_reaction.reaction
     manager_offer.offered manager_offer.stalls
 add_wraps = refl
 
@@ -314,7 +314,7 @@ a_reader_gets_what_the_writer_stored : Follows {w = 8} 2 (world profile.One 1 1 
 unfolding faults faults_draining block_message some_below spelled ok performs all_below flow started requests releases accesses_answered performing stepped
     with_messages is_movable first_movable next_delivery ask.asked ask.busy ask.least_free ask.low_bytes offer.offered offer.stalls bytes_carried number_from
     unfinished request_of release_of probe_of grant_sink pending held illegal first_illegal beats_from each_below broken_order on_link bytes_from effect
-    with_handed clients_from masks_carried corrupt_carried request_carried service.least_untaken service.services manager_offer.judged_at manager_deed.deed
+    with_handed clients_from masks_carried corrupt_carried request_carried service.least_untaken service.services manager_offer.judged_at manager_reaction.reaction
     manager_offer.offered manager_offer.stalls
 a_reader_gets_what_the_writer_stored = refl
 
@@ -323,7 +323,7 @@ a_release_while_a_probe_waits : Follows {w = 8} 2 (world profile.One 1 1 ((level
 unfolding faults faults_draining block_message some_below spelled ok performs all_below flow started requests releases accesses_answered performing stepped
     with_messages is_movable first_movable next_delivery ask.asked ask.busy ask.least_free ask.low_bytes offer.offered offer.stalls bytes_carried number_from
     unfinished request_of release_of probe_of grant_sink pending held illegal first_illegal beats_from each_below broken_order on_link bytes_from effect
-    with_handed clients_from masks_carried corrupt_carried request_carried service.least_untaken service.services manager_offer.judged_at manager_deed.deed
+    with_handed clients_from masks_carried corrupt_carried request_carried service.least_untaken service.services manager_offer.judged_at manager_reaction.reaction
     manager_offer.offered manager_offer.stalls
 a_release_while_a_probe_waits = refl
 
@@ -332,7 +332,7 @@ the_second_writer_gets_data : Follows {w = 8} 2 (world profile.One 1 2 ((level.C
 unfolding faults faults_draining block_message some_below spelled ok performs all_below flow started requests releases accesses_answered performing stepped
     with_messages is_movable first_movable next_delivery ask.asked ask.busy ask.least_free ask.low_bytes offer.offered offer.stalls bytes_carried number_from
     unfinished request_of release_of probe_of grant_sink pending held illegal first_illegal beats_from each_below broken_order on_link bytes_from effect
-    with_handed clients_from masks_carried corrupt_carried request_carried service.least_untaken service.services manager_offer.judged_at manager_deed.deed
+    with_handed clients_from masks_carried corrupt_carried request_carried service.least_untaken service.services manager_offer.judged_at manager_reaction.reaction
     manager_offer.offered manager_offer.stalls
 the_second_writer_gets_data = refl
 
@@ -341,7 +341,7 @@ a_whole_block_store_takes_no_data : Follows {w = 8} 2 (world profile.One 1 2 ((l
 unfolding faults faults_draining block_message some_below spelled ok performs all_below flow started requests releases accesses_answered performing stepped
     with_messages is_movable first_movable next_delivery ask.asked ask.busy ask.least_free ask.low_bytes offer.offered offer.stalls bytes_carried number_from
     unfinished request_of release_of probe_of grant_sink pending held illegal first_illegal beats_from each_below broken_order on_link bytes_from effect
-    with_handed clients_from masks_carried corrupt_carried request_carried service.least_untaken service.services manager_offer.judged_at manager_deed.deed
+    with_handed clients_from masks_carried corrupt_carried request_carried service.least_untaken service.services manager_offer.judged_at manager_reaction.reaction
     manager_offer.offered manager_offer.stalls
 a_whole_block_store_takes_no_data = refl
 
@@ -352,7 +352,7 @@ a_release_before_its_grant_ack : Follows {w = 8} 2 (world profile.One 1 1 ((leve
 unfolding faults faults_draining block_message some_below spelled ok performs all_below flow started requests releases accesses_answered performing stepped
     with_messages is_movable first_movable next_delivery ask.asked ask.busy ask.least_free ask.low_bytes offer.offered offer.stalls bytes_carried number_from
     unfinished request_of release_of probe_of grant_sink pending held illegal first_illegal beats_from each_below broken_order on_link bytes_from effect
-    with_handed clients_from masks_carried corrupt_carried request_carried service.least_untaken service.services manager_offer.judged_at manager_deed.deed
+    with_handed clients_from masks_carried corrupt_carried request_carried service.least_untaken service.services manager_offer.judged_at manager_reaction.reaction
     manager_offer.offered manager_offer.stalls
 a_release_before_its_grant_ack = refl
 
@@ -363,7 +363,7 @@ busy_in_order : Follows {w = 8} 2 (world profile.One 1 1 ((level.UL, 1) ∷ []))
 unfolding faults faults_draining block_message some_below spelled ok performs all_below flow started requests releases accesses_answered performing stepped
     with_messages is_movable first_movable next_delivery ask.asked ask.busy ask.least_free ask.low_bytes offer.offered offer.stalls bytes_carried number_from
     unfinished request_of release_of probe_of grant_sink pending held illegal first_illegal beats_from each_below broken_order on_link bytes_from effect
-    with_handed clients_from masks_carried corrupt_carried request_carried service.least_untaken service.services manager_offer.judged_at manager_deed.deed
+    with_handed clients_from masks_carried corrupt_carried request_carried service.least_untaken service.services manager_offer.judged_at manager_reaction.reaction
     manager_offer.offered manager_offer.stalls
 busy_in_order = refl
 
@@ -372,7 +372,7 @@ beats_of_4_bytes : Follows {w = 4} 2 (world profile.One 1 1 ((level.C, 1) ∷ (l
 unfolding faults faults_draining block_message some_below spelled ok performs all_below flow started requests releases accesses_answered performing stepped
     with_messages is_movable first_movable next_delivery ask.asked ask.busy ask.least_free ask.low_bytes offer.offered offer.stalls bytes_carried number_from
     unfinished request_of release_of probe_of grant_sink pending held illegal first_illegal beats_from each_below broken_order on_link bytes_from effect
-    with_handed clients_from masks_carried corrupt_carried request_carried service.least_untaken service.services manager_offer.judged_at manager_deed.deed
+    with_handed clients_from masks_carried corrupt_carried request_carried service.least_untaken service.services manager_offer.judged_at manager_reaction.reaction
     manager_offer.offered manager_offer.stalls
 beats_of_4_bytes = refl
 
@@ -381,7 +381,7 @@ beats_of_16_bytes : Follows {w = 16} 2 (world profile.One 1 1 ((level.C, 1) ∷ 
 unfolding faults faults_draining block_message some_below spelled ok performs all_below flow started requests releases accesses_answered performing stepped
     with_messages is_movable first_movable next_delivery ask.asked ask.busy ask.least_free ask.low_bytes offer.offered offer.stalls bytes_carried number_from
     unfinished request_of release_of probe_of grant_sink pending held illegal first_illegal beats_from each_below broken_order on_link bytes_from effect
-    with_handed clients_from masks_carried corrupt_carried request_carried service.least_untaken service.services manager_offer.judged_at manager_deed.deed
+    with_handed clients_from masks_carried corrupt_carried request_carried service.least_untaken service.services manager_offer.judged_at manager_reaction.reaction
     manager_offer.offered manager_offer.stalls
 beats_of_16_bytes = refl
 
@@ -390,7 +390,7 @@ an_atomic_of_two_beats : Follows {w = 4} 2 (world profile.One 1 1 ((level.UH, 1)
 unfolding faults faults_draining block_message some_below spelled ok performs all_below flow started requests releases accesses_answered performing stepped
     with_messages is_movable first_movable next_delivery ask.asked ask.busy ask.least_free ask.low_bytes offer.offered offer.stalls bytes_carried number_from
     unfinished request_of release_of probe_of grant_sink pending held illegal first_illegal beats_from each_below broken_order on_link bytes_from effect
-    with_handed clients_from masks_carried corrupt_carried request_carried service.least_untaken service.services manager_offer.judged_at manager_deed.deed
+    with_handed clients_from masks_carried corrupt_carried request_carried service.least_untaken service.services manager_offer.judged_at manager_reaction.reaction
     manager_offer.offered manager_offer.stalls
 an_atomic_of_two_beats = refl
 
@@ -399,7 +399,7 @@ a_lone_reader_may_write : Follows {w = 8} 2 (world profile.Two 1 1 ((level.C, 1)
 unfolding faults faults_draining block_message some_below spelled ok performs all_below flow started requests releases accesses_answered performing stepped
     with_messages is_movable first_movable next_delivery ask.asked ask.busy ask.least_free ask.low_bytes offer.offered offer.stalls bytes_carried number_from
     unfinished request_of release_of probe_of grant_sink pending held illegal first_illegal beats_from each_below broken_order on_link bytes_from effect
-    with_handed clients_from masks_carried corrupt_carried request_carried service.least_untaken service.services manager_offer.judged_at manager_deed.deed
+    with_handed clients_from masks_carried corrupt_carried request_carried service.least_untaken service.services manager_offer.judged_at manager_reaction.reaction
     manager_offer.offered manager_offer.stalls
 a_lone_reader_may_write = refl
 
@@ -408,7 +408,7 @@ nobody_has_it_any_longer_at_the_grant : Follows {w = 8} 2 (world profile.Two 1 1
 unfolding faults faults_draining block_message some_below spelled ok performs all_below flow started requests releases accesses_answered performing stepped
     with_messages is_movable first_movable next_delivery ask.asked ask.busy ask.least_free ask.low_bytes offer.offered offer.stalls bytes_carried number_from
     unfinished request_of release_of probe_of grant_sink pending held illegal first_illegal beats_from each_below broken_order on_link bytes_from effect
-    with_handed clients_from masks_carried corrupt_carried request_carried service.least_untaken service.services manager_offer.judged_at manager_deed.deed
+    with_handed clients_from masks_carried corrupt_carried request_carried service.least_untaken service.services manager_offer.judged_at manager_reaction.reaction
     manager_offer.offered manager_offer.stalls
 nobody_has_it_any_longer_at_the_grant = refl
 
@@ -422,6 +422,6 @@ beside_each_other : Follows {w = 16} 3 (world profile.One 2 2 ((level.C, 2) ∷ 
 unfolding faults faults_draining block_message some_below spelled ok performs all_below flow started requests releases accesses_answered performing stepped
     with_messages is_movable first_movable next_delivery ask.asked ask.busy ask.least_free ask.low_bytes offer.offered offer.stalls bytes_carried number_from
     unfinished request_of release_of probe_of grant_sink pending held illegal first_illegal beats_from each_below broken_order on_link bytes_from effect
-    with_handed clients_from masks_carried corrupt_carried request_carried service.least_untaken service.services manager_offer.judged_at manager_deed.deed
+    with_handed clients_from masks_carried corrupt_carried request_carried service.least_untaken service.services manager_offer.judged_at manager_reaction.reaction
     manager_offer.offered manager_offer.stalls
 beside_each_other = refl

@@ -8,7 +8,7 @@ use Rattle.tl_params.specs.declared.level.Level.TheVariants as level
 use Rattle.tl_params.specs.declared.param.Grow.TheVariants as grow
 use Rattle.tl_params.specs.declared.param.Prune.TheVariants as prune
 use Rattle.tl_params.specs.declared.profile.Profile.TheVariants as profile
-use Rattle.tl_rules.specs.statement.Agent.{bytes_carried}
+use Rattle.tl_rules.specs.statement.Admission.{bytes_carried}
 use Rattle.tl_rules.specs.statement.Conformance.{on_link, broken_order}
 use Rattle.tl_rules.specs.statement.Effect.{bytes_from, number_from, effect}
 use Rattle.tl_rules.specs.statement.History.{request_of, release_of, probe_of, grant_sink, pending, held}
@@ -19,7 +19,7 @@ use Rattle.tl_manager.specs.statement.Handing.{with_handed}
 use Rattle.tl_manager.specs.statement.Holders.{clients_from}
 use Rattle.tl_manager.specs.statement.Request.{masks_carried, corrupt_carried, request_carried}
 use Rattle.tl_manager.specs.statement.Service as service
-use Rattle.tl_manager.specs.statement.Deed as manager_deed
+use Rattle.tl_manager.specs.statement.Reaction as manager_reaction
 use Rattle.tl_manager.specs.statement.Offer as manager_offer
 use Rattle.tl_coherence.specs.statement.Movable.{is_movable, first_movable, next_delivery}
 use Rattle.tl_coherence.specs.statement.Step.{stepped}
@@ -41,7 +41,7 @@ plain_accesses_of_what_a_cache_holds : Holds {w = 8} (world profile.One 2 1 ((le
 unfolding faults faults_draining performs all_below carried_on started flow requests releases accesses_answered performing broken_after is_legal stepped
     with_messages is_movable first_movable next_delivery ask.asked ask.busy ask.least_free ask.low_bytes offer.offered offer.stalls bytes_carried number_from
     unfinished request_of release_of probe_of grant_sink pending held illegal first_illegal beats_from each_below broken_order on_link bytes_from effect
-    with_handed clients_from masks_carried corrupt_carried request_carried service.least_untaken service.services manager_offer.judged_at manager_deed.deed
+    with_handed clients_from masks_carried corrupt_carried request_carried service.least_untaken service.services manager_offer.judged_at manager_reaction.reaction
     manager_offer.offered manager_offer.stalls
 plain_accesses_of_what_a_cache_holds = refl
 
@@ -50,7 +50,7 @@ bytes_of_a_word : Holds {w = 8} (world profile.One 1 1 ((level.UL, 1) ∷ []))
 unfolding faults faults_draining performs all_below carried_on started flow requests releases accesses_answered performing broken_after is_legal stepped
     with_messages is_movable first_movable next_delivery ask.asked ask.busy ask.least_free ask.low_bytes offer.offered offer.stalls bytes_carried number_from
     unfinished request_of release_of probe_of grant_sink pending held illegal first_illegal beats_from each_below broken_order on_link bytes_from effect
-    with_handed clients_from masks_carried corrupt_carried request_carried service.least_untaken service.services manager_offer.judged_at manager_deed.deed
+    with_handed clients_from masks_carried corrupt_carried request_carried service.least_untaken service.services manager_offer.judged_at manager_reaction.reaction
     manager_offer.offered manager_offer.stalls
 bytes_of_a_word = refl
 
@@ -61,7 +61,7 @@ a_put_counts_from_its_last_beat : Holds {w = 8} (world profile.One 1 1 ((level.U
 unfolding faults faults_draining performs all_below carried_on started flow requests releases accesses_answered performing broken_after is_legal stepped
     with_messages is_movable first_movable next_delivery ask.asked ask.busy ask.least_free ask.low_bytes offer.offered offer.stalls bytes_carried number_from
     unfinished request_of release_of probe_of grant_sink pending held illegal first_illegal beats_from each_below broken_order on_link bytes_from effect
-    with_handed clients_from masks_carried corrupt_carried request_carried service.least_untaken service.services manager_offer.judged_at manager_deed.deed
+    with_handed clients_from masks_carried corrupt_carried request_carried service.least_untaken service.services manager_offer.judged_at manager_reaction.reaction
     manager_offer.offered manager_offer.stalls
 a_put_counts_from_its_last_beat = refl
 
@@ -72,7 +72,7 @@ min_by_sign_and_without : Holds {w = 8} (world profile.One 1 1 ((level.UH, 1) �
 unfolding faults faults_draining performs all_below carried_on started flow requests releases accesses_answered performing broken_after is_legal stepped
     with_messages is_movable first_movable next_delivery ask.asked ask.busy ask.least_free ask.low_bytes offer.offered offer.stalls bytes_carried number_from
     unfinished request_of release_of probe_of grant_sink pending held illegal first_illegal beats_from each_below broken_order on_link bytes_from effect
-    with_handed clients_from masks_carried corrupt_carried request_carried service.least_untaken service.services manager_offer.judged_at manager_deed.deed
+    with_handed clients_from masks_carried corrupt_carried request_carried service.least_untaken service.services manager_offer.judged_at manager_reaction.reaction
     manager_offer.offered manager_offer.stalls
 min_by_sign_and_without = refl
 
@@ -82,7 +82,7 @@ add_wraps : Holds {w = 8} (world profile.One 1 1 ((level.UH, 1) ∷ []))
 unfolding faults faults_draining performs all_below carried_on started flow requests releases accesses_answered performing broken_after is_legal stepped
     with_messages is_movable first_movable next_delivery ask.asked ask.busy ask.least_free ask.low_bytes offer.offered offer.stalls bytes_carried number_from
     unfinished request_of release_of probe_of grant_sink pending held illegal first_illegal beats_from each_below broken_order on_link bytes_from effect
-    with_handed clients_from masks_carried corrupt_carried request_carried service.least_untaken service.services manager_offer.judged_at manager_deed.deed
+    with_handed clients_from masks_carried corrupt_carried request_carried service.least_untaken service.services manager_offer.judged_at manager_reaction.reaction
     manager_offer.offered manager_offer.stalls
 add_wraps = refl
 
@@ -91,7 +91,7 @@ a_reader_gets_what_the_writer_stored : Holds {w = 8} (world profile.One 1 1 ((le
 unfolding faults faults_draining performs all_below carried_on started flow requests releases accesses_answered performing broken_after is_legal stepped
     with_messages is_movable first_movable next_delivery ask.asked ask.busy ask.least_free ask.low_bytes offer.offered offer.stalls bytes_carried number_from
     unfinished request_of release_of probe_of grant_sink pending held illegal first_illegal beats_from each_below broken_order on_link bytes_from effect
-    with_handed clients_from masks_carried corrupt_carried request_carried service.least_untaken service.services manager_offer.judged_at manager_deed.deed
+    with_handed clients_from masks_carried corrupt_carried request_carried service.least_untaken service.services manager_offer.judged_at manager_reaction.reaction
     manager_offer.offered manager_offer.stalls
 a_reader_gets_what_the_writer_stored = refl
 
@@ -100,7 +100,7 @@ a_release_while_a_probe_waits : Holds {w = 8} (world profile.One 1 1 ((level.C, 
 unfolding faults faults_draining performs all_below carried_on started flow requests releases accesses_answered performing broken_after is_legal stepped
     with_messages is_movable first_movable next_delivery ask.asked ask.busy ask.least_free ask.low_bytes offer.offered offer.stalls bytes_carried number_from
     unfinished request_of release_of probe_of grant_sink pending held illegal first_illegal beats_from each_below broken_order on_link bytes_from effect
-    with_handed clients_from masks_carried corrupt_carried request_carried service.least_untaken service.services manager_offer.judged_at manager_deed.deed
+    with_handed clients_from masks_carried corrupt_carried request_carried service.least_untaken service.services manager_offer.judged_at manager_reaction.reaction
     manager_offer.offered manager_offer.stalls
 a_release_while_a_probe_waits = refl
 
@@ -109,7 +109,7 @@ the_second_writer_gets_data : Holds {w = 8} (world profile.One 1 2 ((level.C, 1)
 unfolding faults faults_draining performs all_below carried_on started flow requests releases accesses_answered performing broken_after is_legal stepped
     with_messages is_movable first_movable next_delivery ask.asked ask.busy ask.least_free ask.low_bytes offer.offered offer.stalls bytes_carried number_from
     unfinished request_of release_of probe_of grant_sink pending held illegal first_illegal beats_from each_below broken_order on_link bytes_from effect
-    with_handed clients_from masks_carried corrupt_carried request_carried service.least_untaken service.services manager_offer.judged_at manager_deed.deed
+    with_handed clients_from masks_carried corrupt_carried request_carried service.least_untaken service.services manager_offer.judged_at manager_reaction.reaction
     manager_offer.offered manager_offer.stalls
 the_second_writer_gets_data = refl
 
@@ -118,7 +118,7 @@ a_whole_block_store_takes_no_data : Holds {w = 8} (world profile.One 1 2 ((level
 unfolding faults faults_draining performs all_below carried_on started flow requests releases accesses_answered performing broken_after is_legal stepped
     with_messages is_movable first_movable next_delivery ask.asked ask.busy ask.least_free ask.low_bytes offer.offered offer.stalls bytes_carried number_from
     unfinished request_of release_of probe_of grant_sink pending held illegal first_illegal beats_from each_below broken_order on_link bytes_from effect
-    with_handed clients_from masks_carried corrupt_carried request_carried service.least_untaken service.services manager_offer.judged_at manager_deed.deed
+    with_handed clients_from masks_carried corrupt_carried request_carried service.least_untaken service.services manager_offer.judged_at manager_reaction.reaction
     manager_offer.offered manager_offer.stalls
 a_whole_block_store_takes_no_data = refl
 
@@ -129,7 +129,7 @@ a_release_before_its_grant_ack : Holds {w = 8} (world profile.One 1 1 ((level.C,
 unfolding faults faults_draining performs all_below carried_on started flow requests releases accesses_answered performing broken_after is_legal stepped
     with_messages is_movable first_movable next_delivery ask.asked ask.busy ask.least_free ask.low_bytes offer.offered offer.stalls bytes_carried number_from
     unfinished request_of release_of probe_of grant_sink pending held illegal first_illegal beats_from each_below broken_order on_link bytes_from effect
-    with_handed clients_from masks_carried corrupt_carried request_carried service.least_untaken service.services manager_offer.judged_at manager_deed.deed
+    with_handed clients_from masks_carried corrupt_carried request_carried service.least_untaken service.services manager_offer.judged_at manager_reaction.reaction
     manager_offer.offered manager_offer.stalls
 a_release_before_its_grant_ack = refl
 
@@ -140,7 +140,7 @@ busy_in_order : Holds {w = 8} (world profile.One 1 1 ((level.UL, 1) ∷ []))
 unfolding faults faults_draining performs all_below carried_on started flow requests releases accesses_answered performing broken_after is_legal stepped
     with_messages is_movable first_movable next_delivery ask.asked ask.busy ask.least_free ask.low_bytes offer.offered offer.stalls bytes_carried number_from
     unfinished request_of release_of probe_of grant_sink pending held illegal first_illegal beats_from each_below broken_order on_link bytes_from effect
-    with_handed clients_from masks_carried corrupt_carried request_carried service.least_untaken service.services manager_offer.judged_at manager_deed.deed
+    with_handed clients_from masks_carried corrupt_carried request_carried service.least_untaken service.services manager_offer.judged_at manager_reaction.reaction
     manager_offer.offered manager_offer.stalls
 busy_in_order = refl
 
@@ -149,7 +149,7 @@ beats_of_4_bytes : Holds {w = 4} (world profile.One 1 1 ((level.C, 1) ∷ (level
 unfolding faults faults_draining performs all_below carried_on started flow requests releases accesses_answered performing broken_after is_legal stepped
     with_messages is_movable first_movable next_delivery ask.asked ask.busy ask.least_free ask.low_bytes offer.offered offer.stalls bytes_carried number_from
     unfinished request_of release_of probe_of grant_sink pending held illegal first_illegal beats_from each_below broken_order on_link bytes_from effect
-    with_handed clients_from masks_carried corrupt_carried request_carried service.least_untaken service.services manager_offer.judged_at manager_deed.deed
+    with_handed clients_from masks_carried corrupt_carried request_carried service.least_untaken service.services manager_offer.judged_at manager_reaction.reaction
     manager_offer.offered manager_offer.stalls
 beats_of_4_bytes = refl
 
@@ -158,7 +158,7 @@ beats_of_16_bytes : Holds {w = 16} (world profile.One 1 1 ((level.C, 1) ∷ (lev
 unfolding faults faults_draining performs all_below carried_on started flow requests releases accesses_answered performing broken_after is_legal stepped
     with_messages is_movable first_movable next_delivery ask.asked ask.busy ask.least_free ask.low_bytes offer.offered offer.stalls bytes_carried number_from
     unfinished request_of release_of probe_of grant_sink pending held illegal first_illegal beats_from each_below broken_order on_link bytes_from effect
-    with_handed clients_from masks_carried corrupt_carried request_carried service.least_untaken service.services manager_offer.judged_at manager_deed.deed
+    with_handed clients_from masks_carried corrupt_carried request_carried service.least_untaken service.services manager_offer.judged_at manager_reaction.reaction
     manager_offer.offered manager_offer.stalls
 beats_of_16_bytes = refl
 
@@ -167,7 +167,7 @@ an_atomic_of_two_beats : Holds {w = 4} (world profile.One 1 1 ((level.UH, 1) ∷
 unfolding faults faults_draining performs all_below carried_on started flow requests releases accesses_answered performing broken_after is_legal stepped
     with_messages is_movable first_movable next_delivery ask.asked ask.busy ask.least_free ask.low_bytes offer.offered offer.stalls bytes_carried number_from
     unfinished request_of release_of probe_of grant_sink pending held illegal first_illegal beats_from each_below broken_order on_link bytes_from effect
-    with_handed clients_from masks_carried corrupt_carried request_carried service.least_untaken service.services manager_offer.judged_at manager_deed.deed
+    with_handed clients_from masks_carried corrupt_carried request_carried service.least_untaken service.services manager_offer.judged_at manager_reaction.reaction
     manager_offer.offered manager_offer.stalls
 an_atomic_of_two_beats = refl
 
@@ -176,7 +176,7 @@ a_lone_reader_may_write : Holds {w = 8} (world profile.Two 1 1 ((level.C, 1) ∷
 unfolding faults faults_draining performs all_below carried_on started flow requests releases accesses_answered performing broken_after is_legal stepped
     with_messages is_movable first_movable next_delivery ask.asked ask.busy ask.least_free ask.low_bytes offer.offered offer.stalls bytes_carried number_from
     unfinished request_of release_of probe_of grant_sink pending held illegal first_illegal beats_from each_below broken_order on_link bytes_from effect
-    with_handed clients_from masks_carried corrupt_carried request_carried service.least_untaken service.services manager_offer.judged_at manager_deed.deed
+    with_handed clients_from masks_carried corrupt_carried request_carried service.least_untaken service.services manager_offer.judged_at manager_reaction.reaction
     manager_offer.offered manager_offer.stalls
 a_lone_reader_may_write = refl
 
@@ -185,6 +185,6 @@ nobody_has_it_any_longer_at_the_grant : Holds {w = 8} (world profile.Two 1 1 ((l
 unfolding faults faults_draining performs all_below carried_on started flow requests releases accesses_answered performing broken_after is_legal stepped
     with_messages is_movable first_movable next_delivery ask.asked ask.busy ask.least_free ask.low_bytes offer.offered offer.stalls bytes_carried number_from
     unfinished request_of release_of probe_of grant_sink pending held illegal first_illegal beats_from each_below broken_order on_link bytes_from effect
-    with_handed clients_from masks_carried corrupt_carried request_carried service.least_untaken service.services manager_offer.judged_at manager_deed.deed
+    with_handed clients_from masks_carried corrupt_carried request_carried service.least_untaken service.services manager_offer.judged_at manager_reaction.reaction
     manager_offer.offered manager_offer.stalls
 nobody_has_it_any_longer_at_the_grant = refl

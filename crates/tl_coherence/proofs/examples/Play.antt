@@ -30,7 +30,7 @@ use Rattle.tl_coherence.specs.statement.System.{System, fresh}
 
 -- ---- playing
 
--- an event, or the next deliveries until there is none, of which there are no more than so many
+-- an event, or the next deliveries until there is none, of which there are no more than this many
 pub data Line (w : ℕ) : Type 0 where
   Does : Event w → Line w
   Drains : ℕ → Line w

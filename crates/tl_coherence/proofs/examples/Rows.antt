@@ -12,7 +12,7 @@ use Rattle.tl_params.specs.declared.param.Grow.TheVariants as grow
 use Rattle.tl_params.specs.declared.param.Prune.TheVariants as prune
 use Rattle.tl_params.specs.declared.perm.Perm.TheVariants as perm
 use Rattle.tl_params.specs.declared.profile.Profile.TheVariants as profile
-use Rattle.tl_rules.specs.statement.Agent.{bytes_carried}
+use Rattle.tl_rules.specs.statement.Admission.{bytes_carried}
 use Rattle.tl_rules.specs.statement.Conformance.{on_link, broken_order}
 use Rattle.tl_rules.specs.statement.Effect.{bytes_from, number_from, effect}
 use Rattle.tl_rules.specs.statement.History.{request_of, release_of, probe_of, grant_sink, pending, held}
@@ -26,7 +26,7 @@ use Rattle.tl_manager.specs.statement.Handing.{with_handed}
 use Rattle.tl_manager.specs.statement.Holders.{clients_from}
 use Rattle.tl_manager.specs.statement.Request.{masks_carried, corrupt_carried, request_carried}
 use Rattle.tl_manager.specs.statement.Service as service
-use Rattle.tl_manager.specs.statement.Deed as manager_deed
+use Rattle.tl_manager.specs.statement.Reaction as manager_reaction
 use Rattle.tl_manager.specs.statement.Offer as manager_offer
 use Rattle.tl_coherence.specs.declared.event.Outcome.TheVariants.{Replied, Empty, Stalled, Moved, Done}
 use Rattle.tl_coherence.specs.statement.Movable.{is_movable, first_movable, next_delivery}
@@ -43,7 +43,7 @@ bytes_of_a_word : Gives {w = 8} (world profile.One 1 1 ((level.UL, 1) ∷ []))
 unfolding draining outcomes stepped with_messages is_movable first_movable next_delivery ask.asked ask.busy ask.least_free ask.low_bytes offer.offered
     offer.stalls bytes_carried number_from unfinished request_of release_of probe_of grant_sink pending held illegal first_illegal beats_from each_below
     broken_order on_link bytes_from effect with_handed clients_from masks_carried corrupt_carried request_carried service.least_untaken service.services
-    manager_offer.judged_at manager_deed.deed manager_offer.offered manager_offer.stalls
+    manager_offer.judged_at manager_reaction.reaction manager_offer.offered manager_offer.stalls
 bytes_of_a_word = refl
 
 a_put_counts_from_its_last_beat : Gives {w = 8} (world profile.One 1 1 ((level.UH, 1) ∷ (level.UH, 1) ∷ []))
@@ -56,7 +56,7 @@ a_put_counts_from_its_last_beat : Gives {w = 8} (world profile.One 1 1 ((level.U
 unfolding draining outcomes stepped with_messages is_movable first_movable next_delivery ask.asked ask.busy ask.least_free ask.low_bytes offer.offered
     offer.stalls bytes_carried number_from unfinished request_of release_of probe_of grant_sink pending held illegal first_illegal beats_from each_below
     broken_order on_link bytes_from effect with_handed clients_from masks_carried corrupt_carried request_carried service.least_untaken service.services
-    manager_offer.judged_at manager_deed.deed manager_offer.offered manager_offer.stalls
+    manager_offer.judged_at manager_reaction.reaction manager_offer.offered manager_offer.stalls
 a_put_counts_from_its_last_beat = refl
 
 min_by_sign_and_without : Gives {w = 8} (world profile.One 1 1 ((level.UH, 1) ∷ []))
@@ -74,7 +74,7 @@ min_by_sign_and_without : Gives {w = 8} (world profile.One 1 1 ((level.UH, 1) �
 unfolding draining outcomes stepped with_messages is_movable first_movable next_delivery ask.asked ask.busy ask.least_free ask.low_bytes offer.offered
     offer.stalls bytes_carried number_from unfinished request_of release_of probe_of grant_sink pending held illegal first_illegal beats_from each_below
     broken_order on_link bytes_from effect with_handed clients_from masks_carried corrupt_carried request_carried service.least_untaken service.services
-    manager_offer.judged_at manager_deed.deed manager_offer.offered manager_offer.stalls
+    manager_offer.judged_at manager_reaction.reaction manager_offer.offered manager_offer.stalls
 min_by_sign_and_without = refl
 
 add_wraps : Gives {w = 8} (world profile.One 1 1 ((level.UH, 1) ∷ []))
@@ -89,7 +89,7 @@ add_wraps : Gives {w = 8} (world profile.One 1 1 ((level.UH, 1) ∷ []))
 unfolding draining outcomes stepped with_messages is_movable first_movable next_delivery ask.asked ask.busy ask.least_free ask.low_bytes offer.offered
     offer.stalls bytes_carried number_from unfinished request_of release_of probe_of grant_sink pending held illegal first_illegal beats_from each_below
     broken_order on_link bytes_from effect with_handed clients_from masks_carried corrupt_carried request_carried service.least_untaken service.services
-    manager_offer.judged_at manager_deed.deed manager_offer.offered manager_offer.stalls
+    manager_offer.judged_at manager_reaction.reaction manager_offer.offered manager_offer.stalls
 add_wraps = refl
 
 a_reader_gets_what_the_writer_stored : Gives {w = 8} (world profile.One 1 1 ((level.C, 1) ∷ (level.C, 1) ∷ []))
@@ -106,7 +106,7 @@ a_reader_gets_what_the_writer_stored : Gives {w = 8} (world profile.One 1 1 ((le
 unfolding draining outcomes stepped with_messages is_movable first_movable next_delivery ask.asked ask.busy ask.least_free ask.low_bytes offer.offered
     offer.stalls bytes_carried number_from unfinished request_of release_of probe_of grant_sink pending held illegal first_illegal beats_from each_below
     broken_order on_link bytes_from effect with_handed clients_from masks_carried corrupt_carried request_carried service.least_untaken service.services
-    manager_offer.judged_at manager_deed.deed manager_offer.offered manager_offer.stalls
+    manager_offer.judged_at manager_reaction.reaction manager_offer.offered manager_offer.stalls
 a_reader_gets_what_the_writer_stored = refl
 
 a_release_while_a_probe_waits : Gives {w = 8} (world profile.One 1 1 ((level.C, 1) ∷ (level.C, 1) ∷ []))
@@ -124,7 +124,7 @@ a_release_while_a_probe_waits : Gives {w = 8} (world profile.One 1 1 ((level.C, 
 unfolding draining outcomes stepped with_messages is_movable first_movable next_delivery ask.asked ask.busy ask.least_free ask.low_bytes offer.offered
     offer.stalls bytes_carried number_from unfinished request_of release_of probe_of grant_sink pending held illegal first_illegal beats_from each_below
     broken_order on_link bytes_from effect with_handed clients_from masks_carried corrupt_carried request_carried service.least_untaken service.services
-    manager_offer.judged_at manager_deed.deed manager_offer.offered manager_offer.stalls
+    manager_offer.judged_at manager_reaction.reaction manager_offer.offered manager_offer.stalls
 a_release_while_a_probe_waits = refl
 
 the_second_writer_gets_data : Gives {w = 8} (world profile.One 1 2 ((level.C, 1) ∷ (level.C, 1) ∷ []))
@@ -144,7 +144,7 @@ the_second_writer_gets_data : Gives {w = 8} (world profile.One 1 2 ((level.C, 1)
 unfolding draining outcomes stepped with_messages is_movable first_movable next_delivery ask.asked ask.busy ask.least_free ask.low_bytes offer.offered
     offer.stalls bytes_carried number_from unfinished request_of release_of probe_of grant_sink pending held illegal first_illegal beats_from each_below
     broken_order on_link bytes_from effect with_handed clients_from masks_carried corrupt_carried request_carried service.least_untaken service.services
-    manager_offer.judged_at manager_deed.deed manager_offer.offered manager_offer.stalls
+    manager_offer.judged_at manager_reaction.reaction manager_offer.offered manager_offer.stalls
 the_second_writer_gets_data = refl
 
 a_whole_block_store_takes_no_data : Gives {w = 8} (world profile.One 1 2 ((level.C, 1) ∷ (level.C, 1) ∷ []))
@@ -163,7 +163,7 @@ a_whole_block_store_takes_no_data : Gives {w = 8} (world profile.One 1 2 ((level
 unfolding draining outcomes stepped with_messages is_movable first_movable next_delivery ask.asked ask.busy ask.least_free ask.low_bytes offer.offered
     offer.stalls bytes_carried number_from unfinished request_of release_of probe_of grant_sink pending held illegal first_illegal beats_from each_below
     broken_order on_link bytes_from effect with_handed clients_from masks_carried corrupt_carried request_carried service.least_untaken service.services
-    manager_offer.judged_at manager_deed.deed manager_offer.offered manager_offer.stalls
+    manager_offer.judged_at manager_reaction.reaction manager_offer.offered manager_offer.stalls
 a_whole_block_store_takes_no_data = refl
 
 a_release_before_its_grant_ack : Gives {w = 8} (world profile.One 1 1 ((level.C, 1) ∷ []))
@@ -178,7 +178,7 @@ a_release_before_its_grant_ack : Gives {w = 8} (world profile.One 1 1 ((level.C,
 unfolding draining outcomes stepped with_messages is_movable first_movable next_delivery ask.asked ask.busy ask.least_free ask.low_bytes offer.offered
     offer.stalls bytes_carried number_from unfinished request_of release_of probe_of grant_sink pending held illegal first_illegal beats_from each_below
     broken_order on_link bytes_from effect with_handed clients_from masks_carried corrupt_carried request_carried service.least_untaken service.services
-    manager_offer.judged_at manager_deed.deed manager_offer.offered manager_offer.stalls
+    manager_offer.judged_at manager_reaction.reaction manager_offer.offered manager_offer.stalls
 a_release_before_its_grant_ack = refl
 
 busy_in_order : Gives {w = 8} (world profile.One 1 1 ((level.UL, 1) ∷ []))
@@ -189,7 +189,7 @@ busy_in_order : Gives {w = 8} (world profile.One 1 1 ((level.UL, 1) ∷ []))
 unfolding draining outcomes stepped with_messages is_movable first_movable next_delivery ask.asked ask.busy ask.least_free ask.low_bytes offer.offered
     offer.stalls bytes_carried number_from unfinished request_of release_of probe_of grant_sink pending held illegal first_illegal beats_from each_below
     broken_order on_link bytes_from effect with_handed clients_from masks_carried corrupt_carried request_carried service.least_untaken service.services
-    manager_offer.judged_at manager_deed.deed manager_offer.offered manager_offer.stalls
+    manager_offer.judged_at manager_reaction.reaction manager_offer.offered manager_offer.stalls
 busy_in_order = refl
 
 plain_accesses_of_what_a_cache_holds : Gives {w = 8} (world profile.One 2 1 ((level.C, 1) ∷ (level.UL, 1) ∷ []))
@@ -210,7 +210,7 @@ plain_accesses_of_what_a_cache_holds : Gives {w = 8} (world profile.One 2 1 ((le
 unfolding draining outcomes stepped with_messages is_movable first_movable next_delivery ask.asked ask.busy ask.least_free ask.low_bytes offer.offered
     offer.stalls bytes_carried number_from unfinished request_of release_of probe_of grant_sink pending held illegal first_illegal beats_from each_below
     broken_order on_link bytes_from effect with_handed clients_from masks_carried corrupt_carried request_carried service.least_untaken service.services
-    manager_offer.judged_at manager_deed.deed manager_offer.offered manager_offer.stalls
+    manager_offer.judged_at manager_reaction.reaction manager_offer.offered manager_offer.stalls
 plain_accesses_of_what_a_cache_holds = refl
 
 beats_of_4_bytes : Gives {w = 4} (world profile.One 1 1 ((level.C, 1) ∷ (level.C, 1) ∷ []))
@@ -227,7 +227,7 @@ beats_of_4_bytes : Gives {w = 4} (world profile.One 1 1 ((level.C, 1) ∷ (level
 unfolding draining outcomes stepped with_messages is_movable first_movable next_delivery ask.asked ask.busy ask.least_free ask.low_bytes offer.offered
     offer.stalls bytes_carried number_from unfinished request_of release_of probe_of grant_sink pending held illegal first_illegal beats_from each_below
     broken_order on_link bytes_from effect with_handed clients_from masks_carried corrupt_carried request_carried service.least_untaken service.services
-    manager_offer.judged_at manager_deed.deed manager_offer.offered manager_offer.stalls
+    manager_offer.judged_at manager_reaction.reaction manager_offer.offered manager_offer.stalls
 beats_of_4_bytes = refl
 
 beats_of_16_bytes : Gives {w = 16} (world profile.One 1 1 ((level.C, 1) ∷ (level.C, 1) ∷ []))
@@ -244,7 +244,7 @@ beats_of_16_bytes : Gives {w = 16} (world profile.One 1 1 ((level.C, 1) ∷ (lev
 unfolding draining outcomes stepped with_messages is_movable first_movable next_delivery ask.asked ask.busy ask.least_free ask.low_bytes offer.offered
     offer.stalls bytes_carried number_from unfinished request_of release_of probe_of grant_sink pending held illegal first_illegal beats_from each_below
     broken_order on_link bytes_from effect with_handed clients_from masks_carried corrupt_carried request_carried service.least_untaken service.services
-    manager_offer.judged_at manager_deed.deed manager_offer.offered manager_offer.stalls
+    manager_offer.judged_at manager_reaction.reaction manager_offer.offered manager_offer.stalls
 beats_of_16_bytes = refl
 
 an_atomic_of_two_beats : Gives {w = 4} (world profile.One 1 1 ((level.UH, 1) ∷ []))
@@ -257,7 +257,7 @@ an_atomic_of_two_beats : Gives {w = 4} (world profile.One 1 1 ((level.UH, 1) ∷
 unfolding draining outcomes stepped with_messages is_movable first_movable next_delivery ask.asked ask.busy ask.least_free ask.low_bytes offer.offered
     offer.stalls bytes_carried number_from unfinished request_of release_of probe_of grant_sink pending held illegal first_illegal beats_from each_below
     broken_order on_link bytes_from effect with_handed clients_from masks_carried corrupt_carried request_carried service.least_untaken service.services
-    manager_offer.judged_at manager_deed.deed manager_offer.offered manager_offer.stalls
+    manager_offer.judged_at manager_reaction.reaction manager_offer.offered manager_offer.stalls
 an_atomic_of_two_beats = refl
 
 a_lone_reader_may_write : Gives {w = 8} (world profile.Two 1 1 ((level.C, 1) ∷ (level.C, 1) ∷ []))
@@ -274,7 +274,7 @@ a_lone_reader_may_write : Gives {w = 8} (world profile.Two 1 1 ((level.C, 1) ∷
 unfolding draining outcomes stepped with_messages is_movable first_movable next_delivery ask.asked ask.busy ask.least_free ask.low_bytes offer.offered
     offer.stalls bytes_carried number_from unfinished request_of release_of probe_of grant_sink pending held illegal first_illegal beats_from each_below
     broken_order on_link bytes_from effect with_handed clients_from masks_carried corrupt_carried request_carried service.least_untaken service.services
-    manager_offer.judged_at manager_deed.deed manager_offer.offered manager_offer.stalls
+    manager_offer.judged_at manager_reaction.reaction manager_offer.offered manager_offer.stalls
 a_lone_reader_may_write = refl
 
 nobody_has_it_any_longer_at_the_grant : Gives {w = 8} (world profile.Two 1 1 ((level.C, 1) ∷ (level.C, 1) ∷ []))
@@ -292,5 +292,5 @@ nobody_has_it_any_longer_at_the_grant : Gives {w = 8} (world profile.Two 1 1 ((l
 unfolding draining outcomes stepped with_messages is_movable first_movable next_delivery ask.asked ask.busy ask.least_free ask.low_bytes offer.offered
     offer.stalls bytes_carried number_from unfinished request_of release_of probe_of grant_sink pending held illegal first_illegal beats_from each_below
     broken_order on_link bytes_from effect with_handed clients_from masks_carried corrupt_carried request_carried service.least_untaken service.services
-    manager_offer.judged_at manager_deed.deed manager_offer.offered manager_offer.stalls
+    manager_offer.judged_at manager_reaction.reaction manager_offer.offered manager_offer.stalls
 nobody_has_it_any_longer_at_the_grant = refl

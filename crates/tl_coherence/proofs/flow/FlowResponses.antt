@@ -31,7 +31,7 @@ use Rattle.tl_params.specs.statement.Param.{prune_code, report_code, report_left
 use Rattle.tl_rules.specs.statement.Conformance as rules
 use Rattle.tl_rules.specs.statement.Conformance.{on_link, comes_in_request, comes_in_release, comes_in_grant, broken_in_order, same_perm, broken_after}
 use Rattle.tl_rules.specs.statement.History.{is_release, held, pending, request_of}
-use Rattle.tl_client.specs.statement.End.{zeros}
+use Rattle.tl_client.specs.statement.Endpoint.{zeros}
 use Rattle.tl_client.specs.statement.Send.{acquisition, about, release, probe_ack}
 use Rattle.tl_manager.specs.statement.Handing.{grant_opcode}
 use Rattle.tl_client.proofs.HeldAfter.{same_block}

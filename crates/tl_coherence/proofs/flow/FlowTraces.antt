@@ -14,7 +14,7 @@ use Rattle.tl_params.specs.declared.level.Level.{Level}
 use Rattle.tl_params.specs.declared.profile.Profile.{Profile}
 use Rattle.tl_params.specs.declared.rule.Rule.{Rule}
 use Rattle.tl_rules.specs.statement.Conformance.{Trace, broken_after, broken_at_level, broken_on_link, fault_from, is_legal, on_link}
-use Rattle.tl_client.specs.statement.End.{Terms}
+use Rattle.tl_client.specs.statement.Endpoint.{EndConfig}
 use Rattle.tl_manager.specs.statement.Offer.{level_of}
 use Rattle.tl_coherence.specs.declared.event.Event.{Event}
 use Rattle.tl_coherence.specs.declared.event.Event.TheVariants.{Ask, Deliver}
@@ -80,7 +80,7 @@ levelled {w} config log link ch o given moving = record {
   in_levels = slice_get-map (λ (c : ClientConfig). c.level) config.clients.items link.0 ∙ of_link;
 }
   where
-    first : (y : Beat w) × (queue : List (Beat w)) × (terms : Terms) × (((system_after config log).channels link.0 ch ≡ y ∷ queue) × (terms_at config link.0 ≡ Some terms))
+    first : (y : Beat w) × (queue : List (Beat w)) × (terms : EndConfig) × (((system_after config log).channels link.0 ch ≡ y ∷ queue) × (terms_at config link.0 ≡ Some terms))
     first = first-moved config link ch (system_after config log) (ap is_moving (sym given.is_log.0) ∙ moving)
 
     of_link : level_of config link.0 ≡ Some first.2.level

@@ -15,14 +15,14 @@ use Rattle.tl_params.specs.declared.profile.Profile.{Profile}
 use Rattle.tl_rules.specs.statement.Conformance.{on_link, broken_after, is_legal}
 use Rattle.tl_client.specs.declared.operation.Op.{Op}
 use Rattle.tl_client.specs.statement.Ask as ask
-use Rattle.tl_client.specs.statement.End as client
-use Rattle.tl_client.specs.statement.End.{Terms}
+use Rattle.tl_client.specs.statement.Endpoint as client
+use Rattle.tl_client.specs.statement.Endpoint.{EndConfig}
 use Rattle.tl_client.specs.statement.Offer as offer
 use Rattle.tl_client.proofs.Outstanding.{unfinished-asked}
 use Rattle.tl_manager.specs.statement.Handing.{Handed}
 use Rattle.tl_manager.specs.statement.End as manager_end
 use Rattle.tl_manager.specs.statement.Offer as manager_offer
-use Rattle.tl_manager.specs.statement.Deed.{deed}
+use Rattle.tl_manager.specs.statement.Reaction.{reaction}
 use Rattle.tl_manager.specs.statement.Offer.{level_of}
 use Rattle.tl_coherence.specs.declared.event.Event.{Event}
 use Rattle.tl_coherence.specs.declared.event.Event.TheVariants.{Ask, Deliver}
@@ -77,9 +77,9 @@ use Rattle.tl_coherence.proofs.simulation.Popped.{unfinished_at}
 -- messages that are handed out change no receiver
 receiver_handed : {w : ℕ} (handed : Handed w) (sys : System w) (d : ℕ) (at : Channel) → receiver at d (with_messages handed sys) ≡ receiver at d sys
 receiver_handed handed sys d channel.A = ap (λ (m : manager_end.End _). on_link d m.trace) (manager-with_messages handed sys)
-receiver_handed handed sys d channel.B = ap (λ (f : ℕ → client.End _). (f d).past) (clients-with_messages handed sys)
+receiver_handed handed sys d channel.B = ap (λ (f : ℕ → client.Endpoint _). (f d).past) (clients-with_messages handed sys)
 receiver_handed handed sys d channel.C = ap (λ (m : manager_end.End _). on_link d m.trace) (manager-with_messages handed sys)
-receiver_handed handed sys d channel.D = ap (λ (f : ℕ → client.End _). (f d).past) (clients-with_messages handed sys)
+receiver_handed handed sys d channel.D = ap (λ (f : ℕ → client.Endpoint _). (f d).past) (clients-with_messages handed sys)
 receiver_handed handed sys d channel.E = ap (λ (m : manager_end.End _). on_link d m.trace) (manager-with_messages handed sys)
 
 -- what is left of a beat that is moved on channel ch of client c's link: what was delivered, what receivers have, and
@@ -94,7 +94,7 @@ pub record IsMovedOn {w : ℕ} (config : Config) (log : Log w) (link : Link) (ch
   pub follows : abstract_step config (Deliver link ch) (system_after config log) h
       ≡ (if completes x (unfinished_at (system_after config log) link.0 ch) then kind_taken config (next_tracker (system_after config log)) link.0 first.kind first.number first.rest h else h)
 
-moved-to_manager : {w : ℕ} (config : Config) (log : Log w) (link : Link) (ch : Channel) (h : AbstractState w) (terms : Terms) (x : Beat w) (queue : List (Beat w))
+moved-to_manager : {w : ℕ} (config : Config) (log : Log w) (link : Link) (ch : Channel) (h : AbstractState w) (terms : EndConfig) (x : Beat w) (queue : List (Beat w))
     → IsWidth w → SimulationRelation config log h.mail h.request h.state (system_after config log)
     → terms_at config link.0 ≡ Some terms → is_to_client ch ≡ false → (system_after config log).channels link.0 ch ≡ x ∷ queue
     → is_moving (stepped config (Deliver link ch) (system_after config log)).outcome ≡ true → IsMovedOn config log link ch h x queue
@@ -115,15 +115,15 @@ moved-to_manager {w} config log link ch h terms x queue width is known down beat
     at = at-manager config log link ch h terms x queue width is known down beats moving
 
     handed : Handed w
-    handed = (deed config link x sys.manager).handed
+    handed = (reaction config link x sys.manager).handed
 
     e : manager_end.End w
-    e = manager_offer.taken link x (deed config link x sys.manager) sys.manager
+    e = manager_offer.taken link x (reaction config link x sys.manager) sys.manager
 
     base : System w
     base = with_manager e (with_channel link.0 ch queue sys)
 
-moved-to_client : {w : ℕ} (config : Config) (log : Log w) (link : Link) (ch : Channel) (h : AbstractState w) (terms : Terms) (x : Beat w) (queue : List (Beat w))
+moved-to_client : {w : ℕ} (config : Config) (log : Log w) (link : Link) (ch : Channel) (h : AbstractState w) (terms : EndConfig) (x : Beat w) (queue : List (Beat w))
     → IsWidth w → SimulationRelation config log h.mail h.request h.state (system_after config log)
     → terms_at config link.0 ≡ Some terms → is_to_client ch ≡ true → (system_after config log).channels link.0 ch ≡ x ∷ queue
     → is_moving (stepped config (Deliver link ch) (system_after config log)).outcome ≡ true → IsMovedOn config log link ch h x queue
@@ -151,7 +151,7 @@ moved-to_client {w} config log link ch h terms x queue width is known up beats m
     on_ch : IsOn ch x
     on_ch = subst (λ (i : Channel). IsOn i x) (first-of config log h link.0 terms ch x queue width is known beats).on (on_it x)
 
-pub moved-on : {w : ℕ} (config : Config) (log : Log w) (link : Link) (ch : Channel) (h : AbstractState w) (x : Beat w) (queue : List (Beat w)) (terms : Terms)
+pub moved-on : {w : ℕ} (config : Config) (log : Log w) (link : Link) (ch : Channel) (h : AbstractState w) (x : Beat w) (queue : List (Beat w)) (terms : EndConfig)
     → IsWidth w → SimulationRelation config log h.mail h.request h.state (system_after config log)
     → (system_after config log).channels link.0 ch ≡ x ∷ queue → terms_at config link.0 ≡ Some terms
     → is_moving (stepped config (Deliver link ch) (system_after config log)).outcome ≡ true → (b : Bool) → is_to_client ch ≡ b
@@ -261,7 +261,7 @@ asked-flowed {w} config log c o h width is flowed = go (terms_at config c) refl
     After : Step w → Type 0
     After x = MonitorRelations ((Ask c o, x.outcome) ∷ log) (abstract_step_by config (Ask c o) x.outcome sys h).mail (abstract_step_by config (Ask c o) x.outcome sys h).state x.after
 
-    go : (i : Option Terms) → terms_at config c ≡ i → After (stepped config (Ask c o) sys)
+    go : (i : Option EndConfig) → terms_at config c ≡ i → After (stepped config (Ask c o) sys)
     go None none = subst After (sym (stepped-nobody config (Ask c o) sys none))
         (λ d. subst (λ (t : History w). MonitorRelation (asked_by h.mail h.state d) (unfinished_at sys d) d h.state t)
         (sym (flow_still (Ask c o) outcome.NoSuchClient log d refl)) (flowed d))
@@ -319,7 +319,7 @@ unbroken config log h link channel.E l x queue width is values moving beats leve
 pub asked-still : {w : ℕ} (config : Config) (log : Log w) (c : ℕ) (o : Op w) → is_moving (stepped config (Ask c o) (system_after config log)).outcome ≡ false
 asked-still {w} config log c o = go (terms_at config c) refl
   where
-    go : (i : Option Terms) → terms_at config c ≡ i → is_moving (stepped config (Ask c o) (system_after config log)).outcome ≡ false
+    go : (i : Option EndConfig) → terms_at config c ≡ i → is_moving (stepped config (Ask c o) (system_after config log)).outcome ≡ false
     go None none = ap (λ (x : Step w). is_moving x.outcome) (stepped-nobody config (Ask c o) (system_after config log) none)
     go (Some terms) known = ap (λ (x : Step w). is_moving x.outcome) (stepped-asked config c o (system_after config log) terms known)
 

@@ -7,9 +7,9 @@ use Rattle.tl_beat.specs.declared.channel.Channel.{Channel}
 use Rattle.tl_beat.specs.statement.Line.{IsInRange, IsWritable}
 use Rattle.tl_burst.specs.statement.Messages.{channel_of}
 use Rattle.tl_params.specs.declared.config.Config.{Config}
-use Rattle.tl_rules.specs.statement.Agent.{is_outside}
+use Rattle.tl_rules.specs.statement.Admission.{is_outside}
 use Rattle.tl_rules.specs.statement.Legality.{illegal}
-use Rattle.tl_client.specs.statement.End.{Terms}
+use Rattle.tl_client.specs.statement.Endpoint.{EndConfig}
 use Rattle.tl_manager.proofs.Placing.{limits}
 use Rattle.tl_coherence.specs.declared.event.Event.{Event}
 use Rattle.tl_coherence.specs.declared.event.Event.TheVariants.{Ask, Deliver}
@@ -39,7 +39,7 @@ use Rattle.tl_coherence.proofs.lines.Writable.{legal-writable}
 
 -- ---- the first beat of a channel
 
-module _ {w : ℕ} (config : Config) (log : Log w) (given : IsGiven config log) (c : ℕ) (terms : Terms) (known : terms_at config c ≡ Some terms) (ch : Channel)
+module _ {w : ℕ} (config : Config) (log : Log w) (given : IsGiven config log) (c : ℕ) (terms : EndConfig) (known : terms_at config c ≡ Some terms) (ch : Channel)
     (x : Beat w) (queue : List (Beat w)) (beats : (system_after config log).channels c ch ≡ x ∷ queue) where
   is : SimulationRelation config log (shadow config log).mail (shadow config log).request (shadow config log).state (system_after config log)
   is = matched-given config log given
@@ -71,7 +71,7 @@ module _ {w : ℕ} (config : Config) (log : Log w) (given : IsGiven config log) 
 
 -- what holds of the first beat of each channel, where a log is of this kind, holds of all that is delivered
 module _ {w : ℕ} (config : Config) (P : Beat w → Type 0) (Q : Log w → Type 0) (earlier : (x : Event w × Outcome w) (log : Log w) → Q (x ∷ log) → Q log)
-    (front : (log : Log w) → IsGiven config log → Q log → (c : ℕ) (terms : Terms) → terms_at config c ≡ Some terms
+    (front : (log : Log w) → IsGiven config log → Q log → (c : ℕ) (terms : EndConfig) → terms_at config c ≡ Some terms
     → (ch : Channel) (x : Beat w) (queue : List (Beat w)) → (system_after config log).channels c ch ≡ x ∷ queue → P x) where
   with-beat : (d : ℕ) (log : Log w) (x : Beat w) (b : Bool) → P x → All P (flow d log) → All P (if b then x ∷ flow d log else flow d log)
   with-beat d log x true here rest = All-cons P x (flow d log) here rest

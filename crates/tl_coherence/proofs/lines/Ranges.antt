@@ -20,12 +20,12 @@ use Rattle.tl_params.specs.declared.perm.Perm.{Perm}
 use Rattle.tl_params.specs.declared.perm.Perm.TheVariants as perm
 use Rattle.tl_params.specs.statement.Config.{all_sources_fit, blocks_fit, config_fault, sources_fit, trackers_fit}
 use Rattle.tl_params.specs.statement.Range.{is_from_to}
-use Rattle.tl_rules.specs.statement.Agent.{is_outside}
+use Rattle.tl_rules.specs.statement.Admission.{is_outside}
 use Rattle.tl_rules.specs.statement.Effect as memory
 use Rattle.tl_rules.specs.statement.Effect.{IsBlock, answer_of, as_payload}
 use Rattle.tl_rules.specs.statement.History.{block_at}
 use Rattle.tl_client.specs.declared.operation.Op.TheVariants as op
-use Rattle.tl_client.specs.statement.End.{Terms}
+use Rattle.tl_client.specs.statement.Endpoint.{EndConfig}
 use Rattle.tl_client.specs.statement.Send.{probe_ack, release, sourced}
 use Rattle.tl_manager.specs.statement.Handing.{access_answer, release_ack}
 use Rattle.tl_coherence.specs.refinement.MemoryRelation.{Answers, IsOpened}
@@ -128,7 +128,7 @@ few-sources config c fits = go (slice_get config.clients.items c) refl
     all = (limits-fit (is_from_to 1 16 (length config.clients.items)) (blocks_fit config.blocks) (trackers_fit config.trackers) (all_sources_fit config.clients.items) fits).3
 
     go : (o : Option ClientConfig) → slice_get config.clients.items c ≡ o
-        → sources_of (option_map {U = Terms} (λ x. record { level = x.level; profile = config.profile; sources = x.sources; blocks = config.blocks }) o) ≤ 8
+        → sources_of (option_map {U = EndConfig} (λ x. record { level = x.level; profile = config.profile; sources = x.sources; blocks = config.blocks }) o) ≤ 8
     go None e = omega arith
     go (Some x) e = leb-true x.sources 8 (and_parts (nat_le 1 x.sources) (nat_le x.sources 8) (each-fits config.clients.items c x all e)).1
 

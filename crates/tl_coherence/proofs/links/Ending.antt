@@ -18,7 +18,7 @@ use Rattle.tl_params.specs.declared.config.Config.{Config}
 use Rattle.tl_client.specs.declared.verdict.Finish.{Finish}
 use Rattle.tl_client.specs.declared.verdict.Verdict.{Verdict}
 use Rattle.tl_client.specs.declared.verdict.Verdict.TheVariants as verdict
-use Rattle.tl_client.specs.statement.End.{End, Terms}
+use Rattle.tl_client.specs.statement.Endpoint.{Endpoint, EndConfig}
 use Rattle.tl_client.specs.statement.Offer as offer
 use Rattle.tl_coherence.specs.declared.event.Event.TheVariants.{Deliver}
 use Rattle.tl_coherence.specs.declared.event.Outcome.TheVariants as outcome
@@ -81,7 +81,7 @@ response_of config log h sys c ProbeAck i rest is tokens own = absurd cc
 response_of config log h sys c Release i rest is tokens own = absurd cc
 response_of config log h sys c GrantAck i rest is tokens own = absurd cc
 
-ending_d : {w : ℕ} (config : Config) (log : Log w) (link : Link) (h : AbstractState w) (terms : Terms) (y : Beat w) (queue : List (Beat w)) (x : Beat w) (source : ℕ)
+ending_d : {w : ℕ} (config : Config) (log : Log w) (link : Link) (h : AbstractState w) (terms : EndConfig) (y : Beat w) (queue : List (Beat w)) (x : Beat w) (source : ℕ)
     (f : Finish) → IsWidth w → SimulationRelation config log h.mail h.request h.state (system_after config log)
     → terms_at config link.0 ≡ Some terms → (system_after config log).channels link.0 channel.D ≡ y ∷ queue
     → (stepped config (Deliver link channel.D) (system_after config log)).outcome ≡ outcome.Done x source f → IsEnding config log link channel.D h x source f
@@ -93,7 +93,7 @@ ending_d {w} config log link h terms y queue x source f width is known beats don
     c : ℕ
     c = link.0
 
-    e : End w
+    e : Endpoint w
     e = sys.clients c
 
     moving : is_moving (stepped config (Deliver link channel.D) sys).outcome ≡ true
@@ -154,13 +154,13 @@ ending {w} config log link ch h x source f width is done = found (terms_at confi
     sys : System w
     sys = system_after config log
 
-    up : (at : Channel) (terms : Terms) (y : Beat w) (queue : List (Beat w)) → terms_at config link.0 ≡ Some terms → sys.channels link.0 at ≡ y ∷ queue
+    up : (at : Channel) (terms : EndConfig) (y : Beat w) (queue : List (Beat w)) → terms_at config link.0 ≡ Some terms → sys.channels link.0 at ≡ y ∷ queue
         → is_to_client at ≡ false → (stepped config (Deliver link at) sys).outcome ≡ outcome.Done x source f → ⊥
     up at terms y queue known beats down o =
         let t = manager-moves config link at sys terms y queue known beats down (ap is_moving o) in
         done_moved x y source f (sym o ∙ ap (λ (s : Step w). s.outcome) t.step_is)
 
-    probe : (terms : Terms) (y : Beat w) (queue : List (Beat w)) → terms_at config link.0 ≡ Some terms → sys.channels link.0 channel.B ≡ y ∷ queue
+    probe : (terms : EndConfig) (y : Beat w) (queue : List (Beat w)) → terms_at config link.0 ≡ Some terms → sys.channels link.0 channel.B ≡ y ∷ queue
         → (stepped config (Deliver link channel.B) sys).outcome ≡ outcome.Done x source f → ⊥
     probe terms y queue known beats o =
         let p = delivered-b config log h.mail h.request h.state sys terms (next_tracker sys) link.0 y queue width is known beats in
@@ -169,7 +169,7 @@ ending {w} config log link ch h x source f width is done = found (terms_at confi
         ∙ ap (outcome_of y) (same_answers t.verdict_is verdict.Taken t.message _ (offer.taken y (sys.clients link.0)).answer t.answer
         (ap (λ (i : Beat w). (offer.taken i (sys.clients link.0)).answer) p.1.beat_is)).0)
 
-    moves : (at : Channel) (terms : Terms) (beats : List (Beat w)) → terms_at config link.0 ≡ Some terms → sys.channels link.0 at ≡ beats
+    moves : (at : Channel) (terms : EndConfig) (beats : List (Beat w)) → terms_at config link.0 ≡ Some terms → sys.channels link.0 at ≡ beats
         → (stepped config (Deliver link at) sys).outcome ≡ outcome.Done x source f → IsEnding config log link at h x source f
     moves at terms [] known none o = absurd (not_moving _ _ (stepped-empty config link at sys terms known none) (ap is_moving o) refl)
     moves channel.A terms (y ∷ queue) known beats o = absurd (up channel.A terms y queue known beats refl o)
@@ -178,6 +178,6 @@ ending {w} config log link ch h x source f width is done = found (terms_at confi
     moves channel.D terms (y ∷ queue) known beats o = ending_d config log link h terms y queue x source f width is known beats o
     moves channel.E terms (y ∷ queue) known beats o = absurd (up channel.E terms y queue known beats refl o)
 
-    found : (o : Option Terms) → terms_at config link.0 ≡ o → IsEnding config log link ch h x source f
+    found : (o : Option EndConfig) → terms_at config link.0 ≡ o → IsEnding config log link ch h x source f
     found None none = absurd (not_moving _ _ (stepped-nobody config (Deliver link ch) sys none) (ap is_moving done) refl)
     found (Some terms) known = moves ch terms (sys.channels link.0 ch) known refl done

@@ -14,25 +14,25 @@ use Rattle.tl_burst.specs.declared.message.Message.TheVariants as message
 use Rattle.tl_burst.specs.statement.Burst.{beat_of, burst_of}
 use Rattle.tl_burst.specs.statement.Messages.{History, carried_on, channel_of}
 use Rattle.tl_params.specs.declared.config.Config.{Config}
-use Rattle.tl_rules.specs.statement.Agent.{sent_if_any}
+use Rattle.tl_rules.specs.statement.Admission.{sent_if_any}
 use Rattle.tl_rules.specs.statement.Conformance.{Trace, on_link}
 use Rattle.tl_client.specs.declared.operation.Op.{Op}
 use Rattle.tl_client.specs.declared.verdict.Verdict.{Verdict}
 use Rattle.tl_client.specs.declared.verdict.Verdict.TheVariants as verdict
 use Rattle.tl_client.specs.laws.After as client_after
 use Rattle.tl_client.specs.statement.Ask as ask
-use Rattle.tl_client.specs.statement.End.{End, Terms}
+use Rattle.tl_client.specs.statement.Endpoint.{Endpoint, EndConfig}
 use Rattle.tl_client.specs.statement.Offer as offer
 use Rattle.tl_client.proofs.AfterAsked.{past-asked}
 use Rattle.tl_client.proofs.AfterOffered.{past-offered}
 use Rattle.tl_manager.specs.statement.Handing.{Handed, with_handed}
 use Rattle.tl_manager.specs.code.Kept as manager
 use Rattle.tl_manager.specs.code.Kept.{Each}
-use Rattle.tl_manager.specs.statement.Deed as manager_deed
+use Rattle.tl_manager.specs.statement.Reaction as manager_reaction
 use Rattle.tl_manager.specs.statement.End as manager_end
 use Rattle.tl_manager.specs.statement.Offer as manager_offer
 use Rattle.tl_manager.specs.statement.Offer.{is_from_client}
-use Rattle.tl_manager.proofs.Deeds.{deed_handable}
+use Rattle.tl_manager.proofs.Reactions.{reaction_handable}
 use Rattle.tl_manager.proofs.Handed.{beats_on_link}
 use Rattle.tl_manager.proofs.Lawful.{IsHandable}
 use Rattle.tl_coherence.specs.declared.event.Event.{Event}
@@ -77,7 +77,7 @@ IsOurs None = ⊤
 IsOurs (Some m) = is_from_client (beat_of m 0) ≡ true
 
 -- the client's end is then with all beats of it
-says-passing : {w : ℕ} (c : ℕ) (m : Option (Message w)) (e : End w) (t : History w) (sys : System w) (p : ℕ → History w) (f : ℕ → History w) → IsOurs m
+says-passing : {w : ℕ} (c : ℕ) (m : Option (Message w)) (e : Endpoint w) (t : History w) (sys : System w) (p : ℕ → History w) (f : ℕ → History w) → IsOurs m
     → e.past ≡ sent_if_any m (p c) → ((d : ℕ) → (d ≡ c → ⊥) → p d ≡ (sys.clients d).past)
     → ArePassing p (λ d. on_link d sys.manager.trace) sys.channels f → IsPassing (with_messages (handed_by c m) (with_client c e sys)) f
 unfolding with_messages
@@ -187,7 +187,7 @@ asked-passing {w} config log c o mail request s matched typed is = go (terms_at 
     f : ℕ → History w
     f d = flow d log
 
-    go : (i : Option Terms) → terms_at config c ≡ i → IsPassing (stepped config (Ask c o) sys).after f
+    go : (i : Option EndConfig) → terms_at config c ≡ i → IsPassing (stepped config (Ask c o) sys).after f
     go None none = subst (λ (x : Step w). IsPassing x.after f) (sym (stepped-nobody config (Ask c o) sys none)) is
     go (Some terms) known =
         let x = ask.asked terms o (sys.clients c) in
@@ -200,7 +200,7 @@ asked-passing {w} config log c o mail request s matched typed is = go (terms_at 
         ours None fit = tt
         ours (Some m) fit = ours_from m fit.ours
 
-moved-passing : {w : ℕ} (config : Config) (log : Log w) (link : Link) (ch : Channel) (terms : Terms) (x : Beat w) (queue : List (Beat w)) → IsWidth w
+moved-passing : {w : ℕ} (config : Config) (log : Log w) (link : Link) (ch : Channel) (terms : EndConfig) (x : Beat w) (queue : List (Beat w)) → IsWidth w
     → AreTyped log → IsLog config log → terms_at config link.0 ≡ Some terms → (system_after config log).channels link.0 ch ≡ x ∷ queue
     → is_moving (stepped config (Deliver link ch) (system_after config log)).outcome ≡ true → IsPassing (system_after config log) (λ d. flow d log)
     → IsPassing (stepped config (Deliver link ch) (system_after config log)).after (λ d. flow d ((Deliver link ch, (stepped config (Deliver link ch) (system_after config log)).outcome) ∷ log))
@@ -271,17 +271,17 @@ moved-passing {w} config log link ch terms x queue width typed logged known beat
         by_manager t =
             subst (λ (y : Step w). IsPassing y.after (λ d. flow d ((Deliver link ch, y.outcome) ∷ log))) (sym t.step_is)
             (passing-same (λ d. (sys.clients d).past) (λ d. on_link d e.trace) _ _ (with_messages handed now).channels (with_messages handed now).channels
-            (heard_at c x f) _ (λ d. ap (λ (i : ℕ → End w). (i d).past) (clients-with_messages handed now))
+            (heard_at c x f) _ (λ d. ap (λ (i : ℕ → Endpoint w). (i d).past) (clients-with_messages handed now))
             (λ d. ap (λ (i : manager_end.End w). on_link d i.trace) (manager-with_messages handed now)) (λ d at. refl) (λ d. flow_moved link ch (outcome.Moved x) x log d refl)
-            (manages-passing config handed ((link, x) ∷ sys.manager.trace) now (λ d. (sys.clients d).past) (heard_at c x f) (deed_handable config link x sys.manager width head h.manager_kept.sound)
+            (manages-passing config handed ((link, x) ∷ sys.manager.trace) now (λ d. (sys.clients d).past) (heard_at c x f) (reaction_handable config link x sys.manager width head h.manager_kept.sound)
             (passing-same _ _ _ _ _ _ _ _ (λ d. refl) (λ d. refl) (λ d at. refl) (λ d. refl)
             (manager-hears c ch x queue (λ d. (sys.clients d).past) (λ d. on_link d sys.manager.trace) sys.channels f down on_ch beats is))))
           where
             handed : Handed w
-            handed = (manager_deed.deed config link x sys.manager).handed
+            handed = (manager_reaction.reaction config link x sys.manager).handed
 
             e : manager_end.End w
-            e = manager_offer.taken link x (manager_deed.deed config link x sys.manager) sys.manager
+            e = manager_offer.taken link x (manager_reaction.reaction config link x sys.manager) sys.manager
 
             now : System w
             now = with_manager e (with_channel c ch queue sys)
@@ -304,11 +304,11 @@ passing-event {w} config log (Deliver link ch) width typed logged ok before = de
     Then : Type 0
     Then = IsPassing (stepped config (Deliver link ch) sys).after (λ d. flow d ((Deliver link ch, (stepped config (Deliver link ch) sys).outcome) ∷ log))
 
-    moves : (terms : Terms) (beats : List (Beat w)) → terms_at config link.0 ≡ Some terms → sys.channels link.0 ch ≡ beats → is_moving (stepped config (Deliver link ch) sys).outcome ≡ true → Then
+    moves : (terms : EndConfig) (beats : List (Beat w)) → terms_at config link.0 ≡ Some terms → sys.channels link.0 ch ≡ beats → is_moving (stepped config (Deliver link ch) sys).outcome ≡ true → Then
     moves terms [] known none moving = absurd (not_moving _ _ (stepped-empty config link ch sys terms known none) moving refl)
     moves terms (y ∷ queue) known beats moving = moved-passing config log link ch terms y queue width typed logged known beats moving before
 
-    found : (o : Option Terms) → terms_at config link.0 ≡ o → is_moving (stepped config (Deliver link ch) sys).outcome ≡ true → Then
+    found : (o : Option EndConfig) → terms_at config link.0 ≡ o → is_moving (stepped config (Deliver link ch) sys).outcome ≡ true → Then
     found None none moving = absurd (not_moving _ _ (stepped-nobody config (Deliver link ch) sys none) moving refl)
     found (Some terms) known moving = moves terms (sys.channels link.0 ch) known refl moving
 

@@ -9,7 +9,7 @@ use Rattle.tl_params.specs.declared.perm.Perm.{Perm}
 use Rattle.tl_client.specs.declared.operation.Op.{Op}
 use Rattle.tl_client.specs.declared.verdict.Finish.TheVariants.{Granted}
 use Rattle.tl_client.specs.statement.Ask.{op_block}
-use Rattle.tl_client.specs.statement.End.{Terms, held_at}
+use Rattle.tl_client.specs.statement.Endpoint.{EndConfig, held_at}
 use Rattle.tl_manager.specs.statement.Holders.{recorded}
 use Rattle.tl_coherence.specs.declared.event.Event.TheVariants.{Deliver}
 use Rattle.tl_coherence.specs.declared.event.Outcome.TheVariants as outcome
@@ -47,10 +47,10 @@ pub coherent : {w : ℕ} (config : Config) (log : Log w) → IsGiven config log 
 coherent config log given = coherent-matched config log (shadow config log).mail (shadow config log).request (shadow config log).state (matched-given config log given)
 
 -- a client has terms
-client_terms : (config : Config) (c : ℕ) → is_client config c ≡ true → (terms : Terms) × (terms_at config c ≡ Some terms)
+client_terms : (config : Config) (c : ℕ) → is_client config c ≡ true → (terms : EndConfig) × (terms_at config c ≡ Some terms)
 client_terms config c is = go (terms_at config c) refl is
   where
-    go : (o : Option Terms) → terms_at config c ≡ o → is_some o ≡ true → (terms : Terms) × (terms_at config c ≡ Some terms)
+    go : (o : Option EndConfig) → terms_at config c ≡ o → is_some o ≡ true → (terms : EndConfig) × (terms_at config c ≡ Some terms)
     go (Some terms) e f = (terms, e)
     go None e f = absurd cc
 

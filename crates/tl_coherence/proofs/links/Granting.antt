@@ -18,12 +18,12 @@ use Rattle.tl_params.specs.declared.config.Config.{Config}
 use Rattle.tl_params.specs.declared.param.Cap.{Cap}
 use Rattle.tl_params.specs.declared.perm.Perm.{Perm}
 use Rattle.tl_params.specs.statement.Param.{cap_code, cap_right}
-use Rattle.tl_rules.specs.statement.Agent.{payload_of}
+use Rattle.tl_rules.specs.statement.Admission.{payload_of}
 use Rattle.tl_rules.specs.statement.History.{held, request_of}
 use Rattle.tl_client.specs.declared.operation.Op.{Op}
 use Rattle.tl_client.specs.declared.verdict.Finish.TheVariants as finish
 use Rattle.tl_client.specs.statement.Ask.{op_block}
-use Rattle.tl_client.specs.statement.End.{End}
+use Rattle.tl_client.specs.statement.Endpoint.{Endpoint}
 use Rattle.tl_client.specs.statement.Offer.{address_asked, finish_of}
 use Rattle.tl_manager.specs.statement.Handing.{grant_opcode}
 use Rattle.tl_manager.specs.statement.Service.{is_access_answer}
@@ -73,16 +73,16 @@ ack_grants : (p : Perm) → finish.Granted p ≡ finish.Released → ⊥
 ack_grants p e = absurd cc
 
 -- at a beat
-pub granted-at : {w : ℕ} (y : BeatD w) (e : End w) (d : Bool) (k : Cap) → y.opcode ≡ grant_opcode d → y.param ≡ cap_code k → finish_at y e ≡ finish.Granted (cap_right k)
+pub granted-at : {w : ℕ} (y : BeatD w) (e : Endpoint w) (d : Bool) (k : Cap) → y.opcode ≡ grant_opcode d → y.param ≡ cap_code k → finish_at y e ≡ finish.Granted (cap_right k)
 granted-at {w} y e d k opcode param =
     let address = address_asked (request_of y.source e.past) in
     let payload = payload_of (beat.D y ∷ unfinished channel.D e.past) in
     ap (λ o. finish_of w o y.param y.size address payload) opcode ∙ ap (λ i. finish_of w (grant_opcode d) i y.size address payload) param ∙ granted-finish w d k y.size address payload
 
-answer_at : {w : ℕ} (y : BeatD w) (e : End w) (p : Perm) → is_access_answer y.opcode ≡ true → finish.Granted p ≡ finish_at y e → ⊥
+answer_at : {w : ℕ} (y : BeatD w) (e : Endpoint w) (p : Perm) → is_access_answer y.opcode ≡ true → finish.Granted p ≡ finish_at y e → ⊥
 answer_at {w} y e p is f = answer_grants w y.opcode y.param y.size (address_asked (request_of y.source e.past)) (payload_of (beat.D y ∷ unfinished channel.D e.past)) p is f
 
-pub released-at : {w : ℕ} (y : BeatD w) (e : End w) → y.opcode ≡ opd.ReleaseAck → finish_at y e ≡ finish.Released
+pub released-at : {w : ℕ} (y : BeatD w) (e : Endpoint w) → y.opcode ≡ opd.ReleaseAck → finish_at y e ≡ finish.Released
 released-at {w} y e opcode = ap (λ o. finish_of w o y.param y.size (address_asked (request_of y.source e.past)) (payload_of (beat.D y ∷ unfinished channel.D e.past))) opcode
 
 same_grant : (p q : Perm) → finish.Granted p ≡ finish.Granted q → p ≡ q

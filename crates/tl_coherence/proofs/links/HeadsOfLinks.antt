@@ -18,7 +18,7 @@ use Rattle.tl_rules.specs.statement.History.{is_probe}
 use Rattle.tl_client.specs.declared.verdict.Verdict.{Verdict}
 use Rattle.tl_client.specs.declared.verdict.Verdict.TheVariants as verdict
 use Rattle.tl_client.specs.laws.After.{is_refused}
-use Rattle.tl_client.specs.statement.End.{Terms}
+use Rattle.tl_client.specs.statement.Endpoint.{EndConfig}
 use Rattle.tl_client.specs.statement.Offer.{Offered, offered, silent, taken}
 use Rattle.tl_manager.specs.statement.End as manager_end
 use Rattle.tl_manager.specs.statement.Offer as manager
@@ -117,7 +117,7 @@ taken_up {w} a b e is = subst (λ (o : Offered w). IsTakenUp o.answer) (sym e) i
 
 -- ---- each channel
 
-pub first-of : {w : ℕ} (config : Config) (log : Log w) (h : AbstractState w) (c : ℕ) (terms : Terms) (ch : Channel) (x : Beat w) (queue : List (Beat w)) → IsWidth w
+pub first-of : {w : ℕ} (config : Config) (log : Log w) (h : AbstractState w) (c : ℕ) (terms : EndConfig) (ch : Channel) (x : Beat w) (queue : List (Beat w)) → IsWidth w
     → SimulationRelation config log h.mail h.request h.state (system_after config log)
     → terms_at config c ≡ Some terms → (system_after config log).channels c ch ≡ x ∷ queue → IsFirst config terms c ch x (system_after config log)
 first-of {w} config log h c terms channel.A x queue width is at beats =

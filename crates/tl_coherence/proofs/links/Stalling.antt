@@ -23,8 +23,8 @@ use Rattle.tl_client.specs.declared.verdict.Verdict.{Verdict}
 use Rattle.tl_client.specs.declared.verdict.Verdict.TheVariants as verdict
 use Rattle.tl_burst.specs.declared.message.Message.{Message}
 use Rattle.tl_client.specs.declared.operation.Op.TheVariants.{Release}
-use Rattle.tl_client.specs.statement.End.{Terms}
-use Rattle.tl_client.specs.statement.End as client
+use Rattle.tl_client.specs.statement.Endpoint.{EndConfig}
+use Rattle.tl_client.specs.statement.Endpoint as client
 use Rattle.tl_client.specs.statement.Offer as offer
 use Rattle.tl_client.specs.statement.Offer.{offered}
 use Rattle.tl_manager.specs.statement.End as manager_end
@@ -77,7 +77,7 @@ stalled-as-it-must config link ch x e taken = go (open_level config link e) take
 
 -- ---- a Probe at a client
 
-up-unbroken : {w : ℕ} (terms : Terms) (ch : Channel) (x : Beat w) (e : client.End w) → IsTakenUp (offered terms ch x e).answer → is_none (offer.broken_before terms ch x e) ≡ true
+up-unbroken : {w : ℕ} (terms : EndConfig) (ch : Channel) (x : Beat w) (e : client.Endpoint w) → IsTakenUp (offered terms ch x e).answer → is_none (offer.broken_before terms ch x e) ≡ true
 unfolding offered
 up-unbroken terms ch x e taken = go (offer.broken_before terms ch x e) taken
   where
@@ -85,7 +85,7 @@ up-unbroken terms ch x e taken = go (offer.broken_before terms ch x e) taken
     go None is = refl
     go (Some r) refused = absurd refused
 
-stalled-as-it-waits : {w : ℕ} (terms : Terms) (ch : Channel) (x : Beat w) (e : client.End w) → IsTakenUp (offered terms ch x e).answer → offer.stalls terms ch x e ≡ offer.waits x e.past
+stalled-as-it-waits : {w : ℕ} (terms : EndConfig) (ch : Channel) (x : Beat w) (e : client.Endpoint w) → IsTakenUp (offered terms ch x e).answer → offer.stalls terms ch x e ≡ offer.waits x e.past
 unfolding offer.stalls
 stalled-as-it-waits terms ch x e taken = rw (up-unbroken terms ch x e taken) refl
 
@@ -133,11 +133,11 @@ module _ {w : ℕ} (config : Config) (log : Log w) (mail : AccessMessages w) (re
 
 -- ---- deliveries
 
-emptiness : {w : ℕ} (config : Config) (terms : Terms) (link : ℕ) (ch : Channel) (beats : List (Beat w)) (s : System w) → is_emptiness (delivered config terms link ch beats s).outcome ≡ is_empty beats
+emptiness : {w : ℕ} (config : Config) (terms : EndConfig) (link : ℕ) (ch : Channel) (beats : List (Beat w)) (s : System w) → is_emptiness (delivered config terms link ch beats s).outcome ≡ is_empty beats
 emptiness config terms link ch [] s = refl
 emptiness {w} config terms link ch (x ∷ rest) s = go (is_to_client ch)
   where
-    of_client : (r : Result (Verdict × Option (Message w)) Rule) (e : client.End w) → is_emptiness (judged r link ch x rest e s).outcome ≡ false
+    of_client : (r : Result (Verdict × Option (Message w)) Rule) (e : client.Endpoint w) → is_emptiness (judged r link ch x rest e s).outcome ≡ false
     of_client (Err rule) e = refl
     of_client (Ok (verdict.Stalled, m)) e = refl
     of_client (Ok (verdict.Taken, m)) e = refl
@@ -155,13 +155,13 @@ emptiness {w} config terms link ch (x ∷ rest) s = go (is_to_client ch)
     go false = of_manager _
 
 -- one that is neither empty nor stalled moves a beat
-moving-else : {w : ℕ} (config : Config) (terms : Terms) (link : ℕ) (ch : Channel) (beats : List (Beat w)) (s : System w)
+moving-else : {w : ℕ} (config : Config) (terms : EndConfig) (link : ℕ) (ch : Channel) (beats : List (Beat w)) (s : System w)
     → is_emptiness (delivered config terms link ch beats s).outcome ≡ false → is_stall (delivered config terms link ch beats s).outcome ≡ false
     → is_moving (delivered config terms link ch beats s).outcome ≡ true
 moving-else config terms link ch [] s some unstalled = absurd cc
 moving-else {w} config terms link ch (x ∷ rest) s some unstalled = go (is_to_client ch) unstalled
   where
-    of_client : (r : Result (Verdict × Option (Message w)) Rule) (e : client.End w) → is_stall (judged r link ch x rest e s).outcome ≡ false → is_moving (judged r link ch x rest e s).outcome ≡ true
+    of_client : (r : Result (Verdict × Option (Message w)) Rule) (e : client.Endpoint w) → is_stall (judged r link ch x rest e s).outcome ≡ false → is_moving (judged r link ch x rest e s).outcome ≡ true
     of_client (Err rule) e f = absurd cc
     of_client (Ok (verdict.Stalled, m)) e f = absurd cc
     of_client (Ok (verdict.Taken, m)) e f = refl
@@ -189,14 +189,14 @@ movable-moves {w} config log c ch exactly movable = go (terms_at config c) refl 
     sys : System w
     sys = system_after config log
 
-    go : (o : Option Terms) → terms_at config c ≡ o → (beats : List (Beat w)) → sys.channels c ch ≡ beats → moves config o c ch beats sys ≡ true
+    go : (o : Option EndConfig) → terms_at config c ≡ o → (beats : List (Beat w)) → sys.channels c ch ≡ beats → moves config o c ch beats sys ≡ true
         → is_moving (outcome_of_delivery config log c ch) ≡ true
     go None e beats f g = absurd cc
     go (Some terms) e [] f g = absurd cc
     go (Some terms) e (x ∷ rest) f g =
         let is : IsExact config log c ch = exactly (ap is_some e) in
         let same : outcome_of_delivery config log c ch ≡ (delivered config terms c ch (sys.channels c ch) sys).outcome =
-        ap (λ (o : Option Terms). (stepped_at config o (Deliver (record { 0 = c }) ch) sys).outcome) e in
+        ap (λ (o : Option EndConfig). (stepped_at config o (Deliver (record { 0 = c }) ch) sys).outcome) e in
         let some : is_emptiness (outcome_of_delivery config log c ch) ≡ false = is.empty ∙ ap is_empty f in
         let unstalled : is_stall (outcome_of_delivery config log c ch) ≡ false = is.stalled
         ∙ ap (λ (b : Bool). not (is_empty (sys.channels c ch)) && not b) movable ∙ and-false (not (is_empty (sys.channels c ch))) in
@@ -205,13 +205,13 @@ movable-moves {w} config log c ch exactly movable = go (terms_at config c) refl 
 -- ---- exact stalls
 
 -- what is known of the first beat of a channel: its channel, that no rule refuses it, and that on B it is a Probe
-pub record IsFirst {w : ℕ} (config : Config) (terms : Terms) (c : ℕ) (ch : Channel) (x : Beat w) (sys : System w) : Type 0 where
+pub record IsFirst {w : ℕ} (config : Config) (terms : EndConfig) (c : ℕ) (ch : Channel) (x : Beat w) (sys : System w) : Type 0 where
   pub on : channel_of x ≡ ch
   pub taken : IsTaken config terms c ch x sys
   pub probes : (y : BeatB w) → x ≡ beat.B y → is_probe y.opcode ≡ true
 
 module _ {w : ℕ} (config : Config) (log : Log w) (mail : AccessMessages w) (request : ℕ → MessageA w) (s : State (List ℕ)) (matched : SimulationRelation config log mail request s (system_after config log))
-    (coherent : IsCoherent (system_after config log) log (one_memory_after config log)) (c : ℕ) (terms : Terms) (is : terms_at config c ≡ Some terms) where
+    (coherent : IsCoherent (system_after config log) log (one_memory_after config log)) (c : ℕ) (terms : EndConfig) (is : terms_at config c ≡ Some terms) where
   movable-is : (ch : Channel) (x : Beat w) (rest : List (Beat w)) → (system_after config log).channels c ch ≡ x ∷ rest
       → is_movable config c ch (system_after config log) ≡ not (stalls config terms c ch x (system_after config log))
   unfolding is_movable

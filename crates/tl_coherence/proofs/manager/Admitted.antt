@@ -27,7 +27,7 @@ use Rattle.tl_rules.specs.statement.Conformance.{Trace, on_link, broken_order, b
 use Rattle.tl_rules.specs.statement.History.{pending, block_at, is_acquire, held}
 use Rattle.tl_client.specs.statement.Send.{acquisition, probe_ack, release}
 use Rattle.tl_client.proofs.HeldAfter.{same_block}
-use Rattle.tl_rules.specs.statement.Agent.{is_outside, is_spoiled}
+use Rattle.tl_rules.specs.statement.Admission.{is_outside, is_spoiled}
 use Rattle.tl_rules.specs.statement.Legality.{illegal, is_one_of}
 use Rattle.tl_rules.proofs.Later.{later-legal}
 use Rattle.tl_beat.specs.declared.beat.Link.{Link}
@@ -36,7 +36,7 @@ use Rattle.tl_params.specs.declared.level.Level.{Level}
 use Rattle.tl_params.specs.declared.rule.Rule.TheVariants.{H4, H5}
 use Rattle.tl_manager.specs.code.Kept.{IsSound, IsTyped}
 use Rattle.tl_manager.specs.statement.Offer as manager
-use Rattle.tl_manager.specs.statement.Deed.{deed}
+use Rattle.tl_manager.specs.statement.Reaction.{reaction}
 use Rattle.tl_manager.specs.statement.End.{End}
 use Rattle.tl_manager.specs.statement.Offer.{Passes, level_of, open_level, before_stall, must_wait, judged_at, judged, offered_as, offered, taken}
 use Rattle.tl_manager.proofs.Judged.{judged-passes}
@@ -327,7 +327,7 @@ early-acquire {w} config log mail request s sys c n (suc i) is is_it burst =
 -- ---- the answers
 
 pub offered-taken : {w : ℕ} (config : Config) (link : Link) (ch : Channel) (x : Beat w) (e : End w) → judged config link ch x e ≡ Passes
-    → offered config link ch x e ≡ (manager.Sent (deed config link x e).handed, taken link x (deed config link x e) e)
+    → offered config link ch x e ≡ (manager.Sent (reaction config link x e).handed, taken link x (reaction config link x e) e)
 unfolding offered
 offered-taken config link ch x e f = ap (λ j. offered_as j config link x e) f
 

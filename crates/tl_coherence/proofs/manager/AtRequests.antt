@@ -13,14 +13,14 @@ use Rattle.tl_rules.specs.statement.Conformance.{on_link}
 use Rattle.tl_rules.specs.statement.Effect.{Memory, bytes_from, effect}
 use Rattle.tl_rules.specs.statement.History.{ends, block_at}
 use Rattle.tl_rules.proofs.Sent.{not_last}
-use Rattle.tl_manager.specs.statement.Handing.{Deed, nothing, with_handed, probes, performed}
+use Rattle.tl_manager.specs.statement.Handing.{Reaction, nothing, with_handed, probes, performed}
 use Rattle.tl_manager.specs.statement.Holders.{is_nobody, probed, cap_probed}
 use Rattle.tl_manager.specs.code.Kept.{IsKept, illegal_message_at}
 use Rattle.tl_manager.specs.statement.Service.{services, least_untaken, trackers_of}
-use Rattle.tl_manager.specs.statement.Deed.{deed}
+use Rattle.tl_manager.specs.statement.Reaction.{reaction}
 use Rattle.tl_manager.specs.statement.End.{End}
 use Rattle.tl_manager.specs.statement.Offer.{Reception, level_of, taken}
-use Rattle.tl_manager.proofs.Events.{deed-part, deed-probes, performed-access, performed-acquire}
+use Rattle.tl_manager.proofs.Events.{reaction-part, reaction-probes, performed-access, performed-acquire}
 use Rattle.tl_manager.proofs.Keeping.{kept-offered}
 use Rattle.tl_manager.proofs.Memories.{memory-elsewhere}
 use Rattle.tl_coherence.specs.refinement.AbstractStep.{performs}
@@ -42,10 +42,10 @@ use Rattle.tl_coherence.proofs.queues.Tokens.{set-same, set-other, set-part}
 
 -- the manager's end after this beat
 abbrev pub end_after : {w : ℕ} → Config → ℕ → ℕ → MessageA w → End w → End w
-end_after config c k m e = taken (link_of c) (beat.A (a_beat_of m k)) (deed config (link_of c) (beat.A (a_beat_of m k)) e) e
+end_after config c k m e = taken (link_of c) (beat.A (a_beat_of m k)) (reaction config (link_of c) (beat.A (a_beat_of m k)) e) e
 
 -- where this is done
-abbrev pub end_with : {w : ℕ} → ℕ → ℕ → MessageA w → Deed w → End w → End w
+abbrev pub end_with : {w : ℕ} → ℕ → ℕ → MessageA w → Reaction w → End w → End w
 end_with c k m d e = taken (link_of c) (beat.A (a_beat_of m k)) d e
 
 pub kept-coming : {w : ℕ} (config : Config) (c k : ℕ) (m : MessageA w) (e : End w) → IsComing config c k m e → IsKept config (end_after config c k m e)
@@ -69,25 +69,25 @@ pub at_manager-more : {w : ℕ} (caching : ℕ → Bool) (config : Config) (mail
 unfolding with_handed
 at_manager-more {w} caching config mail request s c k m e inv is more unwaited known =
     let part : ends (beat.A (a_beat_of m k)) (on_link c e.trace) ≡ false = ends-coming config c k m e is ∙ not_last k (beats_of (A m)) more in
-    let done : deed config (link_of c) (beat.A (a_beat_of m k)) e ≡ nothing e.memory = deed-part config (link_of c) (beat.A (a_beat_of m k)) e part in
-    let kept : IsKept config (end_with c k m (nothing e.memory) e) = subst (λ (d : Deed w). IsKept config (end_with c k m d e)) done (kept-coming config c k m e is) in
-    subst (λ (d : Deed w). IsAtManager config mail request s (end_with c k m d e)) (sym done)
+    let done : reaction config (link_of c) (beat.A (a_beat_of m k)) e ≡ nothing e.memory = reaction-part config (link_of c) (beat.A (a_beat_of m k)) e part in
+    let kept : IsKept config (end_with c k m (nothing e.memory) e) = subst (λ (d : Reaction w). IsKept config (end_with c k m d e)) done (kept-coming config c k m e is) in
+    subst (λ (d : Reaction w). IsAtManager config mail request s (end_with c k m d e)) (sym done)
     (at_manager-traced caching config mail request s (end_with c k m (nothing e.memory) e) inv kept
     (traced-more config request s c k m e is more unwaited (traced-known request s e.trace known.managed known.served))
     known.served_with known.memory known.all_live)
 
 -- ---- the last one: others are probed
 
-pub deed-probing : {w : ℕ} (config : Config) (c k n : ℕ) (j : Cap) (m : MessageA w) (e : End w) → IsComing config c k m e → beats_of (A m) ≡ suc k
+pub reaction-probing : {w : ℕ} (config : Config) (c k n : ℕ) (j : Cap) (m : MessageA w) (e : End w) → IsComing config c k m e → beats_of (A m) ≡ suc k
     → block_at m.address ≡ n → cap_probed m.opcode m.param ≡ Some j
     → is_nobody (probed config (service_for c m e.trace) j (with_beat c m k e.trace)) ≡ false
-    → deed config (link_of c) (beat.A (a_beat_of m k)) e ≡ record { handed = probes n j (probed config (service_for c m e.trace) j (with_beat c m k e.trace)); memory = e.memory }
-deed-probing {w} config c k n j m e is last block caps someone =
+    → reaction config (link_of c) (beat.A (a_beat_of m k)) e ≡ record { handed = probes n j (probed config (service_for c m e.trace) j (with_beat c m k e.trace)); memory = e.memory }
+reaction-probing {w} config c k n j m e is last block caps someone =
     let one = some-clients (probed config (service_for c m e.trace) j (with_beat c m k e.trace)) someone in
-    deed-probes config (link_of c) (a_beat_of m k) (service_for c m e.trace) j one.0 one.1 e (served-last config c k m e is last) caps one.2
+    reaction-probes config (link_of c) (a_beat_of m k) (service_for c m e.trace) j one.0 one.1 e (served-last config c k m e is last) caps one.2
     ∙ ap₂ (λ i ds. probing_of i ds) block (sym one.2)
   where
-    probing_of : ℕ → List ℕ → Deed w
+    probing_of : ℕ → List ℕ → Reaction w
     probing_of i ds = record { handed = probes i j ds; memory = e.memory }
 
 pub at_manager-probing : {w : ℕ} (caching : ℕ → Bool) (config : Config) (mail : AccessMessages w) (request : ℕ → MessageA w) (c k n : ℕ) (own : Bool) (source : ℕ)
@@ -97,14 +97,14 @@ pub at_manager-probing : {w : ℕ} (caching : ℕ → Bool) (config : Config) (m
     → IsProbing config c k n own source j m s e → is_nobody (probed config (service_for c m e.trace) j (with_beat c m k e.trace)) ≡ false → IsServedWith mail (Waits c own source j) m
     → IsAtManager config mail request s e → IsAtManager config mail (set n m request) u (end_after config c k m e)
 at_manager-probing {w} caching config mail request c k n own source j m s u e inv blocks is someone with known =
-    let done = deed-probing config c k n j m e is.comes is.last is.for.2 is.for.3 someone in
-    let kept : IsKept config (end_with c k m probing e) = subst (λ (d : Deed w). IsKept config (end_with c k m d e)) done (kept-coming config c k m e is.comes) in
-    subst (λ (d : Deed w). IsAtManager config mail (set n m request) u (end_with c k m d e)) (sym done)
+    let done = reaction-probing config c k n j m e is.comes is.last is.for.2 is.for.3 someone in
+    let kept : IsKept config (end_with c k m probing e) = subst (λ (d : Reaction w). IsKept config (end_with c k m d e)) done (kept-coming config c k m e is.comes) in
+    subst (λ (d : Reaction w). IsAtManager config mail (set n m request) u (end_with c k m d e)) (sym done)
     (at_manager-traced caching config mail (set n m request) u (end_with c k m probing e) inv kept
     (traced-probing config request c k n own source j m s u e blocks is (traced-known request s e.trace known.managed known.served))
     served_now (λ i. known.memory i ∙ sym (ap (λ (b : Block (List ℕ)). b.memory) (blocks i) ∙ set-part (λ (b : Block (List ℕ)). b.memory) n new s.block refl i)) known.all_live)
   where
-    probing : Deed w
+    probing : Reaction w
     probing = record { handed = probes n j (probed config (service_for c m e.trace) j (with_beat c m k e.trace)); memory = e.memory }
 
     new : Block (List ℕ)
@@ -121,15 +121,15 @@ at_manager-probing {w} caching config mail request c k n own source j m s u e in
 pub at_manager-answered : {w : ℕ} (caching : ℕ → Bool) (config : Config) (mail : AccessMessages w) (request : ℕ → MessageA w) (c k n : ℕ) (m : MessageA w) (s u : State (List ℕ)) (e : End w)
     → IsInvariant caching u → ((i : ℕ) → u.block i ≡ set n (performed_block (performs m) (s.block n)) s.block i)
     → IsAnswering config c k n m s e → illegal_message_at (level_of config c) (A m) ≡ None
-    → deed config (link_of c) (beat.A (a_beat_of m k)) e ≡ performed config (service_for c m e.trace) (with_beat c m k e.trace) e.memory
+    → reaction config (link_of c) (beat.A (a_beat_of m k)) e ≡ performed config (service_for c m e.trace) (with_beat c m k e.trace) e.memory
     → IsAtManager config mail request s e → IsAtManager config mail request u (end_after config c k m e)
 at_manager-answered {w} caching config mail request c k n m s u e inv blocks is lawful done known =
-    let kept : IsKept config (end_with c k m answering e) = subst (λ (d : Deed w). IsKept config (end_with c k m d e)) done (kept-coming config c k m e is.comes) in
-    subst (λ (d : Deed w). IsAtManager config mail request u (end_with c k m d e)) (sym done)
+    let kept : IsKept config (end_with c k m answering e) = subst (λ (d : Reaction w). IsKept config (end_with c k m d e)) done (kept-coming config c k m e is.comes) in
+    subst (λ (d : Reaction w). IsAtManager config mail request u (end_with c k m d e)) (sym done)
     (at_manager-traced caching config mail request u (end_with c k m answering e) inv kept
     (traced-answered config request c k n (performs m) m s u e.memory e blocks is (traced-known request s e.trace known.managed known.served)) served_now memory_now known.all_live)
   where
-    answering : Deed w
+    answering : Reaction w
     answering = performed config (service_for c m e.trace) (with_beat c m k e.trace) e.memory
 
     new : Block (List ℕ)
@@ -139,7 +139,7 @@ at_manager-answered {w} caching config mail request c k n m s u e inv blocks is 
     served_now i = rw (ap (λ (b : Block (List ℕ)). b.service) (blocks i) ∙ set-part (λ (b : Block (List ℕ)). b.service) n new s.block refl i) (known.served_with i)
 
     memory_is : answering.memory ≡ (effect (A m) e.memory).0
-    memory_is = ap (λ (d : Deed w). d.memory) (performed-access config (service_for c m e.trace) (with_beat c m k e.trace) e.memory is.access)
+    memory_is = ap (λ (d : Reaction w). d.memory) (performed-access config (service_for c m e.trace) (with_beat c m k e.trace) e.memory is.access)
 
     memory_here : bytes_from answering.memory (64 * n) 64 ≡ performs m (s.block n).memory
     memory_here =
@@ -147,7 +147,7 @@ at_manager-answered {w} caching config mail request c k n m s u e inv blocks is 
         ∙ performed-block (level_of config c) m e.memory is.comes.width lawful ∙ ap (λ i. performs m (bytes_from e.memory (64 * i) 64)) is.block ∙ ap (performs m) (known.memory n)
 
     memory_else : (i : ℕ) → (i ≡ n → ⊥) → bytes_from answering.memory (64 * i) 64 ≡ bytes_from e.memory (64 * i) 64
-    memory_else i other = ap (λ (d : Deed w). bytes_from d.memory (64 * i) 64) (sym done) ∙ memory-coming config c k i m e is.comes (λ f. other (f ∙ is.block))
+    memory_else i other = ap (λ (d : Reaction w). bytes_from d.memory (64 * i) 64) (sym done) ∙ memory-coming config c k i m e is.comes (λ f. other (f ∙ is.block))
 
     memory_now : (i : ℕ) → bytes_from answering.memory (64 * i) 64 ≡ (u.block i).memory
     memory_now i = elim (cases_eq i n) [
@@ -160,15 +160,15 @@ at_manager-answered {w} caching config mail request c k n m s u e inv blocks is 
 pub at_manager-granted : {w : ℕ} (caching : ℕ → Bool) (config : Config) (mail : AccessMessages w) (request : ℕ → MessageA w) (c k n : ℕ) (b : Bool) (j : Cap) (m : MessageA w) (s u : State (List ℕ)) (e : End w)
     → IsInvariant caching u → ((i : ℕ) → u.block i ≡ set n (granted_at_once c (least_untaken (trackers_of (services e.trace))) b j (s.block n)) s.block i)
     → IsGranting config c k n j m s e
-    → deed config (link_of c) (beat.A (a_beat_of m k)) e ≡ performed config (service_for c m e.trace) (with_beat c m k e.trace) e.memory
+    → reaction config (link_of c) (beat.A (a_beat_of m k)) e ≡ performed config (service_for c m e.trace) (with_beat c m k e.trace) e.memory
     → IsAtManager config mail request s e → IsAtManager config mail (set n m request) u (end_after config c k m e)
 at_manager-granted {w} caching config mail request c k n b j m s u e inv blocks is done known =
-    let kept : IsKept config (end_with c k m granting e) = subst (λ (d : Deed w). IsKept config (end_with c k m d e)) done (kept-coming config c k m e is.comes) in
-    subst (λ (d : Deed w). IsAtManager config mail (set n m request) u (end_with c k m d e)) (sym done)
+    let kept : IsKept config (end_with c k m granting e) = subst (λ (d : Reaction w). IsKept config (end_with c k m d e)) done (kept-coming config c k m e is.comes) in
+    subst (λ (d : Reaction w). IsAtManager config mail (set n m request) u (end_with c k m d e)) (sym done)
     (at_manager-traced caching config mail (set n m request) u (end_with c k m granting e) inv kept
     (traced-granted config request c k n b j m s u e.memory e blocks is (traced-known request s e.trace known.managed known.served)) served_now memory_now known.all_live)
   where
-    granting : Deed w
+    granting : Reaction w
     granting = performed config (service_for c m e.trace) (with_beat c m k e.trace) e.memory
 
     new : Block (List ℕ)
@@ -182,5 +182,5 @@ at_manager-granted {w} caching config mail request c k n b j m s u e inv blocks 
 
     memory_now : (i : ℕ) → bytes_from granting.memory (64 * i) 64 ≡ (u.block i).memory
     memory_now i =
-        ap (λ (d : Deed w). bytes_from d.memory (64 * i) 64) (performed-acquire config (service_for c m e.trace) (with_beat c m k e.trace) e.memory is.acquires) ∙ known.memory i
+        ap (λ (d : Reaction w). bytes_from d.memory (64 * i) 64) (performed-acquire config (service_for c m e.trace) (with_beat c m k e.trace) e.memory is.acquires) ∙ known.memory i
         ∙ sym (ap (λ (y : Block (List ℕ)). y.memory) (blocks i) ∙ set-part (λ (y : Block (List ℕ)). y.memory) n new s.block refl i)

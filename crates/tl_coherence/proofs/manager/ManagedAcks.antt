@@ -19,7 +19,7 @@ use Rattle.tl_manager.specs.laws.Pending.{IsAccounted, is_granted_to}
 use Rattle.tl_manager.specs.statement.Service as manager
 use Rattle.tl_manager.specs.statement.Service.{services, service_of_block, is_ended_by}
 use Rattle.tl_manager.proofs.Acked.{services-e, granted-left, accounted-e, burst-e, probe_of-e, request_of-e}
-use Rattle.tl_manager.proofs.Links.{own_beat, other_beat, beat-keeps, pending-closed, whole-e}
+use Rattle.tl_manager.proofs.LinkHistories.{own_beat, other_beat, beat-keeps, pending-closed, whole-e}
 use Rattle.tl_manager.proofs.Serving.{if_passes, serving-filter}
 use Rattle.tl_coherence.specs.protocol.Invariant.{AreNamed, is_busy}
 use Rattle.tl_coherence.specs.refinement.ManagerRelation.{ManagerRelation, is_own, client_in, service_with}

@@ -23,20 +23,20 @@ use Rattle.tl_params.specs.declared.param.Report.{Report}
 use Rattle.tl_params.specs.declared.perm.Perm.{Perm}
 use Rattle.tl_params.specs.declared.perm.Perm.TheVariants as perm
 use Rattle.tl_params.specs.statement.Param.{prune_code, prune_left, prune_right, report_code, report_left, report_right}
-use Rattle.tl_rules.specs.statement.Agent.{payload_of}
+use Rattle.tl_rules.specs.statement.Admission.{payload_of}
 use Rattle.tl_rules.specs.statement.Conformance.{on_link, same_perm}
 use Rattle.tl_rules.specs.statement.History.{ends, block_at, is_grant, is_probe_ack, is_release_ack, pending, reported}
 use Rattle.tl_rules.proofs.Payload.{payload-c}
 use Rattle.tl_rules.proofs.Sent.{is_last}
 use Rattle.tl_burst.proofs.Begun.{length-begun}
-use Rattle.tl_manager.specs.statement.Handing.{Deed, nothing, release_ack, with_handed}
+use Rattle.tl_manager.specs.statement.Handing.{Reaction, nothing, release_ack, with_handed}
 use Rattle.tl_manager.specs.statement.Holders.{is_settled, is_missing}
 use Rattle.tl_manager.specs.code.Kept.{IsKept}
 use Rattle.tl_manager.specs.statement.Offer as manager_offer
-use Rattle.tl_manager.specs.statement.Deed.{deed}
+use Rattle.tl_manager.specs.statement.Reaction.{reaction}
 use Rattle.tl_manager.specs.statement.End.{End}
 use Rattle.tl_manager.specs.statement.Offer.{offered, taken}
-use Rattle.tl_manager.proofs.Events.{deed-part, deed-release, deed-report, deed-ack, memory_with}
+use Rattle.tl_manager.proofs.Events.{reaction-part, reaction-release, reaction-report, reaction-ack, memory_with}
 use Rattle.tl_manager.proofs.Handed.{whole-taken}
 use Rattle.tl_manager.proofs.Keeping.{kept-offered}
 use Rattle.tl_coherence.specs.refinement.AbstractStep.{AbstractState, with_state, some_below}
@@ -63,19 +63,19 @@ IsManagerOf config h e = IsAtManager config h.mail h.request h.state e
 
 -- ---- what each beat leaves that is taken, where this is done at it
 
-abbrev pub left : {w : ℕ} → ℕ → Beat w → Deed w → End w → End w
+abbrev pub left : {w : ℕ} → ℕ → Beat w → Reaction w → End w → End w
 left c x d e = taken (record { 0 = c }) x d e
 
-pub left-is : {w : ℕ} (config : Config) (c : ℕ) (ch : Channel) (x : Beat w) (d : Deed w) (e : End w) → IsTakenUp config c ch x e
-    → deed config (record { 0 = c }) x e ≡ d → (offered config (record { 0 = c }) ch x e).1 ≡ left c x d e
-left-is {w} config c ch x d e up is = ap (λ (p : manager_offer.Reception w × End w). p.1) up.answer ∙ ap (λ (i : Deed w). left c x i e) is
+pub left-is : {w : ℕ} (config : Config) (c : ℕ) (ch : Channel) (x : Beat w) (d : Reaction w) (e : End w) → IsTakenUp config c ch x e
+    → reaction config (record { 0 = c }) x e ≡ d → (offered config (record { 0 = c }) ch x e).1 ≡ left c x d e
+left-is {w} config c ch x d e up is = ap (λ (p : manager_offer.Reception w × End w). p.1) up.answer ∙ ap (λ (i : Reaction w). left c x i e) is
 
-pub kept-left : {w : ℕ} (config : Config) (c : ℕ) (x : BeatC w) (d : Deed w) (e : End w) → IsWidth w → IsTakenUp config c channel.C (beat.C x) e
-    → deed config (record { 0 = c }) (beat.C x) e ≡ d → IsKept config e → IsKept config (left c (beat.C x) d e)
+pub kept-left : {w : ℕ} (config : Config) (c : ℕ) (x : BeatC w) (d : Reaction w) (e : End w) → IsWidth w → IsTakenUp config c channel.C (beat.C x) e
+    → reaction config (record { 0 = c }) (beat.C x) e ≡ d → IsKept config e → IsKept config (left c (beat.C x) d e)
 kept-left config c x d e width up is kept = subst (IsKept config) (left-is config c channel.C (beat.C x) d e up is) (kept-offered config (record { 0 = c }) channel.C (beat.C x) e width tt kept)
 
-pub others-left : {w : ℕ} (config : Config) (c n : ℕ) (x : BeatC w) (d : Deed w) (e : End w) → IsWidth w → IsTakenUp config c channel.C (beat.C x) e
-    → deed config (record { 0 = c }) (beat.C x) e ≡ d → IsKept config e → block_at x.address ≡ n
+pub others-left : {w : ℕ} (config : Config) (c n : ℕ) (x : BeatC w) (d : Reaction w) (e : End w) → IsWidth w → IsTakenUp config c channel.C (beat.C x) e
+    → reaction config (record { 0 = c }) (beat.C x) e ≡ d → IsKept config e → block_at x.address ≡ n
     → (i : ℕ) → (i ≡ n → ⊥) → block_in d.memory i ≡ block_in e.memory i
 others-left {w} config c n x d e width up is kept block i other =
     ap (λ (z : End w). block_in z.memory i) (sym (left-is config c channel.C (beat.C x) d e up is)) ∙ other-blocks config (record { 0 = c }) channel.C x e n width kept block i other
@@ -84,11 +84,11 @@ others-left {w} config c n x d e width up is kept block i other =
 
 pub report_part-left : {w : ℕ} (config : Config) (c : ℕ) (x : BeatC w) (h : AbstractState w) (e : End w) → IsWidth w → IsTakenUp config c channel.C (beat.C x) e
     → ends (beat.C x) (on_link c e.trace) ≡ false → IsManagerOf config h e
-    → IsManagerOf config h (left c (beat.C x) (deed config (record { 0 = c }) (beat.C x) e) e)
+    → IsManagerOf config h (left c (beat.C x) (reaction config (record { 0 = c }) (beat.C x) e) e)
 unfolding with_handed
 report_part-left {w} config c x h e width up part is =
-    let done = deed-part config (record { 0 = c }) (beat.C x) e part in
-    subst (λ (d : Deed w). IsManagerOf config h (left c (beat.C x) d e)) (sym done) (record {
+    let done = reaction-part config (record { 0 = c }) (beat.C x) e part in
+    subst (λ (d : Reaction w). IsManagerOf config h (left c (beat.C x) d e)) (sym done) (record {
       managed = managed-report_part h.request c x h.state e.trace part is.managed;
       served = are_served-report_part h.request c x h.state e.trace is.served;
       served_with = is.served_with;
@@ -146,18 +146,18 @@ memory-end {w} b c n param carries truth k m e is =
 release_is : {w : ℕ} (source : ℕ) → (m : MessageD w) × (release_ack source ≡ message.D m) × (is_release_ack m.opcode ≡ true) × (is_grant m.opcode ≡ false)
 release_is source = (_, refl, refl, refl)
 
-pub deed-released : {w : ℕ} (config : Config) (c n k : ℕ) (r : Prune) (m : MessageC w) (h : AbstractState w) (e : End w)
+pub reaction-released : {w : ℕ} (config : Config) (c n k : ℕ) (r : Prune) (m : MessageC w) (h : AbstractState w) (e : End w)
     → IsEnd false c n (prune_code r) (same_perm (prune_left r) perm.Trunk) (h.state.block n).truth k m e
-    → deed config (record { 0 = c }) (beat.C (c_beat_of m k)) e ≡ record { handed = (record { 0 = c }, release_ack m.source) ∷ []; memory = memory_with (record { 0 = c }) (c_beat_of m k) e }
-deed-released config c n k r m h e end =
-    deed-release config (record { 0 = c }) (c_beat_of m k) e (ends-it false c n (prune_code r) (same_perm (prune_left r) perm.Trunk) (h.state.block n).truth k m e end) end.about.releases
+    → reaction config (record { 0 = c }) (beat.C (c_beat_of m k)) e ≡ record { handed = (record { 0 = c }, release_ack m.source) ∷ []; memory = memory_with (record { 0 = c }) (c_beat_of m k) e }
+reaction-released config c n k r m h e end =
+    reaction-release config (record { 0 = c }) (c_beat_of m k) e (ends-it false c n (prune_code r) (same_perm (prune_left r) perm.Trunk) (h.state.block n).truth k m e end) end.about.releases
 
 pub released-left : {w : ℕ} (config : Config) (c n k : ℕ) (r : Prune) (rest : List Packet) (m : MessageC w) (h : AbstractState w) (e : End w) → IsTakenUp config c channel.C (beat.C (c_beat_of m k)) e
     → IsEnd false c n (prune_code r) (same_perm (prune_left r) perm.Trunk) (h.state.block n).truth k m e → IsManagerOf config h e
-    → IsManagerOf config (with_state (release_taken c n r rest h.state) h) (left c (beat.C (c_beat_of m k)) (deed config (record { 0 = c }) (beat.C (c_beat_of m k)) e) e)
+    → IsManagerOf config (with_state (release_taken c n r rest h.state) h) (left c (beat.C (c_beat_of m k)) (reaction config (record { 0 = c }) (beat.C (c_beat_of m k)) e) e)
 unfolding with_handed
 released-left {w} config c n k r rest m h e up end is =
-    subst (λ (d : Deed w). IsManagerOf config (with_state after h) (left c (beat.C x) d e)) (sym done) (record {
+    subst (λ (d : Reaction w). IsManagerOf config (with_state after h) (left c (beat.C x) d e)) (sym done) (record {
       managed =
           subst (λ (i : Message w). ManagerRelation h.request after (with_handed ((record { 0 = c }, i) ∷ []) ((record { 0 = c }, beat.C x) ∷ e.trace))) (sym answer.1)
           (managed-released h.request c n r rest x answer.0 h.state e.trace (last-of false c n (prune_code r) carries truth k (prune_right r) m e end (reported-prune r)) released is.managed);
@@ -185,11 +185,11 @@ released-left {w} config c n k r rest m h e up end is =
     after : State (List ℕ)
     after = release_taken c n r rest h.state
 
-    does : Deed w
+    does : Reaction w
     does = record { handed = (record { 0 = c }, release_ack x.source) ∷ []; memory = memory_with (record { 0 = c }) x e }
 
-    done : deed config (record { 0 = c }) (beat.C x) e ≡ does
-    done = deed-released config c n k r m h e end
+    done : reaction config (record { 0 = c }) (beat.C x) e ≡ does
+    done = reaction-released config c n k r m h e end
 
     answer : (i : MessageD w) × (release_ack x.source ≡ message.D i) × (is_release_ack i.opcode ≡ true) × (is_grant i.opcode ≡ false)
     answer = release_is x.source
@@ -223,12 +223,12 @@ settled-is {w} config c n right x h e last report managed =
 
 -- ---- a ProbeAck that isn't the last one missing
 
-pub deed-reported : {w : ℕ} (config : Config) (c n k : ℕ) (r : Report) (m : MessageC w) (h : AbstractState w) (e : End w)
+pub reaction-reported : {w : ℕ} (config : Config) (c n k : ℕ) (r : Report) (m : MessageC w) (h : AbstractState w) (e : End w)
     → IsEnd true c n (report_code r) (same_perm (report_left r) perm.Trunk) (h.state.block n).truth k m e
     → some_below (length config.clients.items) (others_probed c (h.state.block n).pair) ≡ true → ManagerRelation h.request h.state e.trace
-    → deed config (record { 0 = c }) (beat.C (c_beat_of m k)) e ≡ nothing (memory_with (record { 0 = c }) (c_beat_of m k) e)
-deed-reported {w} config c n k r m h e end others managed =
-    deed-report config (record { 0 = c }) x e (ends-it true c n (report_code r) carries truth k m e end) end.about.releases end.about.reports
+    → reaction config (record { 0 = c }) (beat.C (c_beat_of m k)) e ≡ nothing (memory_with (record { 0 = c }) (c_beat_of m k) e)
+reaction-reported {w} config c n k r m h e end others managed =
+    reaction-report config (record { 0 = c }) x e (ends-it true c n (report_code r) carries truth k m e end) end.about.releases end.about.reports
     (ap (λ i. is_settled config i ((record { 0 = c }, beat.C x) ∷ e.trace)) end.about.block
     ∙ settled-is config c n (report_right r) x h e (last-of true c n (report_code r) carries truth k (report_right r) m e end (reported-report r)) end.about.reports managed ∙ rw others refl)
   where
@@ -244,10 +244,10 @@ deed-reported {w} config c n k r m h e end others managed =
 pub reported-left : {w : ℕ} (config : Config) (c n k : ℕ) (r : Report) (rest : List Packet) (m : MessageC w) (h : AbstractState w) (e : End w) → IsTakenUp config c channel.C (beat.C (c_beat_of m k)) e
     → IsEnd true c n (report_code r) (same_perm (report_left r) perm.Trunk) (h.state.block n).truth k m e
     → some_below (length config.clients.items) (others_probed c (h.state.block n).pair) ≡ true → IsManagerOf config h e
-    → IsManagerOf config (with_state (report_taken c n r rest h.state) h) (left c (beat.C (c_beat_of m k)) (deed config (record { 0 = c }) (beat.C (c_beat_of m k)) e) e)
+    → IsManagerOf config (with_state (report_taken c n r rest h.state) h) (left c (beat.C (c_beat_of m k)) (reaction config (record { 0 = c }) (beat.C (c_beat_of m k)) e) e)
 unfolding with_handed
 reported-left {w} config c n k r rest m h e up end others is =
-    subst (λ (d : Deed w). IsManagerOf config (with_state after h) (left c (beat.C x) d e)) (sym done) (record {
+    subst (λ (d : Reaction w). IsManagerOf config (with_state after h) (left c (beat.C x) d e)) (sym done) (record {
       managed = managed-reported h.request c n r rest x h.state e.trace last end.about.reports is.managed;
       served = are_served-reported h.request c n r rest x h.state e.trace is.served;
       served_with = λ i. still i;
@@ -271,14 +271,14 @@ reported-left {w} config c n k r rest m h e up end others is =
     after : State (List ℕ)
     after = report_taken c n r rest h.state
 
-    does : Deed w
+    does : Reaction w
     does = nothing (memory_with (record { 0 = c }) x e)
 
     last : IsLastOf c n (report_right r) x e.trace
     last = last-of true c n (report_code r) carries truth k (report_right r) m e end (reported-report r)
 
-    done : deed config (record { 0 = c }) (beat.C x) e ≡ does
-    done = deed-reported config c n k r m h e end others is.managed
+    done : reaction config (record { 0 = c }) (beat.C x) e ≡ does
+    done = reaction-reported config c n k r m h e end others is.managed
 
     still : (i : ℕ) → IsServedWith h.mail (after.block i).service (h.request i)
     still i = elim (cases_eq i n) [
@@ -290,10 +290,10 @@ reported-left {w} config c n k r rest m h e up end others is =
 
 pub acked-left : {w : ℕ} (config : Config) (c n : ℕ) (rest : List Packet) (x : BeatE) (h : AbstractState w) (e : End w) → IsWidth w
     → IsTakenUp config c channel.E (beat.E x) e → IsAcked c n x h.request h.state e.trace → IsManagerOf config h e
-    → IsManagerOf config (with_state (grant_ack_taken c n rest h.state) h) (left c (beat.E x) (deed config (record { 0 = c }) (beat.E x) e) e)
+    → IsManagerOf config (with_state (grant_ack_taken c n rest h.state) h) (left c (beat.E x) (reaction config (record { 0 = c }) (beat.E x) e) e)
 unfolding with_handed
 acked-left {w} config c n rest x h e width up acks is =
-    subst (λ (d : Deed w). IsManagerOf config (with_state after h) (left c (beat.E x) d e)) (sym done) (record {
+    subst (λ (d : Reaction w). IsManagerOf config (with_state after h) (left c (beat.E x) d e)) (sym done) (record {
       managed = managed-acked h.request c n rest x h.state e.trace acks is.managed;
       served = are_served-acked h.request c n rest x h.state e.trace acks is.served;
       served_with = λ i. still i;
@@ -306,8 +306,8 @@ acked-left {w} config c n rest x h e width up acks is =
     after : State (List ℕ)
     after = grant_ack_taken c n rest h.state
 
-    done : deed config (record { 0 = c }) (beat.E x) e ≡ nothing e.memory
-    done = deed-ack config (record { 0 = c }) x e
+    done : reaction config (record { 0 = c }) (beat.E x) e ≡ nothing e.memory
+    done = reaction-ack config (record { 0 = c }) x e
 
     still : (i : ℕ) → IsServedWith h.mail (after.block i).service (h.request i)
     still i = elim (cases_eq i n) [

@@ -13,7 +13,7 @@ use Rattle.tl_burst.specs.declared.message.Message.TheVariants as message
 use Rattle.tl_burst.specs.declared.message.MessageA.{MessageA}
 use Rattle.tl_params.specs.declared.config.Config.{Config}
 use Rattle.tl_params.specs.declared.level.Level.{Level}
-use Rattle.tl_rules.specs.statement.Agent.{payload_of}
+use Rattle.tl_rules.specs.statement.Admission.{payload_of}
 use Rattle.tl_rules.specs.statement.Effect.{Memory, AccessResult, SameBlock, answer_of, bytes_from, effect}
 use Rattle.tl_rules.specs.statement.History.{block_at}
 use Rattle.tl_rules.proofs.Bursts.{control_of_legal, control_aligned}
@@ -22,7 +22,7 @@ use Rattle.tl_rules.proofs.Rooms.{room_in_block}
 use Rattle.tl_manager.specs.statement.Handing.{access_answer}
 use Rattle.tl_manager.specs.code.Kept.{IsKept, illegal_message_at}
 use Rattle.tl_manager.specs.statement.End as manager_end
-use Rattle.tl_manager.specs.statement.Deed.{with_block, written}
+use Rattle.tl_manager.specs.statement.Reaction.{with_block, written}
 use Rattle.tl_manager.specs.statement.Offer.{offered}
 use Rattle.tl_manager.proofs.Memories.{memory-elsewhere}
 use Rattle.tl_manager.proofs.Written.{block-written}

@@ -31,14 +31,14 @@ use Rattle.tl_rules.specs.declared.answer.Answer.TheVariants as answer
 use Rattle.tl_rules.specs.statement.Conformance.{Trace, on_link, same_perm}
 use Rattle.tl_rules.specs.statement.Effect.{effect, Memory}
 use Rattle.tl_rules.specs.statement.History.{block_at, is_release_ack, pending, is_grant, capped}
-use Rattle.tl_manager.specs.statement.Handing.{Deed, access_answer, performed, with_handed, cap_granted, grant, grant_opcode}
+use Rattle.tl_manager.specs.statement.Handing.{Reaction, access_answer, performed, with_handed, cap_granted, grant, grant_opcode}
 use Rattle.tl_manager.specs.statement.Holders.{is_settled, recorded, has_copy}
 use Rattle.tl_manager.specs.code.Kept.{IsPerformable}
 use Rattle.tl_manager.specs.statement.Service.{is_access_answer, services, service_of_block}
-use Rattle.tl_manager.specs.statement.Deed.{deed}
+use Rattle.tl_manager.specs.statement.Reaction.{reaction}
 use Rattle.tl_manager.specs.statement.End.{End}
 use Rattle.tl_manager.specs.statement.Offer.{level_of}
-use Rattle.tl_manager.proofs.Events.{deed-settled, performed-access, memory_with, performed-acquire}
+use Rattle.tl_manager.proofs.Events.{reaction-settled, performed-access, memory_with, performed-acquire}
 use Rattle.tl_manager.proofs.Granted.{of_served}
 use Rattle.tl_manager.proofs.Judged.{passed}
 use Rattle.tl_manager.proofs.Keeping.{is_taken}
@@ -104,10 +104,10 @@ settling-ready {w} config c q n source k own low r m h e at =
     (ap (λ (i : ℕ). service_of_block i (services (trace_with c k m e))) at.end.about.block ∙ settling-found config c q n source k own low r m h e at)
     (ap (λ (i : ℕ). is_settled config i (trace_with c k m e)) at.end.about.block ∙ settling-all config c q n source k own low r m h e at))
 
-pub settling-deed : {w : ℕ} (config : Config) (c q n source k : ℕ) (own : Bool) (low : Cap) (r : Report) (m : MessageC w) (h : AbstractState w) (e : End w) → IsSettling config c q n source k own low r m h e
-    → deed config (record { 0 = c }) (beat.C (c_beat_of m k)) e ≡ performed config (service_for q n h.request h.state) (trace_with c k m e) (memory_with (record { 0 = c }) (c_beat_of m k) e)
-settling-deed {w} config c q n source k own low r m h e at =
-    deed-settled config (record { 0 = c }) (c_beat_of m k) (service_for q n h.request h.state) e
+pub settling-reaction : {w : ℕ} (config : Config) (c q n source k : ℕ) (own : Bool) (low : Cap) (r : Report) (m : MessageC w) (h : AbstractState w) (e : End w) → IsSettling config c q n source k own low r m h e
+    → reaction config (record { 0 = c }) (beat.C (c_beat_of m k)) e ≡ performed config (service_for q n h.request h.state) (trace_with c k m e) (memory_with (record { 0 = c }) (c_beat_of m k) e)
+settling-reaction {w} config c q n source k own low r m h e at =
+    reaction-settled config (record { 0 = c }) (c_beat_of m k) (service_for q n h.request h.state) e
     (ends-it true c n (report_code r) (same_perm (report_left r) perm.Trunk) (h.state.block n).truth k m e at.end) at.end.about.releases
     at.end.about.reports
     (ap (λ (i : ℕ). is_settled config i (trace_with c k m e)) at.end.about.block ∙ settling-all config c q n source k own low r m h e at)
@@ -167,16 +167,16 @@ answer_is r answer.Hint = (_, refl, refl, refl, refl)
 answer_is r (answer.Data payload) = (_, refl, refl, refl, refl)
 
 -- what is done: the access is performed on what the ProbeAcks left of the block, and its answer is handed out
-pub deed-ended : {w : ℕ} (config : Config) (c q n source k : ℕ) (low : Cap) (r : Report) (m : MessageC w) (h : AbstractState w) (e : End w) → IsSettling config c q n source k false low r m h e
-    → deed config (record { 0 = c }) (beat.C (c_beat_of m k)) e
+pub reaction-ended : {w : ℕ} (config : Config) (c q n source k : ℕ) (low : Cap) (r : Report) (m : MessageC w) (h : AbstractState w) (e : End w) → IsSettling config c q n source k false low r m h e
+    → reaction config (record { 0 = c }) (beat.C (c_beat_of m k)) e
     ≡ record {
       handed = (record { 0 = q }, answers (h.request n) (protocol.written r (h.state.block n).truth (h.state.block n).memory)) ∷ [];
       memory = (effect (message.A (h.request n)) (memory_with (record { 0 = c }) (c_beat_of m k) e)).0;
     }
-deed-ended {w} config c q n source k low r m h e at =
+reaction-ended {w} config c q n source k low r m h e at =
     let for = settling-for config c q n source k false low r m h e at in
     let memory = memory_with (record { 0 = c }) (c_beat_of m k) e in
-    settling-deed config c q n source k false low r m h e at ∙ performed-access config (service_for q n h.request h.state) (trace_with c k m e) memory for.0
+    settling-reaction config c q n source k false low r m h e at ∙ performed-access config (service_for q n h.request h.state) (trace_with c k m e) memory for.0
     ∙ ap (λ (i : Message w). record { handed = (record { 0 = q }, i) ∷ []; memory = (effect (message.A (h.request n)) memory).0 })
     (answer-performed (level_of config q) (h.request n) memory n at.end.width (settling-lawful config c q n source k false low r m h e at).lawful for.2
     ∙ ap (answers (h.request n)) (settling-memory config c q n source k false low r m h e at))
@@ -185,10 +185,10 @@ pub ended-left : {w : ℕ} (config : Config) (c q n source k : ℕ) (low : Cap) 
     → IsSettling config c q n source k false low r m h e
     → IsManagerOf config (with_answer q source (answers (h.request n) (protocol.written r (h.state.block n).truth (h.state.block n).memory))
     (with_state (report_answers c q n source r (performs (h.request n)) rest h.state) h))
-    (left c (beat.C (c_beat_of m k)) (deed config (record { 0 = c }) (beat.C (c_beat_of m k)) e) e)
+    (left c (beat.C (c_beat_of m k)) (reaction config (record { 0 = c }) (beat.C (c_beat_of m k)) e) e)
 unfolding with_handed
 ended-left {w} config c q n source k low r rest m h e at =
-    subst (λ (d : Deed w). IsManagerOf config (with_answer q source said (with_state after h)) (left c (beat.C x) d e)) (sym done) (record {
+    subst (λ (d : Reaction w). IsManagerOf config (with_answer q source said (with_state after h)) (left c (beat.C x) d e)) (sym done) (record {
       managed =
           subst (λ (i : Message w). ManagerRelation h.request after (with_handed ((record { 0 = q }, i) ∷ []) (trace_with c k m e))) (sym reply.1)
           (managed-ended h.request c q n source low r (performs (h.request n)) rest x reply.0 h.state e.trace ending at.is.managed);
@@ -217,11 +217,11 @@ ended-left {w} config c q n source k low r rest m h e at =
     said : Message w
     said = answers (h.request n) (protocol.written r (h.state.block n).truth (h.state.block n).memory)
 
-    does : Deed w
+    does : Reaction w
     does = record { handed = (record { 0 = q }, said) ∷ []; memory = (effect (message.A (h.request n)) (memory_with (record { 0 = c }) x e)).0 }
 
-    done : deed config (record { 0 = c }) (beat.C x) e ≡ does
-    done = deed-ended config c q n source k low r m h e at
+    done : reaction config (record { 0 = c }) (beat.C x) e ≡ does
+    done = reaction-ended config c q n source k low r m h e at
 
     for : IsFor (Waits q false source low) n (h.request n)
     for = settling-for config c q n source k false low r m h e at
@@ -304,12 +304,12 @@ grant_after config c q n source r whole g h =
     (protocol.written r (h.state.block n).truth (h.state.block n).memory)
 
 -- what is done: the Grant is handed out, with what the ProbeAcks left of the block
-pub deed-conceded : {w : ℕ} (config : Config) (c q n source k : ℕ) (low : Cap) (r : Report) (whole : Bool) (g : Grow) (m : MessageC w) (h : AbstractState w)
+pub reaction-conceded : {w : ℕ} (config : Config) (c q n source k : ℕ) (low : Cap) (r : Report) (whole : Bool) (g : Grow) (m : MessageC w) (h : AbstractState w)
     (e : End w) → IsSettling config c q n source k true low r m h e → IsWanted c q n source whole g h
-    → deed config (record { 0 = c }) (beat.C (c_beat_of m k)) e ≡ record
+    → reaction config (record { 0 = c }) (beat.C (c_beat_of m k)) e ≡ record
     { handed = (record { 0 = q }, grant_after config c q n source r whole g h) ∷ []; memory = memory_with (record { 0 = c }) (c_beat_of m k) e }
-deed-conceded {w} config c q n source k low r whole g m h e at wanted =
-    settling-deed config c q n source k true low r m h e at ∙ performed-acquire config (service_for q n h.request h.state) u memory for.0
+reaction-conceded {w} config c q n source k low r whole g m h e at wanted =
+    settling-reaction config c q n source k true low r m h e at ∙ performed-acquire config (service_for q n h.request h.state) u memory for.0
     ∙ ap (λ (i : Message w). record { handed = (record { 0 = q }, i) ∷ []; memory = memory })
     (grant-made config q n (h.state.block n).tracker (h.request n) u memory whole g unheld
     ((h.state.block n).pair q).recorded wanted.opcode_is wanted.param_is for.2 none (settling-records config c q n source k true low r m h e at q ∙ mine)
@@ -342,10 +342,10 @@ deed-conceded {w} config c q n source k low r whole g m h e at wanted =
 pub conceded-left : {w : ℕ} (config : Config) (c q n source k : ℕ) (low : Cap) (r : Report) (whole : Bool) (g : Grow) (rest : List Packet) (m : MessageC w)
     (h : AbstractState w) (e : End w) → IsSettling config c q n source k true low r m h e → IsWanted c q n source whole g h
     → IsManagerOf config (with_state (report_grants c q n r (is_granted_data whole g ((h.state.block n).pair q).recorded) (gift_after config c n r whole g h) rest h.state) h)
-    (left c (beat.C (c_beat_of m k)) (deed config (record { 0 = c }) (beat.C (c_beat_of m k)) e) e)
+    (left c (beat.C (c_beat_of m k)) (reaction config (record { 0 = c }) (beat.C (c_beat_of m k)) e) e)
 unfolding with_handed
 conceded-left {w} config c q n source k low r whole g rest m h e at wanted =
-    subst (λ (d : Deed w). IsManagerOf config (with_state after h) (left c (beat.C x) d e)) (sym done) (record {
+    subst (λ (d : Reaction w). IsManagerOf config (with_state after h) (left c (beat.C x) d e)) (sym done) (record {
       managed =
           subst (λ (i : Message w). ManagerRelation h.request after (with_handed ((record { 0 = q }, i) ∷ []) (trace_with c k m e))) (sym reply.1)
           (managed-conceded h.request c q n source low given r data_too rest x reply.0 h.state e.trace conceded at.is.managed);
@@ -375,11 +375,11 @@ conceded-left {w} config c q n source k low r whole g rest m h e at wanted =
     after : State (List ℕ)
     after = report_grants c q n r data_too given rest h.state
 
-    does : Deed w
+    does : Reaction w
     does = record { handed = (record { 0 = q }, grant_after config c q n source r whole g h) ∷ []; memory = memory_with (record { 0 = c }) x e }
 
-    done : deed config (record { 0 = c }) (beat.C x) e ≡ does
-    done = deed-conceded config c q n source k low r whole g m h e at wanted
+    done : reaction config (record { 0 = c }) (beat.C x) e ≡ does
+    done = reaction-conceded config c q n source k low r whole g m h e at wanted
 
     for : IsFor (Waits q true source low) n (h.request n)
     for = settling-for config c q n source k true low r m h e at

@@ -30,11 +30,11 @@ use Rattle.tl_rules.specs.statement.History.{held, pending}
 use Rattle.tl_rules.proofs.Later.{later-legal}
 use Rattle.tl_manager.specs.code.Kept.{IsSound, IsKept, illegal_at}
 use Rattle.tl_manager.specs.statement.Offer as manager_offer
-use Rattle.tl_manager.specs.statement.Deed.{deed}
+use Rattle.tl_manager.specs.statement.Reaction.{reaction}
 use Rattle.tl_manager.specs.statement.End.{End}
 use Rattle.tl_manager.specs.statement.Offer.{Passes, is_from_client, judged, level_of, must_wait, open_level, unlawful, offered, taken}
 use Rattle.tl_manager.proofs.Judged.{judged-passes, manager-takes}
-use Rattle.tl_manager.proofs.Links.{whole-e}
+use Rattle.tl_manager.proofs.LinkHistories.{whole-e}
 use Rattle.tl_coherence.specs.protocol.Invariant.{IsInvariant, AreNamed}
 use Rattle.tl_coherence.specs.refinement.ManagerRelation.{ManagerRelation, is_own}
 use Rattle.tl_coherence.specs.protocol.Phase.{View, Own, Other, Granting, Acknowledging, GrantedOther, ProbeAnswered, ReleaseSent, is_unreleased, is_unprobed, same_report}
@@ -105,7 +105,7 @@ by-first_e {w} P c mail s sys x queue at ack = subst P (sym at.tokens) (go at.ki
 
 pub record IsTakenUp {w : ℕ} (config : Config) (c : ℕ) (ch : Channel) (x : Beat w) (e : End w) : Type 0 where
   pub passes : judged config (record { 0 = c }) ch x e ≡ Passes
-  pub answer : offered config (record { 0 = c }) ch x e ≡ (manager_offer.Sent (deed config (record { 0 = c }) x e).handed, taken (record { 0 = c }) x (deed config (record { 0 = c }) x e) e)
+  pub answer : offered config (record { 0 = c }) ch x e ≡ (manager_offer.Sent (reaction config (record { 0 = c }) x e).handed, taken (record { 0 = c }) x (reaction config (record { 0 = c }) x e) e)
 
 pub takes : {w : ℕ} (config : Config) (c : ℕ) (ch : Channel) (x : Beat w) (e : End w) → IsSound config (record { 0 = c }, x) → is_from_client x ≡ true → channel_of x ≡ ch → e.closed ≡ []
     → broken_in_order config.profile x (on_link c e.trace) ≡ None → must_wait config (record { 0 = c }) x e.trace ≡ false → IsTakenUp config c ch x e

@@ -24,14 +24,14 @@ use Rattle.tl_rules.specs.statement.History.{pending, held, block_at, is_acquire
 use Rattle.tl_rules.proofs.Sent.{held-sent_d}
 use Rattle.tl_beat.specs.statement.Width.{IsWidth}
 use Rattle.tl_coherence.specs.protocol.Phase.{ClientBlock, is_unprobed}
-use Rattle.tl_manager.specs.statement.Handing.{Deed, with_handed, performed, access_answer, grant, is_granted_data, cap_granted}
+use Rattle.tl_manager.specs.statement.Handing.{Reaction, with_handed, performed, access_answer, grant, is_granted_data, cap_granted}
 use Rattle.tl_manager.specs.statement.Holders as holders
 use Rattle.tl_manager.specs.statement.Holders.{recorded}
 use Rattle.tl_manager.specs.statement.Service.{Service, services, service_of_block, least_untaken, trackers_of}
 use Rattle.tl_manager.specs.statement.End.{End}
 use Rattle.tl_manager.proofs.Events.{performed-access, performed-acquire}
 use Rattle.tl_manager.proofs.Handed.{after_sent, own_link, other_link, whole-taken}
-use Rattle.tl_manager.proofs.Links.{sent-keeps}
+use Rattle.tl_manager.proofs.LinkHistories.{sent-keeps}
 use Rattle.tl_manager.proofs.Performed.{performed-serving}
 use Rattle.tl_manager.proofs.Replies.{reply-quiet, request-reply}
 use Rattle.tl_manager.proofs.Recording.{cap-gives}
@@ -111,7 +111,7 @@ traced-answered {w} {X} config request c k n f m s u memory e blocks is known = 
 
     after_is : after ≡ after_sent (link_of c) (D reply.0) t
     after_is =
-        ap (λ (d : Deed w). with_handed d.handed t) (performed-access config (service_for c m e.trace) t memory is.access) ∙ one-handed c (access_answer m (answer_of (A m) (effect (A m) memory).1)) t
+        ap (λ (d : Reaction w). with_handed d.handed t) (performed-access config (service_for c m e.trace) t memory is.access) ∙ one-handed c (access_answer m (answer_of (A m) (effect (A m) memory).1)) t
         ∙ ap (λ (i : Message w). after_sent (link_of c) i t) reply.1
 
     whole : (d : ℕ) → unfinished channel.D (on_link d t) ≡ []
@@ -187,7 +187,7 @@ traced-granted {w} {X} config request c k n b j m s u memory e blocks is known =
 
     after_is : after ≡ after_sent (link_of c) (D reply.0) t
     after_is =
-        ap (λ (d : Deed w). with_handed d.handed t) (performed-acquire config (service_for c m e.trace) t memory is.acquires) ∙ one-handed c (grant config (service_for c m e.trace) t memory) t
+        ap (λ (d : Reaction w). with_handed d.handed t) (performed-acquire config (service_for c m e.trace) t memory is.acquires) ∙ one-handed c (grant config (service_for c m e.trace) t memory) t
         ∙ ap (λ (i : Message w). after_sent (link_of c) i t) reply.1
 
     whole : (d : ℕ) → unfinished channel.D (on_link d t) ≡ []

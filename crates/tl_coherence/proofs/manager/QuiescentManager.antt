@@ -21,7 +21,7 @@ use Rattle.tl_manager.specs.statement.Holders.{recorded}
 use Rattle.tl_manager.specs.statement.Service.{services, service_of_block}
 use Rattle.tl_manager.proofs.Accesses.{services-release_ack}
 use Rattle.tl_manager.proofs.Handed.{after_sent, own_link, other_link, recorded-taken}
-use Rattle.tl_manager.proofs.Links.{own_beat, other_beat, beat-keeps, pending-closed}
+use Rattle.tl_manager.proofs.LinkHistories.{own_beat, other_beat, beat-keeps, pending-closed}
 use Rattle.tl_manager.proofs.Probing.{services-c, burst-c, probe_of-c, request_of-c}
 use Rattle.tl_manager.proofs.Replies.{reply-quiet, burst-reply, request-reply, probe-reply}
 use Rattle.tl_coherence.specs.refinement.ManagerRelation.{ManagerRelation, is_own}

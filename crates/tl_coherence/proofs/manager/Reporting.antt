@@ -17,7 +17,7 @@ use Rattle.tl_params.specs.declared.perm.Perm.TheVariants as perm
 use Rattle.tl_params.specs.statement.Param.{prune_code, prune_left, prune_right, report_code, report_left}
 use Rattle.tl_rules.specs.statement.History.{block_at, is_probe_ack, is_release, reported}
 use Rattle.tl_rules.specs.statement.Conformance.{same_perm}
-use Rattle.tl_client.specs.statement.End.{zeros}
+use Rattle.tl_client.specs.statement.Endpoint.{zeros}
 use Rattle.tl_client.specs.statement.Send.{about, probe_ack, release}
 use Rattle.tl_client.proofs.HeldAfter.{same_block}
 use Rattle.tl_rules.proofs.Widths.{whole_block}

@@ -16,7 +16,7 @@ use Rattle.tl_manager.specs.statement.Service.{services, service_of_block}
 use Rattle.tl_manager.specs.statement.End.{End}
 use Rattle.tl_manager.proofs.Ended.{services-part}
 use Rattle.tl_manager.proofs.Events.{services-request}
-use Rattle.tl_manager.proofs.Links.{own_beat, other_beat, beat-keeps}
+use Rattle.tl_manager.proofs.LinkHistories.{own_beat, other_beat, beat-keeps}
 use Rattle.tl_coherence.specs.protocol.Protocol.{Waits, State}
 use Rattle.tl_coherence.proofs.manager.Accounts.{IsTraced}
 use Rattle.tl_coherence.proofs.manager.Arrivals.{link_of, with_beat, IsComing, ends-coming, service_for, served-last, request-taken, request-else}

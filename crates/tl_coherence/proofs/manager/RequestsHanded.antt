@@ -16,13 +16,13 @@ use Rattle.tl_rules.specs.statement.Effect.{Memory, bytes_from, effect, answer_o
 use Rattle.tl_rules.specs.statement.Effect as memory
 use Rattle.tl_rules.specs.statement.History.{block_at}
 use Rattle.tl_manager.specs.statement.Handing as handing
-use Rattle.tl_manager.specs.statement.Handing.{Handed, Deed, probes, probe_of_block, performed, grant_with, access_answer, cap_granted, grant_payload}
+use Rattle.tl_manager.specs.statement.Handing.{Handed, Reaction, probes, probe_of_block, performed, grant_with, access_answer, cap_granted, grant_payload}
 use Rattle.tl_manager.specs.statement.Holders as holders
 use Rattle.tl_manager.specs.statement.Holders.{recorded, probed, cap_probed}
 use Rattle.tl_rules.specs.statement.Conformance.{Trace, same_perm}
 use Rattle.tl_client.proofs.HeldAfter.{same_block}
 use Rattle.tl_manager.specs.statement.Service as manager
-use Rattle.tl_manager.specs.statement.Deed.{deed}
+use Rattle.tl_manager.specs.statement.Reaction.{reaction}
 use Rattle.tl_manager.specs.statement.End.{End}
 use Rattle.tl_manager.specs.statement.Offer.{level_of}
 use Rattle.tl_manager.proofs.Events.{performed-access, performed-acquire}
@@ -40,7 +40,7 @@ use Rattle.tl_coherence.proofs.manager.Arrivals.{link_of, with_beat, IsComing, s
 use Rattle.tl_coherence.proofs.protocol.Heads.{IsAsked, IsWanted}
 use Rattle.tl_coherence.proofs.manager.Memories.{performed-reply}
 use Rattle.tl_coherence.proofs.manager.Requests.{recorded-beat}
-use Rattle.tl_coherence.proofs.manager.RequestsTaken.{next_tracker, deed-performed, acquire_wanted, unheld-same}
+use Rattle.tl_coherence.proofs.manager.RequestsTaken.{next_tracker, reaction-performed, acquire_wanted, unheld-same}
 use Rattle.tl_coherence.proofs.queues.Tokens.{same_number, set-same}
 use Rattle.tl_coherence.proofs.queues.Codes.{acquires-so, gives-some, data-same}
 
@@ -50,13 +50,13 @@ pub handed-answered : {w : ℕ} (config : Config) (log : Log w) (mail : AccessMe
     → SimulationRelation config log mail request s sys → (asked : IsAsked config c source mail s)
     → IsComing config c k asked.request sys.manager → beats_of (message.A asked.request) ≡ suc k
     → probes_some (length config.clients.items) c false (cap_probed asked.request.opcode asked.request.param) (s.block (block_at asked.request.address)).pair ≡ false
-    → (deed config (link_of c) (beat.A (a_beat_of asked.request k)) sys.manager).handed ≡ (link_of c, answers asked.request (s.block (block_at asked.request.address)).memory) ∷ []
+    → (reaction config (link_of c) (beat.A (a_beat_of asked.request k)) sys.manager).handed ≡ (link_of c, answers asked.request (s.block (block_at asked.request.address)).memory) ∷ []
 handed-answered {w} config log mail request s sys c source k is asked comes last none =
     let m : MessageA w = asked.request in
     let n : ℕ = block_at m.address in
     let e : End w = sys.manager in
     let bytes_are : bytes_from e.memory (64 * n) 64 ≡ (s.block n).memory = is.memory n in
-    ap (λ (d : Deed w). d.handed) (deed-performed config log mail request s sys c k n false m is comes last asked.access refl none
+    ap (λ (d : Reaction w). d.handed) (reaction-performed config log mail request s sys c k n false m is comes last asked.access refl none
     ∙ performed-access config (service_for c m e.trace) (with_beat c m k e.trace) e.memory asked.access)
     ∙ ap (λ (i : Message w). (link_of c, i) ∷ [])
     (ap (λ (r : memory.AccessResult). access_answer m (answer_of (message.A m) r)) (performed-reply (level_of config c) m e.memory comes.width asked.lawful) ∙ ap (answers m) bytes_are)
@@ -101,7 +101,7 @@ pub handed-granted : {w : ℕ} (config : Config) (log : Log w) (mail : AccessMes
     → probes_some (length config.clients.items) c true (cap_probed (acquire_wanted {w = w} c n s asked).opcode (acquire_wanted {w = w} c n s asked).param) (s.block n).pair ≡ false
     → IsWell caching (granted_at_once c (next_tracker sys) (is_granted_data asked.whole asked.grow ((s.block n).pair c).recorded)
     (gift config.profile asked.whole asked.grow (is_unheld (length config.clients.items) (s.block n).pair)) (s.block n))
-    → (deed config (link_of c) (beat.A (a_beat_of (acquire_wanted c n s asked) k)) sys.manager).handed
+    → (reaction config (link_of c) (beat.A (a_beat_of (acquire_wanted c n s asked) k)) sys.manager).handed
     ≡ (
       link_of c,
       block_message Grant c n (granted_at_once c (next_tracker sys) (is_granted_data asked.whole asked.grow ((s.block n).pair c).recorded)
@@ -109,7 +109,7 @@ pub handed-granted : {w : ℕ} (config : Config) (log : Log w) (mail : AccessMes
     ) ∷ []
 unfolding block_message
 handed-granted {w} config log mail request s sys caching c n k is asked comes last none well =
-    ap (λ (d : Deed w). d.handed) (deed-performed config log mail request s sys c k n true m is comes last (acquires-so asked.whole) (same_block n) none
+    ap (λ (d : Reaction w). d.handed) (reaction-performed config log mail request s sys c k n true m is comes last (acquires-so asked.whole) (same_block n) none
     ∙ performed-acquire config (service_for c m e.trace) u e.memory (acquires-so asked.whole))
     ∙ ap (λ (i : Message w). (link_of c, i) ∷ [])
     (ap₂ (λ (j : Cap) (d : Bool). grant_with (service_for c m e.trace) j d e.memory) given carried

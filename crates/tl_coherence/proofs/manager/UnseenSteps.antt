@@ -15,7 +15,7 @@ use Rattle.tl_client.specs.declared.operation.Op.{Op}
 use Rattle.tl_client.specs.declared.verdict.Verdict.{Verdict}
 use Rattle.tl_client.specs.declared.verdict.Verdict.TheVariants as verdict
 use Rattle.tl_client.specs.statement.Ask as client_ask
-use Rattle.tl_client.specs.statement.End as client
+use Rattle.tl_client.specs.statement.Endpoint as client
 use Rattle.tl_client.specs.statement.Offer.{offered}
 use Rattle.tl_coherence.specs.declared.event.Event.{Event}
 use Rattle.tl_coherence.specs.declared.event.Event.TheVariants.{Ask, Deliver}
@@ -54,7 +54,7 @@ at_manager-nobody {w} config log h sys event is none = rw none (go event)
 
 -- ---- a client is asked
 
-pub at_manager-ask : {w : ℕ} (config : Config) (log : Log w) (h : AbstractState w) (sys : System w) (c : ℕ) (o : Op w) (terms : client.Terms)
+pub at_manager-ask : {w : ℕ} (config : Config) (log : Log w) (h : AbstractState w) (sys : System w) (c : ℕ) (o : Op w) (terms : client.EndConfig)
     → SimulationRelation config log h.mail h.request h.state sys → terms_at config c ≡ Some terms
     → IsAskable (is_caching config) c o (client_ask.asked terms o (sys.clients c)).reply h
     → IsManagerOf config (abstract_step config (Ask c o) sys h) (stepped config (Ask c o) sys).after.manager
@@ -66,14 +66,14 @@ at_manager-ask {w} config log h sys c o terms is there may =
 
 -- ---- a delivery to a client
 
-manager-judged : {w : ℕ} (r : Result (Verdict × Option (Message w)) Rule) (link : ℕ) (ch : Channel) (x : Beat w) (rest : List (Beat w)) (e : client.End w)
+manager-judged : {w : ℕ} (r : Result (Verdict × Option (Message w)) Rule) (link : ℕ) (ch : Channel) (x : Beat w) (rest : List (Beat w)) (e : client.Endpoint w)
     (s : System w) → (judged r link ch x rest e s).after.manager ≡ s.manager
 manager-judged (Err rule) link ch x rest e s = refl
 manager-judged (Ok (verdict.Stalled, m)) link ch x rest e s = refl
 manager-judged (Ok (verdict.Taken, m)) link ch x rest e s = manager-with_messages (handed_by link m) (with_client link e (with_channel link ch rest s))
 manager-judged (Ok (verdict.Done source f, m)) link ch x rest e s = manager-with_messages (handed_by link m) (with_client link e (with_channel link ch rest s))
 
-pub manager-to-client : {w : ℕ} (config : Config) (link : Link) (ch : Channel) (sys : System w) (terms : client.Terms) → terms_at config link.0 ≡ Some terms
+pub manager-to-client : {w : ℕ} (config : Config) (link : Link) (ch : Channel) (sys : System w) (terms : client.EndConfig) → terms_at config link.0 ≡ Some terms
     → is_to_client ch ≡ true → (stepped config (Deliver link ch) sys).after.manager ≡ sys.manager
 manager-to-client {w} config link ch sys terms there up = go (sys.channels link.0 ch) refl
   where
@@ -121,7 +121,7 @@ on-channel channel.E GrantAck l e = refl
 on-channel ch k l e = absurd cc
 
 -- where the invariant is kept, so is what is kept of the manager's end
-pub at_manager-to_client : {w : ℕ} (config : Config) (log : Log w) (h : AbstractState w) (sys : System w) (link : Link) (ch : Channel) (terms : client.Terms)
+pub at_manager-to_client : {w : ℕ} (config : Config) (log : Log w) (h : AbstractState w) (sys : System w) (link : Link) (ch : Channel) (terms : client.EndConfig)
     → SimulationRelation config log h.mail h.request h.state sys → terms_at config link.0 ≡ Some terms → is_to_client ch ≡ true
     → IsInvariant (is_caching config) (abstract_step config (Deliver link ch) sys h).state
     → IsManagerOf config (abstract_step config (Deliver link ch) sys h) (stepped config (Deliver link ch) sys).after.manager

@@ -14,10 +14,10 @@ use Rattle.std.specs.Prelude.{if◌then◌else◌}
 use Rattle.tl_rules.specs.statement.Conformance.{Trace}
 use Rattle.tl_rules.specs.statement.Effect.{Memory, effect, answer_of}
 use Rattle.tl_client.proofs.HeldAfter.{same_block}
-use Rattle.tl_manager.specs.statement.Handing.{Handed, Deed, probes, access_answer, grant_opcode, is_granted_data, grant}
+use Rattle.tl_manager.specs.statement.Handing.{Handed, Reaction, probes, access_answer, grant_opcode, is_granted_data, grant}
 use Rattle.tl_manager.specs.statement.Holders.{recorded, cap_probed, probed}
 use Rattle.tl_manager.specs.statement.Service.{Service, is_access_answer}
-use Rattle.tl_manager.specs.statement.Deed.{deed}
+use Rattle.tl_manager.specs.statement.Reaction.{reaction}
 use Rattle.tl_manager.proofs.Events.{performed-acquire}
 use Rattle.tl_coherence.specs.refinement.MemoryRelation.{IsAccess, MemoryRelation}
 use Rattle.tl_coherence.specs.refinement.AbstractStep.{AbstractState, bytes_at, probes_some, some_below, request_taken, kind_taken}
@@ -31,14 +31,14 @@ use Rattle.tl_coherence.specs.statement.System.{System}
 use Rattle.tl_coherence.specs.protocol.Packet.{Request, Acquire, Packet}
 use Rattle.tl_coherence.specs.refinement.SimulationRelation.{SimulationRelation, is_caching}
 use Rattle.tl_coherence.proofs.manager.Arrivals.{link_of, with_beat, IsComing, service_for}
-use Rattle.tl_coherence.proofs.manager.AtRequests.{deed-probing}
+use Rattle.tl_coherence.proofs.manager.AtRequests.{reaction-probing}
 use Rattle.tl_coherence.proofs.memory.Beside.{done_at, performed-open, performing-one}
 use Rattle.tl_coherence.proofs.memory.BesideKinds.{access_list, beside-request, beside-acquire}
 use Rattle.tl_coherence.proofs.memory.BesideTaken.{IsPerformed}
 use Rattle.tl_coherence.proofs.manager.Choices.{plain-past}
 use Rattle.tl_coherence.proofs.protocol.Heads.{IsAsked, IsWanted}
 use Rattle.tl_coherence.proofs.manager.RequestsHanded.{handed-answered}
-use Rattle.tl_coherence.proofs.manager.RequestsTaken.{next_tracker, probed-some, deed-performed, caps_asked, acquire_wanted}
+use Rattle.tl_coherence.proofs.manager.RequestsTaken.{next_tracker, probed-some, reaction-performed, caps_asked, acquire_wanted}
 use Rattle.tl_coherence.proofs.queues.Codes.{acquires-so}
 
 -- ---- which accesses are answered
@@ -84,7 +84,7 @@ once-performs l h m (inr (q, source, one, opened)) =
 pub request-accesses : {w : ℕ} (config : Config) (log : Log w) (h : AbstractState w) (sys : System w) (c source k : ℕ)
     → SimulationRelation config log h.mail h.request h.state sys → (asked : IsAsked config c source h.mail h.state)
     → IsComing config c k asked.request sys.manager → beats_of (message.A asked.request) ≡ suc k
-    → accesses_answered (deed config (link_of c) (beat.A (a_beat_of asked.request k)) sys.manager).handed
+    → accesses_answered (reaction config (link_of c) (beat.A (a_beat_of asked.request k)) sys.manager).handed
     ≡ access_list c source (probes_some (length config.clients.items) c false (cap_probed asked.request.opcode asked.request.param)
     (h.state.block (block_at asked.request.address)).pair) (cap_probed asked.request.opcode asked.request.param)
 request-accesses {w} config log h sys c source k is asked comes last = accesses (probes_some clients c false (cap_probed m.opcode m.param) b.pair) (cap_probed m.opcode m.param) refl refl
@@ -102,7 +102,7 @@ request-accesses {w} config log h sys c source k is asked comes last = accesses 
     clients = length config.clients.items
 
     done : Handed w
-    done = (deed config (link_of c) (beat.A (a_beat_of m k)) sys.manager).handed
+    done = (reaction config (link_of c) (beat.A (a_beat_of m k)) sys.manager).handed
 
     answered : probes_some clients c false (cap_probed m.opcode m.param) b.pair ≡ false → accesses_answered done ≡ (c, source) ∷ []
     answered none =
@@ -115,14 +115,14 @@ request-accesses {w} config log h sys c source k is asked comes last = accesses 
     accesses false (Some j) f g = answered f
     accesses true (Some j) f g =
         let some : some_below clients (λ d. is_probed c false j (b.pair d).recorded d) ≡ true = rw g at f in
-        ap (λ (d : Deed w). accesses_answered d.handed) (deed-probing config c k n j m sys.manager comes last refl g
+        ap (λ (d : Reaction w). accesses_answered d.handed) (reaction-probing config c k n j m sys.manager comes last refl g
         (probed-some config log h.mail h.request h.state sys c k n false j m is asked.access refl ∙ ap not some))
         ∙ accesses-probes w n j (probed config (service_for c m sys.manager.trace) j (with_beat c m k sys.manager.trace))
 
 pub request-once : {w : ℕ} (config : Config) (log : Log w) (h : AbstractState w) (sys : System w) (c source k : ℕ) (machine : Machine w)
     → SimulationRelation config log h.mail h.request h.state sys → (asked : IsAsked config c source h.mail h.state)
     → IsComing config c k asked.request sys.manager → beats_of (message.A asked.request) ≡ suc k → MemoryRelation h.mail h.state machine
-    → IsOnce (accesses_answered (deed config (link_of c) (beat.A (a_beat_of asked.request k)) sys.manager).handed) h machine
+    → IsOnce (accesses_answered (reaction config (link_of c) (beat.A (a_beat_of asked.request k)) sys.manager).handed) h machine
 request-once {w} config log h sys c source k machine is asked comes last beside =
     go (probes_some (length config.clients.items) c false (cap_probed asked.request.opcode asked.request.param)
     (h.state.block (block_at asked.request.address)).pair) (cap_probed asked.request.opcode asked.request.param)
@@ -131,8 +131,8 @@ request-once {w} config log h sys c source k machine is asked comes last beside 
     opened : IsAccess source (h.mail.request c source) None (machine.opened c Requests source)
     opened = rw asked.used at (beside.requests c source)
 
-    go : (p : Bool) (o : Option Cap) → accesses_answered (deed config (link_of c) (beat.A (a_beat_of asked.request k)) sys.manager).handed ≡ access_list c source p o
-        → IsOnce (accesses_answered (deed config (link_of c) (beat.A (a_beat_of asked.request k)) sys.manager).handed) h machine
+    go : (p : Bool) (o : Option Cap) → accesses_answered (reaction config (link_of c) (beat.A (a_beat_of asked.request k)) sys.manager).handed ≡ access_list c source p o
+        → IsOnce (accesses_answered (reaction config (link_of c) (beat.A (a_beat_of asked.request k)) sys.manager).handed) h machine
     go true (Some j) e = inl e
     go true None e = inr (c, source, e, opened)
     go false (Some j) e = inr (c, source, e, opened)
@@ -142,7 +142,7 @@ pub beside-request_taken : {w : ℕ} (config : Config) (log : Log w) (h : Abstra
     → SimulationRelation config log h.mail h.request h.state sys → (asked : IsAsked config c source h.mail h.state)
     → IsComing config c k asked.request sys.manager → beats_of (message.A asked.request) ≡ suc k → MemoryRelation h.mail h.state machine
     → MemoryRelation (kind_taken config (next_tracker sys) c Request source rest h).mail (kind_taken config (next_tracker sys) c Request source rest h).state
-    (performing (accesses_answered (deed config (link_of c) (beat.A (a_beat_of asked.request k)) sys.manager).handed) machine)
+    (performing (accesses_answered (reaction config (link_of c) (beat.A (a_beat_of asked.request k)) sys.manager).handed) machine)
 beside-request_taken {w} config log h sys c source k rest machine is asked comes last beside =
     subst (λ (i : Message w). MemoryRelation (request_taken clients c source i tracker rest h).mail (request_taken clients c source i tracker rest h).state
     (performing (accesses_answered done) machine)) (sym asked.is_it)
@@ -167,7 +167,7 @@ beside-request_taken {w} config log h sys c source k rest machine is asked comes
     tracker = next_tracker sys
 
     done : Handed w
-    done = (deed config (link_of c) (beat.A (a_beat_of m k)) sys.manager).handed
+    done = (reaction config (link_of c) (beat.A (a_beat_of m k)) sys.manager).handed
 
     performed_so : IsPerformed config c source m h.mail h.state machine
     performed_so = record {
@@ -183,7 +183,7 @@ beside-request_taken {w} config log h sys c source k rest machine is asked comes
 
 pub acquire-accesses : {w : ℕ} (config : Config) (log : Log w) (h : AbstractState w) (sys : System w) (c n k : ℕ) → SimulationRelation config log h.mail h.request h.state sys → (asked : IsWanted w c n h.state)
     → IsComing config c k (acquire_wanted c n h.state asked) sys.manager → beats_of (message.A (acquire_wanted c n h.state asked)) ≡ suc k
-    → accesses_answered (deed config (link_of c) (beat.A (a_beat_of (acquire_wanted c n h.state asked) k)) sys.manager).handed ≡ []
+    → accesses_answered (reaction config (link_of c) (beat.A (a_beat_of (acquire_wanted c n h.state asked) k)) sys.manager).handed ≡ []
 acquire-accesses {w} config log h sys c n k is asked comes last = none (some_below clients (λ d. is_probed c true j (b.pair d).recorded d)) refl
   where
     b : Block (List ℕ)
@@ -201,15 +201,15 @@ acquire-accesses {w} config log h sys c n k is asked comes last = none (some_bel
     caps : cap_probed m.opcode m.param ≡ Some j
     caps = caps_asked w asked.whole asked.grow (b.source c) n
 
-    none : (x : Bool) → some_below clients (λ d. is_probed c true j (b.pair d).recorded d) ≡ x → accesses_answered (deed config (link_of c) (beat.A (a_beat_of m k)) sys.manager).handed ≡ []
+    none : (x : Bool) → some_below clients (λ d. is_probed c true j (b.pair d).recorded d) ≡ x → accesses_answered (reaction config (link_of c) (beat.A (a_beat_of m k)) sys.manager).handed ≡ []
     none true f =
-        ap (λ (d : Deed w). accesses_answered d.handed)
-        (deed-probing config c k n j m sys.manager comes last (same_block n) caps
+        ap (λ (d : Reaction w). accesses_answered d.handed)
+        (reaction-probing config c k n j m sys.manager comes last (same_block n) caps
         (probed-some config log h.mail h.request h.state sys c k n true j m is (acquires-so asked.whole) (same_block n) ∙ ap not f))
         ∙ accesses-probes w n j (probed config (service_for c m sys.manager.trace) j (with_beat c m k sys.manager.trace))
     none false f =
-        ap (λ (d : Deed w). accesses_answered d.handed)
-        (deed-performed config log h.mail h.request h.state sys c k n true m is comes last (acquires-so asked.whole) (same_block n) (rw caps f)
+        ap (λ (d : Reaction w). accesses_answered d.handed)
+        (reaction-performed config log h.mail h.request h.state sys c k n true m is comes last (acquires-so asked.whole) (same_block n) (rw caps f)
         ∙ performed-acquire config (service_for c m sys.manager.trace) (with_beat c m k sys.manager.trace) sys.manager.memory (acquires-so asked.whole))
         ∙ accesses-grant config c (service_for c m sys.manager.trace) (with_beat c m k sys.manager.trace) sys.manager.memory
 
@@ -217,7 +217,7 @@ pub beside-acquire_taken : {w : ℕ} (config : Config) (log : Log w) (h : Abstra
     → SimulationRelation config log h.mail h.request h.state sys → (asked : IsWanted w c n h.state)
     → IsComing config c k (acquire_wanted c n h.state asked) sys.manager → beats_of (message.A (acquire_wanted c n h.state asked)) ≡ suc k → MemoryRelation h.mail h.state machine
     → MemoryRelation (kind_taken config (next_tracker sys) c Acquire n rest h).mail (kind_taken config (next_tracker sys) c Acquire n rest h).state
-    (performing (accesses_answered (deed config (link_of c) (beat.A (a_beat_of (acquire_wanted c n h.state asked) k)) sys.manager).handed) machine)
+    (performing (accesses_answered (reaction config (link_of c) (beat.A (a_beat_of (acquire_wanted c n h.state asked) k)) sys.manager).handed) machine)
 unfolding performing
 beside-acquire_taken {w} config log h sys c n k rest machine is asked comes last beside =
     rw (acquire-accesses config log h sys c n k is asked comes last)

@@ -17,7 +17,7 @@ use Rattle.tl_client.specs.statement.Ask.{copy_stored}
 use Rattle.tl_client.specs.statement.Send.{sourced}
 use Rattle.tl_client.proofs.Stores.{stored-inside, stored-outside, length-stored}
 use Rattle.tl_manager.specs.code.Kept.{illegal_message_at}
-use Rattle.tl_manager.specs.statement.Deed.{with_block}
+use Rattle.tl_manager.specs.statement.Reaction.{with_block}
 use Rattle.tl_manager.proofs.Written.{bytes_are}
 use Rattle.tl_coherence.specs.refinement.AbstractStep.{bytes_at, performs}
 use Rattle.tl_coherence.specs.statement.Machine.{with_number}

@@ -8,8 +8,8 @@ use Rattle.tl_params.specs.declared.config.Config.{Config}
 use Rattle.tl_params.specs.declared.rule.Rule.{Rule}
 use Rattle.tl_client.specs.declared.verdict.Verdict.{Verdict}
 use Rattle.tl_client.specs.declared.verdict.Verdict.TheVariants as verdict
-use Rattle.tl_client.specs.statement.End.{Terms}
-use Rattle.tl_client.specs.statement.End as client
+use Rattle.tl_client.specs.statement.Endpoint.{EndConfig}
+use Rattle.tl_client.specs.statement.Endpoint as client
 use Rattle.tl_client.specs.statement.Offer.{is_stalled, offered}
 use Rattle.tl_client.proofs.Stalls.{stalls-offered}
 use Rattle.tl_manager.specs.code.Kept as kept
@@ -49,12 +49,12 @@ IsTakenIn (manager.Refused rule, e) = ⊥
 IsTakenIn _ = ⊤
 
 -- the end that takes the beat refuses it by no rule
-abbrev pub IsTaken : {w : ℕ} → Config → Terms → ℕ → Channel → Beat w → System w → Type 0
+abbrev pub IsTaken : {w : ℕ} → Config → EndConfig → ℕ → Channel → Beat w → System w → Type 0
 IsTaken config terms link ch x s =
     (is_to_client ch ≡ true → IsTakenUp (offered terms ch x (s.clients link)).answer)
     × (is_to_client ch ≡ false → IsTakenIn (manager.offered config (record { 0 = link }) ch x s.manager))
 
-stall-judged : {w : ℕ} (answer : Result (Verdict × Option (Message w)) Rule) (link : ℕ) (ch : Channel) (x : Beat w) (rest : List (Beat w)) (e : client.End w) (s : System w)
+stall-judged : {w : ℕ} (answer : Result (Verdict × Option (Message w)) Rule) (link : ℕ) (ch : Channel) (x : Beat w) (rest : List (Beat w)) (e : client.Endpoint w) (s : System w)
     → IsTakenUp answer → is_stall (judged answer link ch x rest e s).outcome ≡ is_stalled answer
 stall-judged (Err rule) link ch x rest e s taken = absurd taken
 stall-judged (Ok (verdict.Stalled, m)) link ch x rest e s taken = refl
@@ -67,7 +67,7 @@ stall-managed (manager.Refused rule, e) link ch x rest s taken = absurd taken
 stall-managed (manager.Stalled, e) link ch x rest s taken = refl
 stall-managed (manager.Sent handed, e) link ch x rest s taken = refl
 
-pub stall-delivered : {w : ℕ} (config : Config) (terms : Terms) (link : ℕ) (ch : Channel) (x : Beat w) (rest : List (Beat w)) (s : System w)
+pub stall-delivered : {w : ℕ} (config : Config) (terms : EndConfig) (link : ℕ) (ch : Channel) (x : Beat w) (rest : List (Beat w)) (s : System w)
     → IsTaken config terms link ch x s → is_stall (delivered config terms link ch (x ∷ rest) s).outcome ≡ stalls config terms link ch x s
 stall-delivered {w} config terms link ch x rest s taken = go (is_to_client ch) refl
   where

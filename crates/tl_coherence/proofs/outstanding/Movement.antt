@@ -9,7 +9,7 @@ use Rattle.tl_beat.specs.declared.channel.Channel.{Channel}
 use Rattle.tl_beat.specs.declared.channel.Channel.TheVariants as channel
 use Rattle.tl_burst.specs.declared.message.MessageA.{MessageA}
 use Rattle.tl_params.specs.declared.config.Config.{Config}
-use Rattle.tl_client.specs.statement.End.{Terms}
+use Rattle.tl_client.specs.statement.Endpoint.{EndConfig}
 use Rattle.tl_coherence.specs.statement.Coherent.{IsCoherent}
 use Rattle.tl_coherence.specs.statement.Load.{outstanding}
 use Rattle.tl_coherence.specs.statement.Log.{Log, system_after}
@@ -83,7 +83,7 @@ module _ {w : ℕ} (config : Config) (log : Log w) (mail : AccessMessages w) (re
   bounds : (c : ℕ) → AreBounded c (sources_in config c) config.trackers s
   bounds c = matched-bounded config log mail request s (system_after config log) matched c (sources-own config log c width)
 
-  closed_use : (c source : ℕ) (terms : Terms) → terms_at config c ≡ Some terms → s.uses c source ≡ SourceFree
+  closed_use : (c source : ℕ) (terms : EndConfig) → terms_at config c ≡ Some terms → s.uses c source ≡ SourceFree
   closed_use c source terms at = go (s.uses c source) refl
     where
       zero_there : source < sources_in config c → one_if (is_used (s.uses c source)) ≡ 0
@@ -101,7 +101,7 @@ module _ {w : ℕ} (config : Config) (log : Log w) (mail : AccessMessages w) (re
       go Replied e = used Replied e (λ f. absurd cc)
       go (Acquires n) e = used (Acquires n) e (λ f. absurd cc)
 
-  closed_let : (c source : ℕ) (terms : Terms) → terms_at config c ≡ Some terms → s.lets c source ≡ None
+  closed_let : (c source : ℕ) (terms : EndConfig) → terms_at config c ≡ Some terms → s.lets c source ≡ None
   closed_let c source terms at = go (s.lets c source) refl
     where
       go : (o : Option ℕ) → s.lets c source ≡ o → s.lets c source ≡ None
@@ -109,31 +109,31 @@ module _ {w : ℕ} (config : Config) (log : Log w) (mail : AccessMessages w) (re
       go (Some n) e =
           not_let (s.lets c source) (total-none (sources_in config c) (λ i. one_if (is_let (s.lets c i))) (of_client c (client_below config c terms at)).1 source ((bounds c).releases source n e))
 
-  no_ack : (c : ℕ) (terms : Terms) → terms_at config c ≡ Some terms → (s.link c).e ≡ []
+  no_ack : (c : ℕ) (terms : EndConfig) → terms_at config c ≡ Some terms → (s.link c).e ≡ []
   no_ack c terms at = let both = (of_client c (client_below config c terms at)).0 in nothing_in (s.link c).e (omega (arith, both))
 
   pub closed-when-counted : IsClosed s
   closed-when-counted = record { uses = λ c source. use_is c source (terms_at config c) refl; lets = λ c source. let_is c source (terms_at config c) refl }
     where
-      use_is : (c source : ℕ) (o : Option Terms) → terms_at config c ≡ o → s.uses c source ≡ SourceFree
+      use_is : (c source : ℕ) (o : Option EndConfig) → terms_at config c ≡ o → s.uses c source ≡ SourceFree
       use_is c source None at = matched.strangers c source at
       use_is c source (Some terms) at = closed_use c source terms at
 
-      let_is : (c source : ℕ) (o : Option Terms) → terms_at config c ≡ o → s.lets c source ≡ None
+      let_is : (c source : ℕ) (o : Option EndConfig) → terms_at config c ≡ o → s.lets c source ≡ None
       let_is c source None at = strangers.no_let config log mail request s matched width c at source
       let_is c source (Some terms) at = closed_let c source terms at
 
   pub no-acks-counted : (c : ℕ) → (s.link c).e ≡ []
   no-acks-counted c = go (terms_at config c) refl
     where
-      go : (o : Option Terms) → terms_at config c ≡ o → (s.link c).e ≡ []
+      go : (o : Option EndConfig) → terms_at config c ≡ o → (s.link c).e ≡ []
       go None at = strangers.no_tokens config log mail request s matched width c at channel.E
       go (Some terms) at = no_ack c terms at
 
 -- A delivery is next exactly while something is outstanding.
 pub next-while-outstanding : {w : ℕ} (config : Config) (log : Log w) (mail : AccessMessages w) (request : ℕ → MessageA w) (s : State (List ℕ)) (matched : SimulationRelation config log mail request s (system_after config log))
     → IsCoherent (system_after config log) log (one_memory_after config log) → 0 < config.trackers
-    → ((c : ℕ) (terms : Terms) (ch : Channel) (x : Beat w) (rest : List (Beat w)) → terms_at config c ≡ Some terms → (system_after config log).channels c ch ≡ x ∷ rest
+    → ((c : ℕ) (terms : EndConfig) (ch : Channel) (x : Beat w) (rest : List (Beat w)) → terms_at config c ≡ Some terms → (system_after config log).channels c ch ≡ x ∷ rest
     → IsFirst config terms c ch x (system_after config log))
     → IsWidth w → AreCounted config log s → is_none (next_delivery config (system_after config log)) ≡ (outstanding log == 0)
 next-while-outstanding {w} config log mail request s matched coherent trackers firsts width counted = go (next_delivery config (system_after config log)) refl (outstanding log == 0) refl

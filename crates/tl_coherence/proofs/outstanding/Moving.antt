@@ -16,7 +16,7 @@ use Rattle.tl_params.specs.declared.config.Config.{Config}
 use Rattle.tl_params.specs.declared.key.Key.TheVariants.{ReleaseOf}
 use Rattle.tl_rules.specs.statement.Conformance.{on_link}
 use Rattle.tl_rules.specs.statement.History.{block_at, ends, pending}
-use Rattle.tl_client.specs.statement.End.{Terms}
+use Rattle.tl_client.specs.statement.Endpoint.{EndConfig}
 use Rattle.tl_manager.specs.statement.Service as manager
 use Rattle.tl_manager.specs.statement.Service.{services, service_of_block}
 use Rattle.tl_coherence.specs.refinement.Carried.{IsCarried}
@@ -58,7 +58,7 @@ few_test n lt = grind (arith, nat_tests, lt)
 
 module _ {w : ℕ} (config : Config) (log : Log w) (mail : AccessMessages w) (request : ℕ → MessageA w) (s : State (List ℕ)) (matched : SimulationRelation config log mail request s (system_after config log))
     (coherent : IsCoherent (system_after config log) log (one_memory_after config log)) (trackers : 0 < config.trackers)
-    (firsts : (c : ℕ) (terms : Terms) (ch : Channel) (x : Beat w) (rest : List (Beat w)) → terms_at config c ≡ Some terms
+    (firsts : (c : ℕ) (terms : EndConfig) (ch : Channel) (x : Beat w) (rest : List (Beat w)) → terms_at config c ≡ Some terms
     → (system_after config log).channels c ch ≡ x ∷ rest → IsFirst config terms c ch x (system_after config log)) where
   -- a channel without a beat has no message
   no_message : (c : ℕ) (ch : Channel) → (system_after config log).channels c ch ≡ [] → packets_on ch (s.link c) ≡ []
@@ -74,7 +74,7 @@ module _ {w : ℕ} (config : Config) (log : Log w) (mail : AccessMessages w) (re
 
   -- a channel whose first beat is movable, if there is one, is empty where no delivery is next
   module _ (none : next_delivery config (system_after config log) ≡ None) where
-    nothing_first : (c : ℕ) (terms : Terms) (ch : Channel) → terms_at config c ≡ Some terms
+    nothing_first : (c : ℕ) (terms : EndConfig) (ch : Channel) → terms_at config c ≡ Some terms
         → ((x : Beat w) (rest : List (Beat w)) → (system_after config log).channels c ch ≡ x ∷ rest → is_movable config c ch (system_after config log) ≡ true) → (system_after config log).channels c ch ≡ []
     nothing_first c terms ch is moves = go ((system_after config log).channels c ch) refl
       where
@@ -82,10 +82,10 @@ module _ {w : ℕ} (config : Config) (log : Log w) (mail : AccessMessages w) (re
         go [] e = refl
         go (x ∷ rest) e = absurd (let both : true ≡ false = sym (moves x rest e) ∙ nothing-moves config (system_after config log) c terms ch is none in cc)
 
-    moving : (c : ℕ) (terms : Terms) (ch : Channel) (x : Beat w) (rest : List (Beat w)) → terms_at config c ≡ Some terms → (system_after config log).channels c ch ≡ x ∷ rest → Moves config log c x
+    moving : (c : ℕ) (terms : EndConfig) (ch : Channel) (x : Beat w) (rest : List (Beat w)) → terms_at config c ≡ Some terms → (system_after config log).channels c ch ≡ x ∷ rest → Moves config log c x
     moving c terms ch x rest is e = (exact config log mail request s matched coherent c terms is ch (λ y more f. firsts c terms ch y more is f)).moves x rest e
 
-    empty_e : (c : ℕ) (terms : Terms) → terms_at config c ≡ Some terms → (system_after config log).channels c channel.E ≡ []
+    empty_e : (c : ℕ) (terms : EndConfig) → terms_at config c ≡ Some terms → (system_after config log).channels c channel.E ≡ []
     empty_e c terms is = nothing_first c terms channel.E is (λ x rest e. go x (firsts c terms channel.E x rest is e) (moving c terms channel.E x rest is e))
       where
         go : (x : Beat w) → IsFirst config terms c channel.E x (system_after config log) → Moves config log c x → is_movable config c channel.E (system_after config log) ≡ true
@@ -95,7 +95,7 @@ module _ {w : ℕ} (config : Config) (log : Log w) (mail : AccessMessages w) (re
         go (beat.C y) first m = absurd (let on = first.on in cc)
         go (beat.D y) first m = absurd (let on = first.on in cc)
 
-    empty_d : (c : ℕ) (terms : Terms) → terms_at config c ≡ Some terms → (system_after config log).channels c channel.D ≡ []
+    empty_d : (c : ℕ) (terms : EndConfig) → terms_at config c ≡ Some terms → (system_after config log).channels c channel.D ≡ []
     empty_d c terms is = nothing_first c terms channel.D is (λ x rest e. go x (firsts c terms channel.D x rest is e) (moving c terms channel.D x rest is e))
       where
         go : (x : Beat w) → IsFirst config terms c channel.D x (system_after config log) → Moves config log c x → is_movable config c channel.D (system_after config log) ≡ true
@@ -105,7 +105,7 @@ module _ {w : ℕ} (config : Config) (log : Log w) (mail : AccessMessages w) (re
         go (beat.C y) first m = absurd (let on = first.on in cc)
         go (beat.E y) first m = absurd (let on = first.on in cc)
 
-    empty_c : (c : ℕ) (terms : Terms) → terms_at config c ≡ Some terms → (system_after config log).channels c channel.C ≡ []
+    empty_c : (c : ℕ) (terms : EndConfig) → terms_at config c ≡ Some terms → (system_after config log).channels c channel.C ≡ []
     empty_c c terms is = nothing_first c terms channel.C is (λ x rest e. go x (firsts c terms channel.C x rest is e) (moving c terms channel.C x rest is e))
       where
         go : (x : Beat w) → IsFirst config terms c channel.C x (system_after config log) → Moves config log c x → is_movable config c channel.C (system_after config log) ≡ true
@@ -116,7 +116,7 @@ module _ {w : ℕ} (config : Config) (log : Log w) (mail : AccessMessages w) (re
         go (beat.E y) first m = absurd (let on = first.on in cc)
 
     -- no Release is outstanding, since neither it nor its ReleaseAck is on its way
-    none_releasing : (c n : ℕ) (terms : Terms) → terms_at config c ≡ Some terms → pending (ReleaseOf n) ((system_after config log).clients c).past ≡ false
+    none_releasing : (c n : ℕ) (terms : EndConfig) → terms_at config c ≡ Some terms → pending (ReleaseOf n) ((system_after config log).clients c).past ≡ false
     unfolding count
     none_releasing c n terms is = (matched.known c).releases n ∙ go ((s.block n).pair c).letting refl
       where
@@ -139,7 +139,7 @@ module _ {w : ℕ} (config : Config) (log : Log w) (mail : AccessMessages w) (re
             let no = none_shown (shown ReleaseAck c (s.block n)) (rw no_d at (matched.invariant.transfers c ReleaseAck refl n)) in
             absurd (let it : shown ReleaseAck c (s.block n) ≡ true = rw e refl in let both : true ≡ false = sym it ∙ no in cc)
 
-    empty_b : (c : ℕ) (terms : Terms) → terms_at config c ≡ Some terms → (system_after config log).channels c channel.B ≡ []
+    empty_b : (c : ℕ) (terms : EndConfig) → terms_at config c ≡ Some terms → (system_after config log).channels c channel.B ≡ []
     empty_b c terms is = nothing_first c terms channel.B is (λ x rest e. go x (firsts c terms channel.B x rest is e) (moving c terms channel.B x rest is e))
       where
         go : (x : Beat w) → IsFirst config terms c channel.B x (system_after config log) → Moves config log c x → is_movable config c channel.B (system_after config log) ≡ true
@@ -153,10 +153,10 @@ module _ {w : ℕ} (config : Config) (log : Log w) (mail : AccessMessages w) (re
 
     -- so no block is in service, and each request finds a tracker
     module _ (width : IsWidth w) where
-      by_client : (ch : Channel) → ((c : ℕ) (terms : Terms) → terms_at config c ≡ Some terms → (system_after config log).channels c ch ≡ []) → (c : ℕ) → packets_on ch (s.link c) ≡ []
+      by_client : (ch : Channel) → ((c : ℕ) (terms : EndConfig) → terms_at config c ≡ Some terms → (system_after config log).channels c ch ≡ []) → (c : ℕ) → packets_on ch (s.link c) ≡ []
       by_client ch empties c = go (terms_at config c) refl
         where
-          go : (o : Option Terms) → terms_at config c ≡ o → packets_on ch (s.link c) ≡ []
+          go : (o : Option EndConfig) → terms_at config c ≡ o → packets_on ch (s.link c) ≡ []
           go None is = strangers.no_tokens config log mail request s matched width c is ch
           go (Some terms) is = no_message c ch (empties c terms is)
 
@@ -167,7 +167,7 @@ module _ {w : ℕ} (config : Config) (log : Log w) (mail : AccessMessages w) (re
       none_in_service = none_served (services (system_after config log).manager.trace) (λ n.
           matched.managed.serving_is n ∙ ap (λ (x : Service). service_with (client_in x) (s.block n).tracker (request n)) (free-when_silent _ s n matched.invariant silent))
 
-      empty_a : (c : ℕ) (terms : Terms) → terms_at config c ≡ Some terms → (system_after config log).channels c channel.A ≡ []
+      empty_a : (c : ℕ) (terms : EndConfig) → terms_at config c ≡ Some terms → (system_after config log).channels c channel.A ≡ []
       empty_a c terms is = nothing_first c terms channel.A is (λ x rest e. go x (firsts c terms channel.A x rest is e) (moving c terms channel.A x rest is e))
         where
           go : (x : Beat w) → IsFirst config terms c channel.A x (system_after config log) → Moves config log c x → is_movable config c channel.A (system_after config log) ≡ true

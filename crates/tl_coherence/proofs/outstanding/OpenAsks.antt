@@ -15,7 +15,7 @@ use Rattle.tl_client.specs.declared.reply.Reply.{Reply}
 use Rattle.tl_client.specs.declared.reply.Reply.TheVariants as reply
 use Rattle.tl_client.specs.statement.Ask as ask
 use Rattle.tl_client.specs.statement.Ask.{done, load, store, free_request, free_release, source_or_0}
-use Rattle.tl_client.specs.statement.End.{Terms, End, held_at}
+use Rattle.tl_client.specs.statement.Endpoint.{EndConfig, Endpoint, held_at}
 use Rattle.tl_client.proofs.Cases.{NotBusy, asked-cases}
 use Rattle.tl_client.proofs.Free.{least_free-some}
 use Rattle.tl_coherence.specs.declared.event.Event.TheVariants.{Ask}
@@ -75,19 +75,19 @@ module _ {w : ℕ} (config : Config) (c : ℕ) (h : AbstractState w) where
   busy-opens (op.Access (message.D m)) b = record { requests = refl; releases = refl }
   busy-opens (op.Access (message.E m)) b = record { requests = refl; releases = refl }
 
-  load-opens : (address size : ℕ) (p : Perm) (e : End w) → IsOpenAfter (op.Load address size) (load address size p e).reply
+  load-opens : (address size : ℕ) (p : Perm) (e : Endpoint w) → IsOpenAfter (op.Load address size) (load address size p e).reply
   load-opens address size perm.None e = record { requests = refl; releases = refl }
   load-opens address size perm.Branch e = record { requests = refl; releases = refl }
   load-opens address size perm.Trunk e = record { requests = refl; releases = refl }
 
-  store-opens : (address size value : ℕ) (p : Perm) (e : End w) → IsOpenAfter (op.Store address size value) (store address size value p e).reply
+  store-opens : (address size value : ℕ) (p : Perm) (e : Endpoint w) → IsOpenAfter (op.Store address size value) (store address size value p e).reply
   store-opens address size value perm.None e = record { requests = refl; releases = refl }
   store-opens address size value perm.Branch e = record { requests = refl; releases = refl }
   store-opens address size value perm.Trunk e = record { requests = refl; releases = refl }
 
-  module _ (terms : Terms) (e : End w) (at : terms_at config c ≡ Some terms) (few : c < clients_in config) where
+  module _ (terms : EndConfig) (e : Endpoint w) (at : terms_at config c ≡ Some terms) (few : c < clients_in config) where
     own_source : (source : ℕ) → source < 0 + terms.sources → source < sources_in config c
-    own_source source lt = let is : sources_in config c ≡ terms.sources = ap (λ (o : Option Terms). sources_of o) at in omega (arith, lt, is)
+    own_source source lt = let is : sources_in config c ≡ terms.sources = ap (λ (o : Option EndConfig). sources_of o) at in omega (arith, lt, is)
 
     done-opens : (o : Op w) → NotBusy terms o e → IsAskable (is_caching config) c o (done terms o e).reply h → IsOpenAfter o (done terms o e).reply
     done-opens (op.Load address size) free may = load-opens address size (held_at e (block_at address)) e
@@ -108,7 +108,7 @@ module _ {w : ℕ} (config : Config) (c : ℕ) (h : AbstractState w) where
     done-opens (op.Access (message.E m)) free may = record { requests = refl; releases = refl }
 
 -- What is open after a client is asked.
-pub balance-asked : {w : ℕ} (config : Config) (log : Log w) (h : AbstractState w) (sys : System w) (terms : Terms) (c : ℕ) (o : Op w)
+pub balance-asked : {w : ℕ} (config : Config) (log : Log w) (h : AbstractState w) (sys : System w) (terms : EndConfig) (c : ℕ) (o : Op w)
     → SimulationRelation config log h.mail h.request h.state sys → terms_at config c ≡ Some terms → c < clients_in config
     → IsBalance config h.state (asked c o (ask.asked terms o (sys.clients c)).reply h).state
     (starts_request (Ask c o) (outcome.Replied (ask.asked terms o (sys.clients c)).reply)) false

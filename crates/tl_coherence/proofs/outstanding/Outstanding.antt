@@ -21,8 +21,8 @@ use Rattle.tl_params.specs.declared.rule.Rule.{Rule}
 use Rattle.tl_rules.specs.statement.History.{is_release_ack}
 use Rattle.tl_client.specs.declared.verdict.Verdict.{Verdict}
 use Rattle.tl_client.specs.declared.verdict.Verdict.TheVariants as verdict
-use Rattle.tl_client.specs.statement.End as client
-use Rattle.tl_client.specs.statement.End.{Terms}
+use Rattle.tl_client.specs.statement.Endpoint as client
+use Rattle.tl_client.specs.statement.Endpoint.{EndConfig}
 use Rattle.tl_client.specs.statement.Offer as offer
 use Rattle.tl_client.specs.statement.Offer.{finish_of}
 use Rattle.tl_manager.specs.statement.Handing.{grant_opcode}
@@ -151,7 +151,7 @@ answer_verdict : {w : ℕ} → Result (Verdict × Option (Message w)) Rule → V
 answer_verdict (Ok p) = p.0
 answer_verdict (Err rule) = verdict.Stalled
 
-probe-verdict : {w : ℕ} (x : Beat w) (e : client.End w) (v : Verdict) (m : Option (Message w)) → channel_of x ≡ channel.B → (offer.taken x e).answer ≡ Ok (v, m) → v ≡ verdict.Taken
+probe-verdict : {w : ℕ} (x : Beat w) (e : client.Endpoint w) (v : Verdict) (m : Option (Message w)) → channel_of x ≡ channel.B → (offer.taken x e).answer ≡ Ok (v, m) → v ≡ verdict.Taken
 unfolding answer_verdict
 probe-verdict {w} (beat.B y) e v m of_b answer = sym (ap (answer_verdict {w = w}) answer)
 probe-verdict (beat.A y) e v m of_b answer = absurd cc
@@ -159,7 +159,7 @@ probe-verdict (beat.C y) e v m of_b answer = absurd cc
 probe-verdict (beat.D y) e v m of_b answer = absurd cc
 probe-verdict (beat.E y) e v m of_b answer = absurd cc
 
-probe-ends : {w : ℕ} (x : Beat w) (e : client.End w) (v : Verdict) (m : Option (Message w)) → channel_of x ≡ channel.B → (offer.taken x e).answer ≡ Ok (v, m) → Ends (outcome_of x v) false false
+probe-ends : {w : ℕ} (x : Beat w) (e : client.Endpoint w) (v : Verdict) (m : Option (Message w)) → channel_of x ≡ channel.B → (offer.taken x e).answer ≡ Ok (v, m) → Ends (outcome_of x v) false false
 probe-ends {w} x e v m of_b answer =
     let ends = moved-ends x in
     subst (λ (u : Verdict). Ends (outcome_of x u) false false) (sym (probe-verdict x e v m of_b answer)) (ends.0 ∙ ap is_e of_b, ends.1)
@@ -184,19 +184,19 @@ first-probe {w} c h sys x queue first = go first.kind first.own first.next
 
 -- a delivery that moves a beat is one of a client's link, which has that beat
 pub first-moved : {w : ℕ} (config : Config) (link : Link) (ch : Channel) (sys : System w) → is_moving (stepped config (Deliver link ch) sys).outcome ≡ true
-    → (x : Beat w) × (queue : List (Beat w)) × (terms : Terms) × ((sys.channels link.0 ch ≡ x ∷ queue) × (terms_at config link.0 ≡ Some terms))
+    → (x : Beat w) × (queue : List (Beat w)) × (terms : EndConfig) × ((sys.channels link.0 ch ≡ x ∷ queue) × (terms_at config link.0 ≡ Some terms))
 unfolding stepped
 first-moved {w} config link ch sys moving = go (terms_at config link.0) refl moving
   where
     First : Type 0
-    First = (x : Beat w) × (queue : List (Beat w)) × (terms : Terms) × ((sys.channels link.0 ch ≡ x ∷ queue) × (terms_at config link.0 ≡ Some terms))
+    First = (x : Beat w) × (queue : List (Beat w)) × (terms : EndConfig) × ((sys.channels link.0 ch ≡ x ∷ queue) × (terms_at config link.0 ≡ Some terms))
 
-    at : (terms : Terms) → terms_at config link.0 ≡ Some terms → (beats : List (Beat w)) → sys.channels link.0 ch ≡ beats
+    at : (terms : EndConfig) → terms_at config link.0 ≡ Some terms → (beats : List (Beat w)) → sys.channels link.0 ch ≡ beats
         → is_moving (delivered config terms link.0 ch beats sys).outcome ≡ true → First
     at terms e [] f m = absurd cc
     at terms e (x ∷ queue) f m = (x, queue, terms, (f, e))
 
-    go : (o : Option Terms) → terms_at config link.0 ≡ o → is_moving (stepped_at config o (Deliver link ch) sys).outcome ≡ true → First
+    go : (o : Option EndConfig) → terms_at config link.0 ≡ o → is_moving (stepped_at config o (Deliver link ch) sys).outcome ≡ true → First
     go None e m = absurd cc
     go (Some terms) e m = at terms e (sys.channels link.0 ch) refl m
 
@@ -252,7 +252,7 @@ module _ {w : ℕ} (config : Config) (log : Log w) (h : AbstractState w) (width 
       let yes = first.next.completes_is ∙ one_whole first.next.k (beats_of (message_of_kind first.kind h.mail h.state c first.number)) one first.next.within in
       absurd (let both : true ≡ false = sym yes ∙ part in cc)
 
-  counted-manager : (link : Link) (ch : Channel) (terms : Terms) (x : Beat w) (queue : List (Beat w)) → terms_at config link.0 ≡ Some terms
+  counted-manager : (link : Link) (ch : Channel) (terms : EndConfig) (x : Beat w) (queue : List (Beat w)) → terms_at config link.0 ≡ Some terms
       → is_to_client ch ≡ false → (system_after config log).channels link.0 ch ≡ x ∷ queue
       → is_moving (stepped config (Deliver link ch) (system_after config log)).outcome ≡ true
       → IsCounted (Deliver link ch) (stepped config (Deliver link ch) (system_after config log)).outcome (abstract_step config (Deliver link ch) (system_after config log) h)
@@ -276,7 +276,7 @@ module _ {w : ℕ} (config : Config) (log : Log w) (h : AbstractState w) (width 
   -- ---- what a client takes
 
   -- the first token of the channel, and what its message ends
-  counted-client : (link : Link) (ch : Channel) (terms : Terms) (x : Beat w) (queue : List (Beat w)) → terms_at config link.0 ≡ Some terms → (system_after config log).channels link.0 ch ≡ x ∷ queue
+  counted-client : (link : Link) (ch : Channel) (terms : EndConfig) (x : Beat w) (queue : List (Beat w)) → terms_at config link.0 ≡ Some terms → (system_after config log).channels link.0 ch ≡ x ∷ queue
       → is_moving (stepped config (Deliver link ch) (system_after config log)).outcome ≡ true → (first : IsFirst ch link.0 h.mail h.state (system_after config log) x queue)
       → IsTakenByClient terms link.0 ch x queue (system_after config log) (stepped config (Deliver link ch) (system_after config log))
       → ((v : Verdict) (m : Option (Message w)) → (offer.taken x ((system_after config log).clients link.0)).answer ≡ Ok (v, m)
@@ -297,7 +297,7 @@ module _ {w : ℕ} (config : Config) (log : Log w) (h : AbstractState w) (width 
           followed-moving config link ch (system_after config log) h x queue moving beats
           ∙ ap (λ (l : List Packet). if done then packet_taken config (next_tracker (system_after config log)) link.0 l h else h) first.tokens
 
-  counted-b : (link : Link) (terms : Terms) (x : Beat w) (queue : List (Beat w)) → terms_at config link.0 ≡ Some terms → (system_after config log).channels link.0 channel.B ≡ x ∷ queue
+  counted-b : (link : Link) (terms : EndConfig) (x : Beat w) (queue : List (Beat w)) → terms_at config link.0 ≡ Some terms → (system_after config log).channels link.0 channel.B ≡ x ∷ queue
       → is_moving (stepped config (Deliver link channel.B) (system_after config log)).outcome ≡ true
       → IsCounted (Deliver link channel.B) (stepped config (Deliver link channel.B) (system_after config log)).outcome
       (abstract_step config (Deliver link channel.B) (system_after config log) h)
@@ -319,7 +319,7 @@ module _ {w : ℕ} (config : Config) (log : Log w) (h : AbstractState w) (width 
       × (completes x (unfinished channel.D ((system_after config log).clients c).past) ≡ false → Ends (outcome_of x v) false false)
   response-ends c k mm i x x_is access ack v m answer = (last, part)
     where
-      e : client.End w
+      e : client.Endpoint w
       e = (system_after config log).clients c
 
       y : BeatD w
@@ -341,7 +341,7 @@ module _ {w : ℕ} (config : Config) (log : Log w) (h : AbstractState w) (width 
           let ends = moved-ends x in
           subst (λ (u : Verdict). Ends (outcome_of x u) false false) (sym same) (ends.0 ∙ ap (λ (z : Beat w). is_e (channel_of z)) x_is, ends.1)
 
-  counted-d : (link : Link) (terms : Terms) (x : Beat w) (queue : List (Beat w)) → terms_at config link.0 ≡ Some terms → (system_after config log).channels link.0 channel.D ≡ x ∷ queue
+  counted-d : (link : Link) (terms : EndConfig) (x : Beat w) (queue : List (Beat w)) → terms_at config link.0 ≡ Some terms → (system_after config log).channels link.0 channel.D ≡ x ∷ queue
       → is_moving (stepped config (Deliver link channel.D) (system_after config log)).outcome ≡ true
       → IsCounted (Deliver link channel.D) (stepped config (Deliver link channel.D) (system_after config log)).outcome
       (abstract_step config (Deliver link channel.D) (system_after config log) h)
@@ -388,7 +388,7 @@ module _ {w : ℕ} (config : Config) (log : Log w) (h : AbstractState w) (width 
       (counted-as link ch (stepped config (Deliver link ch) (system_after config log)).outcome h false false (still-ends (stepped config (Deliver link ch) (system_after config log)).outcome still) unopened)
   counted-delivery link ch true moving = go ch (first-moved config link ch (system_after config log) moving) moving
     where
-      go : (i : Channel) → ((x : Beat w) × (queue : List (Beat w)) × (terms : Terms)
+      go : (i : Channel) → ((x : Beat w) × (queue : List (Beat w)) × (terms : EndConfig)
           × (((system_after config log).channels link.0 i ≡ x ∷ queue) × (terms_at config link.0 ≡ Some terms)))
           → is_moving (stepped config (Deliver link i) (system_after config log)).outcome ≡ true
           → IsCounted (Deliver link i) (stepped config (Deliver link i) (system_after config log)).outcome (abstract_step config (Deliver link i) (system_after config log) h)
@@ -404,7 +404,7 @@ module _ {w : ℕ} (config : Config) (log : Log w) (h : AbstractState w) (width 
   counted-followed (Deliver link ch) = counted-delivery link ch (is_moving (stepped config (Deliver link ch) (system_after config log)).outcome) refl
   counted-followed (Ask c o) = go (terms_at config c) refl
     where
-      go : (t : Option Terms) → terms_at config c ≡ t → IsCounted (Ask c o) (stepped_at config t (Ask c o) (system_after config log)).outcome
+      go : (t : Option EndConfig) → terms_at config c ≡ t → IsCounted (Ask c o) (stepped_at config t (Ask c o) (system_after config log)).outcome
           (abstract_step_by config (Ask c o) (stepped_at config t (Ask c o) (system_after config log)).outcome (system_after config log) h)
       go None e = record { requests = refl; releases = refl }
       go (Some terms) e = balance-asked config log h (system_after config log) terms c o matched e (client_below config c terms e)

@@ -16,7 +16,7 @@ use Rattle.tl_params.specs.declared.param.Grow.{Grow}
 use Rattle.tl_rules.specs.statement.Conformance.{on_link}
 use Rattle.tl_rules.specs.statement.History.{block_at, is_acquire}
 use Rattle.tl_client.specs.statement.Requests.{open_beat}
-use Rattle.tl_client.specs.statement.Kept.{acquires}
+use Rattle.tl_client.specs.statement.EndpointInvariant.{acquires}
 use Rattle.tl_client.specs.statement.Send.{acquisition}
 use Rattle.tl_client.proofs.HeldAfter.{same_block}
 use Rattle.tl_manager.specs.code.Kept.{illegal_message_at}

@@ -79,7 +79,7 @@ clients_in config = length config.clients.items
 abbrev pub sources_in : Config → ℕ → ℕ
 sources_in config c = sources_of (terms_at config c)
 
--- so many requests and Releases more are open, and so many less
+-- this many requests and Releases more are open, and this many less
 pub record IsBalance {X : Type 0} (config : Config) (s s' : State X) (starts ends lets lets_go : Bool) : Type 0 where
   pub requests : open_requests config s' + one_if ends ≡ open_requests config s + one_if starts
   pub releases : open_releases config s' + one_if lets_go ≡ open_releases config s + one_if lets

@@ -11,7 +11,7 @@ use Rattle.tl_client.specs.declared.operation.Op.{Op}
 use Rattle.tl_client.specs.declared.verdict.Verdict.{Verdict}
 use Rattle.tl_client.specs.declared.verdict.Verdict.TheVariants as verdict
 use Rattle.tl_client.specs.statement.Ask.{asked}
-use Rattle.tl_client.specs.statement.End.{End, Terms, fresh}
+use Rattle.tl_client.specs.statement.Endpoint.{Endpoint, EndConfig, fresh}
 use Rattle.tl_client.specs.statement.Offer.{offered}
 use Rattle.tl_manager.specs.statement.End as manager_end
 use Rattle.tl_manager.specs.statement.Offer as manager
@@ -23,21 +23,21 @@ use Rattle.tl_coherence.specs.statement.System.{System, terms_at, with_client, w
 use Rattle.tl_coherence.proofs.queues.Steps.{clients-with_messages}
 
 -- what is so of each client's end, whatever it is asked and offered
-pub record AreKept {w : ℕ} (config : Config) (P : ℕ → End w → Type 0) : Type 0 where
+pub record AreKept {w : ℕ} (config : Config) (P : ℕ → Endpoint w → Type 0) : Type 0 where
   pub fresh : (c : ℕ) → P c fresh
-  pub asked : (c : ℕ) (terms : Terms) (op : Op w) (e : End w) → terms_at config c ≡ Some terms → P c e → P c (asked terms op e).after
-  pub offered : (c : ℕ) (terms : Terms) (ch : Channel) (x : Beat w) (e : End w) → terms_at config c ≡ Some terms → P c e → P c (offered terms ch x e).after
+  pub asked : (c : ℕ) (terms : EndConfig) (op : Op w) (e : Endpoint w) → terms_at config c ≡ Some terms → P c e → P c (asked terms op e).after
+  pub offered : (c : ℕ) (terms : EndConfig) (ch : Channel) (x : Beat w) (e : Endpoint w) → terms_at config c ≡ Some terms → P c e → P c (offered terms ch x e).after
 
-module _ {w : ℕ} (config : Config) (P : ℕ → End w → Type 0) (keep : AreKept config P) where
+module _ {w : ℕ} (config : Config) (P : ℕ → Endpoint w → Type 0) (keep : AreKept config P) where
   -- one client's end is another one
-  other_end : (k : ℕ) (e : End w) (s : System w) → P k e → ((c : ℕ) → P c (s.clients c)) → (c : ℕ) → P c ((with_client k e s).clients c)
+  other_end : (k : ℕ) (e : Endpoint w) (s : System w) → P k e → ((c : ℕ) → P c (s.clients c)) → (c : ℕ) → P c ((with_client k e s).clients c)
   other_end k e s here all c = go (c == k) refl
     where
       go : (b : Bool) → (c == k) ≡ b → P c (if b then e else s.clients c)
       go true same = let is : c ≡ k = eqb-true c k same in rw is here
       go false differs = all c
 
-  judged-kept : (r : Result (Verdict × Option (Message w)) Rule) (k : ℕ) (ch : Channel) (x : Beat w) (rest : List (Beat w)) (e : End w) (s : System w) → P k e → ((c : ℕ) → P c (s.clients c))
+  judged-kept : (r : Result (Verdict × Option (Message w)) Rule) (k : ℕ) (ch : Channel) (x : Beat w) (rest : List (Beat w)) (e : Endpoint w) (s : System w) → P k e → ((c : ℕ) → P c (s.clients c))
       → (c : ℕ) → P c ((judged r k ch x rest e s).after.clients c)
   judged-kept (Err rule) k ch x rest e s here all c = other_end k e s here all c
   judged-kept (Ok (verdict.Stalled, m)) k ch x rest e s here all c = all c
@@ -52,7 +52,7 @@ module _ {w : ℕ} (config : Config) (P : ℕ → End w → Type 0) (keep : AreK
   managed-kept (manager.Stalled, e) k ch x rest s all c = all c
   managed-kept (manager.Sent handed, e) k ch x rest s all c = rw (clients-with_messages handed (with_manager e (with_channel k ch rest s))) (all c)
 
-  delivered-kept : (terms : Terms) (k : ℕ) (ch : Channel) (beats : List (Beat w)) (s : System w) → terms_at config k ≡ Some terms → ((c : ℕ) → P c (s.clients c))
+  delivered-kept : (terms : EndConfig) (k : ℕ) (ch : Channel) (beats : List (Beat w)) (s : System w) → terms_at config k ≡ Some terms → ((c : ℕ) → P c (s.clients c))
       → (c : ℕ) → P c ((delivered config terms k ch beats s).after.clients c)
   delivered-kept terms k ch [] s is all c = all c
   delivered-kept terms k ch (x ∷ rest) s is all c = go (is_to_client ch)
@@ -67,7 +67,7 @@ module _ {w : ℕ} (config : Config) (P : ℕ → End w → Type 0) (keep : AreK
   unfolding stepped
   stepped-kept event s all c = go event (terms_at config (client_of event)) refl
     where
-      go : (x : Event w) (o : Option Terms) → terms_at config (client_of x) ≡ o → P c ((stepped_at config o x s).after.clients c)
+      go : (x : Event w) (o : Option EndConfig) → terms_at config (client_of x) ≡ o → P c ((stepped_at config o x s).after.clients c)
       go x None is = all c
       go (Ask k op) (Some terms) is =
           rw (clients-with_messages (handed_by k (asked terms op (s.clients k)).message) (with_client k (asked terms op (s.clients k)).after s))

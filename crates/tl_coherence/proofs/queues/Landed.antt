@@ -11,7 +11,7 @@ use Rattle.tl_burst.specs.statement.Messages.{History, on, grown, unfinished}
 use Rattle.tl_burst.specs.statement.Part.{completes}
 use Rattle.tl_rules.specs.statement.Conformance.{on_link}
 use Rattle.tl_rules.specs.statement.Legality.{beats_from}
-use Rattle.tl_client.specs.statement.End as client
+use Rattle.tl_client.specs.statement.Endpoint as client
 use Rattle.tl_manager.specs.statement.Handing.{Handed}
 use Rattle.tl_manager.specs.statement.End as manager_end
 use Rattle.tl_coherence.specs.refinement.ChannelRelation.{receiver}
@@ -94,10 +94,10 @@ grown_history ch at x t is = rw (is at) refl
 -- ---- at a client
 
 -- what a client's end has of each message
-abbrev pub HasHeard : {w : ℕ} → Beat w → client.End w → client.End w → Type 0
+abbrev pub HasHeard : {w : ℕ} → Beat w → client.Endpoint w → client.Endpoint w → Type 0
 HasHeard x e e' = (at : Channel) → unfinished at e'.past ≡ unfinished at (x ∷ e.past)
 
-pub landed-client : {w : ℕ} (c : ℕ) (ch : Channel) (x : Beat w) (queue : List (Beat w)) (m : Option (Message w)) (e : client.End w) (sys : System w)
+pub landed-client : {w : ℕ} (c : ℕ) (ch : Channel) (x : Beat w) (queue : List (Beat w)) (m : Option (Message w)) (e : client.Endpoint w) (sys : System w)
     → is_to_client ch ≡ true → sys.channels c ch ≡ x ∷ queue → IsOn ch x
     → HasHeard x (sys.clients c) e
     → IsLanded c ch x queue (pushes_at c (pushes_of m)) sys (with_messages (handed_by c m) (with_client c e (with_channel c ch queue sys)))
@@ -122,12 +122,12 @@ landed-client {w} c ch x queue m e sys to_client first is heard = record {
     ours : (d : ℕ) (at : Channel) → (d ≡ c) ⊎ (d ≡ c → ⊥)
         → unfinished at (after.clients d).past ≡ (if (d == c) && same_channel at ch then grown x (unfinished at (sys.clients d).past) else unfinished at (sys.clients d).past)
     ours d at (inl same) =
-        rw same (ap (λ (f : ℕ → client.End w). unfinished at (f c).past) clients_are
+        rw same (ap (λ (f : ℕ → client.Endpoint w). unfinished at (f c).past) clients_are
         ∙ ap (λ (b : Bool). unfinished at (if b then e else sys.clients c).past) (same_number c)
         ∙ heard at ∙ grown_history ch at x (sys.clients c).past is
         ∙ sym (ap (λ (b : Bool). if b && same_channel at ch then grown x (unfinished at (sys.clients c).past) else unfinished at (sys.clients c).past) (same_number c)))
     ours d at (inr other) =
-        ap (λ (f : ℕ → client.End w). unfinished at (f d).past) clients_are
+        ap (λ (f : ℕ → client.Endpoint w). unfinished at (f d).past) clients_are
         ∙ ap (λ (b : Bool). unfinished at (if b then e else sys.clients d).past) (ne_eqb d c other)
         ∙ sym (ap (λ (b : Bool). if b && same_channel at ch then grown x (unfinished at (sys.clients d).past) else unfinished at (sys.clients d).past) (ne_eqb d c other))
 
@@ -163,7 +163,7 @@ landed-client {w} c ch x queue m e sys to_client first is heard = record {
     rests d channel.E = theirs d channel.E (not_here ch channel.E to_client refl)
 
 -- a client is asked: its message is handed out, if there is one
-pub handed-client : {w : ℕ} (c : ℕ) (m : Option (Message w)) (e : client.End w) (sys : System w) → ((at : Channel) → unfinished at e.past ≡ unfinished at (sys.clients c).past)
+pub handed-client : {w : ℕ} (c : ℕ) (m : Option (Message w)) (e : client.Endpoint w) (sys : System w) → ((at : Channel) → unfinished at e.past ≡ unfinished at (sys.clients c).past)
     → IsHanded (pushes_at c (pushes_of m)) sys (with_messages (handed_by c m) (with_client c e sys))
 handed-client {w} c m e sys same = record {
   channels = λ d at. channels-handed c m base d at;
@@ -178,10 +178,10 @@ handed-client {w} c m e sys same = record {
 
     ours : (d : ℕ) (at : Channel) → (d ≡ c) ⊎ (d ≡ c → ⊥) → unfinished at (after.clients d).past ≡ unfinished at (sys.clients d).past
     ours d at (inl here) =
-        rw here (ap (λ (f : ℕ → client.End w). unfinished at (f c).past) (clients-with_messages (handed_by c m) base)
+        rw here (ap (λ (f : ℕ → client.Endpoint w). unfinished at (f c).past) (clients-with_messages (handed_by c m) base)
         ∙ ap (λ (b : Bool). unfinished at (if b then e else sys.clients c).past) (same_number c) ∙ same at)
     ours d at (inr other) =
-        ap (λ (f : ℕ → client.End w). unfinished at (f d).past) (clients-with_messages (handed_by c m) base)
+        ap (λ (f : ℕ → client.Endpoint w). unfinished at (f d).past) (clients-with_messages (handed_by c m) base)
         ∙ ap (λ (b : Bool). unfinished at (if b then e else sys.clients d).past) (ne_eqb d c other)
 
     theirs : (d : ℕ) (at : Channel) → unfinished at (on_link d after.manager.trace) ≡ unfinished at (on_link d sys.manager.trace)
@@ -253,7 +253,7 @@ rests-manager {w} c ch x queue handed e sys to_manager is heard = rests
 
     ours : (d : ℕ) (at : Channel) → same_channel at ch ≡ false
         → unfinished at (after.clients d).past ≡ (if (d == c) && same_channel at ch then grown x (unfinished at (sys.clients d).past) else unfinished at (sys.clients d).past)
-    ours d at f = rw f (ap (λ (g : ℕ → client.End w). unfinished at (g d).past) (clients-with_messages handed base) ∙ unless (d == c))
+    ours d at f = rw f (ap (λ (g : ℕ → client.Endpoint w). unfinished at (g d).past) (clients-with_messages handed base) ∙ unless (d == c))
       where
         unless : (b : Bool) → unfinished at (sys.clients d).past ≡ (if b && false then grown x (unfinished at (sys.clients d).past) else unfinished at (sys.clients d).past)
         unless true = refl

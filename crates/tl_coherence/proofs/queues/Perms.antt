@@ -6,7 +6,7 @@ use Rattle.tl_params.specs.declared.param.Cap.TheVariants as cap
 use Rattle.tl_params.specs.declared.perm.Perm.{Perm}
 use Rattle.tl_params.specs.declared.perm.Perm.TheVariants as perm
 use Rattle.tl_rules.specs.statement.Conformance.{same_perm}
-use Rattle.tl_client.specs.statement.Kept.{holds}
+use Rattle.tl_client.specs.statement.EndpointInvariant.{holds}
 use Rattle.tl_coherence.specs.protocol.Invariant.{is_out}
 use Rattle.tl_coherence.specs.protocol.Phase.{ClientBlock, View}
 use Rattle.tl_coherence.specs.statement.Permissions.{perm_le}

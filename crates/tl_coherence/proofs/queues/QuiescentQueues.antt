@@ -8,7 +8,7 @@ use Rattle.tl_beat.specs.declared.channel.Channel.{Channel}
 use Rattle.tl_beat.specs.declared.channel.Channel.TheVariants as channel
 use Rattle.tl_params.specs.declared.config.ClientConfig.{ClientConfig}
 use Rattle.tl_params.specs.declared.config.Config.{Config}
-use Rattle.tl_client.specs.statement.End.{Terms}
+use Rattle.tl_client.specs.statement.Endpoint.{EndConfig}
 use Rattle.tl_coherence.specs.statement.Movable.{is_movable, first_movable, moves, movable_on, next_delivery, or_later}
 use Rattle.tl_coherence.specs.statement.System.{System, terms_at}
 
@@ -32,7 +32,7 @@ unfolding first_movable
 first-none config ch link zero s none = refl
 first-none config ch link (suc n) s none = rw (none link) (first-none config ch (link + 1) n s none)
 
-pub client_below : (config : Config) (c : ℕ) (terms : Terms) → terms_at config c ≡ Some terms → c < length config.clients.items
+pub client_below : (config : Config) (c : ℕ) (terms : EndConfig) → terms_at config c ≡ Some terms → c < length config.clients.items
 client_below config c terms is = go (slice_get config.clients.items c) refl is
   where
     go : (o : Option ClientConfig) → slice_get config.clients.items c ≡ o
@@ -46,7 +46,7 @@ none-both None b e = (refl, e)
 none-both (Some x) b e = absurd cc
 
 -- no delivery is next: so none of a client's link is movable
-pub nothing-moves : {w : ℕ} (config : Config) (s : System w) (c : ℕ) (terms : Terms) (ch : Channel) → terms_at config c ≡ Some terms → next_delivery config s ≡ None → is_movable config c ch s ≡ false
+pub nothing-moves : {w : ℕ} (config : Config) (s : System w) (c : ℕ) (terms : EndConfig) (ch : Channel) → terms_at config c ≡ Some terms → next_delivery config s ≡ None → is_movable config c ch s ≡ false
 unfolding next_delivery
 nothing-moves config s c terms ch is none =
     let e = none-both (movable_on config channel.E s) _ none in
@@ -113,6 +113,6 @@ pub empty-still : {w : ℕ} (config : Config) (s : System w) (c : ℕ) (ch : Cha
 unfolding is_movable
 empty-still config s c ch none = rw none (go (terms_at config c))
   where
-    go : (o : Option Terms) → moves config o c ch [] s ≡ false
+    go : (o : Option EndConfig) → moves config o c ch [] s ≡ false
     go None = refl
     go (Some t) = refl

@@ -26,7 +26,7 @@ use Rattle.tl_params.specs.declared.rule.Rule.{Rule}
 use Rattle.tl_beat.specs.declared.beat.BeatD.{BeatD}
 use Rattle.tl_burst.specs.statement.Messages.{unfinished}
 use Rattle.tl_params.specs.declared.config.ClientConfig.{ClientConfig}
-use Rattle.tl_rules.specs.statement.Agent.{is_outside, is_spoiled, payload_of}
+use Rattle.tl_rules.specs.statement.Admission.{is_outside, is_spoiled, payload_of}
 use Rattle.tl_rules.specs.statement.History.{block_at, ends, request_of}
 use Rattle.tl_client.specs.declared.operation.Op.{Op}
 use Rattle.tl_client.specs.declared.operation.Op.TheVariants as op
@@ -35,7 +35,7 @@ use Rattle.tl_client.specs.declared.verdict.Verdict.{Verdict}
 use Rattle.tl_client.specs.declared.verdict.Verdict.TheVariants as verdict
 use Rattle.tl_client.specs.statement.Ask.{asked, done, load, store, free_release, source_or_0}
 use Rattle.tl_coherence.specs.statement.Headline.{IsTypedOp}
-use Rattle.tl_client.specs.statement.End.{Terms, End, copy_at, held_at, with_past}
+use Rattle.tl_client.specs.statement.Endpoint.{EndConfig, Endpoint, copy_at, held_at, with_past}
 use Rattle.tl_client.specs.statement.Offer.{Offered, taken, ended, responded, silent, report_for}
 use Rattle.tl_client.proofs.Cases.{NotBusy, asked-cases, probe_ack-cases}
 use Rattle.tl_client.proofs.HeldAfter.{same_block}
@@ -187,18 +187,18 @@ good-handed config (x ∷ handed) width each =
 
 -- ---- the terms of a client
 
-abbrev terms_in : Config → ClientConfig → Terms
+abbrev terms_in : Config → ClientConfig → EndConfig
 terms_in config x = record { level = x.level; profile = config.profile; sources = x.sources; blocks = config.blocks }
 
-pub level-terms : (config : Config) (c : ℕ) (terms : Terms) → terms_at config c ≡ Some terms → (level_of config c ≡ Some terms.level) × (terms.blocks ≡ config.blocks)
+pub level-terms : (config : Config) (c : ℕ) (terms : EndConfig) → terms_at config c ≡ Some terms → (level_of config c ≡ Some terms.level) × (terms.blocks ≡ config.blocks)
 level-terms config c terms e = go (slice_get config.clients.items c) e
   where
-    some_is : (t u : Terms) → Some t ≡ Some u → t ≡ u
+    some_is : (t u : EndConfig) → Some t ≡ Some u → t ≡ u
     some_is t u f = cc
 
     go : (o : Option ClientConfig) → option_map (terms_in config) o ≡ Some terms → (option_map (λ x. x.level) o ≡ Some terms.level) × (terms.blocks ≡ config.blocks)
     go None f = absurd cc
-    go (Some x) f = let g : terms_in config x ≡ terms = some_is (terms_in config x) terms f in (ap (λ (t : Terms). Some t.level) g, sym (ap (λ (t : Terms). t.blocks) g))
+    go (Some x) f = let g : terms_in config x ≡ terms = some_is (terms_in config x) terms f in (ap (λ (t : EndConfig). Some t.level) g, sym (ap (λ (t : EndConfig). t.blocks) g))
 
 -- ---- what a client is asked for
 
@@ -226,17 +226,17 @@ first_false : (x y : Bool) → (x || y) ≡ false → x ≡ false
 first_false false y e = refl
 first_false true y e = absurd cc
 
-fit_load : {w : ℕ} (blocks address size : ℕ) (p : Perm) (e : End w) → IsFitIfAny blocks (load address size p e).message
+fit_load : {w : ℕ} (blocks address size : ℕ) (p : Perm) (e : Endpoint w) → IsFitIfAny blocks (load address size p e).message
 fit_load blocks address size perm.None e = tt
 fit_load blocks address size perm.Branch e = tt
 fit_load blocks address size perm.Trunk e = tt
 
-fit_store : {w : ℕ} (blocks address size value : ℕ) (p : Perm) (e : End w) → IsFitIfAny blocks (store address size value p e).message
+fit_store : {w : ℕ} (blocks address size value : ℕ) (p : Perm) (e : Endpoint w) → IsFitIfAny blocks (store address size value p e).message
 fit_store blocks address size value perm.None e = tt
 fit_store blocks address size value perm.Branch e = tt
 fit_store blocks address size value perm.Trunk e = tt
 
-fit_done : {w : ℕ} (terms : Terms) (op : Op w) (e : End w) → NotBusy terms op e → IsTypedOp op → ((n : ℕ) → length (copy_at e n) ≡ 64) → IsFitIfAny terms.blocks (done terms op e).message
+fit_done : {w : ℕ} (terms : EndConfig) (op : Op w) (e : Endpoint w) → NotBusy terms op e → IsTypedOp op → ((n : ℕ) → length (copy_at e n) ≡ 64) → IsFitIfAny terms.blocks (done terms op e).message
 fit_done terms (op.Load address size) e free typed copies = fit_load terms.blocks address size (held_at e (block_at address)) e
 fit_done terms (op.Store address size value) e free typed copies = fit_store terms.blocks address size value (held_at e (block_at address)) e
 fit_done terms (op.Acquire n g) e free typed copies = record { long = refl; ours = tt; inside = rw (same_block n) (first_false (nat_le terms.blocks n) _ free.b5) }
@@ -251,7 +251,7 @@ fit_done terms (op.Access (message.C m)) e free typed copies = tt
 fit_done terms (op.Access (message.D m)) e free typed copies = tt
 fit_done terms (op.Access (message.E m)) e free typed copies = tt
 
-pub fit-asked : {w : ℕ} (terms : Terms) (op : Op w) (e : End w) → IsTypedOp op → ((n : ℕ) → length (copy_at e n) ≡ 64) → IsFitIfAny terms.blocks (asked terms op e).message
+pub fit-asked : {w : ℕ} (terms : EndConfig) (op : Op w) (e : Endpoint w) → IsTypedOp op → ((n : ℕ) → length (copy_at e n) ≡ 64) → IsFitIfAny terms.blocks (asked terms op e).message
 fit-asked terms op e typed copies = asked-cases terms op e (λ o. IsFitIfAny terms.blocks o.message) (λ busy. tt) (λ free. fit_done terms op e free typed copies)
 
 -- ---- what is delivered to a client
@@ -264,7 +264,7 @@ abbrev pub IsFitAnswer : {w : ℕ} → ℕ → Result (Verdict × Option (Messag
 IsFitAnswer blocks (Ok v) = IsFitIfAny blocks v.1
 IsFitAnswer blocks (Err rule) = ⊤
 
-ended_fit : {w : ℕ} (blocks : ℕ) (opcode : OpD) (x : BeatD w) (f : Finish) (e : End w) → IsFitAnswer blocks (ended opcode x f e).answer
+ended_fit : {w : ℕ} (blocks : ℕ) (opcode : OpD) (x : BeatD w) (f : Finish) (e : Endpoint w) → IsFitAnswer blocks (ended opcode x f e).answer
 ended_fit blocks d.Grant x f e = record { long = tt; ours = tt; inside = refl }
 ended_fit blocks d.GrantData x f e = record { long = tt; ours = tt; inside = refl }
 ended_fit blocks d.AccessAck x f e = tt
@@ -272,7 +272,7 @@ ended_fit blocks d.AccessAckData x f e = tt
 ended_fit blocks d.HintAck x f e = tt
 ended_fit blocks d.ReleaseAck x f e = tt
 
-pub fit-taken : {w : ℕ} (blocks : ℕ) (x : Beat w) (e : End w) → is_outside blocks x ≡ false → ((n : ℕ) → length (copy_at e n) ≡ 64) → IsFitAnswer blocks (taken x e).answer
+pub fit-taken : {w : ℕ} (blocks : ℕ) (x : Beat w) (e : Endpoint w) → is_outside blocks x ≡ false → ((n : ℕ) → length (copy_at e n) ≡ 64) → IsFitAnswer blocks (taken x e).answer
 fit-taken blocks (beat.A x) e inside copies = tt
 fit-taken {w} blocks (beat.B x) e inside copies = ack_fit w blocks x.opcode (held_at e (block_at x.address)) (report_for x (held_at e (block_at x.address)))
     (block_at x.address) (copy_at e (block_at x.address)) (copies (block_at x.address)) inside

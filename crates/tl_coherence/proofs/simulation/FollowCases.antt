@@ -11,7 +11,7 @@ use Rattle.tl_burst.specs.statement.Part.{completes}
 use Rattle.tl_params.specs.declared.config.Config.{Config}
 use Rattle.tl_client.specs.declared.operation.Op.{Op}
 use Rattle.tl_client.specs.statement.Ask as ask
-use Rattle.tl_client.specs.statement.End.{Terms}
+use Rattle.tl_client.specs.statement.Endpoint.{EndConfig}
 use Rattle.tl_coherence.specs.declared.event.Event.{Event}
 use Rattle.tl_coherence.specs.declared.event.Event.TheVariants.{Ask, Deliver}
 use Rattle.tl_coherence.specs.declared.event.Outcome.{Outcome}
@@ -82,9 +82,9 @@ delivered-cases {w} config log mail request s sys link ch P width h none kinds =
     }))
 
 pub asked-cases : {w : ℕ} (config : Config) (log : Log w) (mail : AccessMessages w) (request : ℕ → MessageA w) (s : State (List ℕ)) (sys : System w) (c : ℕ)
-    (operation : Op w) (o : Option Terms) (P : AbstractState w → Type 0)
+    (operation : Op w) (o : Option EndConfig) (P : AbstractState w → Type 0)
     → terms_at config c ≡ o → P (shadow_of mail request s)
-    → ((terms : Terms) → terms_at config c ≡ Some terms → P (asked c operation (ask.asked terms operation (sys.clients c)).reply (shadow_of mail request s)))
+    → ((terms : EndConfig) → terms_at config c ≡ Some terms → P (asked c operation (ask.asked terms operation (sys.clients c)).reply (shadow_of mail request s)))
     → P (abstract_step_by config (Ask c operation) (stepped_at config o (Ask c operation) sys).outcome sys (shadow_of mail request s))
 asked-cases config log mail request s sys c operation None P at none asks = none
 asked-cases config log mail request s sys c operation (Some terms) P at none asks = asks terms at
@@ -99,7 +99,7 @@ asked_now config mail request s sys c operation P is = is
 -- where its message is complete, holds as it follows the event
 pub followed-cases : {w : ℕ} (config : Config) (log : Log w) (mail : AccessMessages w) (request : ℕ → MessageA w) (s : State (List ℕ)) (sys : System w) (event : Event w) (P : AbstractState w → Type 0) → IsWidth w
     → SimulationRelation config log mail request s sys → P (shadow_of mail request s)
-    → ((terms : Terms) (c : ℕ) (operation : Op w) → terms_at config c ≡ Some terms → P (asked c operation (ask.asked terms operation (sys.clients c)).reply (shadow_of mail request s)))
+    → ((terms : EndConfig) (c : ℕ) (operation : Op w) → terms_at config c ≡ Some terms → P (asked c operation (ask.asked terms operation (sys.clients c)).reply (shadow_of mail request s)))
     → ((link : Link) (ch : Channel) (x : Beat w) (queue : List (Beat w)) (d : IsDelivery config mail s sys link ch x queue)
     → P (taken_of config mail request s sys link.0 d.first.kind d.first.number d.first.rest))
     → P (abstract_step config event sys (shadow_of mail request s))

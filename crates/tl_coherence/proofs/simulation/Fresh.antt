@@ -8,7 +8,7 @@ use Rattle.tl_params.specs.declared.config.Config.{Config}
 use Rattle.tl_rules.specs.statement.Conformance.{on_link}
 use Rattle.tl_rules.specs.statement.Effect.{bytes_from, IsBlock}
 use Rattle.tl_rules.specs.statement.History.{held, pending}
-use Rattle.tl_client.specs.statement.End.{zeros}
+use Rattle.tl_client.specs.statement.Endpoint.{zeros}
 use Rattle.tl_client.proofs.Accounted.{accounted-fresh}
 use Rattle.tl_client.proofs.KeptOffered.{kept-fresh}
 use Rattle.tl_manager.specs.statement.Service.{services}

@@ -11,7 +11,7 @@ use Rattle.tl_burst.specs.statement.Messages.{unfinished}
 use Rattle.tl_params.specs.declared.config.Config.{Config}
 use Rattle.tl_client.specs.declared.operation.Op.{Op}
 use Rattle.tl_client.specs.statement.Ask as ask
-use Rattle.tl_client.specs.statement.End.{Terms}
+use Rattle.tl_client.specs.statement.Endpoint.{EndConfig}
 use Rattle.tl_client.specs.statement.Offer.{Offered}
 use Rattle.tl_coherence.specs.declared.event.Event.TheVariants.{Deliver}
 use Rattle.tl_coherence.specs.statement.Draining.{is_moving}
@@ -35,7 +35,7 @@ use Rattle.tl_coherence.proofs.manager.RequestsTaken.{next_tracker}
 use Rattle.tl_coherence.proofs.queues.Steps.{stepped-to-client}
 use Rattle.tl_coherence.proofs.protocol.BothParts.{kept-letting}
 
-pub invariant-asked : {w : ℕ} (config : Config) (log : Log w) (mail : AccessMessages w) (request : ℕ → MessageA w) (s : State (List ℕ)) (sys : System w) (terms : Terms)
+pub invariant-asked : {w : ℕ} (config : Config) (log : Log w) (mail : AccessMessages w) (request : ℕ → MessageA w) (s : State (List ℕ)) (sys : System w) (terms : EndConfig)
     (c : ℕ) (o : Op w) → SimulationRelation config log mail request s sys
     → terms_at config c ≡ Some terms → IsInvariant (is_caching config) (asked c o (ask.asked terms o (sys.clients c)).reply (shadow_of mail request s)).state
 invariant-asked config log mail request s sys terms c o h at =
@@ -43,7 +43,7 @@ invariant-asked config log mail request s sys terms c o h at =
 
 pub nobody_moves : {w : ℕ} (config : Config) (sys : System w) (link : Link) (ch : Channel) → terms_at config link.0 ≡ None → is_moving (stepped config (Deliver link ch) sys).outcome ≡ false
 unfolding stepped
-nobody_moves config sys link ch none = ap (λ (o : Option Terms). is_moving (stepped_at config o (Deliver link ch) sys).outcome) none
+nobody_moves config sys link ch none = ap (λ (o : Option EndConfig). is_moving (stepped_at config o (Deliver link ch) sys).outcome) none
 
 -- a Probe that is moved doesn't wait for a Release
 probe_ready : {w : ℕ} (config : Config) (log : Log w) (mail : AccessMessages w) (request : ℕ → MessageA w) (s : State (List ℕ)) (sys : System w) (link : Link) (n : ℕ)
@@ -53,7 +53,7 @@ probe_ready : {w : ℕ} (config : Config) (log : Log w) (mail : AccessMessages w
     → IsNext x (unfinished channel.B (sys.clients link.0).past) (message_of_kind Probe mail s link.0 n) (map (message_of mail s link.0) rest) queue → ((s.block n).pair link.0).letting ≡ NoRelease
 probe_ready {w} config log mail request s sys link n rest x queue width h moves beats first next = at_terms (terms_at config link.0) refl
   where
-    stands : (terms : Terms) → terms_at config link.0 ≡ Some terms → (b : Bool) → is_unreleased ((s.block n).pair link.0).letting ≡ b
+    stands : (terms : EndConfig) → terms_at config link.0 ≡ Some terms → (b : Bool) → is_unreleased ((s.block n).pair link.0).letting ≡ b
         → ((s.block n).pair link.0).letting ≡ NoRelease
     stands terms at true kept = kept-letting ((s.block n).pair link.0).letting (ap not kept)
     stands terms at false waits =
@@ -63,7 +63,7 @@ probe_ready {w} config log mail request s sys link n rest x queue width h moves 
         ∙ ap (λ (o : Offered w). is_moving (client_took link.0 channel.B x queue o sys).outcome) (probed.waits_for waits) in
         absurd (let no : true ≡ false = sym moves ∙ step in cc)
 
-    at_terms : (o : Option Terms) → terms_at config link.0 ≡ o → ((s.block n).pair link.0).letting ≡ NoRelease
+    at_terms : (o : Option EndConfig) → terms_at config link.0 ≡ o → ((s.block n).pair link.0).letting ≡ NoRelease
     at_terms None at = absurd (let no : true ≡ false = sym moves ∙ nobody_moves config sys link channel.B at in cc)
     at_terms (Some terms) at = stands terms at (is_unreleased ((s.block n).pair link.0).letting) refl
 

@@ -18,15 +18,15 @@ use Rattle.tl_rules.specs.statement.Conformance.{on_link}
 use Rattle.tl_client.specs.laws.After as after
 use Rattle.tl_client.specs.declared.verdict.Verdict.{Verdict}
 use Rattle.tl_client.specs.declared.verdict.Verdict.TheVariants as verdict
-use Rattle.tl_client.specs.statement.End as client
-use Rattle.tl_client.specs.statement.Kept as client_kept
+use Rattle.tl_client.specs.statement.Endpoint as client
+use Rattle.tl_client.specs.statement.EndpointInvariant as client_kept
 use Rattle.tl_client.specs.statement.Offer as offer
 use Rattle.tl_client.specs.statement.Offer.{Offered}
 use Rattle.tl_client.proofs.Outstanding.{unfinished-offered}
 use Rattle.tl_manager.specs.laws.After.{is_of_clients, taken_after}
 use Rattle.tl_manager.specs.statement.Handing.{Handed}
 use Rattle.tl_manager.specs.code.Kept as manager
-use Rattle.tl_manager.specs.statement.Deed as manager_deed
+use Rattle.tl_manager.specs.statement.Reaction as manager_reaction
 use Rattle.tl_manager.specs.statement.End as manager_end
 use Rattle.tl_manager.specs.statement.Offer as manager_offer
 use Rattle.tl_manager.proofs.Afterwards as manager_after
@@ -54,7 +54,7 @@ is_taken (Ok (verdict.Stalled, m)) = false
 is_taken (Ok (verdict.Taken, m)) = true
 is_taken (Ok (verdict.Done source finish, m)) = true
 
-pub offered-taken : {w : ℕ} (terms : client.Terms) (ch : Channel) (x : Beat w) (e : client.End w) → is_taken (offer.offered terms ch x e).answer ≡ true → offer.offered terms ch x e ≡ offer.taken x e
+pub offered-taken : {w : ℕ} (terms : client.EndConfig) (ch : Channel) (x : Beat w) (e : client.Endpoint w) → is_taken (offer.offered terms ch x e).answer ≡ true → offer.offered terms ch x e ≡ offer.taken x e
 unfolding offer.offered
 offered-taken {w} terms ch x e is = before (offer.broken_before terms ch x e) is
   where
@@ -72,7 +72,7 @@ offered-taken {w} terms ch x e is = before (offer.broken_before terms ch x e) is
     before (Some rule) h = absurd cc
 
 -- the step, where a client takes the beat
-pub record IsTakenByClient {w : ℕ} (terms : client.Terms) (c : ℕ) (ch : Channel) (x : Beat w) (queue : List (Beat w)) (sys : System w) (step : Step w) : Type 0 where
+pub record IsTakenByClient {w : ℕ} (terms : client.EndConfig) (c : ℕ) (ch : Channel) (x : Beat w) (queue : List (Beat w)) (sys : System w) (step : Step w) : Type 0 where
   pub verdict_is : Verdict
   pub message : Option (Message w)
   pub takes : offer.offered terms ch x (sys.clients c) ≡ offer.taken x (sys.clients c)
@@ -80,7 +80,7 @@ pub record IsTakenByClient {w : ℕ} (terms : client.Terms) (c : ℕ) (ch : Chan
   pub heard : after.heard (offer.offered terms ch x (sys.clients c)).answer x (sys.clients c).past ≡ x ∷ (sys.clients c).past
   pub step_is : step ≡ handing (outcome_of x verdict_is) (handed_by c message) (with_client c (offer.taken x (sys.clients c)).after (with_channel c ch queue sys))
 
-client_moves : {w : ℕ} (terms : client.Terms) (c : ℕ) (ch : Channel) (x : Beat w) (queue : List (Beat w)) (sys : System w)
+client_moves : {w : ℕ} (terms : client.EndConfig) (c : ℕ) (ch : Channel) (x : Beat w) (queue : List (Beat w)) (sys : System w)
     → is_moving (client_took c ch x queue (offer.offered terms ch x (sys.clients c)) sys).outcome ≡ true
     → IsTakenByClient terms c ch x queue sys (client_took c ch x queue (offer.offered terms ch x (sys.clients c)) sys)
 client_moves {w} terms c ch x queue sys moving = go (offer.offered terms ch x (sys.clients c)).answer refl moving
@@ -109,7 +109,7 @@ client_moves {w} terms c ch x queue sys moving = go (offer.offered terms ch x (s
     go (Ok (verdict.Taken, m)) e h = made verdict.Taken m e refl refl refl
     go (Ok (verdict.Done source finish, m)) e h = made (verdict.Done source finish) m e refl refl refl
 
-pub client-moves : {w : ℕ} (config : Config) (link : Link) (ch : Channel) (sys : System w) (terms : client.Terms) (x : Beat w) (queue : List (Beat w))
+pub client-moves : {w : ℕ} (config : Config) (link : Link) (ch : Channel) (sys : System w) (terms : client.EndConfig) (x : Beat w) (queue : List (Beat w))
     → terms_at config link.0 ≡ Some terms → sys.channels link.0 ch ≡ x ∷ queue
     → is_to_client ch ≡ true
     → is_moving (stepped config (Deliver link ch) sys).outcome ≡ true → IsTakenByClient terms link.0 ch x queue sys (stepped config (Deliver link ch) sys)
@@ -121,7 +121,7 @@ client-moves {w} config link ch sys terms x queue known first up moving =
     same : (a b : Step w) → a ≡ b → IsTakenByClient terms link.0 ch x queue sys b → IsTakenByClient terms link.0 ch x queue sys a
     same a b e h = rw e h
 
-pub client-heard : {w : ℕ} (terms : client.Terms) (c : ℕ) (ch : Channel) (x : Beat w) (queue : List (Beat w)) (sys : System w) (step : Step w) → IsWidth w → client_kept.IsKept (sys.clients c)
+pub client-heard : {w : ℕ} (terms : client.EndConfig) (c : ℕ) (ch : Channel) (x : Beat w) (queue : List (Beat w)) (sys : System w) (step : Step w) → IsWidth w → client_kept.IsEndpointInvariant (sys.clients c)
     → IsTakenByClient terms c ch x queue sys step → HasHeard x (sys.clients c) (offer.taken x (sys.clients c)).after
 client-heard {w} terms c ch x queue sys step width kept is at =
     ap (λ (p : Offered w). unfinished at p.after.past) (sym is.takes) ∙ unfinished-offered terms ch x (sys.clients c) at width kept ∙ ap (unfinished at) is.heard
@@ -130,14 +130,14 @@ client-heard {w} terms c ch x queue sys step width kept is at =
 
 pub offered-passes : {w : ℕ} (config : Config) (link : Link) (ch : Channel) (x : Beat w) (e : manager_end.End w) (handed : Handed w)
     → (manager_offer.offered config link ch x e).0 ≡ manager_offer.Sent handed
-    → manager_offer.offered config link ch x e ≡ (manager_offer.Sent (manager_deed.deed config link x e).handed, manager_offer.taken link x (manager_deed.deed config link x e) e)
+    → manager_offer.offered config link ch x e ≡ (manager_offer.Sent (manager_reaction.reaction config link x e).handed, manager_offer.taken link x (manager_reaction.reaction config link x e) e)
 unfolding manager_offer.offered
 offered-passes {w} config link ch x e handed is = go (manager_offer.judged config link ch x e) is
   where
     go : (j : manager_offer.Judgement) → (manager_offer.offered_as j config link x e).0 ≡ manager_offer.Sent handed
         → manager_offer.offered_as j config link x e ≡ (
-          manager_offer.Sent (manager_deed.deed config link x e).handed,
-          manager_offer.taken link x (manager_deed.deed config link x e) e,
+          manager_offer.Sent (manager_reaction.reaction config link x e).handed,
+          manager_offer.taken link x (manager_reaction.reaction config link x e) e,
         )
     go (manager_offer.Breaks rule) h = absurd cc
     go manager_offer.Waits h = absurd cc
@@ -146,9 +146,9 @@ offered-passes {w} config link ch x e handed is = go (manager_offer.judged confi
 -- the step, where the manager takes the beat
 pub record IsTakenByManager {w : ℕ} (config : Config) (link : Link) (ch : Channel) (x : Beat w) (queue : List (Beat w)) (sys : System w) (step : Step w) : Type 0 where
   pub takes : manager_offer.offered config link ch x sys.manager
-      ≡ (manager_offer.Sent (manager_deed.deed config link x sys.manager).handed, manager_offer.taken link x (manager_deed.deed config link x sys.manager) sys.manager)
-  pub step_is : step ≡ handing (outcome.Moved x) (manager_deed.deed config link x sys.manager).handed
-      (with_manager (manager_offer.taken link x (manager_deed.deed config link x sys.manager) sys.manager) (with_channel link.0 ch queue sys))
+      ≡ (manager_offer.Sent (manager_reaction.reaction config link x sys.manager).handed, manager_offer.taken link x (manager_reaction.reaction config link x sys.manager) sys.manager)
+  pub step_is : step ≡ handing (outcome.Moved x) (manager_reaction.reaction config link x sys.manager).handed
+      (with_manager (manager_offer.taken link x (manager_reaction.reaction config link x sys.manager) sys.manager) (with_channel link.0 ch queue sys))
 
 manager_moves : {w : ℕ} (config : Config) (link : Link) (ch : Channel) (x : Beat w) (queue : List (Beat w)) (sys : System w)
     → is_moving (manager_took link.0 ch x queue (manager_offer.offered config link ch x sys.manager) sys).outcome ≡ true
@@ -163,7 +163,7 @@ manager_moves {w} config link ch x queue sys moving = go (manager_offer.offered 
         let takes = offered-passes config link ch x sys.manager handed (ap (λ (p : manager_offer.Reception w × manager_end.End w). p.0) f) in
         record { takes = takes; step_is = ap (λ p. manager_took link.0 ch x queue p sys) takes }
 
-pub manager-moves : {w : ℕ} (config : Config) (link : Link) (ch : Channel) (sys : System w) (terms : client.Terms) (x : Beat w) (queue : List (Beat w))
+pub manager-moves : {w : ℕ} (config : Config) (link : Link) (ch : Channel) (sys : System w) (terms : client.EndConfig) (x : Beat w) (queue : List (Beat w))
     → terms_at config link.0 ≡ Some terms → sys.channels link.0 ch ≡ x ∷ queue
     → is_to_client ch ≡ false
     → is_moving (stepped config (Deliver link ch) sys).outcome ≡ true → IsTakenByManager config link ch x queue sys (stepped config (Deliver link ch) sys)
@@ -177,11 +177,11 @@ manager-moves {w} config link ch sys terms x queue known first down moving =
 
 pub manager-heard : {w : ℕ} (config : Config) (link : Link) (ch : Channel) (x : Beat w) (queue : List (Beat w)) (sys : System w) (step : Step w) → IsWidth w
     → manager.IsTyped x → manager.IsKept config sys.manager
-    → IsTakenByManager config link ch x queue sys step → HasTaken link.0 x sys.manager (manager_offer.taken link x (manager_deed.deed config link x sys.manager) sys.manager)
+    → IsTakenByManager config link ch x queue sys step → HasTaken link.0 x sys.manager (manager_offer.taken link x (manager_reaction.reaction config link x sys.manager) sys.manager)
 manager-heard {w} config link ch x queue sys step width typed kept is d = λ at. go at
   where
     one : (at : Channel) → is_of_clients at ≡ true → unfinished at
-        (on_link d (manager_offer.taken link x (manager_deed.deed config link x sys.manager) sys.manager).trace) ≡ unfinished at
+        (on_link d (manager_offer.taken link x (manager_reaction.reaction config link x sys.manager) sys.manager).trace) ≡ unfinished at
         (if link.0 == d then x ∷ on_link d sys.manager.trace else on_link d sys.manager.trace)
     one at up =
         ap (λ (p : manager_offer.Reception w × manager_end.End w). unfinished at (on_link d p.1.trace)) (sym is.takes)
@@ -189,7 +189,7 @@ manager-heard {w} config link ch x queue sys step width typed kept is d = λ at.
         ∙ ap (λ (p : manager_offer.Reception w × manager_end.End w). unfinished at (taken_after p.0 (link, x) d (on_link d sys.manager.trace))) is.takes
 
     go : (at : Channel) → is_to_client at ≡ false → unfinished at
-        (on_link d (manager_offer.taken link x (manager_deed.deed config link x sys.manager) sys.manager).trace) ≡ unfinished at
+        (on_link d (manager_offer.taken link x (manager_reaction.reaction config link x sys.manager) sys.manager).trace) ≡ unfinished at
         (if link.0 == d then x ∷ on_link d sys.manager.trace else on_link d sys.manager.trace)
     go channel.A f = one channel.A refl
     go channel.C f = one channel.C refl

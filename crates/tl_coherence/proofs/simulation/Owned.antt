@@ -8,9 +8,9 @@ use Rattle.tl_params.specs.declared.config.Config.{Config}
 use Rattle.tl_params.specs.declared.key.Key.{Key}
 use Rattle.tl_params.specs.declared.key.Key.TheVariants.{RequestSource, ReleaseSource}
 use Rattle.tl_rules.specs.statement.History.{pending}
-use Rattle.tl_client.specs.statement.End.{End, Terms, fresh}
+use Rattle.tl_client.specs.statement.Endpoint.{Endpoint, EndConfig, fresh}
 use Rattle.tl_client.specs.laws.Inside.{IsInside}
-use Rattle.tl_client.specs.statement.Kept.{IsKept}
+use Rattle.tl_client.specs.statement.EndpointInvariant.{IsEndpointInvariant}
 use Rattle.tl_client.proofs.Inside.{inside-fresh, inside-asked, inside-offered}
 use Rattle.tl_client.proofs.KeptAsked.{kept-asked}
 use Rattle.tl_client.proofs.KeptOffered.{kept-fresh, kept-offered}
@@ -25,15 +25,15 @@ use Rattle.tl_coherence.proofs.queues.Ends.{AreKept, ends-kept}
 use Rattle.tl_coherence.proofs.protocol.Room.{channel-few}
 
 -- a client's end is within its terms, and there is nothing where there is no client
-pub record IsWithin {w : ℕ} (config : Config) (c : ℕ) (e : End w) : Type 0 where
-  pub kept : IsKept e
-  pub inside : (terms : Terms) → terms_at config c ≡ Some terms → IsInside terms e.past
+pub record IsWithin {w : ℕ} (config : Config) (c : ℕ) (e : Endpoint w) : Type 0 where
+  pub kept : IsEndpointInvariant e
+  pub inside : (terms : EndConfig) → terms_at config c ≡ Some terms → IsInside terms e.past
   pub nobody : terms_at config c ≡ None → e ≡ fresh
 
-some_is : {terms other : Terms} (o : Option Terms) → o ≡ Some terms → o ≡ Some other → terms ≡ other
+some_is : {terms other : EndConfig} (o : Option EndConfig) → o ≡ Some terms → o ≡ Some other → terms ≡ other
 some_is o e f = cc
 
-none_is : {A : Type 0} {terms : Terms} (o : Option Terms) → o ≡ Some terms → o ≡ None → A
+none_is : {A : Type 0} {terms : EndConfig} (o : Option EndConfig) → o ≡ Some terms → o ≡ None → A
 none_is o e f = absurd cc
 
 within-kept : {w : ℕ} (config : Config) → IsWidth w → AreKept {w = w} config (IsWithin config)
@@ -64,7 +64,7 @@ sources-own {w} config log c width = go (terms_at config c) refl
     not_pending : (k : Key) → ((system_after config log).clients c) ≡ fresh → pending k ((system_after config log).clients c).past ≡ true → pending k (fresh {w = w}).past ≡ true
     not_pending k e p = rw e at p
 
-    go : (o : Option Terms) → terms_at config c ≡ o → IsOwn config c (system_after config log)
+    go : (o : Option EndConfig) → terms_at config c ≡ o → IsOwn config c (system_after config log)
     go None is = record {
       requests = λ source p. absurd (let q = not_pending (RequestSource source) (within.nobody is) p in cc);
       releases = λ source p. absurd (let q = not_pending (ReleaseSource source) (within.nobody is) p in cc);

@@ -12,7 +12,7 @@ use Rattle.tl_burst.specs.statement.Burst.{beats_of}
 use Rattle.tl_burst.specs.statement.Messages.{unfinished}
 use Rattle.tl_burst.proofs.Begun.{length-begun}
 use Rattle.tl_params.specs.declared.config.Config.{Config}
-use Rattle.tl_client.specs.statement.End.{Terms}
+use Rattle.tl_client.specs.statement.Endpoint.{EndConfig}
 use Rattle.tl_coherence.specs.statement.Log.{Log, system_after}
 use Rattle.tl_coherence.specs.refinement.ChannelRelation.{receiver}
 use Rattle.tl_coherence.specs.refinement.Move.{Move, Stays, Pushes, Pops, IsMoved, AreMoved, channel_for}
@@ -104,11 +104,11 @@ module _ {w : ℕ} (config : Config) (log : Log w) (mail : AccessMessages w) (re
     releases = λ d i n e. (matched-bounded config log mail request s (system_after config log) matched d (sources-own config log d width)).releases i n e;
   }
     where
-      user : (d i : ℕ) (o : Option Terms) → terms_at config d ≡ o → (s.uses d i ≡ SourceFree → ⊥) → d < length config.clients.items
+      user : (d i : ℕ) (o : Option EndConfig) → terms_at config d ≡ o → (s.uses d i ≡ SourceFree → ⊥) → d < length config.clients.items
       user d i None is used = absurd (used (no_use config log mail request s matched width d is i))
       user d i (Some terms) is used = client_below config d terms is
 
-      letter : (d i n : ℕ) (o : Option Terms) → terms_at config d ≡ o → s.lets d i ≡ Some n → d < length config.clients.items
+      letter : (d i n : ℕ) (o : Option EndConfig) → terms_at config d ≡ o → s.lets d i ≡ Some n → d < length config.clients.items
       letter d i n None is e = absurd (let none : s.lets d i ≡ None = no_let config log mail request s matched width d is i in let both = sym e ∙ none in cc)
       letter d i n (Some terms) is e = client_below config d terms is
 

@@ -15,7 +15,7 @@ use Rattle.tl_client.specs.declared.operation.Op.{Op}
 use Rattle.tl_client.specs.declared.operation.Op.TheVariants as op
 use Rattle.tl_client.specs.declared.reply.Reply.{Reply}
 use Rattle.tl_client.specs.declared.reply.Reply.TheVariants as reply
-use Rattle.tl_client.specs.statement.End.{Terms}
+use Rattle.tl_client.specs.statement.Endpoint.{EndConfig}
 use Rattle.tl_coherence.specs.refinement.AbstractStep.{AbstractState, asked, access_taken, request_taken, acquire_taken, granted_after, last_taken, taken_by_client, kind_taken}
 use Rattle.tl_coherence.specs.protocol.Invariant.{IsInvariant}
 use Rattle.tl_coherence.specs.protocol.Phase.{AcquirePhase, NoAcquire, AcquireOpen}
@@ -38,7 +38,7 @@ each-set_at P c k y f here others d i = elim (cases_eq d c) [
 abbrev pub AreStrange : Config → (ℕ → ℕ → SourceState) → Type 0
 AreStrange config uses = (c source : ℕ) → terms_at config c ≡ None → uses c source ≡ SourceFree
 
-strange_set : (config : Config) (c source : ℕ) (u : SourceState) (uses : ℕ → ℕ → SourceState) (terms : Terms) → terms_at config c ≡ Some terms → AreStrange config uses → AreStrange config (set_at c source u uses)
+strange_set : (config : Config) (c source : ℕ) (u : SourceState) (uses : ℕ → ℕ → SourceState) (terms : EndConfig) → terms_at config c ≡ Some terms → AreStrange config uses → AreStrange config (set_at c source u uses)
 strange_set config c source u uses terms known before d i =
     each-set_at (λ j k v. terms_at config j ≡ None → v ≡ SourceFree) c source u uses (λ none. absurd (let e : Some terms ≡ None = sym known ∙ none in cc)) before d i
 
@@ -51,13 +51,13 @@ strange_used config c source u uses used before d i =
     each-set_at (λ j k v. terms_at config j ≡ None → v ≡ SourceFree) c source u uses (λ none. absurd (used (before c source none))) before d i
 
 strange_access : {w : ℕ} (config : Config) (c source : ℕ) (m : MessageA w) (tracker : ℕ) (p : Bool) (o : Option Cap) (rest : List Packet) (h : AbstractState w)
-    (terms : Terms) → terms_at config c ≡ Some terms → AreStrange config h.state.uses
+    (terms : EndConfig) → terms_at config c ≡ Some terms → AreStrange config h.state.uses
     → AreStrange config (access_taken c source m tracker p o rest h).state.uses
 strange_access config c source m tracker true (Some k) rest h terms known before = strange_set config c source (InService (block_at m.address)) h.state.uses terms known before
 strange_access config c source m tracker true None rest h terms known before = strange_set config c source Replied h.state.uses terms known before
 strange_access config c source m tracker false o rest h terms known before = strange_set config c source Replied h.state.uses terms known before
 
-strange_request : {w : ℕ} (config : Config) (clients c source : ℕ) (m : Message w) (tracker : ℕ) (rest : List Packet) (h : AbstractState w) (terms : Terms)
+strange_request : {w : ℕ} (config : Config) (clients c source : ℕ) (m : Message w) (tracker : ℕ) (rest : List Packet) (h : AbstractState w) (terms : EndConfig)
     → terms_at config c ≡ Some terms → AreStrange config h.state.uses
     → AreStrange config (request_taken clients c source m tracker rest h).state.uses
 strange_request config clients c source (message.A m) tracker rest h terms known before = strange_access config c source m tracker _ _ rest h terms known before
@@ -95,7 +95,7 @@ strange_taken config c n (Waits q own source k) rest h before = before
 strange_taken config c n (GrantSent q d k) rest h before = strange_closed config c ((h.state.block n).source c) h.state.uses before
 strange_taken config c n (GrantTaken q) rest h before = before
 
-pub strangers-kind_taken : {w : ℕ} (caching : ℕ → Bool) (config : Config) (tracker c : ℕ) (k : Kind) (i : ℕ) (rest : List Packet) (h : AbstractState w) (terms : Terms)
+pub strangers-kind_taken : {w : ℕ} (caching : ℕ → Bool) (config : Config) (tracker c : ℕ) (k : Kind) (i : ℕ) (rest : List Packet) (h : AbstractState w) (terms : EndConfig)
     → IsInvariant caching h.state → terms_at config c ≡ Some terms
     → AreStrange config h.state.uses → AreStrange config (kind_taken config tracker c k i rest h).state.uses
 strangers-kind_taken caching config tracker c Request i rest h terms inv known before = strange_request config _ c i (h.mail.request c i) tracker rest h terms known before
@@ -114,7 +114,7 @@ strangers-kind_taken caching config tracker c Grant i rest h terms inv known bef
 strangers-kind_taken caching config tracker c ReleaseAck i rest h terms inv known before = before
 strangers-kind_taken caching config tracker c GrantAck i rest h terms inv known before = before
 
-pub strangers-asked : {w : ℕ} (config : Config) (c : ℕ) (o : Op w) (r : Reply) (h : AbstractState w) (terms : Terms) → terms_at config c ≡ Some terms
+pub strangers-asked : {w : ℕ} (config : Config) (c : ℕ) (o : Op w) (r : Reply) (h : AbstractState w) (terms : EndConfig) → terms_at config c ≡ Some terms
     → AreStrange config h.state.uses → AreStrange config (asked c o r h).state.uses
 strangers-asked config c (op.Load address size) r h terms known before = before
 strangers-asked config c (op.Store address size value) reply.Stored h terms known before = before

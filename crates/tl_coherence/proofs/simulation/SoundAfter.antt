@@ -18,19 +18,19 @@ use Rattle.tl_client.specs.declared.verdict.Verdict.{Verdict}
 use Rattle.tl_client.specs.declared.verdict.Verdict.TheVariants as verdict
 use Rattle.tl_client.specs.statement.Ask as ask
 use Rattle.tl_client.specs.statement.Ask.{Asked}
-use Rattle.tl_client.specs.statement.End as client
-use Rattle.tl_client.specs.statement.End.{zeros, copy_at}
-use Rattle.tl_client.specs.statement.Kept.{holds}
+use Rattle.tl_client.specs.statement.Endpoint as client
+use Rattle.tl_client.specs.statement.Endpoint.{zeros, copy_at}
+use Rattle.tl_client.specs.statement.EndpointInvariant.{holds}
 use Rattle.tl_client.specs.statement.Offer as offer
 use Rattle.tl_client.specs.laws.Sound.{IsSoundIfAny, IsSoundAnswer}
 use Rattle.tl_client.proofs.Cases.{offered-cases}
 use Rattle.tl_client.proofs.Sound.{asked-sound, offered-sound}
 use Rattle.tl_manager.specs.code.Kept as manager
 use Rattle.tl_manager.specs.code.Kept.{Each}
-use Rattle.tl_manager.specs.statement.Deed as manager_deed
+use Rattle.tl_manager.specs.statement.Reaction as manager_reaction
 use Rattle.tl_manager.specs.statement.End as manager_end
 use Rattle.tl_manager.specs.statement.Offer as manager_offer
-use Rattle.tl_manager.proofs.Deeds.{deed_handable}
+use Rattle.tl_manager.proofs.Reactions.{reaction_handable}
 use Rattle.tl_coherence.specs.declared.event.Event.{Event}
 use Rattle.tl_coherence.specs.declared.event.Event.TheVariants.{Ask, Deliver}
 use Rattle.tl_coherence.specs.statement.Headline.{IsTypedOp, IsTyped}
@@ -65,7 +65,7 @@ copy-long {w} config log mail request s sys h c n = go ((s.block n).pair c).held
 abbrev AllGood : {w : ℕ} → Config → System w → Type 0
 AllGood config sys = (d : ℕ) (at : Channel) → All (IsGood config d) (sys.channels d at)
 
-one_good : {w : ℕ} (config : Config) (c : ℕ) (m : Option (Message w)) (sys : System w) (terms : client.Terms) → IsWidth w → terms_at config c ≡ Some terms
+one_good : {w : ℕ} (config : Config) (c : ℕ) (m : Option (Message w)) (sys : System w) (terms : client.EndConfig) → IsWidth w → terms_at config c ≡ Some terms
     → IsSoundIfAny terms.level m → IsFitIfAny config.blocks m → AllGood config sys
     → AllGood config (with_messages (handed_by c m) sys)
 one_good {w} config c None sys terms width known sound fit before d at = all-messages (IsGood config) [] sys tt before d at
@@ -73,7 +73,7 @@ one_good {w} config c (Some m) sys terms width known sound fit before d at =
     all-messages (IsGood config) (handed_by c (Some m)) sys (good-message config c terms.level m width (level-terms config c terms known).0 sound fit.ours fit.inside fit.long, tt) before d at
 
 judged_good : {w : ℕ} (config : Config) (c : ℕ) (ch : Channel) (x : Beat w) (queue : List (Beat w)) (a : Result (Verdict × Option (Message w)) Rule)
-    (e : client.End w) (sys : System w) (terms : client.Terms) → IsWidth w
+    (e : client.Endpoint w) (sys : System w) (terms : client.EndConfig) → IsWidth w
     → terms_at config c ≡ Some terms → IsSoundAnswer terms.level a → IsFitAnswer config.blocks a → sys.channels c ch ≡ x ∷ queue → AllGood config sys
     → AllGood config (judged a c ch x queue e sys).after
 judged_good config c ch x queue (Err rule) e sys terms width known sound fit first before d at = before d at
@@ -90,8 +90,8 @@ manager_good : {w : ℕ} (config : Config) (link : Link) (ch : Channel) (x : Bea
 manager_good config link ch x queue (manager_offer.Breaks rule) e sys width sound trace first before d at = before d at
 manager_good config link ch x queue manager_offer.Waits e sys width sound trace first before d at = before d at
 manager_good {w} config link ch x queue manager_offer.Passes e sys width sound trace first before d at =
-    all-messages (IsGood config) (manager_deed.deed config link x e).handed (with_manager (manager_offer.taken link x (manager_deed.deed config link x e) e) (with_channel link.0 ch queue sys))
-    (good-handed config (manager_deed.deed config link x e).handed width (deed_handable config link x e width sound trace))
+    all-messages (IsGood config) (manager_reaction.reaction config link x e).handed (with_manager (manager_offer.taken link x (manager_reaction.reaction config link x e) e) (with_channel link.0 ch queue sys))
+    (good-handed config (manager_reaction.reaction config link x e).handed width (reaction_handable config link x e width sound trace))
     (all-popped (IsGood config) link.0 ch x queue sys first before) d at
 
 -- ---- an event
@@ -105,7 +105,7 @@ good-after {w} config log mail request s sys width h event typed = go (terms_at 
     before : AllGood config sys
     before d at k y lt = record { sound = h.sound d at k y lt; lanes = h.typed d at k y lt }
 
-    asked_good : (c : ℕ) (o : Op w) (terms : client.Terms) → terms_at config c ≡ Some terms → IsTypedOp o
+    asked_good : (c : ℕ) (o : Op w) (terms : client.EndConfig) → terms_at config c ≡ Some terms → IsTypedOp o
         → AllGood config (with_messages (handed_by c (ask.asked terms o (sys.clients c)).message)
         (with_client c (ask.asked terms o (sys.clients c)).after sys))
     asked_good c o terms known typed_op =
@@ -115,7 +115,7 @@ good-after {w} config log mail request s sys width h event typed = go (terms_at 
         fitted : terms.blocks ≡ config.blocks → IsFitIfAny terms.blocks (ask.asked terms o (sys.clients c)).message → IsFitIfAny config.blocks (ask.asked terms o (sys.clients c)).message
         fitted e f = subst (λ (n : ℕ). IsFitIfAny n (ask.asked terms o (sys.clients c)).message) e f
 
-    offered_fit : (c : ℕ) (ch : Channel) (x : Beat w) (terms : client.Terms) → terms_at config c ≡ Some terms → IsFitAnswer config.blocks (offer.offered terms ch x (sys.clients c)).answer
+    offered_fit : (c : ℕ) (ch : Channel) (x : Beat w) (terms : client.EndConfig) → terms_at config c ≡ Some terms → IsFitAnswer config.blocks (offer.offered terms ch x (sys.clients c)).answer
     offered_fit c ch x terms known =
         let same = (level-terms config c terms known).1 in
         fitted same (offered-cases terms ch x (sys.clients c) (λ o. IsFitAnswer terms.blocks o.answer) (λ rule. tt) tt
@@ -124,7 +124,7 @@ good-after {w} config log mail request s sys width h event typed = go (terms_at 
         fitted : terms.blocks ≡ config.blocks → IsFitAnswer terms.blocks (offer.offered terms ch x (sys.clients c)).answer → IsFitAnswer config.blocks (offer.offered terms ch x (sys.clients c)).answer
         fitted e f = subst (λ (n : ℕ). IsFitAnswer n (offer.offered terms ch x (sys.clients c)).answer) e f
 
-    delivered_good : (c : ℕ) (ch : Channel) (terms : client.Terms) (beats : List (Beat w)) → sys.channels c ch ≡ beats → terms_at config c ≡ Some terms
+    delivered_good : (c : ℕ) (ch : Channel) (terms : client.EndConfig) (beats : List (Beat w)) → sys.channels c ch ≡ beats → terms_at config c ≡ Some terms
         → AllGood config (delivered config terms c ch beats sys).after
     delivered_good c ch terms [] first known = before
     delivered_good c ch terms (x ∷ queue) first known = to (is_to_client ch)
@@ -141,7 +141,7 @@ good-after {w} config log mail request s sys width h event typed = go (terms_at 
             same : sys.channels c ch ≡ x ∷ queue → All (IsGood config c) (sys.channels c ch) → All (IsGood config c) (x ∷ queue)
             same e f = rw e at f
 
-    go : (o : Option client.Terms) → terms_at config (client_of event) ≡ o → (ev : Event w) → ev ≡ event → IsTyped ev → AllGood config (stepped_at config o ev sys).after
+    go : (o : Option client.EndConfig) → terms_at config (client_of event) ≡ o → (ev : Event w) → ev ≡ event → IsTyped ev → AllGood config (stepped_at config o ev sys).after
     go None e ev f ty = before
     go (Some terms) e (Ask c o) f ty = asked_good c o terms (rw (← f) at e) ty
     go (Some terms) e (Deliver link ch) f ty = delivered_good link.0 ch terms (sys.channels link.0 ch) refl (rw (← f) at e)

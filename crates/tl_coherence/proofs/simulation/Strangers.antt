@@ -10,7 +10,7 @@ use Rattle.tl_burst.specs.declared.message.MessageA.{MessageA}
 use Rattle.tl_params.specs.declared.config.ClientConfig.{ClientConfig}
 use Rattle.tl_params.specs.declared.config.Config.{Config}
 use Rattle.tl_params.specs.declared.level.Level.{Level}
-use Rattle.tl_client.specs.statement.End.{Terms}
+use Rattle.tl_client.specs.statement.Endpoint.{EndConfig}
 use Rattle.tl_manager.specs.code.Kept as kept
 use Rattle.tl_manager.specs.statement.Service.{services, service_of_block}
 use Rattle.tl_manager.specs.statement.Offer.{level_of}
@@ -31,7 +31,7 @@ use Rattle.tl_coherence.proofs.simulation.Owned.{sources-own}
 no_level : (config : Config) (c : ℕ) → terms_at config c ≡ None → level_of config c ≡ None
 no_level config c is = go (slice_get config.clients.items c) is
   where
-    go : (o : Option ClientConfig) → option_map {U = Terms}
+    go : (o : Option ClientConfig) → option_map {U = EndConfig}
         (λ x. record { level = x.level; profile = config.profile; sources = x.sources; blocks = config.blocks }) o ≡ None → option_map (λ x. x.level) o ≡ None
     go None e = refl
     go (Some x) e = absurd cc

@@ -14,10 +14,10 @@ use Rattle.tl_burst.specs.declared.message.Message.TheVariants as message
 use Rattle.tl_burst.specs.statement.Messages.{channel_of}
 use Rattle.tl_params.specs.declared.config.Config.{Config}
 use Rattle.tl_client.specs.declared.verdict.Verdict.{Verdict}
-use Rattle.tl_client.specs.statement.End.{Terms}
+use Rattle.tl_client.specs.statement.Endpoint.{EndConfig}
 use Rattle.tl_manager.specs.code.Kept as manager
-use Rattle.tl_manager.specs.statement.Deed.{deed}
-use Rattle.tl_manager.proofs.Events.{deed-ack}
+use Rattle.tl_manager.specs.statement.Reaction.{reaction}
+use Rattle.tl_manager.proofs.Events.{reaction-ack}
 use Rattle.tl_coherence.specs.declared.event.Event.TheVariants.{Deliver}
 use Rattle.tl_coherence.specs.statement.Draining.{is_moving}
 use Rattle.tl_coherence.specs.refinement.AbstractStep.{AbstractState}
@@ -67,9 +67,9 @@ still-none : {w : ℕ} (config : Config) (link : Link) (ch : Channel) (sys : Sys
 unfolding accesses_answered
 still-none config link ch sys still = rw ((unmoved config link ch sys still).handed) refl
 
-ack-none : {w : ℕ} (config : Config) (link : Link) (x : Beat w) (sys : System w) → (y : BeatE) → x ≡ beat.E y → accesses_answered (deed config link x sys.manager).handed ≡ []
+ack-none : {w : ℕ} (config : Config) (link : Link) (x : Beat w) (sys : System w) → (y : BeatE) → x ≡ beat.E y → accesses_answered (reaction config link x sys.manager).handed ≡ []
 unfolding accesses_answered
-ack-none config link x sys y e = rw (e, deed-ack config link y sys.manager) refl
+ack-none config link x sys y e = rw (e, reaction-ack config link y sys.manager) refl
 
 pub performs-delivered : {w : ℕ} (config : Config) (log : Log w) (link : Link) (ch : Channel) (h : AbstractState w) → IsWidth w → SimulationRelation config log h.mail h.request h.state (system_after config log)
     → Performs (accesses_answered (stepped config (Deliver link ch) (system_after config log)).handed)
@@ -99,7 +99,7 @@ performs-delivered {w} config log link ch h width is = go (is_moving (stepped co
         same e f = rw e at f
 
     -- a client takes it
-    down : (at : Channel) (terms : Terms) (x : Beat w) (queue : List (Beat w)) → is_to_client at ≡ true → terms_at config c ≡ Some terms
+    down : (at : Channel) (terms : EndConfig) (x : Beat w) (queue : List (Beat w)) → is_to_client at ≡ true → terms_at config c ≡ Some terms
         → sys.channels c at ≡ x ∷ queue → is_moving (stepped config (Deliver link at) sys).outcome ≡ true → Then at
     down at terms x queue theirs known beats moving =
         let t = client-moves config link at sys terms x queue known beats theirs moving in
@@ -110,21 +110,21 @@ performs-delivered {w} config log link ch h width is = go (is_moving (stepped co
         (ap (λ (s : Step w). accesses_answered s.handed) t.step_is ∙ fit-quiet config.blocks c t.verdict_is t.message fit)
 
     -- the manager takes it
-    up : (at : Channel) (terms : Terms) (x : Beat w) (queue : List (Beat w)) → is_to_client at ≡ false → terms_at config c ≡ Some terms
+    up : (at : Channel) (terms : EndConfig) (x : Beat w) (queue : List (Beat w)) → is_to_client at ≡ false → terms_at config c ≡ Some terms
         → sys.channels c at ≡ x ∷ queue → is_moving (stepped config (Deliver link at) sys).outcome ≡ true
-        → IsOnce (accesses_answered (deed config link x sys.manager).handed) h m → Then at
+        → IsOnce (accesses_answered (reaction config link x sys.manager).handed) h m → Then at
     up at terms x queue theirs known beats moving once =
         let t = manager-moves config link at sys terms x queue known beats theirs moving in
-        let same : accesses_answered (stepped config (Deliver link at) sys).handed ≡ accesses_answered (deed config link x sys.manager).handed =
+        let same : accesses_answered (stepped config (Deliver link at) sys).handed ≡ accesses_answered (reaction config link x sys.manager).handed =
         ap (λ (s : Step w). accesses_answered s.handed) t.step_is in
         let still : moved (Deliver link at) (stepped config (Deliver link at) sys).outcome m ≡ m = ap (λ (s : Step w). moved (Deliver link at) s.outcome m) t.step_is in
         subst (λ (l : List (ℕ × ℕ)). Performs l (moved (Deliver link at) (stepped config (Deliver link at) sys).outcome m)
         (performing l (moved (Deliver link at) (stepped config (Deliver link at) sys).outcome m))) (sym same)
-        (subst (λ (i : Machine w). Performs (accesses_answered (deed config link x sys.manager).handed) i
-        (performing (accesses_answered (deed config link x sys.manager).handed) i)) (sym still)
-        (once-performs (accesses_answered (deed config link x sys.manager).handed) h m once))
+        (subst (λ (i : Machine w). Performs (accesses_answered (reaction config link x sys.manager).handed) i
+        (performing (accesses_answered (reaction config link x sys.manager).handed) i)) (sym still)
+        (once-performs (accesses_answered (reaction config link x sys.manager).handed) h m once))
 
-    moves : (at : Channel) (terms : Terms) (beats : List (Beat w)) → terms_at config c ≡ Some terms → sys.channels c at ≡ beats
+    moves : (at : Channel) (terms : EndConfig) (beats : List (Beat w)) → terms_at config c ≡ Some terms → sys.channels c at ≡ beats
         → is_moving (stepped config (Deliver link at) sys).outcome ≡ true → Then at
     moves at terms [] known none moving = absurd (not_moving _ _ (stepped-empty config link at sys terms known none) moving refl)
     moves channel.A terms (x ∷ queue) known beats moving =
@@ -136,14 +136,14 @@ performs-delivered {w} config log link ch h width is = go (is_moving (stepped co
     moves channel.D terms (x ∷ queue) known beats moving = down channel.D terms x queue refl known beats moving
     moves channel.E terms (x ∷ queue) known beats moving = up channel.E terms x queue refl known beats moving (inl (acked x (first-of config log h c terms channel.E x queue width is known beats).on))
       where
-        acked : (y : Beat w) → channel_of y ≡ channel.E → accesses_answered (deed config link y sys.manager).handed ≡ []
+        acked : (y : Beat w) → channel_of y ≡ channel.E → accesses_answered (reaction config link y sys.manager).handed ≡ []
         acked (beat.E y) e = ack-none config link (beat.E y) sys y refl
         acked (beat.A y) e = absurd cc
         acked (beat.B y) e = absurd cc
         acked (beat.C y) e = absurd cc
         acked (beat.D y) e = absurd cc
 
-    found : (o : Option Terms) → terms_at config c ≡ o → is_moving (stepped config (Deliver link ch) sys).outcome ≡ true → Then ch
+    found : (o : Option EndConfig) → terms_at config c ≡ o → is_moving (stepped config (Deliver link ch) sys).outcome ≡ true → Then ch
     found None none moving = absurd (not_moving _ _ (stepped-nobody config (Deliver link ch) sys none) moving refl)
     found (Some terms) known moving = moves ch terms (sys.channels c ch) known refl moving
 

@@ -12,7 +12,7 @@ use Rattle.tl_client.specs.declared.operation.Op.{Op}
 use Rattle.tl_client.specs.declared.operation.Op.TheVariants.{Acquire, AcquireWhole}
 use Rattle.tl_client.specs.declared.reply.Reply.TheVariants.{Started}
 use Rattle.tl_client.specs.statement.Ask.{whole_grow}
-use Rattle.tl_client.specs.statement.End.{held_at}
+use Rattle.tl_client.specs.statement.Endpoint.{held_at}
 use Rattle.tl_rules.specs.statement.Conformance.{same_perm}
 use Rattle.tl_coherence.specs.declared.event.Event.TheVariants.{Ask, Deliver}
 use Rattle.tl_coherence.specs.declared.event.Outcome.{Outcome}

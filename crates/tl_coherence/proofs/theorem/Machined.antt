@@ -12,7 +12,7 @@ use Rattle.tl_params.specs.declared.rule.Rule.{Rule}
 use Rattle.tl_client.specs.declared.verdict.Finish.{Finish}
 use Rattle.tl_client.specs.declared.verdict.Verdict.{Verdict}
 use Rattle.tl_client.specs.declared.verdict.Verdict.TheVariants as verdict
-use Rattle.tl_client.specs.statement.End.{End, Terms}
+use Rattle.tl_client.specs.statement.Endpoint.{Endpoint, EndConfig}
 use Rattle.tl_client.specs.statement.Offer.{offered}
 use Rattle.tl_manager.specs.statement.End as manager_end
 use Rattle.tl_manager.specs.statement.Offer as manager
@@ -49,12 +49,12 @@ is_delivered (outcome.Done x source f) = true
 is_delivered (outcome.Replied r) = false
 is_delivered outcome.NoSuchClient = false
 
-delivered-so : {w : ℕ} (config : Config) (terms : Terms) (c : ℕ) (ch : Channel) (beats : List (Beat w)) (s : System w) → is_delivered (step.delivered config terms c ch beats s).outcome ≡ true
+delivered-so : {w : ℕ} (config : Config) (terms : EndConfig) (c : ℕ) (ch : Channel) (beats : List (Beat w)) (s : System w) → is_delivered (step.delivered config terms c ch beats s).outcome ≡ true
 unfolding is_delivered
 delivered-so config terms c ch [] s = refl
 delivered-so {w} config terms c ch (x ∷ rest) s = go (is_to_client ch)
   where
-    of_client : (r : Result (Verdict × Option (Message w)) Rule) (e : End w) → is_delivered (judged r c ch x rest e s).outcome ≡ true
+    of_client : (r : Result (Verdict × Option (Message w)) Rule) (e : Endpoint w) → is_delivered (judged r c ch x rest e s).outcome ≡ true
     of_client (Err rule) e = refl
     of_client (Ok (verdict.Stalled, m)) e = refl
     of_client (Ok (verdict.Taken, m)) e = refl
@@ -71,7 +71,7 @@ delivered-so {w} config terms c ch (x ∷ rest) s = go (is_to_client ch)
     go true = of_client (offered terms ch x (s.clients c)).answer _
     go false = of_manager _
 
-stepped-so : {w : ℕ} (config : Config) (link : Link) (ch : Channel) (terms : Terms) (s : System w) → terms_at config link.0 ≡ Some terms
+stepped-so : {w : ℕ} (config : Config) (link : Link) (ch : Channel) (terms : EndConfig) (s : System w) → terms_at config link.0 ≡ Some terms
     → is_delivered (stepped config (Deliver link ch) s).outcome ≡ true
 unfolding stepped
 stepped-so config link ch terms s known = rw known (delivered-so config terms link.0 ch (s.channels link.0 ch) s)
@@ -115,7 +115,7 @@ nobody-continues {w} config log event none =
     same (Ask c o) = refl
     same (Deliver link ch) = refl
 
-continues-delivered : {w : ℕ} (config : Config) (log : Log w) (link : Link) (ch : Channel) (h : AbstractState w) (terms : Terms) → IsWidth w
+continues-delivered : {w : ℕ} (config : Config) (log : Log w) (link : Link) (ch : Channel) (h : AbstractState w) (terms : EndConfig) → IsWidth w
     → SimulationRelation config log h.mail h.request h.state (system_after config log) → terms_at config link.0 ≡ Some terms
     → Continues config (Deliver link ch, (stepped config (Deliver link ch) (system_after config log)).outcome) log
 continues-delivered {w} config log link ch h terms width is known = (
@@ -150,7 +150,7 @@ continues_event : {w : ℕ} (config : Config) (log : Log w) (event : Event w) (h
     → SimulationRelation config log h.mail h.request h.state (system_after config log) → Continues config (event, (stepped config event (system_after config log)).outcome) log
 continues_event {w} config log event h width is = go event (terms_at config (step.client_of event)) refl
   where
-    go : (e : Event w) (o : Option Terms) → terms_at config (step.client_of e) ≡ o → Continues config (e, (stepped config e (system_after config log)).outcome) log
+    go : (e : Event w) (o : Option EndConfig) → terms_at config (step.client_of e) ≡ o → Continues config (e, (stepped config e (system_after config log)).outcome) log
     go e None none = nobody-continues config log e none
     go (Deliver link ch) (Some terms) known = continues-delivered config log link ch h terms width is known
     go (Ask c o) (Some terms) known =

@@ -29,9 +29,6 @@ is_above cap.ToN _ = true
 is_above cap.ToB perm.Trunk = true
 is_above _ _ = false
 
-abbrev pub after_probed : Cap → ClientBlock → ClientBlock
-after_probed k p = record p { probing = ProbeSent k }
-
 -- what a service leaves of one who isn't its sender
 abbrev pub after_served : Cap → ClientBlock → ClientBlock
 after_served k p = record p { probing = if is_above k p.recorded then ProbeSent k else p.probing }

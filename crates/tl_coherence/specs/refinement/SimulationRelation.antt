@@ -22,7 +22,7 @@ use Rattle.tl_params.specs.declared.profile.Profile.TheVariants as profile
 use Rattle.tl_rules.specs.statement.Conformance.{answers, same_perm}
 use Rattle.tl_rules.specs.statement.Effect.{bytes_from}
 use Rattle.tl_client.specs.laws.Accounted.{IsAccounted}
-use Rattle.tl_client.specs.statement.Kept as client
+use Rattle.tl_client.specs.statement.EndpointInvariant as client
 use Rattle.tl_manager.specs.code.Kept as manager
 use Rattle.tl_manager.specs.code.Kept.{illegal_message_at}
 use Rattle.tl_manager.specs.statement.Service.{is_access_answer}
@@ -147,7 +147,7 @@ pub record SimulationRelation {w : ℕ} (config : Config) (log : Log w) (mail : 
   -- clients
   pub known : (c : ℕ) → ClientRelation (asked_by mail s c) (unfinished channel.D (sys.clients c).past) c s (sys.clients c).past
   pub opened : (c : ℕ) → OpenSourceRelation (asked_by mail s c) c s (sys.clients c).past
-  pub kept : (c : ℕ) → client.IsKept (sys.clients c)
+  pub kept : (c : ℕ) → client.IsEndpointInvariant (sys.clients c)
   pub accounted : (c : ℕ) → IsAccounted (sys.clients c).past
   pub copies : (c n : ℕ) → same_perm ((s.block n).pair c).held perm.None ≡ false → (sys.clients c).copies n ≡ Some ((s.block n).copy c)
   pub waiting : (c n : ℕ) → is_storing ((s.block n).pair c).acquiring ≡ true → (sys.clients c).waiting n ≡ Some ((s.block n).waiting c)

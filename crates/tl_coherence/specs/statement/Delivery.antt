@@ -12,7 +12,7 @@ use Rattle.tl_params.specs.declared.param.Prune.{Prune}
 use Rattle.tl_rules.specs.statement.Conformance.{on_link, is_legal, first_fault}
 use Rattle.tl_rules.specs.statement.History.{block_at}
 use Rattle.tl_client.specs.declared.operation.Op.TheVariants.{Release}
-use Rattle.tl_client.specs.statement.End.{Terms}
+use Rattle.tl_client.specs.statement.Endpoint.{EndConfig}
 use Rattle.tl_manager.specs.statement.Offer.{level_of, must_wait}
 use Rattle.tl_coherence.specs.declared.event.Event.TheVariants.{Deliver}
 use Rattle.tl_coherence.specs.declared.event.Outcome.{Outcome}
@@ -65,7 +65,7 @@ capacity n sources trackers channel.C = n * (sources + trackers)
 capacity n sources trackers channel.D = (n + 1) * sources
 capacity n sources trackers channel.E = trackers
 
-abbrev pub sources_of : Option Terms → ℕ
+abbrev pub sources_of : Option EndConfig → ℕ
 sources_of None = 0
 sources_of (Some terms) = terms.sources
 

@@ -17,7 +17,7 @@ use Rattle.tl_client.specs.declared.operation.Op.TheVariants.{Acquire, AcquireWh
 use Rattle.tl_client.specs.declared.reply.Reply.TheVariants.{Started}
 use Rattle.tl_client.specs.declared.verdict.Finish.TheVariants.{Granted}
 use Rattle.tl_client.specs.statement.Ask.{op_block}
-use Rattle.tl_client.specs.statement.End.{held_at}
+use Rattle.tl_client.specs.statement.Endpoint.{held_at}
 use Rattle.tl_coherence.specs.declared.event.Event.{Event}
 use Rattle.tl_coherence.specs.declared.event.Event.TheVariants.{Ask, Deliver}
 use Rattle.tl_coherence.specs.declared.event.Outcome.{Outcome}

@@ -19,7 +19,7 @@ use Rattle.tl_client.specs.declared.reply.Reply.TheVariants.{Value, Stored, Miss
 use Rattle.tl_client.specs.declared.verdict.Finish.{Finish}
 use Rattle.tl_client.specs.declared.verdict.Finish.TheVariants.{Ack, Hint, Data, Granted, Released}
 use Rattle.tl_client.specs.statement.Offer.{padded}
-use Rattle.tl_manager.specs.statement.Deed.{with_block}
+use Rattle.tl_manager.specs.statement.Reaction.{with_block}
 use Rattle.tl_coherence.specs.declared.event.Event.{Event}
 use Rattle.tl_coherence.specs.declared.event.Event.TheVariants.{Ask, Deliver}
 use Rattle.tl_coherence.specs.declared.event.Outcome.{Outcome}

@@ -5,7 +5,7 @@ use Rattle.tl_beat.specs.declared.beat.Link.{Link}
 use Rattle.tl_beat.specs.declared.channel.Channel.{Channel}
 use Rattle.tl_beat.specs.declared.channel.Channel.TheVariants as channel
 use Rattle.tl_params.specs.declared.config.Config.{Config}
-use Rattle.tl_client.specs.statement.End.{Terms}
+use Rattle.tl_client.specs.statement.Endpoint.{EndConfig}
 use Rattle.tl_client.specs.statement.Offer as client
 use Rattle.tl_manager.specs.statement.Offer as manager
 use Rattle.tl_coherence.specs.declared.event.Event.TheVariants.{Deliver}
@@ -14,13 +14,13 @@ use Rattle.tl_coherence.specs.statement.Step.{is_to_client, stepped}
 use Rattle.tl_coherence.specs.statement.System.{System, terms_at}
 
 -- the end that takes the beat of a channel stalls it
-abbrev pub stalls : {w : ℕ} → Config → Terms → ℕ → Channel → Beat w → System w → Bool
+abbrev pub stalls : {w : ℕ} → Config → EndConfig → ℕ → Channel → Beat w → System w → Bool
 stalls config terms link ch x s =
     if is_to_client ch
     then client.stalls terms ch x (s.clients link)
     else manager.stalls config (record { 0 = link }) ch x s.manager
 
-abbrev pub moves : {w : ℕ} → Config → Option Terms → ℕ → Channel → List (Beat w) → System w → Bool
+abbrev pub moves : {w : ℕ} → Config → Option EndConfig → ℕ → Channel → List (Beat w) → System w → Bool
 moves config (Some terms) link ch (x ∷ rest) s = not (stalls config terms link ch x s)
 moves config _ link ch _ s = false
 

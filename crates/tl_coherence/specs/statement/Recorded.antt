@@ -1,7 +1,7 @@
 -- That no client holds more of a block than is recorded for it.
 use Rattle.std.specs.Prelude.{ℕ, true, ◌≡◌}
 use Rattle.tl_params.specs.declared.config.Config.{Config}
-use Rattle.tl_client.specs.statement.End.{held_at}
+use Rattle.tl_client.specs.statement.Endpoint.{held_at}
 use Rattle.tl_manager.specs.statement.Holders.{recorded}
 use Rattle.tl_coherence.specs.statement.Headline.{IsGiven}
 use Rattle.tl_coherence.specs.statement.Log.{Log, system_after}

@@ -9,7 +9,7 @@ use Rattle.tl_params.specs.declared.rule.Rule.{Rule}
 use Rattle.tl_client.specs.declared.verdict.Verdict.{Verdict}
 use Rattle.tl_client.specs.declared.verdict.Verdict.TheVariants as verdict
 use Rattle.tl_client.specs.statement.Ask.{Asked, asked}
-use Rattle.tl_client.specs.statement.End as client
+use Rattle.tl_client.specs.statement.Endpoint as client
 use Rattle.tl_client.specs.statement.Offer.{Offered, offered}
 use Rattle.tl_manager.specs.statement.Handing.{Handed}
 use Rattle.tl_manager.specs.statement.End as manager_end
@@ -52,7 +52,7 @@ outcome_of x verdict.Taken = outcome.Moved x
 outcome_of x (verdict.Done source finish) = outcome.Done x source finish
 
 -- A stall leaves all as it was. A beat that is refused stays where it is: but that never happens.
-abbrev pub judged : {w : ℕ} → Result (Verdict × Option (Message w)) Rule → ℕ → Channel → Beat w → List (Beat w) → client.End w → System w → Step w
+abbrev pub judged : {w : ℕ} → Result (Verdict × Option (Message w)) Rule → ℕ → Channel → Beat w → List (Beat w) → client.Endpoint w → System w → Step w
 judged (Err rule) link ch x rest e s = only outcome.Stalled (with_client link e s)
 judged (Ok (verdict.Stalled, m)) link ch x rest e s = only outcome.Stalled s
 judged (Ok (v, m)) link ch x rest e s = handing (outcome_of x v) (handed_by link m) (with_client link e (with_channel link ch rest s))
@@ -72,7 +72,7 @@ is_to_client channel.B = true
 is_to_client channel.D = true
 is_to_client _ = false
 
-abbrev pub delivered : {w : ℕ} → Config → client.Terms → ℕ → Channel → List (Beat w) → System w → Step w
+abbrev pub delivered : {w : ℕ} → Config → client.EndConfig → ℕ → Channel → List (Beat w) → System w → Step w
 delivered config terms link ch [] s = only outcome.Empty s
 delivered config terms link ch (x ∷ rest) s =
     if is_to_client ch
@@ -85,7 +85,7 @@ abbrev pub client_of : {w : ℕ} → Event w → ℕ
 client_of (Ask client operation) = client
 client_of (Deliver link ch) = link.0
 
-abbrev pub stepped_at : {w : ℕ} → Config → Option client.Terms → Event w → System w → Step w
+abbrev pub stepped_at : {w : ℕ} → Config → Option client.EndConfig → Event w → System w → Step w
 stepped_at config None event s = only outcome.NoSuchClient s
 stepped_at config (Some terms) (Ask client operation) s = replied client (asked terms operation (s.clients client)) s
 stepped_at config (Some terms) (Deliver link ch) s = delivered config terms link.0 ch (s.channels link.0 ch) s

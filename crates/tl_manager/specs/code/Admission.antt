@@ -6,7 +6,7 @@ use Rattle.tl_beat.specs.statement.First.{first_if}
 use Rattle.tl_params.specs.declared.config.Config.{Config}
 use Rattle.tl_params.specs.declared.rule.Rule.{Rule}
 use Rattle.tl_params.specs.declared.rule.Rule.TheVariants.{A1, A2}
-use Rattle.tl_rules.specs.statement.Agent.{is_outside, is_spoiled}
+use Rattle.tl_rules.specs.statement.Admission.{is_outside, is_spoiled}
 use Rattle.tl_rules.specs.statement.Conformance.{Trace, on_link, broken_in_order}
 use Rattle.tl_manager.specs.statement.Offer.{Judgement, Breaks, Waits, Passes, breaks_or, waits_or, before_stall, must_wait}
 use Rattle.tl_manager.specs.declared.manager.admission.Admission.{Admission}

@@ -9,7 +9,7 @@ use Rattle.tl_burst.specs.statement.Messages.{channel_of, unfinished}
 use Rattle.tl_params.specs.declared.config.Config.{Config}
 use Rattle.tl_rules.specs.statement.Conformance.{on_link}
 use Rattle.tl_rules.specs.statement.History.{ends, block_at}
-use Rattle.tl_manager.specs.code.Home.{IsPlaced}
+use Rattle.tl_manager.specs.code.BlockState.{IsPlaced}
 use Rattle.tl_manager.specs.code.Kept.{IsFilled}
 use Rattle.tl_manager.specs.code.Ready.{IsTaken}
 use Rattle.tl_manager.specs.statement.End.{End}
@@ -21,7 +21,7 @@ pub record IsComplete {w : ℕ} (config : Config) (link : Link) (x : Beat w) (me
   pub burst : IsBurst message (x ∷ unfinished (channel_of x) (on_link link.0 e.trace))
   pub filled : IsFilled message
 
--- where there are so many blocks and clients, what is due for it can be done
+-- where there are this many blocks and clients, what is due for it can be done
 abbrev pub IsDue : {w : ℕ} → ℕ → ℕ → Link → Message w → Type 0
 IsDue blocks clients link (message.A m) = IsPlaced blocks clients link m
 IsDue blocks clients link (message.C m) = block_at m.address < blocks

@@ -8,13 +8,13 @@ use Rattle.tl_params.specs.declared.perm.Perm.{Perm}
 use Rattle.tl_params.specs.statement.Config.{config_fault}
 use Rattle.tl_manager.specs.code.Knows.{Knows}
 use Rattle.tl_manager.specs.statement.End.{fresh}
-use Rattle.tl_manager.specs.declared.manager.links.Links.{Links}
-use Rattle.tl_manager.specs.declared.manager.wire.Wire.{Wire}
+use Rattle.tl_manager.specs.declared.manager.state.ManagerState.{ManagerState}
+use Rattle.tl_manager.specs.declared.manager.link_state.LinkState.{LinkState}
 
-abbrev pub fresh_wire : {w : ℕ} → Level → Wire w
-fresh_wire level = record { level = level; requests = []; reports = []; closed = false }
+abbrev pub fresh_link_state : {w : ℕ} → Level → LinkState w
+fresh_link_state level = record { level = level; requests = []; reports = []; closed = false }
 
 -- what is made of a configuration, or why nothing was made
-abbrev pub IsNew : {w : ℕ} {M : Type 0} → (M → ℕ → ℕ → Perm) → Config → Result (Links w M) NewFault → Type 0
-IsNew perm_of config (Ok links) = Knows perm_of links config fresh
+abbrev pub IsNew : {w : ℕ} {M : Type 0} → (M → ℕ → ℕ → Perm) → Config → Result (ManagerState w M) NewFault → Type 0
+IsNew perm_of config (Ok state) = Knows perm_of state config fresh
 IsNew perm_of config (Err fault) = (config_fault config ≡ Some fault) ⊎ ((config_fault config ≡ None) × (fault ≡ Memory))

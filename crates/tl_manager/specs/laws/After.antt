@@ -10,7 +10,7 @@ use Rattle.tl_burst.specs.declared.message.Message.{Message}
 use Rattle.tl_burst.specs.declared.message.Message.TheVariants as message
 use Rattle.tl_burst.specs.statement.Burst.{beat_of}
 use Rattle.tl_burst.specs.statement.Messages.{History}
-use Rattle.tl_rules.specs.statement.Agent.{sent}
+use Rattle.tl_rules.specs.statement.Admission.{sent}
 use Rattle.tl_rules.specs.statement.Conformance.{Trace, on_link}
 use Rattle.tl_rules.specs.statement.History.{ends, block_at, is_probe, is_probe_ack}
 use Rattle.tl_manager.specs.statement.Handing.{Handed}

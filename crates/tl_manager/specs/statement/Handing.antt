@@ -150,14 +150,14 @@ grant config s t memory =
 -- ---- what is done when a message is complete
 
 -- the messages that are handed out, and the memory then
-pub record Deed (w : ℕ) : Type 0 where
+pub record Reaction (w : ℕ) : Type 0 where
   pub handed : Handed w
   pub memory : Memory
 
-abbrev pub nothing : {w : ℕ} → Memory → Deed w
+abbrev pub nothing : {w : ℕ} → Memory → Reaction w
 nothing memory = record { handed = []; memory = memory }
 
-abbrev pub performed : {w : ℕ} → Config → Service w → Trace w → Memory → Deed w
+abbrev pub performed : {w : ℕ} → Config → Service w → Trace w → Memory → Reaction w
 performed config s t memory =
     if is_acquire s.request.opcode
     then record { handed = (s.link, grant config s t memory) ∷ []; memory = memory }

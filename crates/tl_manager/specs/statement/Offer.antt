@@ -9,13 +9,13 @@ use Rattle.tl_params.specs.declared.config.Config.{Config}
 use Rattle.tl_params.specs.declared.level.Level.{Level}
 use Rattle.tl_params.specs.declared.rule.Rule.{Rule}
 use Rattle.tl_params.specs.declared.rule.Rule.TheVariants.{L1, S1, H1, A1, A2, A3}
-use Rattle.tl_rules.specs.statement.Agent.{is_outside, is_spoiled}
+use Rattle.tl_rules.specs.statement.Admission.{is_outside, is_spoiled}
 use Rattle.tl_rules.specs.statement.Conformance.{Trace, on_link, broken_in_order}
 use Rattle.tl_rules.specs.statement.History.{ends, block_at}
 use Rattle.tl_rules.specs.statement.Legality.{illegal, is_one_of}
 use Rattle.tl_manager.specs.statement.Service.{services, is_in_service}
-use Rattle.tl_manager.specs.statement.Handing.{Handed, with_handed, Deed}
-use Rattle.tl_manager.specs.statement.Deed.{deed}
+use Rattle.tl_manager.specs.statement.Handing.{Handed, with_handed, Reaction}
+use Rattle.tl_manager.specs.statement.Reaction.{reaction}
 use Rattle.tl_manager.specs.statement.End.{End}
 
 -- ---- judging
@@ -93,13 +93,13 @@ pub data Reception (w : ℕ) : Type 0 where
 abbrev pub refused : {w : ℕ} → Link → End w → End w
 refused link e = record { trace = e.trace; closed = link.0 ∷ e.closed; memory = e.memory }
 
-abbrev pub taken : {w : ℕ} → Link → Beat w → Deed w → End w → End w
-taken link x deed e = record { trace = with_handed deed.handed ((link, x) ∷ e.trace); closed = e.closed; memory = deed.memory }
+abbrev pub taken : {w : ℕ} → Link → Beat w → Reaction w → End w → End w
+taken link x reaction e = record { trace = with_handed reaction.handed ((link, x) ∷ e.trace); closed = e.closed; memory = reaction.memory }
 
 abbrev pub offered_as : {w : ℕ} → Judgement → Config → Link → Beat w → End w → Reception w × End w
 offered_as (Breaks rule) config link x e = (Refused rule, refused link e)
 offered_as Waits config link x e = (Stalled, e)
-offered_as Passes config link x e = (Sent (deed config link x e).handed, taken link x (deed config link x e) e)
+offered_as Passes config link x e = (Sent (reaction config link x e).handed, taken link x (reaction config link x e) e)
 
 -- How the manager answers a beat that it is offered on a channel of a link, and its end afterwards.
 unfoldable pub offered : {w : ℕ} → Config → Link → Channel → Beat w → End w → Reception w × End w

@@ -7,12 +7,13 @@ ghost use Rattle.tl_burst.specs.statement.Burst.{beats_of, IsBlankAfter};
 ghost use Rattle.tl_rules.specs.statement.Effect.{Memory, IsBlock, bytes_from, effect, answer_of};
 ghost use Rattle.tl_rules.specs.statement.Legality.{illegal_message};
 ghost use Rattle.tl_manager.specs.code.Blocks.{AreBlocks};
-ghost use Rattle.tl_manager.specs.statement.Deed.{with_block};
+ghost use Rattle.tl_manager.specs.statement.Reaction.{with_block};
 
 use std::alloc::{AllocError, Global};
 use tl_beat::channel::Channel;
 use tl_burst::message::{Message, MessageA};
 use tl_rules::answer::Answer;
+use tl_rules::key::block_at;
 use tl_rules::level::Level;
 use tl_rules::perform::perform;
 
@@ -23,7 +24,7 @@ pub struct Blocks {
 }
 
 impl Blocks {
-    /// So many blocks of zeros.
+    /// This many blocks of zeros.
     pub fn new(alloc: Global, count: u16) -> Result<Blocks, AllocError>
         ensures count { IfOk result (λ b. length b.bytes.items ≡ count) }
         ensures zero { IfOk result (λ b. AreBlocks b.bytes.items (λ address. 0)) }
@@ -84,7 +85,7 @@ impl Blocks {
             result ≡ answer_of (Message.A request.now) (effect (Message.A request.now) memory).1 }
         ensures count { length self.new.bytes.items ≡ length self.old.bytes.items }
     {
-        let block = (request.address / 64) as usize;
+        let block = block_at(request.address) as usize;
         let mut bytes = self.read(block);
         let answer = perform(&mut bytes, &Message::A(*request));
         self.write(block, &bytes);

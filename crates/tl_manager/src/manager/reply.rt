@@ -9,7 +9,7 @@ ghost use Rattle.tl_manager.specs.statement.Handing;
 ghost use Rattle.tl_manager.specs.code.Granting;
 ghost use Rattle.tl_manager.specs.statement.Handing.{probe_of_block};
 ghost use Rattle.tl_manager.specs.statement.Holders.{clients_from};
-ghost use Rattle.tl_manager.specs.code.Sending.{messages_of};
+ghost use Rattle.tl_manager.specs.code.Outbox.{messages_of};
 
 use arrayvec::ArrayVec;
 use tl_beat::beat::Link;
@@ -20,12 +20,12 @@ use tl_rules::param::{Cap, Grow};
 use tl_rules::perm::Perm;
 use tl_rules::profile::Profile;
 
-/// Messages, each with the link on which it is handed out, the first first.
+/// Messages, each with the link on which it is handed out, in order.
 pub type Handed<const W: usize> = ArrayVec<(Link, Message<W>), 16>;
 
 /// What is handed out for a beat: seldom more than one message.
 #[derive(Clone, Copy, Debug, PartialEq, Eq)]
-pub enum Sending<const W: usize> {
+pub enum Outbox<const W: usize> {
     /// No message.
     Nothing,
     /// One, on this link.
@@ -68,20 +68,20 @@ fn probes<const W: usize>(block: u32, cap: Cap, clients: u16) -> Handed<W>
     handed
 }
 
-impl<const W: usize> Sending<W> {
-    /// Its messages, the first first.
+impl<const W: usize> Outbox<W> {
+    /// Its messages, in order.
     pub fn handed(self) -> Handed<W>
         requires { IsWidth W }
         ensures { result.items ≡ messages_of self.entry }
     {
         match self {
-            Sending::Nothing => ArrayVec::new(),
-            Sending::One(message) => {
+            Outbox::Nothing => ArrayVec::new(),
+            Outbox::One(message) => {
                 let mut handed = ArrayVec::new();
                 handed.push(message);
                 handed
             }
-            Sending::Probes {
+            Outbox::Probes {
                 block,
                 cap,
                 clients,

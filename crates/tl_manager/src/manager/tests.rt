@@ -69,7 +69,7 @@ pub(super) enum Says {
 pub(super) enum Row {
     /// A message on a link, of which the last beat is answered so, and those before it with nothing.
     Whole(u8, Sends, Says),
-    /// So many beats of a message from the first on, which are answered with nothing.
+    /// This many beats of a message from the first on, which are answered with nothing.
     Begun(u8, Sends, u8),
     /// One beat of a message, by its number.
     Beat(u8, Sends, u8, Says),

@@ -4,6 +4,7 @@ ghost use Rattle.std.specs.Prelude.{ℕ, ◌≡◌, ◌<◌, ◌≤◌, ◌==◌
 
 use tl_beat::beat::Link;
 use tl_burst::message::MessageA;
+use tl_rules::key::block_at;
 use tl_rules::kind::is_acquire;
 
 /// What a tracker keeps.
@@ -40,7 +41,7 @@ impl<const W: usize> Tracker<W> {
     {
         match self {
             Tracker::Free => false,
-            Tracker::Probing { request, .. } => request.address / 64 == block,
+            Tracker::Probing { request, .. } => block_at(request.address) == block,
             Tracker::Granted { block: granted, .. } => *granted == block,
         }
     }
@@ -107,7 +108,7 @@ impl<const W: usize> Tracker<W> {
     }
 }
 
-/// The trackers, of which so many are in use, at most eight.
+/// The trackers, of which this many are in use, at most eight.
 #[derive(Clone, Copy)]
 pub struct Trackers<const W: usize> {
     pub all: [Tracker<W>; 8],
@@ -118,7 +119,7 @@ impl<const W: usize> Trackers<W> {
     ghost use Rattle.tl_manager.specs.code.Tracking;
     ghost use Rattle.tl_manager.specs.code.Trackers.{tracker_at, IsAsked, IsOfBlock};
 
-    /// So many free ones.
+    /// This many free ones.
     pub fn new(count: u8) -> Self
         ensures free { (n : ℕ) → tracker_at result n ≡ Tracker.Free }
         ensures count { result.count ≡ count }

@@ -12,11 +12,11 @@ use Rattle.tl_rules.specs.code.Tables.{kept_request, kept_release, kept_grant, k
 use Rattle.tl_monitor.specs.code.Count.{at}
 use Rattle.tl_monitor.specs.code.Blocks.{block_in}
 use Rattle.tl_monitor.specs.code.Bursts.{burst_on, IsOf}
-use Rattle.tl_monitor.specs.declared.kept.Kept.{Kept}
+use Rattle.tl_monitor.specs.declared.link_state.LinkState.{LinkState}
 
 -- All that is kept is what the history leaves. The block of each GrantAck that is pending stands under
 -- its sink, and a burst of channel D that is unfinished answers a request that is pending.
-pub record Keeps {w : ℕ} (k : Kept) (t : History w) : Type 0 where
+pub record Keeps {w : ℕ} (k : LinkState) (t : History w) : Type 0 where
   pub bursts_are : (ch : Channel) → IsOf (burst_on k.bursts ch) (unfinished ch t)
   pub requests_are : (s : ℕ) → at k.requests s ≡ kept_request s t
   pub releases_are : (s : ℕ) → at k.releases s ≡ kept_release s t

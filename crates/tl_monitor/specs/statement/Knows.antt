@@ -7,8 +7,8 @@ use Rattle.tl_params.specs.declared.profile.Profile.{Profile}
 use Rattle.tl_params.specs.declared.rule.Rule.{Rule}
 use Rattle.tl_params.specs.statement.Config.{IsCount}
 use Rattle.tl_rules.specs.statement.Conformance.{Trace, on_link, broken_on_link, first_fault}
-use Rattle.tl_monitor.specs.declared.kept.Kept.{Kept}
-use Rattle.tl_monitor.specs.code.Kept.{IsEmpty}
+use Rattle.tl_monitor.specs.declared.link_state.LinkState.{LinkState}
+use Rattle.tl_monitor.specs.code.LinkState.{IsEmpty}
 use Rattle.tl_monitor.specs.code.Keeps.{Keeps}
 use Rattle.tl_monitor.specs.declared.monitor.Monitor.{Monitor}
 use Rattle.tl_monitor.specs.declared.fault.MonitorFault.{MonitorFault}
@@ -22,12 +22,12 @@ pub record Knows {w : ℕ} (m : Monitor w) (levels : List Level) (p : Profile) (
   pub levels_are : m.levels.items ≡ levels
   pub profile_is : m.profile ≡ p
   pub closed_is : m.closed ≡ closed
-  pub links_are : (n : ℕ) (d : Kept) → n < length levels → Keeps (slice_index_or m.links.items n d) (on_link n t)
+  pub links_are : (n : ℕ) (d : LinkState) → n < length levels → Keeps (slice_index_or m.links.items n d) (on_link n t)
 
 -- so many links of which nothing is kept
-pub record AllEmpty (count : ℕ) (links : List Kept) : Type 0 where
+pub record AllEmpty (count : ℕ) (links : List LinkState) : Type 0 where
   pub so_many : length links ≡ count
-  pub all_empty : (n : ℕ) (d : Kept) → n < count → IsEmpty (slice_index_or links n d)
+  pub all_empty : (n : ℕ) (d : LinkState) → n < count → IsEmpty (slice_index_or links n d)
 
 -- what a new monitor is, or why there is none
 abbrev pub IsNew : {w : ℕ} → List Level → Profile → Result (Monitor w) MonitorFault → Type 0

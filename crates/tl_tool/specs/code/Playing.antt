@@ -1,4 +1,4 @@
--- What a judge of schedules knows.
+-- What a handler of schedules knows.
 use Rattle.std.specs.Prelude.{◌≡◌, ℕ, ◌+◌, Bool, ◌==◌, List, [], ◌∷◌, ◌++◌, length, Option, Some, None}
 use Rattle.tl_params.specs.declared.config.Config.{Config}
 use Rattle.tl_params.specs.declared.header.Version.{Version}
@@ -10,11 +10,11 @@ use Rattle.tl_coherence.specs.statement.Log.{Log}
 use Rattle.tl_coherence.specs.statement.Movable.{drained}
 use Rattle.tl_tool.specs.declared.fault.Fault.{Fault}
 use Rattle.tl_tool.specs.declared.fault.Fault.TheVariants.{Event as NoEvent}
-use Rattle.tl_tool.specs.declared.player.Player.{Player}
-use Rattle.tl_tool.specs.declared.player.Player.TheVariants.{Waiting, Four, Eight, Sixteen}
+use Rattle.tl_tool.specs.declared.run_lines.RunLines.{RunLines}
+use Rattle.tl_tool.specs.declared.run_lines.RunLines.TheVariants.{Waiting, Four, Eight, Sixteen}
 use Rattle.tl_tool.specs.declared.status.Status.{Status}
 use Rattle.tl_tool.specs.statement.Played.{HeadsSchedule, Played, PlayedAfter, Plays, deliveries_text, event_text, outcome_after}
-use Rattle.tl_tool.specs.code.Stage.{Contained, Reaches}
+use Rattle.tl_tool.specs.code.PlayableWorld.{Contained, Reaches}
 
 -- An event has happened to a world, and what came of it stands behind the text.
 abbrev pub Happens : {w : ℕ} → Bool → Contained w → Contained w → Event w → List ℕ → List ℕ → Type 0
@@ -52,14 +52,14 @@ abbrev pub is_trace : ℕ → Bool
 is_trace n = n == 1
 
 -- after these lines, of which none was at fault, this text has been appended
-abbrev pub KnowsSchedule : {n : ℕ} → Player n → List (List ℕ) → List ℕ → Type 0
+abbrev pub KnowsSchedule : {n : ℕ} → RunLines n → List (List ℕ) → List ℕ → Type 0
 KnowsSchedule (Waiting alloc) lines text = (lines ≡ []) × (text ≡ [])
 KnowsSchedule {n} (Four world) lines text = KnowsPlay (is_trace n) world lines text
 KnowsSchedule {n} (Eight world) lines text = KnowsPlay (is_trace n) world lines text
 KnowsSchedule {n} (Sixteen world) lines text = KnowsPlay (is_trace n) world lines text
 
--- what the first line begins: a judge that knows the header, whose text was appended, or none where it spells
+-- what the first line begins: a handler that knows the header, whose text was appended, or none where it spells
 -- no header
-abbrev pub Opens : {n : ℕ} → List ℕ → List ℕ → List ℕ → Option (Player n) → Type 0
+abbrev pub Opens : {n : ℕ} → List ℕ → List ℕ → List ℕ → Option (RunLines n) → Type 0
 Opens line was is None = ((version : Version) (config : Config) → ¬ HeadsSchedule line version config) × (is ≡ was)
-Opens {n} line was is (Some player) = (text : List ℕ) × (is ≡ was ++ text) × KnowsSchedule player (line ∷ []) text
+Opens {n} line was is (Some run_lines) = (text : List ℕ) × (is ≡ was ++ text) × KnowsSchedule run_lines (line ∷ []) text

@@ -1,4 +1,4 @@
--- How far an input has been judged. `knows` and `tells` are those of the judge's trait, `was` and
+-- How far an input has been judged. `knows` and `tells` are those of the handler's trait, `was` and
 -- `is` the text appended before and after a call, behind a text `before` that has been written already.
 use Rattle.std.specs.Prelude.{◌≡◌, ◌≤◌, ◌<◌, ℕ, ◌+◌, List, [], ◌∷◌, ◌++◌, ◌-◌, ◌^◌, ◌⊎◌, length, count_by, ◌==◌}
 use Rattle.tl_tool.specs.declared.fault.Fault.{Fault}
@@ -20,13 +20,13 @@ abbrev pub AreWhole : List ℕ → Type 0
 AreWhole bytes = (bytes ≡ []) ⊎ ((front : List ℕ) × (bytes ≡ front ++ 10 ∷ []))
 
 -- how many lines have been judged
-abbrev pub lines_judged : {J : Type 0} → Lines J → ℕ
+abbrev pub lines_judged : {H : Type 0} → Lines H → ℕ
 lines_judged state = state.count
 
 -- after these bytes, none of whose lines was at fault, this text has been appended
-pub record Progress {J : Type 0} (knows : J → List (List ℕ) → List ℕ → Type 0) (state : Lines J) (read text : List ℕ) : Type 0 where
+pub record Progress {H : Type 0} (knows : H → List (List ℕ) → List ℕ → Type 0) (state : Lines H) (read text : List ℕ) : Type 0 where
   pub lines : List (List ℕ)
-  pub known : knows state.judge lines text
+  pub known : knows state.handler lines text
   pub counted : lines_judged state ≡ length lines
   -- whatever follows continues the line that has begun
   pub cut : (more : List ℕ) → lines_of (read ++ more) ≡ lines ++ lines_of (state.begun.items ++ more)
@@ -36,18 +36,18 @@ pub record Progress {J : Type 0} (knows : J → List (List ℕ) → List ℕ →
   pub rest : (front : List ℕ) × (read ≡ front ++ state.begun.items) × AreWhole front
 
 -- the line with this number is at fault, and the text is the last, whatever follows the line
-abbrev pub StopsAt : {J : Type 0} → (J → List (List ℕ) → List ℕ → Type 0) → (List (List ℕ) → List ℕ → Status → Type 0) → J → ℕ → List ℕ → List ℕ → List ℕ → Type 0
-StopsAt knows tells judge count line was is =
-    (lines : List (List ℕ)) (before : List ℕ) → knows judge lines (before ++ was) → count ≡ length lines
+abbrev pub StopsAt : {H : Type 0} → (H → List (List ℕ) → List ℕ → Type 0) → (List (List ℕ) → List ℕ → Status → Type 0) → H → ℕ → List ℕ → List ℕ → List ℕ → Type 0
+StopsAt knows tells handler count line was is =
+    (lines : List (List ℕ)) (before : List ℕ) → knows handler lines (before ++ was) → count ≡ length lines
     → (more : List (List ℕ)) → tells (lines ++ line ∷ more) (before ++ is) Broken
 
 -- a line was judged, and counted if it is good
-abbrev pub CountsLine : {J : Type 0} → (J → List (List ℕ) → List ℕ → Type 0) → (List (List ℕ) → List ℕ → Status → Type 0) → J → J → ℕ → ℕ → List ℕ → List ℕ → List ℕ → Status → Type 0
+abbrev pub CountsLine : {H : Type 0} → (H → List (List ℕ) → List ℕ → Type 0) → (List (List ℕ) → List ℕ → Status → Type 0) → H → H → ℕ → ℕ → List ℕ → List ℕ → List ℕ → Status → Type 0
 CountsLine knows tells old new count_old count_new line was is Clean = GoesOn knows old new line was is × (count_new ≡ count_old + 1)
 CountsLine knows tells old new count_old count_new line was is Broken = StopsAt knows tells old count_old line was is
 
 -- a piece of the input was judged, up to the first line at fault
-abbrev pub Feeds : {J : Type 0} → (J → List (List ℕ) → List ℕ → Type 0) → (List (List ℕ) → List ℕ → Status → Type 0) → Lines J → Lines J → List ℕ → List ℕ → List ℕ → Status → Type 0
+abbrev pub Feeds : {H : Type 0} → (H → List (List ℕ) → List ℕ → Type 0) → (List (List ℕ) → List ℕ → Status → Type 0) → Lines H → Lines H → List ℕ → List ℕ → List ℕ → Status → Type 0
 Feeds knows tells old new piece was is Clean =
     (read before : List ℕ) → Progress knows old read (before ++ was) → Progress knows new (read ++ piece) (before ++ is)
 Feeds knows tells old new piece was is Broken =
@@ -67,7 +67,7 @@ pub record StopsAtRest (read text : List ℕ) : Type 0 where
   pub says : text ≡ before ++ fault_text (ended_lines read + 1) fault
 
 -- the end of the input was judged
-abbrev pub FinishesInput : {J : Type 0} → (J → List (List ℕ) → List ℕ → Type 0) → (List (List ℕ) → List ℕ → Status → Type 0) → Lines J → List ℕ → List ℕ → Status → Type 0
+abbrev pub FinishesInput : {H : Type 0} → (H → List (List ℕ) → List ℕ → Type 0) → (List (List ℕ) → List ℕ → Status → Type 0) → Lines H → List ℕ → List ℕ → Status → Type 0
 FinishesInput knows tells state was is Clean =
     (read before : List ℕ) → Progress knows state read (before ++ was) → tells (lines_of read) (before ++ is) Clean
 FinishesInput knows tells state was is Broken =

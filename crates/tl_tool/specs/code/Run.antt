@@ -9,14 +9,14 @@ use Rattle.tl_tool.specs.code.Parts.{AppendsPart}
 use Rattle.tl_tool.specs.code.Progress.{Progress, StopsAtRest}
 
 -- a piece was judged, and this was written for it
-abbrev pub Passes : {J : Type 0} → (J → List (List ℕ) → List ℕ → Type 0) → (List (List ℕ) → List ℕ → Status → Type 0) → Lines J → Lines J → List ℕ → List ℕ → Status → Type 0
+abbrev pub Passes : {H : Type 0} → (H → List (List ℕ) → List ℕ → Type 0) → (List (List ℕ) → List ℕ → Status → Type 0) → Lines H → Lines H → List ℕ → List ℕ → Status → Type 0
 Passes knows tells old new piece said Clean =
     (read before : List ℕ) → Progress knows old read before → Progress knows new (read ++ piece) (before ++ said)
 Passes knows tells old new piece said Broken =
     (read before : List ℕ) → Progress knows old read before → (more : List ℕ) → tells (lines_of ((read ++ piece) ++ more)) (before ++ said) Broken
 
 -- a piece was given up, and a beginning of what was to be written for it was written
-abbrev pub FailsAfter : {J : Type 0} → (J → List (List ℕ) → List ℕ → Type 0) → (List (List ℕ) → List ℕ → Status → Type 0) → Lines J → List ℕ → Option (List ℕ) → Option (List ℕ) → Type 0
+abbrev pub FailsAfter : {H : Type 0} → (H → List (List ℕ) → List ℕ → Type 0) → (List (List ℕ) → List ℕ → Status → Type 0) → Lines H → List ℕ → Option (List ℕ) → Option (List ℕ) → Type 0
 FailsAfter knows tells state piece held holds =
     (read before : List ℕ) → Progress knows state read before
     → (text : List ℕ) × (status : Status) × tells (lines_of (read ++ piece)) (before ++ text) status × AppendsPart held holds text

@@ -1,4 +1,4 @@
--- What a judge of traces knows.
+-- What a handler of traces knows.
 use Rattle.std.specs.Prelude.{◌≡◌, ℕ, ◌+◌, false, List, [], ◌∷◌, ◌++◌, length, Option, Some, None}
 use Rattle.tl_beat.specs.declared.beat.Link.{Link}
 use Rattle.tl_beat.specs.declared.beat.Beat.{Beat}
@@ -10,8 +10,8 @@ use Rattle.tl_monitor.specs.declared.monitor.Monitor.{Monitor}
 use Rattle.tl_monitor.specs.statement.Knows.{Knows}
 use Rattle.tl_tool.specs.declared.fault.Fault.{Fault}
 use Rattle.tl_tool.specs.declared.status.Status.{Status}
-use Rattle.tl_tool.specs.declared.watcher.Watcher.{Watcher}
-use Rattle.tl_tool.specs.declared.watcher.Watcher.TheVariants.{Waiting, Four, Eight, Sixteen}
+use Rattle.tl_tool.specs.declared.monitor_lines.MonitorLines.{MonitorLines}
+use Rattle.tl_tool.specs.declared.monitor_lines.MonitorLines.TheVariants.{Waiting, Four, Eight, Sixteen}
 use Rattle.tl_tool.specs.statement.Judged.{IsAtFault, Judged, JudgedAfter}
 use Rattle.tl_tool.specs.statement.Trace.{SpellsHeader}
 use Rattle.tl_params.specs.declared.width.Width.{Width}
@@ -37,13 +37,13 @@ pub record KnowsTrace {w : ℕ} (m : Monitor w) (lines : List (List ℕ)) (text 
   pub before : (more : List (List ℕ)) (rest : List ℕ) (status : Status) → JudgedAfter levels profile trace more rest status → Judged (lines ++ more) (text ++ rest) status
 
 -- after these lines, of which none was at fault, this text has been appended
-abbrev pub KnowsLines : Watcher → List (List ℕ) → List ℕ → Type 0
+abbrev pub KnowsLines : MonitorLines → List (List ℕ) → List ℕ → Type 0
 KnowsLines (Waiting alloc) lines text = (lines ≡ []) × (text ≡ [])
 KnowsLines (Four m) lines text = KnowsTrace m lines text
 KnowsLines (Eight m) lines text = KnowsTrace m lines text
 KnowsLines (Sixteen m) lines text = KnowsTrace m lines text
 
--- what the first line begins: a judge that knows the header, or none where it spells no header
-abbrev pub Begins : List ℕ → Option Watcher → Type 0
+-- what the first line begins: a handler that knows the header, or none where it spells no header
+abbrev pub Begins : List ℕ → Option MonitorLines → Type 0
 Begins line None = (width : Width) (p : Profile) (levels : List Level) → ¬ SpellsHeader line width p levels
-Begins line (Some watcher) = KnowsLines watcher (line ∷ []) []
+Begins line (Some monitor_lines) = KnowsLines monitor_lines (line ∷ []) []

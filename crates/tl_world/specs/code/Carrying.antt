@@ -7,7 +7,7 @@ use Rattle.tl_beat.specs.declared.channel.Channel.TheVariants as channel
 use Rattle.tl_burst.specs.statement.Part.{is_empty}
 use Rattle.tl_manager.specs.code.Bit.{bit_if}
 use Rattle.tl_params.specs.declared.config.Config.{Config}
-use Rattle.tl_world.specs.declared.occupied.Occupied.{Occupied}
+use Rattle.tl_world.specs.declared.non_empty.NonEmptyChannels.{NonEmptyChannels}
 use Rattle.tl_world.specs.declared.ring.Ring.{Ring}
 use Rattle.tl_world.specs.declared.rings.Rings.{Rings}
 use Rattle.tl_coherence.specs.statement.Delivery.{capacity, sources_of}
@@ -25,15 +25,15 @@ abbrev pub place : ℕ → Channel → ℕ
 place link ch = 5 * link + number ch
 
 -- the word of a channel, with a bit for each link
-abbrev pub word_of : Occupied → Channel → ℕ
-word_of occupied ch = slice_index_or occupied.words (number ch) 0
+abbrev pub word_of : NonEmptyChannels → Channel → ℕ
+word_of non_empty ch = slice_index_or non_empty.words (number ch) 0
 
 -- The channels of the first n links hold the beats of those of the whole, and the bit of each is set exactly while
 -- it holds a beat.
 pub record Carries {w : ℕ} (n : ℕ) (rings : Rings w) (s : System w) : Type 0 where
   pub five_each : length rings.all.items ≡ 5 * n
   pub beats : (k : ℕ) (ch : Channel) (d : Ring w) → k < n → (slice_index_or rings.all.items (place k ch) d).beats.items ≡ s.channels k ch
-  pub occupied : (k : ℕ) (ch : Channel) → k < n → bit_at (word_of rings.occupied ch) k ≡ bit_if (not (is_empty (s.channels k ch)))
+  pub non_empty : (k : ℕ) (ch : Channel) → k < n → bit_at (word_of rings.non_empty ch) k ≡ bit_if (not (is_empty (s.channels k ch)))
 
 -- those of the whole hold no more beats than they are made for
 abbrev pub Fit : {w : ℕ} → ℕ → Rings w → System w → Type 0
@@ -49,7 +49,7 @@ abbrev pub Deepen : {w : ℕ} → ℕ → Rings w → Rings w → Type 0
 Deepen {w} n old new = (k : ℕ) (ch : Channel) (d : Ring w) → k < n →
     (slice_index_or new.all.items (place k ch) d).deepest ≡ max (slice_index_or old.all.items (place k ch) d).deepest (length (slice_index_or new.all.items (place k ch) d).beats.items)
 
--- They held what one whole holds, and hold what another does that fits them.
+-- The rings carry the channels of this system now, and have noted how deep they ever were.
 pub record AreMoved {w : ℕ} (n : ℕ) (old new : Rings w) (s : System w) : Type 0 where
   pub carries : Carries n new s
   pub deepen : Deepen n old new
@@ -64,10 +64,10 @@ abbrev pub capacity_at : ℕ → Config → ℕ → ℕ
 capacity_at w config i = capacity (64 / w) (sources_of (terms_at config (i / 5))) config.trackers (channel_at (i % 5))
 
 -- no bit is set
-abbrev pub AreClear : Occupied → Type 0
-AreClear occupied = (k : ℕ) (ch : Channel) → bit_at (word_of occupied ch) k ≡ 0
+abbrev pub AreClear : NonEmptyChannels → Type 0
+AreClear non_empty = (k : ℕ) (ch : Channel) → bit_at (word_of non_empty ch) k ≡ 0
 
--- so many channels are made, and hold nothing
+-- this many channels are made, and hold nothing
 pub record AreFresh {w : ℕ} (config : Config) (count : ℕ) (rings : List (Ring w)) : Type 0 where
   pub so_many : length rings ≡ count
   pub beats : (i : ℕ) (d : Ring w) → i < count → (slice_index_or rings i d).beats ≡ buffer [] (capacity_at w config i)

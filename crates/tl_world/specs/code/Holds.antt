@@ -5,12 +5,12 @@ use Rattle.tl_params.specs.declared.config.Config.{Config}
 use Rattle.tl_params.specs.declared.perm.Perm.{Perm}
 use Rattle.tl_client.specs.declared.verdict.Verdict.{Verdict}
 use Rattle.tl_client.specs.declared.verdict.Verdict.TheVariants as verdict
-use Rattle.tl_client.specs.statement.End.{Terms}
-use Rattle.tl_client.specs.statement.End as client
+use Rattle.tl_client.specs.statement.Endpoint.{EndConfig}
+use Rattle.tl_client.specs.statement.Endpoint as client
 use Rattle.tl_manager.specs.code.Knows.{Knows}
 use Rattle.tl_coherence.specs.declared.event.Event.{Event}
 use Rattle.tl_coherence.specs.declared.event.Outcome.{Outcome}
-use Rattle.tl_world.specs.declared.parts.Parts.{Parts}
+use Rattle.tl_world.specs.declared.network.Network.{Network}
 use Rattle.tl_world.specs.declared.ring.Ring.{Ring}
 use Rattle.tl_world.specs.code.Carrying.{place, Carries, Deepen}
 use Rattle.tl_coherence.specs.statement.Delivery.{capacity, sources_of}
@@ -22,22 +22,22 @@ clients_of config = length config.clients.items
 
 -- The parts hold what the configured whole is: each client knows its end, the manager knows its own, and the
 -- channels, made for as many beats as they can ever hold, carry the same beats.
-pub record Holds {w : ℕ} {A M : Type 0} (knows : A → client.End w → Type 0) (terms : A → Terms) (perm_of : M → ℕ → ℕ → Perm) (config : Config) (parts : Parts w A M) (s : System w) : Type 0 where
-  pub one_client_each : length parts.clients.items ≡ clients_of config
-  pub clients : (k : ℕ) (d : A) → k < clients_of config → knows (slice_index_or parts.clients.items k d) (s.clients k)
-  pub terms_are : (k : ℕ) (d : A) → k < clients_of config → terms_at config k ≡ Some (terms (slice_index_or parts.clients.items k d))
-  pub manager : Knows perm_of parts.manager config s.manager
-  pub channels : Carries (clients_of config) parts.rings s
+pub record Holds {w : ℕ} {A M : Type 0} (knows : A → client.Endpoint w → Type 0) (terms : A → EndConfig) (perm_of : M → ℕ → ℕ → Perm) (config : Config) (network : Network w A M) (s : System w) : Type 0 where
+  pub one_client_each : length network.clients.items ≡ clients_of config
+  pub clients : (k : ℕ) (d : A) → k < clients_of config → knows (slice_index_or network.clients.items k d) (s.clients k)
+  pub terms_are : (k : ℕ) (d : A) → k < clients_of config → terms_at config k ≡ Some (terms (slice_index_or network.clients.items k d))
+  pub manager : Knows perm_of network.manager config s.manager
+  pub channels : Carries (clients_of config) network.rings s
   pub room : (k : ℕ) (ch : Channel) (d : Ring w) → k < clients_of config →
-      (slice_index_or parts.rings.all.items (place k ch) d).beats.capacity ≡ capacity (64 / w) (sources_of (terms_at config k)) config.trackers ch
+      (slice_index_or network.rings.all.items (place k ch) d).beats.capacity ≡ capacity (64 / w) (sources_of (terms_at config k)) config.trackers ch
 
 -- no channel holds more beats than it is made for
 abbrev pub HasRoom : {w : ℕ} → Config → System w → Type 0
 HasRoom {w} config s = (k : ℕ) (ch : Channel) → length (s.channels k ch) ≤ capacity (64 / w) (sources_of (terms_at config k)) config.trackers ch
 
 -- The outcome is the one that comes of the event, and the new parts hold the whole afterwards.
-pub record IsStepped {w : ℕ} {A M : Type 0} (knows : A → client.End w → Type 0) (terms : A → Terms) (perm_of : M → ℕ → ℕ → Perm) (config : Config)
-    (old new : Parts w A M) (event : Event w) (outcome : Outcome w) (s : System w) : Type 0 where
+pub record IsStepped {w : ℕ} {A M : Type 0} (knows : A → client.Endpoint w → Type 0) (terms : A → EndConfig) (perm_of : M → ℕ → ℕ → Perm) (config : Config)
+    (old new : Network w A M) (event : Event w) (outcome : Outcome w) (s : System w) : Type 0 where
   pub outcome_is : outcome ≡ (stepped config event s).outcome
   pub holds : Holds knows terms perm_of config new (stepped config event s).after
   pub deepen : Deepen (clients_of config) old.rings new.rings

@@ -1,4 +1,4 @@
--- By what has happened to it a world is what it is.
+-- The state of a world is determined by the log of its events and outcomes.
 use Rattle.std.specs.Prelude.{ℕ, List, [], ◌∷◌, ◌≡◌, ◌<◌, ◌≤◌, ◌/◌, ◌⊎◌, if◌then◌else◌, nat_lt, max, length, slice_index_or, Option, Some, None, Result, Ok, Err}
 use Rattle.tl_beat.specs.declared.channel.Channel.{Channel}
 use Rattle.tl_params.specs.declared.config.Config.{Config}
@@ -7,11 +7,11 @@ use Rattle.tl_params.specs.declared.config.NewFault.TheVariants.{Memory}
 use Rattle.tl_params.specs.declared.perm.Perm.{Perm}
 use Rattle.tl_params.specs.declared.perm.Perm.TheVariants as perm
 use Rattle.tl_params.specs.statement.Config.{config_fault}
-use Rattle.tl_client.specs.statement.End.{Terms, End, held_at}
-use Rattle.tl_client.specs.statement.End as client
+use Rattle.tl_client.specs.statement.Endpoint.{EndConfig, Endpoint, held_at}
+use Rattle.tl_client.specs.statement.Endpoint as client
 use Rattle.tl_coherence.specs.declared.event.Event.{Event}
 use Rattle.tl_coherence.specs.declared.event.Outcome.{Outcome}
-use Rattle.tl_world.specs.declared.contents.Contents.{Contents}
+use Rattle.tl_world.specs.declared.state.WorldState.{WorldState}
 use Rattle.tl_world.specs.declared.ring.Ring.{Ring}
 use Rattle.tl_world.specs.code.Carrying.{place}
 use Rattle.tl_coherence.specs.statement.Delivery.{IsFifo, capacity, sources_of}
@@ -27,12 +27,12 @@ deepest config [] link ch = 0
 deepest config (x ∷ log) link ch = max (deepest config log link ch) (length ((system_after config (x ∷ log)).channels link ch))
 
 -- The log is one of a configuration within its limits, and the contents are what the whole is after it.
-pub record IsReached {w : ℕ} {A M : Type 0} (knows : A → End w → Type 0) (terms : A → Terms) (perm_of : M → ℕ → ℕ → Perm) (config : Config) (contents : Contents w A M) (log : Log w) : Type 0 where
+pub record IsReached {w : ℕ} {A M : Type 0} (knows : A → Endpoint w → Type 0) (terms : A → EndConfig) (perm_of : M → ℕ → ℕ → Perm) (config : Config) (state : WorldState w A M) (log : Log w) : Type 0 where
   pub given : IsGiven config log
-  pub holds : Holds knows terms perm_of config contents.parts (system_after config log)
-  pub requests_are : contents.outstanding.requests ≡ requests log
-  pub releases_are : contents.outstanding.releases ≡ releases log
-  pub depths : (k : ℕ) (ch : Channel) (d : Ring w) → k < clients_of config → (slice_index_or contents.parts.rings.all.items (place k ch) d).deepest ≡ deepest config log k ch
+  pub holds : Holds knows terms perm_of config state.network (system_after config log)
+  pub requests_are : state.outstanding.requests ≡ requests log
+  pub releases_are : state.outstanding.releases ≡ releases log
+  pub depths : (k : ℕ) (ch : Channel) (d : Ring w) → k < clients_of config → (slice_index_or state.network.rings.all.items (place k ch) d).deepest ≡ deepest config log k ch
   -- the outcomes are a run of the one-memory machine, copies are coherent, no beat was refused, and nothing is stuck
   pub sound : IsSound config log
   -- channels lose nothing and keep order
@@ -45,18 +45,18 @@ abbrev pub IsFault : Config → NewFault → Type 0
 IsFault config fault = (config_fault config ≡ Some fault) ⊎ ((config_fault config ≡ None) × (fault ≡ Memory))
 
 -- A new world is reached by nothing. There is none for the first limit that is broken, or for want of memory.
-abbrev pub IsNewWorld : {w : ℕ} {A M : Type 0} → (A → End w → Type 0) → (A → Terms) → (M → ℕ → ℕ → Perm) → Config → Result (Contents w A M) NewFault → Type 0
-IsNewWorld knows terms perm_of config (Ok contents) = IsReached knows terms perm_of config contents []
+abbrev pub IsNewWorld : {w : ℕ} {A M : Type 0} → (A → Endpoint w → Type 0) → (A → EndConfig) → (M → ℕ → ℕ → Perm) → Config → Result (WorldState w A M) NewFault → Type 0
+IsNewWorld knows terms perm_of config (Ok state) = IsReached knows terms perm_of config state []
 IsNewWorld knows terms perm_of config (Err fault) = IsFault config fault
 
 -- Where there is a world the events have happened, with these outcomes. Otherwise the outcomes are as they were.
-abbrev pub IsReplayed : {w : ℕ} {A M : Type 0} → (A → End w → Type 0) → (A → Terms) → (M → ℕ → ℕ → Perm) → Config → List (Event w) → List (Outcome w)
-    → List (Outcome w) → Result (Contents w A M) NewFault → Type 0
-IsReplayed knows terms perm_of config events old new (Ok contents) = IsReached knows terms perm_of config contents (logged events new [])
+abbrev pub IsReplayed : {w : ℕ} {A M : Type 0} → (A → Endpoint w → Type 0) → (A → EndConfig) → (M → ℕ → ℕ → Perm) → Config → List (Event w) → List (Outcome w)
+    → List (Outcome w) → Result (WorldState w A M) NewFault → Type 0
+IsReplayed knows terms perm_of config events old new (Ok state) = IsReached knows terms perm_of config state (logged events new [])
 IsReplayed knows terms perm_of config events old new (Err fault) = IsNewWorld knows terms perm_of config (Err fault) × (new ≡ old)
 
 -- the clients are as the configuration says, and nothing has happened to them
-pub record AreReady {w : ℕ} {A : Type 0} (knows : A → End w → Type 0) (terms : A → Terms) (config : Config) (clients : List A) : Type 0 where
+pub record AreReady {w : ℕ} {A : Type 0} (knows : A → Endpoint w → Type 0) (terms : A → EndConfig) (config : Config) (clients : List A) : Type 0 where
   pub one_each : length clients ≡ clients_of config
   pub fresh : (k : ℕ) (d : A) → k < clients_of config → knows (slice_index_or clients k d) client.fresh
   pub terms_are : (k : ℕ) (d : A) → k < clients_of config → terms_at config k ≡ Some (terms (slice_index_or clients k d))

@@ -152,7 +152,7 @@ fn fault_of<D: Directory>(made: Result<Manager<8, D>, NewFault>) -> Option<NewFa
     }
 }
 
-/// So many blocks and trackers, and clients with so many sources.
+/// This many blocks and trackers, and clients with this many sources.
 fn config_of(blocks: u16, trackers: u8, sources: &[u8]) -> Config {
     let mut clients = ArrayVec::new();
     for sources in sources {

@@ -18,7 +18,7 @@ fn answer() -> (Link, Beat<8>) {
     )
 }
 
-/// So many Gets, each answered before the next.
+/// This many Gets, each answered before the next.
 fn gets(alloc: Global, count: usize) -> Result<Vec<(Link, Beat<8>)>, AllocError> {
     let mut trace = Vec::new(alloc);
     for _ in 0..count {

@@ -1,15 +1,15 @@
 use Rattle.std.proofs.Common.{rules, ◌≡◌, ◌≤◌, sym, inl, inr, arith}
 use Rattle.tl_coherence.specs.statement.Load.{load}
 use Rattle.tl_coherence.specs.statement.Movable.{drained}
-use Rattle.tl_tool.specs.code.Stage.{IsPlayable}
+use Rattle.tl_tool.specs.code.PlayableWorld.{IsPlayable}
 use Rattle.tl_tool.proofs.Played.{delivered-none, delivered-more, drains-all}
 use Rattle.tl_tool.proofs.play.deliver_all.Goals as goal
 
 pub loop-count-init : goal.loop-count-init
 loop-count-init g c = λ config log r. delivered-none c.args.trace config log c.args.world.now c.args.out.now.items r
 
-pub happen-requires : goal.happen-requires
-happen-requires g c =
+pub play_event-requires : goal.play_event-requires
+play_event-requires g c =
     let (config, log, reached) = c.requires.playable in
     let playable : IsPlayable c.loop-count.world = (config, drained config c.loop-count.count log, (c.loop-count.invariant config log reached).reached) in
     search (rules, playable)
@@ -18,7 +18,7 @@ pub loop-count-preserved : goal.loop-count-preserved
 loop-count-preserved g c = λ config log r.
     let so_far = c.loop-count.invariant config log r in
     delivered-more c.args.trace config log c.loop-count.world _ _ c.loop-count.out.items _ c.loop-count.count c.in-Some.link c.in-Some.channel so_far
-    (search (rules, c.in-Some.ensures config _ so_far.reached)) c.in_ok-happen-in-Some.ensures.happens
+    (search (rules, c.in-Some.ensures config _ so_far.reached)) c.in_ok-play_event-in-Some.ensures.happens
 
 pub returns-in-None-clause-drains : goal.returns-in-None-clause-drains
 returns-in-None-clause-drains g c = λ config log r.

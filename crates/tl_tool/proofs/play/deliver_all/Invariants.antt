@@ -1,6 +1,6 @@
 use Rattle.tl_params.specs.declared.config.Config.{Config}
 use Rattle.tl_coherence.specs.statement.Log.{Log}
-use Rattle.tl_tool.specs.code.Stage.{Reaches}
+use Rattle.tl_tool.specs.code.PlayableWorld.{Reaches}
 use Rattle.tl_tool.proofs.Played.{Delivered}
 use Rattle.tl_tool.proofs.play.deliver_all.Given as goal
 

@@ -16,5 +16,5 @@ returns-else-trace-clause-plays g c =
     c.in_ok-count-in-Drain.ensures.drains c.append_drained.ensures
 
 pub returns-in-Event-clause-plays : goal.returns-in-Event-clause-plays
-returns-in-Event-clause-plays g c = event-said c.args.trace c.args.world.now c.happen.new.world c.args.said c.in-Event.event c.args.out.now.items
-    c.happen.new.out.items c.happen.result c.in-Event.is c.happen.ensures.happens
+returns-in-Event-clause-plays g c = event-said c.args.trace c.args.world.now c.play_event.new.world c.args.said c.in-Event.event c.args.out.now.items
+    c.play_event.new.out.items c.play_event.result c.in-Event.is c.play_event.ensures.happens

@@ -3,10 +3,10 @@
 use super::*;
 use std::process::Abort;
 
-/// A trace: its header line, its beat lines, each so many times, and what is written for it.
+/// A trace: its header line, its beat lines, each this many times, and what is written for it.
 pub type Trace = (&'static str, &'static [(usize, &'static str)], &'static str);
 
-/// The bytes of a trace with this header and these beat lines, each so many times.
+/// The bytes of a trace with this header and these beat lines, each this many times.
 pub fn bytes_of(
     alloc: Global,
     header: &str,

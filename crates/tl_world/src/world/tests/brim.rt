@@ -20,7 +20,7 @@ use tl_manager::directory::Directory;
 use tl_manager::table::TableDirectory;
 use tl_rules::perm::Perm;
 
-/// How many deliveries so many requests and Releases can still need.
+/// How many deliveries this many requests and Releases can still need.
 fn load_of<const W: usize>(requests: u8, releases: u8) -> u64
     requires { IsWidth W }
 {
@@ -130,18 +130,18 @@ fn rows() -> [Row; 47] {
 fn full_channels(rt: HostRuntime) {
     let alloc = rt.alloc();
     let rows = rows();
-    let parts = [(0, rows.as_slice())];
+    let network = [(0, rows.as_slice())];
     let left = [
         Left(0, 0, Perm::Branch, Some(0)),
         Left(0, 2, Perm::None, None),
         Left(1, 1, Perm::Branch, Some(0)),
     ];
-    let _ = plays::<4, AnyClient<4>, BitDirectory>(&rt, alloc, &SETUP, &parts, &left);
-    let _ = plays::<4, Caching<4>, TableDirectory>(&rt, alloc, &SETUP, &parts, &left);
-    let _ = plays::<8, AnyClient<8>, TableDirectory>(&rt, alloc, &SETUP, &parts, &left);
-    let _ = plays::<8, Caching<8>, BitDirectory>(&rt, alloc, &SETUP, &parts, &left);
-    let _ = plays::<16, AnyClient<16>, BitDirectory>(&rt, alloc, &SETUP, &parts, &left);
-    let _ = plays::<16, Caching<16>, TableDirectory>(&rt, alloc, &SETUP, &parts, &left);
+    let _ = plays::<4, AnyClient<4>, BitDirectory>(&rt, alloc, &SETUP, &network, &left);
+    let _ = plays::<4, Caching<4>, TableDirectory>(&rt, alloc, &SETUP, &network, &left);
+    let _ = plays::<8, AnyClient<8>, TableDirectory>(&rt, alloc, &SETUP, &network, &left);
+    let _ = plays::<8, Caching<8>, BitDirectory>(&rt, alloc, &SETUP, &network, &left);
+    let _ = plays::<16, AnyClient<16>, BitDirectory>(&rt, alloc, &SETUP, &network, &left);
+    let _ = plays::<16, Caching<16>, TableDirectory>(&rt, alloc, &SETUP, &network, &left);
 }
 
 /// A drain makes at most as many deliveries as the load says, and then none is next.
@@ -156,7 +156,7 @@ fn drains_within_the_load<const W: usize, A: Agent<W>, D: Directory>(
     is_idle::<W, A, D>(rt, world);
 }
 
-/// Behind so many events that a new world runs.
+/// Behind this many events that a new world runs.
 fn drains_behind<const W: usize, A: Hires<W>, D: Covers>(
     rt: &impl Abort,
     alloc: Global,

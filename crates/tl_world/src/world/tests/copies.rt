@@ -25,27 +25,27 @@ fn plays_at<const W: usize>(
     rt: &impl Abort,
     alloc: Global,
     setup: &Setup,
-    parts: &[Part],
+    network: &[Part],
     left: &[Left],
 )
     requires { IsWidth W }
 {
-    let _ = plays::<W, AnyClient<W>, BitDirectory>(rt, alloc, setup, parts, left);
-    let _ = plays::<W, AnyClient<W>, TableDirectory>(rt, alloc, setup, parts, left);
-    let _ = plays::<W, Caching<W>, BitDirectory>(rt, alloc, setup, parts, left);
-    let _ = plays::<W, Caching<W>, TableDirectory>(rt, alloc, setup, parts, left);
+    let _ = plays::<W, AnyClient<W>, BitDirectory>(rt, alloc, setup, network, left);
+    let _ = plays::<W, AnyClient<W>, TableDirectory>(rt, alloc, setup, network, left);
+    let _ = plays::<W, Caching<W>, BitDirectory>(rt, alloc, setup, network, left);
+    let _ = plays::<W, Caching<W>, TableDirectory>(rt, alloc, setup, network, left);
 }
 
 fn plays_at_each_width(
     rt: &impl Abort,
     alloc: Global,
     setup: &Setup,
-    parts: &[Part],
+    network: &[Part],
     left: &[Left],
 ) {
-    plays_at::<4>(rt, alloc, setup, parts, left);
-    plays_at::<8>(rt, alloc, setup, parts, left);
-    plays_at::<16>(rt, alloc, setup, parts, left);
+    plays_at::<4>(rt, alloc, setup, network, left);
+    plays_at::<8>(rt, alloc, setup, network, left);
+    plays_at::<16>(rt, alloc, setup, network, left);
 }
 
 const TWO: [Level; 2] = [Level::C, Level::C];
@@ -112,8 +112,8 @@ const THE_SECOND_WRITES: [Left; 2] = [
 #[test]
 fn a_block_is_shared(rt: HostRuntime) {
     let setup = setup(&TWO, 1, Profile::One);
-    let parts = [(0, WRITTEN.as_slice()), (0, SHARED.as_slice())];
-    plays_at_each_width(&rt, rt.alloc(), &setup, &parts, &BOTH_READ);
+    let network = [(0, WRITTEN.as_slice()), (0, SHARED.as_slice())];
+    plays_at_each_width(&rt, rt.alloc(), &setup, &network, &BOTH_READ);
 }
 
 /// The second client asks for the block, and the first one gives it back before it is probed, so that
@@ -136,11 +136,11 @@ const A_RELEASE_BEFORE_A_PROBE: [Row; 12] = [
 #[test]
 fn a_release_before_a_probe(rt: HostRuntime) {
     let setup = setup(&TWO, 1, Profile::One);
-    let parts = [
+    let network = [
         (0, WRITTEN.as_slice()),
         (0, A_RELEASE_BEFORE_A_PROBE.as_slice()),
     ];
-    plays_at_each_width(&rt, rt.alloc(), &setup, &parts, &THE_SECOND_WRITES);
+    plays_at_each_width(&rt, rt.alloc(), &setup, &network, &THE_SECOND_WRITES);
 }
 
 /// A client acquires the block to read it.
@@ -172,7 +172,7 @@ const TWO_UPGRADES: [Row; 13] = [
 #[test]
 fn two_upgrades(rt: HostRuntime) {
     let setup = setup(&TWO, 2, Profile::One);
-    let parts = [
+    let network = [
         (0, ACQUIRED.as_slice()),
         (1, ACQUIRED.as_slice()),
         (0, TWO_UPGRADES.as_slice()),
@@ -181,7 +181,7 @@ fn two_upgrades(rt: HostRuntime) {
         Left(0, 0, Perm::None, None),
         Left(1, 0, Perm::Trunk, Some(0)),
     ];
-    plays_at_each_width(&rt, rt.alloc(), &setup, &parts, &left);
+    plays_at_each_width(&rt, rt.alloc(), &setup, &network, &left);
 }
 
 /// The second one writes the whole block in its place.
@@ -206,7 +206,7 @@ const AN_UPGRADE_AND_A_WHOLE_BLOCK: [Row; 15] = [
 #[test]
 fn an_upgrade_and_a_whole_block(rt: HostRuntime) {
     let setup = setup(&TWO, 2, Profile::One);
-    let parts = [
+    let network = [
         (0, ACQUIRED.as_slice()),
         (1, ACQUIRED.as_slice()),
         (0, AN_UPGRADE_AND_A_WHOLE_BLOCK.as_slice()),
@@ -215,7 +215,7 @@ fn an_upgrade_and_a_whole_block(rt: HostRuntime) {
         Left(0, 0, Perm::None, None),
         Left(1, 0, Perm::Trunk, Some(0x11)),
     ];
-    plays_at_each_width(&rt, rt.alloc(), &setup, &parts, &left);
+    plays_at_each_width(&rt, rt.alloc(), &setup, &network, &left);
 }
 
 /// A client gives the block back and asks for it again, before its GrantAck is there.
@@ -235,9 +235,9 @@ const A_LATE_GRANT_ACK: [Row; 10] = [
 #[test]
 fn a_release_before_its_grant_ack(rt: HostRuntime) {
     let setup = setup(&[Level::C], 1, Profile::One);
-    let parts = [(0, A_LATE_GRANT_ACK.as_slice())];
+    let network = [(0, A_LATE_GRANT_ACK.as_slice())];
     let left = [Left(0, 0, Perm::None, None)];
-    plays_at_each_width(&rt, rt.alloc(), &setup, &parts, &left);
+    plays_at_each_width(&rt, rt.alloc(), &setup, &network, &left);
 }
 
 /// Under the second profile one who asks to read may write where nobody has a copy.
@@ -253,8 +253,8 @@ const A_READER_MAY_WRITE: [Row; 6] = [
 #[test]
 fn a_reader_may_write(rt: HostRuntime) {
     let setup = setup(&TWO, 1, Profile::Two);
-    let parts = [(0, A_READER_MAY_WRITE.as_slice()), (0, SHARED.as_slice())];
-    plays_at_each_width(&rt, rt.alloc(), &setup, &parts, &BOTH_READ);
+    let network = [(0, A_READER_MAY_WRITE.as_slice()), (0, SHARED.as_slice())];
+    plays_at_each_width(&rt, rt.alloc(), &setup, &network, &BOTH_READ);
 }
 
 /// Whether somebody has a copy is asked as the Grant is handed out.
@@ -274,9 +274,9 @@ const THE_WRITER_IS_GONE: [Row; 10] = [
 #[test]
 fn a_reader_may_write_after_a_release(rt: HostRuntime) {
     let setup = setup(&TWO, 1, Profile::Two);
-    let parts = [
+    let network = [
         (0, A_READER_MAY_WRITE.as_slice()),
         (0, THE_WRITER_IS_GONE.as_slice()),
     ];
-    plays_at_each_width(&rt, rt.alloc(), &setup, &parts, &THE_SECOND_WRITES);
+    plays_at_each_width(&rt, rt.alloc(), &setup, &network, &THE_SECOND_WRITES);
 }

@@ -21,7 +21,7 @@ use tl_rules::config::{ClientConfig, Config, NewFault};
 use tl_rules::level::Level;
 use tl_rules::profile::Profile;
 
-/// So many blocks and trackers, and clients with so many sources.
+/// This many blocks and trackers, and clients with this many sources.
 fn config_of(blocks: u16, trackers: u8, sources: &[u8]) -> Config {
     let mut clients = ArrayVec::new();
     for sources in sources {
@@ -69,7 +69,7 @@ fn several_limits_of_clients(rt: HostRuntime) {
     unhired(&rt, alloc, &config_of(1024, 8, &[1, 0]), NewFault::N4);
 }
 
-/// So many blocks and trackers, and clients with eight sources each.
+/// This many blocks and trackers, and clients with eight sources each.
 fn setup(blocks: u16, trackers: u8, levels: &[Level]) -> Setup<'_> {
     Setup {
         blocks,

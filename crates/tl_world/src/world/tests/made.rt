@@ -97,7 +97,7 @@ impl Covers for TableDirectory {
     }
 }
 
-/// What a world is made of: each client with so many sources.
+/// What a world is made of: each client with this many sources.
 #[derive(Clone, Copy)]
 pub struct Setup<'a> {
     pub blocks: u16,
@@ -135,7 +135,7 @@ pub fn hire_all<const W: usize, A: Hires<W>>(
     config: &Config,
 ) -> Result<Vec<A>, NewFault>
     requires { IsWidth W }
-    ensures { IfOk result (λ clients. AreReady A.knows A.terms config.now clients.items) }
+    ensures { IfOk result (λ clients. AreReady A.represents A.terms config.now clients.items) }
 {
     let mut clients = Vec::new(alloc);
     for client in config.clients.as_slice() {

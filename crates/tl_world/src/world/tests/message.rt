@@ -55,7 +55,7 @@ fn byte_at(bytes: Bytes, i: usize) -> u8 {
     }
 }
 
-/// So many bytes as the size says, from a lane on. Those of less than a beat don't leave it.
+/// This many bytes as the size says, from a lane on. Those of less than a beat don't leave it.
 fn payload<const W: usize>(size: u8, lane: usize, bytes: Bytes) -> [u8; 64]
     requires width { IsWidth W }
     requires size { size ≤ 6 }
@@ -72,7 +72,7 @@ fn payload<const W: usize>(size: u8, lane: usize, bytes: Bytes) -> [u8; 64]
     payload
 }
 
-/// The lanes of so many bytes as the size says: of all beats, or of one.
+/// The lanes of this many bytes as the size says: of all beats, or of one.
 fn lanes<const W: usize>(carries_data: bool, size: u8, lane: usize) -> u64
     requires { IsWidth W }
 {

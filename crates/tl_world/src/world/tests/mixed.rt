@@ -19,13 +19,13 @@ use tl_rules::perm::Perm;
 use tl_rules::profile::Profile;
 
 /// With both directories, at each width.
-fn plays_mixed(rt: &impl Abort, alloc: Global, setup: &Setup, parts: &[Part], left: &[Left]) {
-    let _ = plays::<4, AnyClient<4>, BitDirectory>(rt, alloc, setup, parts, left);
-    let _ = plays::<4, AnyClient<4>, TableDirectory>(rt, alloc, setup, parts, left);
-    let _ = plays::<8, AnyClient<8>, BitDirectory>(rt, alloc, setup, parts, left);
-    let _ = plays::<8, AnyClient<8>, TableDirectory>(rt, alloc, setup, parts, left);
-    let _ = plays::<16, AnyClient<16>, BitDirectory>(rt, alloc, setup, parts, left);
-    let _ = plays::<16, AnyClient<16>, TableDirectory>(rt, alloc, setup, parts, left);
+fn plays_mixed(rt: &impl Abort, alloc: Global, setup: &Setup, network: &[Part], left: &[Left]) {
+    let _ = plays::<4, AnyClient<4>, BitDirectory>(rt, alloc, setup, network, left);
+    let _ = plays::<4, AnyClient<4>, TableDirectory>(rt, alloc, setup, network, left);
+    let _ = plays::<8, AnyClient<8>, BitDirectory>(rt, alloc, setup, network, left);
+    let _ = plays::<8, AnyClient<8>, TableDirectory>(rt, alloc, setup, network, left);
+    let _ = plays::<16, AnyClient<16>, BitDirectory>(rt, alloc, setup, network, left);
+    let _ = plays::<16, AnyClient<16>, TableDirectory>(rt, alloc, setup, network, left);
 }
 
 const STORED: Bytes = Bytes::Number(0x5a);
@@ -253,10 +253,10 @@ fn sixteen_clients_of_all_levels(rt: HostRuntime) {
         levels: &SIXTEEN,
         profile: Profile::One,
     };
-    let mut parts = [(0, THE_LAST.as_slice()); 31];
+    let mut network = [(0, THE_LAST.as_slice()); 31];
     for i in 0..5u8 {
         let at = 6 * usize::from(i);
-        parts[at..at + 6].copy_from_slice(&turn(3 * i));
+        network[at..at + 6].copy_from_slice(&turn(3 * i));
     }
     let left = [
         Left(0, 0, Perm::None, None),
@@ -264,5 +264,5 @@ fn sixteen_clients_of_all_levels(rt: HostRuntime) {
         Left(15, 0, Perm::None, None),
         Left(16, 0, Perm::None, None),
     ];
-    plays_mixed(&rt, rt.alloc(), &setup, &parts, &left);
+    plays_mixed(&rt, rt.alloc(), &setup, &network, &left);
 }

@@ -114,7 +114,7 @@ fn steps<const W: usize, A: Agent<W>, D: Directory>(
     }
 }
 
-/// A drain makes so many deliveries, at most the load.
+/// A drain makes this many deliveries, at most the load.
 fn drains_in<const W: usize, A: Agent<W>, D: Directory>(
     rt: &impl Abort,
     world: &mut World<W, A, D>,
@@ -213,12 +213,12 @@ pub fn plays<const W: usize, A: Hires<W>, D: Covers>(
     rt: &impl Abort,
     alloc: Global,
     setup: &Setup,
-    parts: &[Part],
+    network: &[Part],
     left: &[Left],
 ) -> World<W, A, D>
     requires { IsWidth W }
 {
-    let script = script_again::<W>(rt, alloc, parts);
+    let script = script_again::<W>(rt, alloc, network);
     let _ = plays_steps::<W, A, D>(rt, alloc, setup, &script, left);
     let _ = plays_drains::<W, A, D>(rt, alloc, setup, &script, left);
     plays_replay::<W, A, D>(rt, alloc, setup, &script, left)

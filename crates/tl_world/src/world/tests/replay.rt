@@ -136,7 +136,7 @@ fn ran_into<const W: usize, A: Hires<W>, D: Covers>(
     ran::<W, A, D>(rt, alloc, setup, events, replay.outcomes.as_mut_slice())
 }
 
-/// So many events from the first one on are run by a new world.
+/// This many events from the first one on are run by a new world.
 fn runs<const W: usize, A: Hires<W>, D: Covers>(
     rt: &impl Abort,
     alloc: Global,

@@ -48,7 +48,7 @@ pub enum Row {
     Done(u8, Says, Ends),
     Stalled(u8, Channel),
     Empty(u8, Channel),
-    /// What a `drain` delivers stands in the rows behind it: so many beats of 4, 8 and 16 bytes.
+    /// What a `drain` delivers stands in the rows behind it: this many beats of 4, 8 and 16 bytes.
     Drains(u64, u64, u64),
 }
 
@@ -219,12 +219,12 @@ pub type Part<'a> = (u8, &'a [Row]);
 fn script_of<const W: usize>(
     rt: &impl Abort,
     alloc: Global,
-    parts: &[Part],
+    network: &[Part],
 ) -> Result<Script<W>, AllocError>
     requires { IsWidth W }
 {
     let mut script = Script::new(alloc);
-    for (first, rows) in parts {
+    for (first, rows) in network {
         script.push_rows(rt, rows, *first)?;
     }
     assert_eq!(rt; script.missing, 0);
@@ -232,11 +232,11 @@ fn script_of<const W: usize>(
 }
 
 /// The same again where memory was refused, for `rt try --test --fail-alloc N`.
-pub fn script_again<const W: usize>(rt: &impl Abort, alloc: Global, parts: &[Part]) -> Script<W>
+pub fn script_again<const W: usize>(rt: &impl Abort, alloc: Global, network: &[Part]) -> Script<W>
     requires { IsWidth W }
 {
-    let made = match script_of::<W>(rt, alloc, parts) {
-        Err(_) => script_of::<W>(rt, alloc, parts),
+    let made = match script_of::<W>(rt, alloc, network) {
+        Err(_) => script_of::<W>(rt, alloc, network),
         made => made,
     };
     match made {

@@ -48,18 +48,18 @@ const PROBED: [Row; 2] = [
 const ENDED: [Row; 1] = [Row::Done(0, Says::D(OpD::AccessAck, 0, 6, 0, 0, ZEROS), Ends::Ack)];
 
 /// All clients ask before anything is delivered, and each is probed for the Put.
-fn parts() -> [Part<'static>; 52] {
-    let mut parts = [(0, NOBODY.as_slice()); 52];
-    parts[17] = (0, ALL_GRANTED.as_slice());
-    parts[34] = (0, BEGUN.as_slice());
-    parts[51] = (0, ENDED.as_slice());
+fn network() -> [Part<'static>; 52] {
+    let mut network = [(0, NOBODY.as_slice()); 52];
+    network[17] = (0, ALL_GRANTED.as_slice());
+    network[34] = (0, BEGUN.as_slice());
+    network[51] = (0, ENDED.as_slice());
     for client in 0..16u8 {
         let at = usize::from(client);
-        parts[1 + at] = (client, ASKED.as_slice());
-        parts[18 + at] = (client, GRANTED.as_slice());
-        parts[35 + at] = (client, PROBED.as_slice());
+        network[1 + at] = (client, ASKED.as_slice());
+        network[18 + at] = (client, GRANTED.as_slice());
+        network[35 + at] = (client, PROBED.as_slice());
     }
-    parts
+    network
 }
 
 #[test]
@@ -72,12 +72,12 @@ fn a_put_to_sixteen_readers(rt: HostRuntime) {
         profile: Profile::One,
     };
     let alloc = rt.alloc();
-    let parts = parts();
+    let network = network();
     let left = [Left(0, 0, Perm::None, None), Left(15, 0, Perm::None, None)];
-    let _ = plays::<4, AnyClient<4>, BitDirectory>(&rt, alloc, &setup, &parts, &left);
-    let _ = plays::<4, Caching<4>, TableDirectory>(&rt, alloc, &setup, &parts, &left);
-    let _ = plays::<8, AnyClient<8>, TableDirectory>(&rt, alloc, &setup, &parts, &left);
-    let _ = plays::<8, Caching<8>, BitDirectory>(&rt, alloc, &setup, &parts, &left);
-    let _ = plays::<16, AnyClient<16>, BitDirectory>(&rt, alloc, &setup, &parts, &left);
-    let _ = plays::<16, Caching<16>, TableDirectory>(&rt, alloc, &setup, &parts, &left);
+    let _ = plays::<4, AnyClient<4>, BitDirectory>(&rt, alloc, &setup, &network, &left);
+    let _ = plays::<4, Caching<4>, TableDirectory>(&rt, alloc, &setup, &network, &left);
+    let _ = plays::<8, AnyClient<8>, TableDirectory>(&rt, alloc, &setup, &network, &left);
+    let _ = plays::<8, Caching<8>, BitDirectory>(&rt, alloc, &setup, &network, &left);
+    let _ = plays::<16, AnyClient<16>, BitDirectory>(&rt, alloc, &setup, &network, &left);
+    let _ = plays::<16, Caching<16>, TableDirectory>(&rt, alloc, &setup, &network, &left);
 }

@@ -5,7 +5,7 @@ use Rattle.tl_manager.proofs.manager.Manager.answer.Goals as goal
 
 pub invariant_of-self-in-Ok-Passes : goal.invariant_of-self-in-Ok-Passes
 invariant_of-self-in-Ok-Passes g c =
-    manager-after g.D.Directory.perm_of g.D.Directory.blocks g.D.Directory.clients c.self.inside.links c.take.new.self _ c.self.invariant
+    manager-after g.D.Directory.perm_of g.D.Directory.blocks g.D.Directory.clients c.self.inside.state c.take.new.self _ c.self.invariant
     (c.take.ensures.knows c.self.invariant.config c.self.invariant.end c.self.invariant.knows) c.take.ensures.blocks c.take.ensures.clients
 
 pub returns-in-Err-clause-answer : goal.returns-in-Err-clause-answer

@@ -1,5 +1,5 @@
 use Rattle.std.proofs.Common.{arith, ◌∙◌, ap, length}
-use Rattle.tl_monitor.proofs.Knowing.{kept-of}
+use Rattle.tl_monitor.proofs.Knowing.{link_state-of}
 use Rattle.tl_monitor.proofs.Numbered.{no-entries, link-entries}
 use Rattle.tl_monitor.proofs.monitor.Monitor.entries.Goals as goal
 
@@ -11,4 +11,4 @@ pub returns : goal.returns
 returns g c = λ levels p t closed k.
     c.entries.ensures
     ∙ link-entries levels c.args.link t c.index.result.now c.from-n.result c.len.result c.from-n.ensures (let e = ap length k.levels_are in omega (arith, c.len.ensures, e)) (omega arith)
-    (kept-of c.args.self.now levels p t closed c.from-n.result c.index.result.now k (omega (arith, c.len.ensures)) c.index.ensures)
+    (link_state-of c.args.self.now levels p t closed c.from-n.result c.index.result.now k (omega (arith, c.len.ensures)) c.index.ensures)

@@ -14,7 +14,7 @@ returns-then-is_err-clause-feeds g c =
       )
       | then-is_err-via-else-is_err+then-is_full w ↦ search rules
     ] in
-    feeds_stopped g.J.Judge.knows g.J.Judge.tells _ _ _ _ _ _ c.args.rest.now [] (sym (append-nil _)) c.requires long c.stop.ensures.broken c.stop.ensures.stops
+    feeds_stopped g.H.LineHandler.knows g.H.LineHandler.tells _ _ _ _ _ _ c.args.rest.now [] (sym (append-nil _)) c.requires long c.stop.ensures.broken c.stop.ensures.stops
 
 pub returns-clause-feeds : goal.returns-clause-feeds
-returns-clause-feeds g c = feeds_kept g.J.Judge.knows g.J.Judge.tells _ _ _ _ refl refl (search rules) c.requires (search rules)
+returns-clause-feeds g c = feeds_kept g.H.LineHandler.knows g.H.LineHandler.tells _ _ _ _ refl refl (search rules) c.requires (search rules)

@@ -5,9 +5,9 @@ use Rattle.tl_world.proofs.world.World.new.Goals as goal
 
 pub returns : goal.returns
 returns g c =
-    reached-new g.A.Agent.knows g.A.Agent.terms g.D.Directory.perm_of c.args.config
+    reached-new g.A.Agent.represents g.A.Agent.terms g.D.Directory.perm_of c.args.config
     (record {
-      parts = record { clients = c.args.clients; manager = c.in_ok-manager.manager; rings = c.in_ok-rings.rings };
+      network = record { clients = c.args.clients; manager = c.in_ok-manager.manager; rings = c.in_ok-rings.rings };
       outstanding =
           record { requests = 0; releases = 0 };
     }) c.requires.width c.requires.clients c.in_ok-manager.ensures c.in_ok-rings.ensures.fresh

@@ -1,4 +1,4 @@
-use Rattle.tl_manager.specs.statement.Deed.{with_block}
+use Rattle.tl_manager.specs.statement.Reaction.{with_block}
 use Rattle.tl_manager.proofs.Blocks.{blocks-set, block-put, put-elsewhere}
 use Rattle.tl_manager.proofs.manager.blocks.Blocks.write.Goals as goal
 

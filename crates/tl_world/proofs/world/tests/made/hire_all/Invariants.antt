@@ -2,4 +2,4 @@ use Rattle.tl_world.specs.code.Agents.{AreMade}
 use Rattle.tl_world.proofs.world.tests.made.hire_all.Given as goal
 
 abbrev pub invariant-loop-client : goal.invariant-loop-client
-invariant-loop-client g l = AreMade g.A.Agent.knows g.A.Agent.terms l.config l.client-index l.clients.items
+invariant-loop-client g l = AreMade g.A.Agent.represents g.A.Agent.terms l.config l.client-index l.clients.items

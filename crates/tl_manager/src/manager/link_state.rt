@@ -1,0 +1,218 @@
+//! One link: the bursts that come on it, and what its messages are judged by.
+
+ghost use Rattle.std.specs.Prelude.{ℕ, ◌≡◌, ◌<◌, ◌≤◌, ◌==◌, ◌&&◌, length, false, true, is_some, IfSome, List, [], ◌∷◌};
+ghost use Rattle.tl_beat.specs.statement.Width.{IsWidth, IsWidth-prop};
+ghost use Rattle.tl_burst.specs.statement.Burst.{IsBurst};
+ghost use Rattle.tl_burst.specs.statement.Messages.{breaks_burst};
+ghost use Rattle.tl_burst.specs.statement.Part.{IsTakeable, part_of, completes};
+ghost use Rattle.tl_rules.specs.statement.Conformance.{comes_in_request};
+ghost use Rattle.tl_manager.specs.code.BurstFor.{burst_for, burst_with};
+ghost use Rattle.tl_manager.specs.statement.Offer.{is_from_client};
+ghost use Rattle.tl_manager.specs.code.Releases.{comes_with, comes_of};
+ghost use Rattle.tl_manager.specs.code.Probed.{probe_in};
+ghost use Rattle.tl_manager.specs.code.Tracking.{request_in};
+
+use crate::directory::Directory;
+use crate::manager::block_state::{BlockState, cap_probed};
+use crate::manager::tracker::Tracker;
+use tl_beat::beat::{Beat, Link};
+use tl_beat::channel::Channel;
+use tl_beat::opcode::OpB;
+use tl_burst::assembler::Assembler;
+use tl_burst::message::{Message, MessageE};
+use tl_burst::part::{Broken, Part};
+use tl_rules::key::{Key, block_at};
+use tl_rules::kind::is_release;
+use tl_rules::level::Level;
+use tl_rules::past::{Past, Probe, Request};
+use tl_rules::perm::Perm;
+
+/// What a manager keeps of a link.
+#[derive(Drop)]
+pub struct LinkState<const W: usize> {
+    pub level: Level,
+    /// The beats of channel A.
+    pub requests: Assembler<W>,
+    /// The beats of channel C.
+    pub reports: Assembler<W>,
+    /// A beat was refused.
+    pub closed: bool,
+}
+
+impl<const W: usize> LinkState<W> {
+    ghost use Rattle.tl_manager.specs.code.Fresh.{fresh_link_state};
+
+    /// A link of this level on which nothing came.
+    pub fn new(level: Level) -> Self
+        ensures { result ≡ fresh_link_state level }
+    {
+        LinkState {
+            level,
+            requests: Assembler::new(),
+            reports: Assembler::new(),
+            closed: false,
+        }
+    }
+
+    /// What a client's beat is to its burst, or S1 where it differs in a control field.
+    pub fn part(&self, beat: &Beat<W>) -> Result<Part, Broken>
+        requires width { IsWidth W }
+        requires takeable { IsTakeable beat.now }
+        requires theirs { is_from_client beat.now ≡ true }
+        ensures { result ≡ part_of beat.now (burst_for self.now.requests self.now.reports beat.now) }
+    {
+        match beat {
+            Beat::A(_) => self.requests.peek(beat),
+            Beat::C(_) => self.reports.peek(beat),
+            Beat::B(_) | Beat::D(_) | Beat::E(_) => Ok(Part::Only),
+        }
+    }
+
+    /// Takes a client's beat that goes on with its burst: the message that it completes.
+    pub fn take(&mut self, beat: &Beat<W>) -> Option<Message<W>>
+        requires width { IsWidth W }
+        requires takeable { IsTakeable beat.now }
+        requires theirs { is_from_client beat.now ≡ true }
+        requires goes_on { breaks_burst beat.now (burst_for self.old.requests self.old.reports beat.now) ≡ false }
+        ensures requests { self.new.requests ≡ burst_with Channel.A beat.now self.old.requests }
+        ensures reports { self.new.reports ≡ burst_with Channel.C beat.now self.old.reports }
+        ensures level { self.new.level ≡ self.old.level }
+        ensures closed { self.new.closed ≡ self.old.closed }
+        ensures completes { is_some result ≡ completes beat.now (burst_for self.old.requests self.old.reports beat.now) }
+        ensures message { IfSome result (λ m. IsBurst m (beat.now ∷ burst_for self.old.requests self.old.reports beat.now)) }
+    {
+        match beat {
+            Beat::A(_) => self.requests.take(beat).unwrap_or(None),
+            Beat::C(_) => self.reports.take(beat).unwrap_or(None),
+            Beat::E(x) => Some(Message::E(MessageE { sink: x.sink })),
+            Beat::B(_) | Beat::D(_) => None,
+        }
+    }
+
+    /// Whether the request that isn't complete has this source.
+    fn comes_in_request(&self, source: u8) -> bool
+        requires { IsWidth W }
+        ensures { result ≡ comes_in_request source self.now.requests }
+    {
+        match self.requests.newest() {
+            Some(Beat::A(x)) => x.source == source,
+            _ => false,
+        }
+    }
+
+    /// Whether the message of channel C that isn't complete is a Release with this source.
+    fn comes_with(&self, source: u8) -> bool
+        requires { IsWidth W }
+        ensures { result ≡ comes_with source self.now.reports }
+    {
+        match self.reports.newest() {
+            Some(Beat::C(x)) => is_release(x.opcode) && x.source == source,
+            _ => false,
+        }
+    }
+
+    /// Whether the message of channel C that isn't complete is a Release of this block.
+    fn comes_of(&self, block: u32) -> bool
+        requires { IsWidth W }
+        ensures { result ≡ comes_of block self.now.reports }
+    {
+        match self.reports.newest() {
+            Some(Beat::C(x)) => is_release(x.opcode) && block_at(x.address) == block,
+            _ => false,
+        }
+    }
+}
+
+/// What a ProbeAck depends on of the Probe for a tracker's request.
+fn probe_for<const W: usize>(tracker: &Tracker<W>) -> Option<Probe>
+    ensures { result ≡ probe_in (request_in tracker.now) }
+{
+    let request = tracker.request()?;
+    let cap = cap_probed(request.opcode, request.param)?;
+    Some(Probe {
+        opcode: OpB::ProbeBlock,
+        param: cap.param(),
+    })
+}
+
+/// A link with what is kept of the blocks: what the messages of its client are judged by.
+#[derive(Drop)]
+pub struct LinkPast<'a, const W: usize, D: Directory> {
+    pub link: Link,
+    pub link_state: &'a LinkState<W>,
+    pub block_state: &'a BlockState<W, D>,
+    ghost few_clients: { link.0 < 16 },
+    ghost width: { IsWidth W } by { IsWidth-prop W },
+    ghost client: { link.0 < D.clients block_state.now.directory },
+    ghost blocks: { length block_state.now.blocks.bytes.items ≤ D.blocks block_state.now.directory },
+    ghost few: { length block_state.now.blocks.bytes.items ≤ 1024 },
+}
+
+impl<'a, const W: usize, D: Directory> Past<W> for LinkPast<'a, W, D> {
+    ghost use Rattle.tl_manager.specs.code.LinkState.{IsLinkPast};
+
+    ghost knows = { λ p t. IsLinkPast D.perm_of p.link p.link_state.now p.block_state.now t };
+
+    fn is_pending(&self, key: Key) -> bool {
+        match key {
+            Key::RequestSource(source) => {
+                self.link_state.comes_in_request(source)
+                    || self.block_state.trackers.asked(self.link, source).is_some()
+            }
+            Key::ReleaseSource(source) => self.link_state.comes_with(source),
+            Key::AcquireOf(block) => self
+                .block_state
+                .trackers
+                .of_block(block)
+                .is_acquiring(self.link),
+            Key::ReleaseOf(block) => self.link_state.comes_of(block),
+            Key::GrantSink(sink) => self.block_state.trackers.at(sink).is_granted_to(self.link),
+            Key::GrantAckOf(block) => self
+                .block_state
+                .trackers
+                .of_block(block)
+                .is_granted_to(self.link),
+            Key::ProbeOf(block) => self
+                .block_state
+                .trackers
+                .of_block(block)
+                .is_missing(self.link),
+        }
+    }
+
+    fn held(&self, block: u32) -> Perm {
+        if (block as usize) < self.block_state.blocks.count() {
+            self.block_state.directory.get(block as u16, self.link.0)
+        } else {
+            Perm::None
+        }
+    }
+
+    fn request(&self, source: u8) -> Option<Request> {
+        match self.block_state.trackers.asked(self.link, source) {
+            None => None,
+            Some(request) => Some(Request {
+                opcode: request.opcode,
+                param: request.param,
+                size: request.size,
+                block: block_at(request.address),
+            }),
+        }
+    }
+
+    fn release(&self, _source: u8) -> Option<u8> {
+        None
+    }
+
+    fn probe(&self, block: u32) -> Option<Probe> {
+        let tracker = self.block_state.trackers.of_block(block);
+        if !tracker.is_missing(self.link) {
+            return None;
+        }
+        probe_for(&tracker)
+    }
+
+    fn has_grant(&self, sink: u8) -> bool {
+        self.block_state.trackers.at(sink).is_granted_to(self.link)
+    }
+}

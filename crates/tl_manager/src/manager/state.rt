@@ -1,0 +1,271 @@
+//! The links of a manager, and its blocks.
+
+ghost use Rattle.std.specs.Prelude.{ℕ, ◌≡◌, ◌<◌, ◌≤◌, ◌||◌, nat_le, is_none, IfOk, map, OnOk, Ok, Err, true, false, length};
+ghost use Rattle.tl_beat.specs.statement.Width.{IsWidth};
+ghost use Rattle.tl_burst.specs.statement.Part.{IsTakeable};
+ghost use Rattle.tl_beat.specs.declared.beat.Link.{Link};
+ghost use Rattle.tl_params.specs.declared.config.Config.{Config};
+ghost use Rattle.tl_manager.specs.code.Admission.{admission_of, judged_in_order, is_stall};
+ghost use Rattle.tl_rules.specs.statement.Conformance.{Trace, on_link, broken_in_order};
+ghost use Rattle.tl_params.specs.declared.perm.Perm.TheVariants as perm;
+ghost use Rattle.tl_manager.specs.code.Fresh.{fresh_link_state};
+ghost use Rattle.tl_manager.specs.code.PartIs.{is_first_part, is_last_part};
+ghost use Rattle.tl_manager.specs.code.Outbox.{messages_of};
+ghost use Rattle.tl_manager.specs.statement.Service.{services, is_in_service};
+ghost use Rattle.tl_manager.specs.statement.Offer;
+ghost use Rattle.tl_beat.specs.declared.channel.Channel.{Channel};
+ghost use Rattle.tl_manager.specs.statement.Reaction.{reaction};
+ghost use Rattle.tl_manager.specs.statement.End.{End};
+ghost use Rattle.tl_manager.specs.statement.Offer.{judged, open_level, refused, taken};
+
+use crate::directory::Directory;
+use crate::manager::admission::{Admission, admit, is_from_client};
+use crate::manager::block_state::BlockState;
+use crate::manager::blocks::Blocks;
+use crate::manager::link_state::{LinkPast, LinkState};
+use crate::manager::reply::Outbox;
+use crate::manager::tracker::Trackers;
+use crate::manager::types::{prove_filled, prove_typed};
+use std::alloc::{AllocError, Global};
+use tl_beat::beat::{Beat, Link};
+use tl_beat::channel::Channel;
+use tl_burst::part::Part;
+use tl_rules::admission::{is_outside, is_spoiled};
+use tl_rules::config::{ClientConfig, Config, NewFault};
+use tl_rules::key::block_at;
+use tl_rules::legality::beat::check_beat;
+use tl_rules::order::broken_order;
+use tl_rules::rule::Rule;
+
+/// Whether a beat is the first of its burst.
+fn is_first(part: Part) -> bool
+    ensures { result ≡ is_first_part part }
+{
+    matches!(part, Part::First | Part::Only)
+}
+
+/// Whether a beat is the last of its burst.
+fn is_last(part: Part) -> bool
+    ensures { result ≡ is_last_part part }
+{
+    matches!(part, Part::Last | Part::Only)
+}
+
+/// Whether a beat that was judged so waits.
+fn is_waiting(judged: Result<Admission, Rule>) -> bool
+    ensures { result ≡ is_stall judged }
+{
+    match judged {
+        Ok(Admission::Waits) => true,
+        Ok(Admission::Passes) => false,
+        Err(_) => false,
+    }
+}
+
+/// Whether a beat is of a request: no other ever has to wait.
+fn may_wait<const W: usize>(beat: &Beat<W>) -> bool
+    ensures { result ≡ false → (config : Config) (link : Link) (t : Trace W) → Offer.must_wait config link beat.now t ≡ false }
+{
+    matches!(beat, Beat::A(_))
+}
+
+/// What a manager keeps.
+#[derive(Drop)]
+pub struct ManagerState<const W: usize, D: Directory> {
+    pub link_states: Vec<LinkState<W>>,
+    pub block_state: BlockState<W, D>,
+}
+
+/// The links of these clients, on which nothing came.
+fn link_states_for<const W: usize>(
+    alloc: Global,
+    clients: &[ClientConfig],
+) -> Result<Vec<LinkState<W>>, AllocError>
+    ensures { IfOk result (λ link_states. link_states.items ≡ map (λ client. fresh_link_state client.level) clients.now) }
+{
+    let mut link_states = Vec::new(alloc);
+    for client in clients {
+        link_states.push(LinkState::new(client.level))?;
+    }
+    Ok(link_states)
+}
+
+impl<const W: usize, D: Directory> ManagerState<W, D> {
+    ghost use Rattle.tl_manager.specs.code.Knows.{Knows, IsManager};
+    ghost use Rattle.tl_manager.specs.code.LinkState.{IsLinkState};
+    ghost use Rattle.tl_manager.specs.code.PartIs.{IsPartOf};
+    ghost use Rattle.tl_manager.specs.code.Fresh.{IsNew};
+
+    /// The links and blocks of a configuration, with a fresh directory that covers it: the first limit
+    /// that is broken, in the order N1 to N4, or want of memory.
+    pub fn new(alloc: Global, config: &Config, directory: D) -> Result<Self, NewFault>
+        requires width { IsWidth W }
+        requires fresh { (block client : ℕ) → D.perm_of directory block client ≡ perm.None }
+        requires blocks { config.now.blocks ≤ D.blocks directory }
+        requires clients { length config.now.clients.items ≤ D.clients directory }
+        ensures new { IsNew D.perm_of config.now result }
+        ensures directory { IfOk result (λ l. l.block_state.directory ≡ directory) }
+    {
+        config.check()?;
+        let link_states = link_states_for(alloc, config.clients.as_slice())?;
+        let blocks = Blocks::new(alloc, config.blocks)?;
+        let block_state = BlockState {
+            profile: config.profile,
+            trackers: Trackers::new(config.trackers),
+            directory,
+            blocks,
+        };
+        Ok(ManagerState {
+            link_states,
+            block_state,
+        })
+    }
+
+    /// Whether a block is in service, or no tracker is free.
+    fn is_busy(&self, block: u32) -> bool
+        ensures { (config : Config) (e : End W) → Knows D.perm_of self.now config e →
+            result ≡ (is_in_service block (services e.trace) || nat_le config.trackers (length (services e.trace))) }
+    {
+        if self.block_state.trackers.serving(block).is_some() {
+            return true;
+        }
+        match self.block_state.trackers.least_free() {
+            None => true,
+            Some(_) => false,
+        }
+    }
+
+    /// Whether a beat is the last of a request that can't be served yet.
+    fn must_wait(&self, beat: &Beat<W>, part: Part) -> bool
+        ensures { (config : Config) (e : End W) (link : Link) → Knows D.perm_of self.now config e → IsPartOf beat.now part (on_link link.0 e.trace) →
+            result ≡ Offer.must_wait config link beat.now e.trace }
+    {
+        match beat {
+            Beat::A(x) => is_last(part) && self.is_busy(block_at(x.address)),
+            Beat::B(_) | Beat::C(_) | Beat::D(_) | Beat::E(_) => false,
+        }
+    }
+
+    /// The rule of the order of messages that a beat breaks which goes on with its burst.
+    fn broken(
+        &self,
+        link: Link,
+        link_state: &LinkState<W>,
+        beat: &Beat<W>,
+        part: Part,
+    ) -> Option<Rule>
+        requires known { IsManager D.perm_of D.blocks D.clients self.now }
+        requires link { link.0 < length self.now.link_states.items }
+        ensures { (config : Config) (e : End W) → Knows D.perm_of self.now config e → IsLinkState config link_state.now link.0 e →
+            IsPartOf beat.now part (on_link link.0 e.trace) → result ≡ broken_in_order config.profile beat.now (on_link link.0 e.trace) }
+    {
+        if !is_first(part) {
+            return None;
+        }
+        let past = LinkPast {
+            link,
+            link_state,
+            block_state: &self.block_state,
+        };
+        broken_order(self.block_state.profile, beat, &past)
+    }
+
+    /// The rule that a beat breaks which breaks no L rule, or whether it waits or passes.
+    fn judge_order(
+        &self,
+        link: Link,
+        link_state: &LinkState<W>,
+        beat: &Beat<W>,
+    ) -> Result<Admission, Rule>
+        requires known { IsManager D.perm_of D.blocks D.clients self.now }
+        requires link { link.0 < length self.now.link_states.items }
+        requires takeable { IsTakeable beat.now }
+        requires theirs { Offer.is_from_client beat.now ≡ true }
+        ensures { (config : Config) (e : End W) → Knows D.perm_of self.now config e → IsLinkState config link_state.now link.0 e →
+            result ≡ admission_of (judged_in_order config link beat.now e.trace) }
+    {
+        let Ok(part) = link_state.part(beat) else {
+            return Err(Rule::S1);
+        };
+        let broken = self.broken(link, link_state, beat, part);
+        let waits = self.must_wait(beat, part);
+        let outside = is_outside(self.block_state.blocks.count(), beat);
+        admit(broken, waits, outside, is_spoiled(beat))
+    }
+
+    /// The rule that a beat breaks, or whether it waits or passes.
+    pub fn judge(&self, link: Link, channel: Channel, beat: &Beat<W>) -> Result<Admission, Rule>
+        requires known { IsManager D.perm_of D.blocks D.clients self.now }
+        ensures judged { (config : Config) (e : End W) → Knows D.perm_of self.now config e →
+            result ≡ admission_of (judged config link channel beat.now e) }
+        ensures takeable { OnOk result (IsTakeable beat.now) }
+        ensures link { OnOk result (link.0 < length self.now.link_states.items) }
+    {
+        let Some(link_state) = self.link_states.get(usize::from(link.0)) else {
+            return Err(Rule::A3);
+        };
+        if link_state.closed {
+            return Err(Rule::A3);
+        }
+        if !is_from_client(beat) {
+            return Err(Rule::L1);
+        }
+        check_beat(link_state.level, channel, beat)?;
+        self.judge_order(link, link_state, beat)
+    }
+
+    /// Whether a beat would be stalled.
+    pub fn stalls(&self, link: Link, channel: Channel, beat: &Beat<W>) -> bool
+        requires known { IsManager D.perm_of D.blocks D.clients self.now }
+        ensures { (config : Config) (e : End W) → Knows D.perm_of self.now config e →
+            result ≡ Offer.stalls config link channel beat.now e }
+    {
+        may_wait(beat) && is_waiting(self.judge(link, channel, beat))
+    }
+
+    /// Whether a link takes no beats: it was closed, or there is no such link.
+    pub fn closed(&self, link: Link) -> bool
+        ensures { (config : Config) (e : End W) → Knows D.perm_of self.now config e →
+            result ≡ is_none (open_level config link e) }
+    {
+        match self.link_states.get(usize::from(link.0)) {
+            None => true,
+            Some(link_state) => link_state.closed,
+        }
+    }
+
+    /// Closes a link, by a beat that was refused.
+    pub fn refuse(&mut self, link: Link)
+        ensures knows { (config : Config) (e : End W) → Knows D.perm_of self.old config e →
+            Knows D.perm_of self.new config (refused link e) }
+        ensures block_state { self.new.block_state ≡ self.old.block_state }
+        ensures count { length self.new.link_states.items ≡ length self.old.link_states.items }
+    {
+        let number = usize::from(link.0);
+        if number < self.link_states.len() {
+            self.link_states[number].closed = true;
+        }
+    }
+
+    /// Takes a beat that passes: the messages that are handed out for it.
+    pub fn take(&mut self, link: Link, beat: &Beat<W>) -> Outbox<W>
+        requires known { IsManager D.perm_of D.blocks D.clients self.old }
+        requires link { link.0 < length self.old.link_states.items }
+        requires takeable { IsTakeable beat.now }
+        requires passes { (config : Config) (e : End W) → Knows D.perm_of self.old config e → (ch : Channel) × (judged config link ch beat.now e ≡ Offer.Passes) }
+        ensures handed { (config : Config) (e : End W) → Knows D.perm_of self.old config e →
+            messages_of result ≡ (reaction config link beat.now e).handed }
+        ensures knows { (config : Config) (e : End W) → Knows D.perm_of self.old config e →
+            Knows D.perm_of self.new config (taken link beat.now (reaction config link beat.now e) e) }
+        ensures blocks { D.blocks self.new.block_state.directory ≡ D.blocks self.old.block_state.directory }
+        ensures clients { D.clients self.new.block_state.directory ≡ D.clients self.old.block_state.directory }
+    {
+        prove_typed(beat);
+        let number = usize::from(link.0);
+        let Some(message) = self.link_states[number].take(beat) else {
+            return Outbox::Nothing;
+        };
+        prove_filled(&message);
+        self.block_state.complete(link, &message)
+    }
+}

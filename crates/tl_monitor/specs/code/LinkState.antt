@@ -1,0 +1,81 @@
+-- What the tables of a link say, and what they say with one more beat.
+use Rattle.std.specs.Prelude.{ℕ, Bool, false, ◌==◌, ◌≡◌, ◌<◌, ◌+◌, ◌^◌, ◌&&◌, ◌||◌, if◌then◌else◌, Option, Some, None, is_some, is_none}
+use Rattle.tl_beat.specs.declared.beat.Beat.{Beat}
+use Rattle.tl_beat.specs.declared.beat.Beat.TheVariants as beat
+use Rattle.tl_beat.specs.declared.channel.Channel.{Channel}
+use Rattle.tl_burst.specs.statement.Messages.{channel_of}
+use Rattle.tl_rules.specs.declared.past.Request.{Request}
+use Rattle.tl_rules.specs.declared.table.Release.{Release}
+use Rattle.tl_rules.specs.statement.History.{block_at, is_acquire, is_probe, is_grant, is_release_ack}
+use Rattle.tl_rules.specs.code.Tables.{request_next, release_next, block_next, empty_block}
+use Rattle.tl_monitor.specs.code.Count.{at, count_below, sum_below}
+use Rattle.tl_monitor.specs.code.Blocks.{block_in, open_of}
+use Rattle.tl_monitor.specs.code.Bursts.{burst_on, burst_with, is_last}
+use Rattle.tl_monitor.specs.declared.link_state.LinkState.{LinkState}
+
+-- a beat begins a message, completes one
+abbrev pub is_first : {w : ℕ} → Beat w → LinkState → Bool
+is_first x k = is_none (burst_on k.bursts (channel_of x))
+
+abbrev pub completes : {w : ℕ} → Beat w → LinkState → Bool
+completes x k = is_last x (burst_on k.bursts (channel_of x))
+
+abbrev pub block_of_request : Option Request → Option ℕ
+block_of_request None = None
+block_of_request (Some r) = Some r.block
+
+abbrev pub block_of_release : Option Release → Option ℕ
+block_of_release None = None
+block_of_release (Some r) = Some r.block
+
+-- the block that a beat changes something of
+abbrev pub touched : {w : ℕ} → Bool → Bool → Beat w → LinkState → Option ℕ
+touched first last (beat.A x) k = if first && is_acquire x.opcode then Some (block_at x.address) else None
+touched first last (beat.B x) k = if first && is_probe x.opcode then Some (block_at x.address) else None
+touched first last (beat.C x) k = if first || last then Some (block_at x.address) else None
+touched first last (beat.D x) k =
+    if first || last
+    then (if is_release_ack x.opcode then block_of_release (at k.releases x.source) else if is_grant x.opcode then block_of_request (at k.requests x.source) else None)
+    else None
+touched first last (beat.E x) k = at k.sinks x.sink
+
+abbrev pub is_block : ℕ → Option ℕ → Bool
+is_block k None = false
+is_block k (Some b) = k == b
+
+-- the block that was granted with a sink, where b was before
+abbrev pub sink_with : {w : ℕ} → Bool → Bool → Beat w → Option ℕ → ℕ → Option ℕ → Option ℕ
+sink_with first last (beat.D x) block s b = if first && (is_grant x.opcode && (x.sink == s)) then block else b
+sink_with first last (beat.E x) block s b = if last && (x.sink == s) then None else b
+sink_with first last _ block s b = b
+
+-- these are the tables with one more beat
+pub record IsNext {w : ℕ} (old : LinkState) (x : Beat w) (new : LinkState) : Type 0 where
+  pub bursts_are : (ch : Channel) → burst_on new.bursts ch ≡ burst_with ch x (burst_on old.bursts ch)
+  pub requests_are : (s : ℕ) → at new.requests s ≡ request_next (is_first x old) (completes x old) x s (at old.requests s)
+  pub releases_are : (s : ℕ) → at new.releases s ≡ release_next (is_first x old) (completes x old) x s (at old.releases s)
+  pub sinks_are : (s : ℕ)
+      → at new.sinks s ≡ sink_with (is_first x old) (completes x old) x (touched (is_first x old) (completes x old) x old) s (at old.sinks s)
+  pub blocks_are : (b : ℕ) → block_in new.blocks b
+      ≡ (if is_block b (touched (is_first x old) (completes x old) x old) then block_next (is_first x old) (completes x old) x (block_in old.blocks b) else block_in old.blocks b)
+
+-- a beat of a block of which nothing was open or held, and then something is
+pub record IsNew {w : ℕ} (old : LinkState) (x : Beat w) (b : ℕ) : Type 0 where
+  pub is_number : b < 2 ^ 32
+  pub is_touched : touched (is_first x old) (completes x old) x old ≡ Some b
+  pub was_empty : block_in old.blocks b ≡ empty_block
+  pub then_open : 0 < open_of (block_next (is_first x old) (completes x old) x (block_in old.blocks b))
+
+-- nothing is kept
+pub record IsEmpty (k : LinkState) : Type 0 where
+  pub no_burst : (ch : Channel) → burst_on k.bursts ch ≡ None
+  pub no_request : (s : ℕ) → at k.requests s ≡ None
+  pub no_release : (s : ℕ) → at k.releases s ≡ None
+  pub no_sink : (s : ℕ) → at k.sinks s ≡ None
+  pub no_block : (b : ℕ) → block_in k.blocks b ≡ empty_block
+
+-- how much is kept
+abbrev pub entries_in : LinkState → ℕ
+entries_in k =
+    count_below 256 (λ s. is_some (at k.requests s)) + count_below 256 (λ s. is_some (at k.releases s)) + count_below 256 (λ s. is_some (at k.sinks s))
+    + sum_below (2 ^ 32) (λ b. open_of (block_in k.blocks b))

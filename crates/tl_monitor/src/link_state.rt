@@ -1,0 +1,295 @@
+//! What is kept of the beats that one link has carried.
+
+ghost use Rattle.std.specs.Prelude.{ℕ, true, Some, None, is_some, IsTrue, IfSome, OnOk, OnErr, if◌then◌else◌, ◌≡◌, ◌<◌};
+ghost use Rattle.tl_beat.specs.statement.Width.{IsWidth};
+ghost use Rattle.tl_burst.specs.statement.Part.{is_small};
+ghost use Rattle.tl_rules.specs.code.Tables;
+ghost use Rattle.tl_beat.specs.declared.beat.Beat.TheVariants as beat;
+ghost use Rattle.tl_rules.specs.code.Open.{request_fields, probe_fields};
+ghost use Rattle.tl_rules.specs.statement.History.{is_grant, is_release_ack};
+ghost use Rattle.tl_rules.specs.code.Tables.{empty_block, request_next, release_next, release_fields};
+ghost use Rattle.tl_monitor.specs.code.Count.{at};
+ghost use Rattle.tl_monitor.specs.code.Blocks.{block_in, open_of};
+ghost use Rattle.tl_monitor.specs.code.LinkState.{is_block, sink_with, touched, block_of_request, block_of_release, entries_in, IsNext, IsNew, IsEmpty};
+
+use crate::blocks::Blocks;
+use crate::bursts::Bursts;
+use crate::byte_table::ByteTable;
+use std::alloc::{AllocError, Global};
+use tl_beat::beat::{Beat, BeatA, BeatB, BeatC, BeatD, BeatE};
+use tl_rules::key::block_at;
+use tl_rules::kind::{
+    capped, is_acquire, is_grant, is_probe, is_probe_ack, is_release, is_release_ack, reported,
+};
+use tl_rules::past::{Probe, Request};
+use tl_rules::table::{Block, Release};
+
+/// What is kept of a link: the bursts that are unfinished, and what is pending with the control fields
+/// of the message that opened it, by source, by sink and by block.
+#[derive(Drop)]
+pub struct LinkState {
+    pub bursts: Bursts,
+    pub requests: ByteTable<Request>,
+    pub releases: ByteTable<Release>,
+    /// The block that was granted with each sink.
+    pub sinks: ByteTable<u32>,
+    pub blocks: Blocks,
+}
+
+fn request_of<const W: usize>(x: &BeatA<W>) -> Request
+    ensures { Some result ≡ request_fields (Some x.now) }
+{
+    Request {
+        opcode: x.opcode,
+        param: x.param,
+        size: x.size,
+        block: block_at(x.address),
+    }
+}
+
+fn release_of<const W: usize>(x: &BeatC<W>) -> Release
+    ensures { Some result ≡ release_fields (Some x.now) }
+{
+    Release {
+        size: x.size,
+        block: block_at(x.address),
+    }
+}
+
+fn probe_of<const W: usize>(x: &BeatB<W>) -> Probe
+    ensures { Some result ≡ probe_fields (Some x.now) }
+{
+    Probe {
+        opcode: x.opcode,
+        param: x.param,
+    }
+}
+
+fn after_a<const W: usize>(first: bool, last: bool, x: &BeatA<W>, block: Block) -> Block
+    ensures { result ≡ Tables.block_next first last (beat.A x.now) block }
+{
+    Block {
+        acquire: first && is_acquire(x.opcode) || block.acquire,
+        ..block
+    }
+}
+
+fn after_b<const W: usize>(first: bool, last: bool, x: &BeatB<W>, block: Block) -> Block
+    ensures { result ≡ Tables.block_next first last (beat.B x.now) block }
+{
+    if first && is_probe(x.opcode) {
+        Block {
+            probe: Some(probe_of(x)),
+            ..block
+        }
+    } else {
+        block
+    }
+}
+
+fn after_c<const W: usize>(first: bool, last: bool, x: &BeatC<W>, block: Block) -> Block
+    ensures { result ≡ Tables.block_next first last (beat.C x.now) block }
+{
+    let answers = last && is_probe_ack(x.opcode);
+    let says = last && (is_probe_ack(x.opcode) || is_release(x.opcode));
+    Block {
+        held: if says { reported(x.param) } else { block.held },
+        release: first && is_release(x.opcode) || block.release,
+        probe: if answers { None } else { block.probe },
+        ..block
+    }
+}
+
+fn after_d<const W: usize>(first: bool, last: bool, x: &BeatD<W>, block: Block) -> Block
+    ensures { result ≡ Tables.block_next first last (beat.D x.now) block }
+{
+    let begins = first && is_grant(x.opcode);
+    let grants = last && is_grant(x.opcode);
+    let acks = last && is_release_ack(x.opcode);
+    Block {
+        held: if grants { capped(x.param) } else { block.held },
+        acquire: !grants && block.acquire,
+        release: !acks && block.release,
+        grant: if begins { Some(x.sink) } else { block.grant },
+        ..block
+    }
+}
+
+fn after_e(first: bool, last: bool, x: &BeatE, block: Block) -> Block
+    ensures { result ≡ Tables.block_next {w = 8} first last (beat.E x.now) block }
+{
+    if last && block.grant == Some(x.sink) {
+        Block {
+            grant: None,
+            ..block
+        }
+    } else {
+        block
+    }
+}
+
+/// What a beat makes of the block that it bears on, where it begins a message or doesn't, and
+/// completes it or doesn't.
+fn block_next<const W: usize>(first: bool, last: bool, beat: &Beat<W>, block: Block) -> Block
+    ensures { result ≡ Tables.block_next first last beat.now block }
+{
+    match beat {
+        Beat::A(x) => after_a(first, last, x, block),
+        Beat::B(x) => after_b(first, last, x, block),
+        Beat::C(x) => after_c(first, last, x, block),
+        Beat::D(x) => after_d(first, last, x, block),
+        Beat::E(x) => after_e(first, last, x, block),
+    }
+}
+
+/// Updates what is open and held of the block that a beat bears on, where there is one.
+fn update_block<const W: usize>(
+    blocks: &mut Blocks,
+    first: bool,
+    last: bool,
+    beat: &Beat<W>,
+    block: Option<u32>,
+) -> Result<(), AllocError>
+    ensures next { OnOk result ((b : ℕ) → block_in blocks.new b ≡
+        (if is_block b block then Tables.block_next first last beat.now (block_in blocks.old b) else block_in blocks.old b)) }
+    ensures unchanged { OnErr result (blocks.new ≡ blocks.old) }
+    ensures new { OnErr result (IfSome block (λ b. (block_in blocks.old b ≡ empty_block)
+        × (0 < open_of (Tables.block_next first last beat.now (block_in blocks.old b))))) }
+    ensures some { OnErr result (is_some block ≡ true) }
+{
+    match block {
+        None => Ok(()),
+        Some(block) => {
+            let next = block_next(first, last, beat, blocks.get(block));
+            blocks.set(block, next)
+        }
+    }
+}
+
+fn update_request<const W: usize>(
+    requests: &mut ByteTable<Request>,
+    first: bool,
+    last: bool,
+    beat: &Beat<W>,
+)
+    ensures { (s : ℕ) → at requests.new s ≡ request_next first last beat.now s (at requests.old s) }
+{
+    match beat {
+        Beat::A(x) if first => requests.set(x.source, Some(request_of(x))),
+        Beat::D(x) if last && !is_release_ack(x.opcode) => requests.set(x.source, None),
+        _ => {}
+    }
+}
+
+fn update_release<const W: usize>(
+    releases: &mut ByteTable<Release>,
+    first: bool,
+    last: bool,
+    beat: &Beat<W>,
+)
+    ensures { (s : ℕ) → at releases.new s ≡ release_next first last beat.now s (at releases.old s) }
+{
+    match beat {
+        Beat::C(x) if first && is_release(x.opcode) => {
+            releases.set(x.source, Some(release_of(x)));
+        }
+        Beat::D(x) if last && is_release_ack(x.opcode) => releases.set(x.source, None),
+        _ => {}
+    }
+}
+
+fn update_sink<const W: usize>(
+    sinks: &mut ByteTable<u32>,
+    first: bool,
+    last: bool,
+    beat: &Beat<W>,
+    block: Option<u32>,
+)
+    ensures { (s : ℕ) → at sinks.new s ≡ sink_with first last beat.now block s (at sinks.old s) }
+{
+    match beat {
+        Beat::D(x) if first && is_grant(x.opcode) => sinks.set(x.sink, block),
+        Beat::E(x) if last => sinks.set(x.sink, None),
+        _ => {}
+    }
+}
+
+impl LinkState {
+    /// What is kept of a link that has carried nothing.
+    pub fn new(alloc: Global) -> Self
+        ensures { IsEmpty result }
+    {
+        LinkState {
+            bursts: Bursts::new(),
+            requests: ByteTable::new(),
+            releases: ByteTable::new(),
+            sinks: ByteTable::new(),
+            blocks: Blocks::new(alloc),
+        }
+    }
+
+    /// The block of the message that a beat answers, where it changes something of one.
+    fn answered<const W: usize>(&self, x: &BeatD<W>) -> Option<u32>
+        ensures { result ≡ (if is_release_ack x.now.opcode then block_of_release (at self.now.releases x.now.source)
+            else if is_grant x.now.opcode then block_of_request (at self.now.requests x.now.source) else None) }
+    {
+        if is_release_ack(x.opcode) {
+            Some(self.releases.get(x.source)?.block)
+        } else if is_grant(x.opcode) {
+            Some(self.requests.get(x.source)?.block)
+        } else {
+            None
+        }
+    }
+
+    /// The block that a beat changes something of.
+    fn touched<const W: usize>(&self, first: bool, last: bool, beat: &Beat<W>) -> Option<u32>
+        ensures { result ≡ touched first last beat.now self.now }
+    {
+        match beat {
+            Beat::A(x) if first && is_acquire(x.opcode) => Some(block_at(x.address)),
+            Beat::B(x) if first && is_probe(x.opcode) => Some(block_at(x.address)),
+            Beat::C(x) if first || last => Some(block_at(x.address)),
+            Beat::D(x) if first || last => self.answered(x),
+            Beat::E(x) => self.sinks.get(x.sink),
+            _ => None,
+        }
+    }
+
+    /// Looks up the block of a beat that begins a message, once for all that is asked of it.
+    pub fn cache_block<const W: usize>(&mut self, beat: &Beat<W>)
+        ensures { self.new ≡ self.old }
+    {
+        let first = self.bursts.begins(beat);
+        if let Some(block) = self.touched(first, false, beat) {
+            self.blocks.cache_block(block);
+        }
+    }
+
+    /// Takes a beat that breaks no rule. Without memory nothing changes; that can only be where nothing
+    /// was open or held of a block, and now something is.
+    pub fn take<const W: usize>(&mut self, beat: &Beat<W>) -> Result<(), AllocError>
+        requires width { IsWidth W }
+        requires small { IsTrue (is_small beat.now) }
+        ensures next { OnOk result (IsNext self.old beat.now self.new) }
+        ensures unchanged { OnErr result (self.new ≡ self.old) }
+        ensures new { OnErr result ((b : ℕ) × IsNew self.old beat.now b) }
+    {
+        let first = self.bursts.begins(beat);
+        let last = self.bursts.completes(beat);
+        let block = self.touched(first, last, beat);
+        update_block(&mut self.blocks, first, last, beat, block)?;
+        update_request(&mut self.requests, first, last, beat);
+        update_release(&mut self.releases, first, last, beat);
+        update_sink(&mut self.sinks, first, last, beat, block);
+        self.bursts.take(beat);
+        Ok(())
+    }
+
+    /// How many keys are pending, and blocks held.
+    pub fn entries(&self) -> usize
+        ensures { result ≡ entries_in self.now }
+    {
+        self.requests.len() + self.releases.len() + self.sinks.len() + self.blocks.len()
+    }
+}

@@ -1,0 +1,127 @@
+//! How many requests and Releases are outstanding.
+
+ghost use Rattle.std.specs.Prelude.{◌≡◌, ◌+◌, ◌*◌, ◌/◌, true, false};
+ghost use Rattle.tl_beat.specs.statement.Width.{IsWidth};
+ghost use Rattle.tl_coherence.specs.statement.Load;
+ghost use Rattle.tl_world.specs.code.Opened.{counted};
+
+use tl_beat::beat::Beat;
+use tl_client::operation::Op;
+use tl_client::reply::Reply;
+use tl_client::verdict::Finish;
+use tl_coherence::event::{Event, Outcome};
+
+/// A request was started.
+fn starts_request<const W: usize>(event: &Event<W>, outcome: &Outcome<W>) -> bool
+    ensures { result ≡ Load.starts_request event.now outcome.now }
+{
+    match (event, outcome) {
+        (
+            Event::Ask {
+                operation: Op::Release { .. },
+                ..
+            },
+            _,
+        ) => false,
+        (
+            Event::Ask { .. },
+            Outcome::Replied {
+                reply: Reply::Started(_),
+            },
+        ) => true,
+        _ => false,
+    }
+}
+
+/// A Release was started.
+fn starts_release<const W: usize>(event: &Event<W>, outcome: &Outcome<W>) -> bool
+    ensures { result ≡ Load.starts_release event.now outcome.now }
+{
+    match (event, outcome) {
+        (
+            Event::Ask {
+                operation: Op::Release { .. },
+                ..
+            },
+            Outcome::Replied {
+                reply: Reply::Started(_),
+            },
+        ) => true,
+        _ => false,
+    }
+}
+
+/// A request ended.
+fn ends_request<const W: usize>(outcome: &Outcome<W>) -> bool
+    ensures { result ≡ Load.ends_request outcome.now }
+{
+    match outcome {
+        Outcome::Done { finish, .. } => match finish {
+            Finish::Ack | Finish::Hint | Finish::Data(_, _) => true,
+            Finish::Granted(_) | Finish::Released => false,
+        },
+        Outcome::Moved { beat: Beat::E(_) } => true,
+        _ => false,
+    }
+}
+
+/// A Release ended.
+fn ends_release<const W: usize>(outcome: &Outcome<W>) -> bool
+    ensures { result ≡ Load.ends_release outcome.now }
+{
+    match outcome {
+        Outcome::Done {
+            finish: Finish::Released,
+            ..
+        } => true,
+        _ => false,
+    }
+}
+
+/// A number of what is outstanding, after one more started or ended.
+fn after(count: u16, starts: bool, ends: bool) -> u16
+    ensures { result ≡ counted starts ends count }
+{
+    if starts {
+        count.saturating_add(1)
+    } else if ends {
+        count.saturating_sub(1)
+    } else {
+        count
+    }
+}
+
+/// How many requests and Releases are outstanding.
+#[derive(Clone, Copy, Default, PartialEq, Eq)]
+pub struct Outstanding {
+    pub requests: u16,
+    pub releases: u16,
+}
+
+impl Outstanding {
+    /// Something has happened.
+    pub fn count<const W: usize>(&mut self, event: &Event<W>, outcome: &Outcome<W>)
+        ensures requests { self.new.requests ≡ counted (Load.starts_request event.now outcome.now) (Load.ends_request outcome.now) self.old.requests }
+        ensures releases { self.new.releases ≡ counted (Load.starts_release event.now outcome.now) (Load.ends_release outcome.now) self.old.releases }
+    {
+        self.requests = after(
+            self.requests,
+            starts_request(event, outcome),
+            ends_request(outcome),
+        );
+        self.releases = after(
+            self.releases,
+            starts_release(event, outcome),
+            ends_release(outcome),
+        );
+    }
+
+    /// How many deliveries they can still need.
+    pub fn load<const W: usize>(&self) -> u64
+        requires { IsWidth W }
+        ensures { result ≡ (64 / W + 33) * self.now.requests + (64 / W + 1) * self.now.releases }
+    {
+        let beats = (64 / W) as u64;
+        (beats + 33) * u64::from(self.requests) + (beats + 1) * u64::from(self.releases)
+    }
+}

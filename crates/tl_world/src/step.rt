@@ -1,0 +1,166 @@
+//! What a manager and its clients do at an event.
+
+ghost use Rattle.std.specs.Prelude.{◌≡◌, ◌<◌, length, true, false};
+ghost use Rattle.tl_beat.specs.statement.Width.{IsWidth};
+ghost use Rattle.tl_params.specs.declared.config.Config.{Config};
+ghost use Rattle.tl_world.specs.code.Holds.{Holds, HasRoom, IsStepped, clients_of, is_stay};
+ghost use Rattle.tl_coherence.specs.statement.Step;
+ghost use Rattle.tl_coherence.specs.statement.Step.{stepped};
+ghost use Rattle.tl_coherence.specs.statement.System.{System};
+ghost use Rattle.tl_coherence.specs.declared.event.Event.TheVariants.{Ask, Deliver};
+ghost use Rattle.tl_coherence.specs.declared.event.Outcome.TheVariants as outcome;
+
+use crate::clients::{ask_at, offer_at};
+use crate::network::Network;
+use tl_beat::beat::{Beat, Link};
+use tl_beat::channel::Channel;
+use tl_client::agent::Agent;
+use tl_client::operation::Op;
+use tl_client::verdict::Verdict;
+use tl_coherence::event::{Event, Outcome};
+use tl_manager::directory::Directory;
+
+/// Whether a client takes the beats of a channel.
+pub fn is_to_client(channel: Channel) -> bool
+    ensures { result ≡ Step.is_to_client channel }
+{
+    match channel {
+        Channel::B | Channel::D => true,
+        Channel::A | Channel::C | Channel::E => false,
+    }
+}
+
+/// Whether a beat that is answered so stays on its channel.
+fn stays(verdict: Verdict) -> bool
+    ensures { result ≡ is_stay verdict }
+{
+    matches!(verdict, Verdict::Stalled)
+}
+
+/// What comes of a beat that a client answers so.
+fn outcome_of<const W: usize>(beat: Beat<W>, verdict: Verdict) -> Outcome<W>
+    ensures { result ≡ Step.outcome_of beat.entry verdict }
+{
+    match verdict {
+        Verdict::Stalled => Outcome::Stalled,
+        Verdict::Taken => Outcome::Moved { beat },
+        Verdict::Done(source, finish) => Outcome::Done {
+            beat,
+            source,
+            finish,
+        },
+    }
+}
+
+/// What a refused beat would come to: it stays on its channel. No end refuses one: each hands out only
+/// messages that break no rule of the link, a channel keeps them in order, and the other end judges
+/// them by the same rules after the same messages.
+fn refused<const W: usize>() -> Outcome<W>
+    ensures { result ≡ outcome.Stalled }
+{
+    Outcome::Stalled
+}
+
+impl<const W: usize, A: Agent<W>, D: Directory> Network<W, A, D> {
+    /// A client of this number is asked. What comes of it is written where it is to stand, as below.
+    fn ask(&mut self, client: u8, operation: Op<W>, outcome: &mut Outcome<W>)
+        requires width { IsWidth W }
+        requires inside { client < length self.old.clients.items }
+        ensures { (config : Config) (s : System W) → Holds A.represents A.terms D.perm_of config self.old s →
+            HasRoom config (stepped config (Ask client operation.entry) s).after →
+            IsStepped A.represents A.terms D.perm_of config self.old self.new (Ask client operation.entry) outcome.new s }
+    {
+        let (reply, message) = ask_at(&mut self.clients, usize::from(client), operation);
+        self.rings.send_if_any(Link(client), &message);
+        *outcome = Outcome::Replied { reply };
+    }
+
+    /// The first beat of a channel is brought to a client.
+    fn to_client(&mut self, link: Link, channel: Channel, outcome: &mut Outcome<W>)
+        requires width { IsWidth W }
+        requires inside { link.0 < length self.old.clients.items }
+        ensures { (config : Config) (s : System W) → Holds A.represents A.terms D.perm_of config self.old s →
+            Step.is_to_client channel ≡ true → HasRoom config (stepped config (Deliver link channel) s).after →
+            IsStepped A.represents A.terms D.perm_of config self.old self.new (Deliver link channel) outcome.new s }
+    {
+        let Some(beat) = self.rings.first(link, channel) else {
+            *outcome = Outcome::Empty;
+            return;
+        };
+        match offer_at(&mut self.clients, usize::from(link.0), channel, beat) {
+            Err(_) => *outcome = refused(),
+            Ok((verdict, message)) => {
+                if stays(verdict) {
+                    *outcome = Outcome::Stalled;
+                    return;
+                }
+                *outcome = outcome_of(*beat, verdict);
+                self.rings.drop_first(link, channel);
+                self.rings.send_if_any(link, &message);
+            }
+        }
+    }
+
+    /// The first beat of a channel is brought to the manager.
+    fn to_manager(&mut self, link: Link, channel: Channel, outcome: &mut Outcome<W>)
+        requires width { IsWidth W }
+        requires inside { link.0 < length self.old.clients.items }
+        ensures { (config : Config) (s : System W) → Holds A.represents A.terms D.perm_of config self.old s →
+            Step.is_to_client channel ≡ false → HasRoom config (stepped config (Deliver link channel) s).after →
+            IsStepped A.represents A.terms D.perm_of config self.old self.new (Deliver link channel) outcome.new s }
+    {
+        let Some(beat) = self.rings.first(link, channel) else {
+            *outcome = Outcome::Empty;
+            return;
+        };
+        match self.manager.answer(link, channel, beat) {
+            Err(_) => *outcome = refused(),
+            Ok(None) => *outcome = Outcome::Stalled,
+            Ok(Some(outbox)) => {
+                *outcome = Outcome::Moved { beat: *beat };
+                self.rings.drop_first(link, channel);
+                self.rings.send_out(&outbox);
+            }
+        }
+    }
+
+    /// The first beat of a channel of a client's link is brought to the end that takes it.
+    fn deliver(&mut self, link: Link, channel: Channel, outcome: &mut Outcome<W>)
+        requires width { IsWidth W }
+        requires inside { link.0 < length self.old.clients.items }
+        ensures { (config : Config) (s : System W) → Holds A.represents A.terms D.perm_of config self.old s →
+            HasRoom config (stepped config (Deliver link channel) s).after →
+            IsStepped A.represents A.terms D.perm_of config self.old self.new (Deliver link channel) outcome.new s }
+    {
+        if is_to_client(channel) {
+            self.to_client(link, channel, outcome)
+        } else {
+            self.to_manager(link, channel, outcome)
+        }
+    }
+
+    /// Something happens.
+    pub fn step(&mut self, event: Event<W>, outcome: &mut Outcome<W>)
+        requires width { IsWidth W }
+        ensures { (config : Config) (s : System W) → Holds A.represents A.terms D.perm_of config self.old s →
+            HasRoom config (stepped config event.entry s).after →
+            IsStepped A.represents A.terms D.perm_of config self.old self.new event.entry outcome.new s }
+    {
+        match event {
+            Event::Ask { client, operation } => {
+                if usize::from(client) >= self.clients.len() {
+                    *outcome = Outcome::NoSuchClient;
+                    return;
+                }
+                self.ask(client, operation, outcome)
+            }
+            Event::Deliver { link, channel } => {
+                if usize::from(link.0) >= self.clients.len() {
+                    *outcome = Outcome::NoSuchClient;
+                    return;
+                }
+                self.deliver(link, channel, outcome)
+            }
+        }
+    }
+}

@@ -1,10 +1,18 @@
 use Rattle.std.proofs.Common.{rules, ◌≡◌, ◌≤◌, sym, inl, inr, arith}
 use Rattle.tl_coherence.specs.statement.Load.{load}
+use Rattle.tl_coherence.specs.statement.Movable.{drained}
+use Rattle.tl_tool.specs.code.PlayableWorld.{IsPlayable}
 use Rattle.tl_tool.proofs.Played.{delivered-none, delivered-more, drains-all}
 use Rattle.tl_tool.proofs.play.deliver_all.Goals as goal
 
 pub loop-count-init : goal.loop-count-init
 loop-count-init g c = λ config log r. delivered-none c.args.trace config log c.args.world.now c.args.out.now.items r
+
+pub play_event-requires : goal.play_event-requires
+play_event-requires g c =
+    let (config, log, reached) = c.requires.playable in
+    let playable : IsPlayable c.loop-count.world = (config, drained config c.loop-count.count log, (c.loop-count.invariant config log reached).reached) in
+    search (rules, playable)
 
 pub loop-count-preserved : goal.loop-count-preserved
 loop-count-preserved g c = λ config log r.

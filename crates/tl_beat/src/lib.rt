@@ -7,7 +7,5 @@ pub mod fault;
 mod lanes;
 pub mod opcode;
 pub mod read;
-#[cfg(test)]
-mod tests;
 pub mod text;
 pub mod write;

@@ -126,6 +126,3 @@ impl<const W: usize> Assembler<W> {
         Ok(Some(self.message))
     }
 }
-
-#[cfg(test)]
-mod tests;

@@ -115,6 +115,3 @@ impl<const W: usize> Monitor<W> {
         self.links[n].entries()
     }
 }
-
-#[cfg(test)]
-mod tests;

@@ -109,6 +109,3 @@ impl Config {
         Ok(())
     }
 }
-
-#[cfg(test)]
-mod tests;

@@ -115,6 +115,3 @@ pub fn is_end(bytes: &[u8]) -> bool
 {
     matches!(bytes, [b'\n'])
 }
-
-#[cfg(test)]
-mod tests;

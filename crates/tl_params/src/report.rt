@@ -19,6 +19,3 @@ pub fn report_of(cap: Cap, perm: Perm) -> Report
         (Cap::ToT, Perm::Trunk) => Report::TtoT,
     }
 }
-
-#[cfg(test)]
-mod tests;

@@ -2,5 +2,3 @@
 
 pub mod beat;
 pub mod message;
-#[cfg(test)]
-mod tests;

@@ -136,6 +136,3 @@ pub fn perform<const W: usize>(block: &mut [u8; 64], message: &Message<W>) -> An
     };
     access(block, request)
 }
-
-#[cfg(test)]
-mod tests;

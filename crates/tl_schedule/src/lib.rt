@@ -8,5 +8,3 @@ pub mod header;
 pub mod line;
 pub mod name;
 pub mod outcome;
-#[cfg(test)]
-mod tests;

@@ -46,6 +46,3 @@ pub fn run_tool<R: Read, W: Write>(
         }
     }
 }
-
-#[cfg(test)]
-mod tests;

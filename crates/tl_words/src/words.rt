@@ -231,6 +231,3 @@ pub fn invocation(alloc: Global, words: &[String]) -> Result<(Command, Option<St
     let file = copied(alloc, found.get_str("FILE"))?;
     Ok((command, file))
 }
-
-#[cfg(test)]
-mod tests;

@@ -1,0 +1,15 @@
+//! Calls that no file of data/ makes: values that are made in code, readers and writers that fail,
+//! inputs of many lines, and want of memory.
+
+mod accesses;
+mod beats;
+mod bursts;
+mod devices;
+mod events;
+mod headers;
+mod large;
+mod monitors;
+mod outcomes;
+mod params;
+mod performs;
+mod words;

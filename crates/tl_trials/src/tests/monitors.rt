@@ -1,0 +1,205 @@
+//! Monitors beat by beat: what is kept, and want of memory.
+
+ghost use Rattle.tl_beat.specs.statement.Width.{IsWidth};
+
+use std::process::Abort;
+use std::test::Fail;
+use tl_beat::beat::{Beat, BeatA, BeatE, Link};
+use tl_beat::fault::LineFault;
+use tl_beat::opcode::OpA;
+use tl_beat::read::read_line;
+use tl_monitor::fault::{MonitorFault, TraceFault};
+use tl_monitor::monitor::Monitor;
+use tl_monitor::trace::check_trace;
+use tl_params::level::Level;
+use tl_params::profile::Profile;
+use tl_params::rule::Rule;
+
+/// AcquireBlock of block 0 to write, GrantData, GrantAck, a Probe that takes the copy, and its answer.
+const LENT: [&str; 12] = [
+    "00 A 6 1 6 00 00000000 ff - 0\n",
+    "00 D 5 0 6 00 00 0 0000000000000000 0\n",
+    "00 D 5 0 6 00 00 0 0000000000000000 0\n",
+    "00 D 5 0 6 00 00 0 0000000000000000 0\n",
+    "00 D 5 0 6 00 00 0 0000000000000000 0\n",
+    "00 D 5 0 6 00 00 0 0000000000000000 0\n",
+    "00 D 5 0 6 00 00 0 0000000000000000 0\n",
+    "00 D 5 0 6 00 00 0 0000000000000000 0\n",
+    "00 D 5 0 6 00 00 0 0000000000000000 0\n",
+    "00 E 00\n",
+    "00 B 6 2 6 00 00000000 ff - 0\n",
+    "00 C 4 1 6 00 00000000 - 0\n",
+];
+
+/// The same of a copy to read.
+const SHARED: [&str; 12] = [
+    "00 A 6 0 6 00 00000000 ff - 0\n",
+    "00 D 5 1 6 00 00 0 0000000000000000 0\n",
+    "00 D 5 1 6 00 00 0 0000000000000000 0\n",
+    "00 D 5 1 6 00 00 0 0000000000000000 0\n",
+    "00 D 5 1 6 00 00 0 0000000000000000 0\n",
+    "00 D 5 1 6 00 00 0 0000000000000000 0\n",
+    "00 D 5 1 6 00 00 0 0000000000000000 0\n",
+    "00 D 5 1 6 00 00 0 0000000000000000 0\n",
+    "00 D 5 1 6 00 00 0 0000000000000000 0\n",
+    "00 E 00\n",
+    "00 B 6 2 6 00 00000000 ff - 0\n",
+    "00 C 4 2 6 00 00000000 - 0\n",
+];
+
+/// A Get of eight bytes, and its answer.
+const ANSWERED: [&str; 2] = [
+    "00 A 4 0 3 00 00000040 ff - 0\n",
+    "00 D 1 0 3 00 00 0 0000000000000000 0\n",
+];
+
+/// The answer of a monitor to the beat that a line spells.
+fn pushed(monitor: &mut Monitor<8>, line: &str) -> Result<Result<(), MonitorFault>, LineFault> {
+    let (link, beat) = read_line(line.as_bytes())?;
+    Ok(monitor.push(link, &beat))
+}
+
+#[test]
+fn numbers_of_levels_out_of_their_limits(rt: HostRuntime) {
+    let trace = [(Link(1), Beat::<8>::E(BeatE { sink: 0 }))];
+    for levels in [[].as_slice(), [Level::C; 17].as_slice()] {
+        assert_eq!(rt;
+            check_trace(rt.alloc(), levels, Profile::One, &trace),
+            Err(TraceFault::Levels)
+        );
+        assert!(rt;
+            matches!(
+                Monitor::<8>::new(rt.alloc(), levels, Profile::One),
+                Err(MonitorFault::Levels)
+            )
+        );
+    }
+}
+
+/// With each number of levels, the last link and the one behind it.
+fn begins_with_each_number<const W: usize>(rt: &(impl Abort + AllocGlobal)) -> Result<(), Fail>
+    requires { IsWidth W }
+{
+    let beat = Beat::E(BeatE { sink: 0 });
+    for count in 1..17u8 {
+        let levels = [Level::C; 16];
+        let levels = &levels[..usize::from(count)];
+        let mut monitor = Monitor::<W>::new(rt.alloc(), levels, Profile::One)?;
+        let last = Link(count - 1);
+        assert_eq!(rt; monitor.entries(last), 0);
+        assert_eq!(rt;
+            monitor.push(last, &beat),
+            Err(MonitorFault::Broken(Rule::H8))
+        );
+        let mut monitor = Monitor::<W>::new(rt.alloc(), levels, Profile::Two)?;
+        assert_eq!(rt;
+            monitor.push(Link(count), &beat),
+            Err(MonitorFault::Broken(Rule::L1))
+        );
+    }
+    Ok(())
+}
+
+#[test]
+fn monitors_of_each_number_of_levels(rt: HostRuntime) -> Result<(), Fail> {
+    begins_with_each_number::<4>(&rt)?;
+    begins_with_each_number::<8>(&rt)?;
+    begins_with_each_number::<16>(&rt)
+}
+
+#[test]
+fn a_monitor_closes(rt: HostRuntime) -> Result<(), Fail> {
+    let mut monitor = Monitor::<8>::new(rt.alloc(), &[Level::C], Profile::One)?;
+    for line in SHARED {
+        assert_eq!(rt; pushed(&mut monitor, line)?, Ok(()));
+    }
+    assert_eq!(rt; pushed(&mut monitor, SHARED[0])?, Ok(()));
+    let other = "00 A 6 0 6 01 00000000 ff - 0\n";
+    assert_eq!(rt;
+        pushed(&mut monitor, other)?,
+        Err(MonitorFault::Broken(Rule::H4))
+    );
+    assert_eq!(rt; pushed(&mut monitor, SHARED[1])?, Err(MonitorFault::Closed));
+    Ok(())
+}
+
+#[test]
+fn entries_after_each_beat(rt: HostRuntime) -> Result<(), Fail> {
+    let mut monitor = Monitor::<8>::new(rt.alloc(), &[Level::C], Profile::One)?;
+    let expected = [2, 4, 4, 4, 4, 4, 4, 4, 3, 1, 2, 0];
+    for (line, count) in LENT.iter().zip(expected.iter()) {
+        assert_eq!(rt; pushed(&mut monitor, line)?, Ok(()));
+        assert_eq!(rt; monitor.entries(Link(0)), *count);
+        assert_eq!(rt; monitor.entries(Link(1)), 0);
+    }
+    Ok(())
+}
+
+/// Pushes a beat; where there is no memory for it nothing has changed, and it is pushed again.
+fn pushes_again(rt: &impl Abort, monitor: &mut Monitor<8>, beat: &Beat<8>) {
+    let before = monitor.entries(Link(0));
+    match monitor.push(Link(0), beat) {
+        Err(MonitorFault::Memory) => {
+            assert_eq!(rt; monitor.entries(Link(0)), before);
+            assert_eq!(rt; monitor.push(Link(0), beat), Ok(()));
+        }
+        answer => assert_eq!(rt; answer, Ok(())),
+    }
+}
+
+/// A beat of a client that acquires many blocks.
+fn acquire_of(block: u8) -> Beat<8> {
+    Beat::A(BeatA {
+        opcode: OpA::AcquireBlock,
+        param: 0,
+        size: 6,
+        source: block,
+        address: 64 * u32::from(block),
+        mask: 0xff,
+        lanes: None,
+        corrupt: false,
+    })
+}
+
+/// For `rt try --test --fail-alloc N`.
+#[test]
+fn memory_that_is_refused_once(rt: HostRuntime) -> Result<(), Fail> {
+    let mut monitor = match Monitor::<8>::new(rt.alloc(), &[Level::C], Profile::One) {
+        Err(MonitorFault::Memory) => Monitor::<8>::new(rt.alloc(), &[Level::C], Profile::One)?,
+        monitor => monitor?,
+    };
+    for line in LENT {
+        let (_, beat) = read_line(line.as_bytes())?;
+        pushes_again(&rt, &mut monitor, &beat);
+    }
+    for block in 0..=255u8 {
+        pushes_again(&rt, &mut monitor, &acquire_of(block));
+        assert_eq!(rt; monitor.entries(Link(0)), 2 * (usize::from(block) + 1));
+    }
+    Ok(())
+}
+
+/// Thousands of beats, on which a body that gives up would show, and an answer too many.
+#[test]
+fn many_beats_and_a_fault_at_the_end(rt: HostRuntime) -> Result<(), Fail> {
+    let mut trace: Vec<(Link, Beat<8>)> = Vec::new(rt.alloc());
+    let mut monitor = Monitor::<8>::new(rt.alloc(), &[Level::UL], Profile::One)?;
+    for _ in 0..4000u16 {
+        for line in ANSWERED {
+            trace.push(read_line(line.as_bytes())?)?;
+            assert_eq!(rt; pushed(&mut monitor, line)?, Ok(()));
+        }
+    }
+    assert_eq!(rt; monitor.entries(Link(0)), 0);
+    let levels = [Level::UL];
+    assert_eq!(rt;
+        check_trace(rt.alloc(), &levels, Profile::One, trace.as_slice()),
+        Ok(())
+    );
+    trace.push(read_line(ANSWERED[1].as_bytes())?)?;
+    assert_eq!(rt;
+        check_trace(rt.alloc(), &levels, Profile::One, trace.as_slice()),
+        Err(TraceFault::At(8000, Rule::H2))
+    );
+    Ok(())
+}

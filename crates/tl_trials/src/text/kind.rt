@@ -1,0 +1,80 @@
+//! What is told of a section, by the name in its first line.
+
+use tl_params::level::Level;
+use tl_params::width::Width;
+use tl_tool::command::Command;
+
+/// How a line by itself is read.
+#[derive(Clone, Copy)]
+pub enum Reading {
+    /// As a beat.
+    Beat,
+    /// As a beat of a link of this level.
+    Level(Level),
+    /// As what happens to a world.
+    Event,
+    /// As the header of a schedule.
+    Header,
+}
+
+/// What is told of a section.
+#[derive(Clone, Copy)]
+pub enum Kind {
+    /// What a command writes of it.
+    Command(Command),
+    /// The fault of it as a whole trace.
+    Trace,
+    /// What each of its lines is, where beats have this width.
+    Lines(Reading, Width),
+}
+
+fn width_of(name: &str) -> Option<Width> {
+    match name {
+        "4" => Some(Width::Four),
+        "8" => Some(Width::Eight),
+        "16" => Some(Width::Sixteen),
+        _ => None,
+    }
+}
+
+/// What is told of lines, by this name.
+fn reading_of(name: &str) -> Option<Reading> {
+    match name {
+        "beats" => Some(Reading::Beat),
+        "UL beats" => Some(Reading::Level(Level::UL)),
+        "UH beats" => Some(Reading::Level(Level::UH)),
+        "C beats" => Some(Reading::Level(Level::C)),
+        "events" => Some(Reading::Event),
+        "headers" => Some(Reading::Header),
+        _ => None,
+    }
+}
+
+/// The command of this name.
+fn command_of(name: &str) -> Option<Command> {
+    match name {
+        "decode" => Some(Command::Decode {
+            width: Width::Eight,
+        }),
+        "decode --width 4" => Some(Command::Decode { width: Width::Four }),
+        "decode --width 16" => Some(Command::Decode {
+            width: Width::Sixteen,
+        }),
+        "monitor" => Some(Command::Monitor),
+        "run" => Some(Command::Run { trace: false }),
+        "run --trace" => Some(Command::Run { trace: true }),
+        _ => None,
+    }
+}
+
+/// The kind of this name: a command, `trace`, or a width and what is told of lines.
+pub fn kind_of(name: &str) -> Option<Kind> {
+    if let Some(command) = command_of(name) {
+        return Some(Kind::Command(command));
+    }
+    if name == "trace" {
+        return Some(Kind::Trace);
+    }
+    let (width, reading) = name.split_once(' ')?;
+    Some(Kind::Lines(reading_of(reading)?, width_of(width)?))
+}

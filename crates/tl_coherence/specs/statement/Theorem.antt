@@ -4,6 +4,7 @@ use Rattle.tl_coherence.specs.statement.Delivery.{Fifo, Flows, CapacityBound, St
 use Rattle.tl_coherence.specs.statement.Draining.{DeliveryBound, DrainsWithinLoad, GrantedIsHeld, LoneAcquire}
 use Rattle.tl_coherence.specs.statement.Headline.{Headline}
 
+-- what is proved of all logs of all configurations, at beats of w bytes
 pub record Theorem (w : ℕ) : Type 0 where
   -- One memory, coherent copies, no beat refused, and a movable delivery exactly while something is outstanding.
   pub headline : Headline w

@@ -106,7 +106,12 @@ impl<H: LineHandler> Lines<H> {
         if self.begun.try_extend_from_slice(line).is_err() {
             return self.stop(out);
         }
-        let status = handle_counted_line(&mut self.handler, &mut self.count, self.begun.as_slice(), out)?;
+        let status = handle_counted_line(
+            &mut self.handler,
+            &mut self.count,
+            self.begun.as_slice(),
+            out,
+        )?;
         self.begun.clear();
         Ok(status)
     }

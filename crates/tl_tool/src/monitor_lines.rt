@@ -83,7 +83,11 @@ impl LineHandler for MonitorLines {
 
     ghost tells = { Judged };
 
-    fn handle_line(&mut self, line: &[u8], _out: &mut Vec<u8>) -> Result<Option<Fault>, AllocError> {
+    fn handle_line(
+        &mut self,
+        line: &[u8],
+        _out: &mut Vec<u8>,
+    ) -> Result<Option<Fault>, AllocError> {
         match self {
             MonitorLines::Waiting(alloc) => match begin(*alloc, line)? {
                 None => Ok(Some(Fault::Header)),

@@ -6,8 +6,8 @@ ghost use Rattle.tl_tool.specs.code.Playing.{KnowsSchedule, Opens, is_trace};
 
 use crate::fault::Fault;
 use crate::line_handler::LineHandler;
-use crate::trace_header::append_header;
 use crate::play::PlayableWorld;
+use crate::trace_header::append_header;
 use std::alloc::{AllocError, Global};
 use tl_params::width::Width;
 use tl_schedule::header::read_schedule;

@@ -6,9 +6,9 @@ ghost use Rattle.tl_tool.specs.statement.Told.{text_told};
 
 use crate::decoder::Decoder;
 use crate::engine::handle_input;
+use crate::monitor_lines::MonitorLines;
 use crate::run_lines::RunLines;
 use crate::status::{Status, ToolFault};
-use crate::monitor_lines::MonitorLines;
 use std::alloc::Global;
 use std::io::{Read, Write};
 use tl_words::command::{Command, Width};

@@ -3,6 +3,7 @@ use Rattle.std.specs.Prelude.{ℕ, zero, suc, ◌+◌, ◌-◌, ◌*◌, ◌/◌
 
 -- ---- from numbers to text
 
+-- the character of a digit below 16: 0 to 9, a to f
 abbrev pub digit_char : ℕ → ℕ
 digit_char d = if nat_lt d 10 then 48 + d else 87 + d
 
@@ -28,9 +29,11 @@ bit_text true = 49 ∷ []
 
 -- ---- from text to numbers
 
+-- the character is a digit in base 16, written small
 abbrev pub is_digit : ℕ → Bool
 is_digit c = (nat_le 48 c && nat_le c 57) || (nat_le 97 c && nat_le c 102)
 
+-- the number that a digit stands for
 abbrev pub digit_value : ℕ → ℕ
 digit_value c = if nat_le c 57 then c - 48 else c - 87
 
@@ -46,6 +49,7 @@ unfoldable pub value_from : ℕ → List ℕ → ℕ
 value_from number [] = number
 value_from number (c ∷ cs) = value_from (16 * number + digit_value c) cs
 
+-- the number that a field's digits spell, the highest first
 abbrev pub value_of : List ℕ → ℕ
 value_of field = value_from 0 field
 
@@ -63,6 +67,7 @@ lanes_before lanes [] = lanes
 lanes_before lanes (c ∷ []) = lanes
 lanes_before lanes (c ∷ d ∷ cs) = lanes_before ((16 * digit_value c + digit_value d) ∷ lanes) cs
 
+-- the field is the one character -, which stands where no data are carried
 abbrev pub is_dash : List ℕ → Bool
 is_dash [] = false
 is_dash (c ∷ []) = c == 45
@@ -72,6 +77,7 @@ is_dash (c ∷ d ∷ cs) = false
 abbrev pub is_data : ℕ → List ℕ → Bool
 is_data w field = is_dash field || is_pairs w field
 
+-- the lanes that a field of data spells; a dash spells none
 abbrev pub data_of : List ℕ → Option (List ℕ)
 data_of field = if is_dash field then None else Some (lanes_before [] field)
 
@@ -81,6 +87,7 @@ is_bit [] = false
 is_bit (c ∷ []) = (c == 48) || (c == 49)
 is_bit (c ∷ d ∷ cs) = false
 
+-- the bit that a field spells: set where it begins with 1
 abbrev pub bit_of : List ℕ → Bool
 bit_of [] = false
 bit_of (c ∷ cs) = c == 49

@@ -17,6 +17,7 @@ use Rattle.tl_beat.specs.statement.Digits.{digits, lanes_text, bit_text, is_digi
 
 -- ---- the spelling
 
+-- the field that names a channel
 abbrev pub letter : Channel → List ℕ
 letter c = letter_of c ∷ []
 
@@ -76,6 +77,7 @@ pub record Spells {w : ℕ} (line : List ℕ) (link : Link) (beat : Beat w) : Ty
 
 -- ---- what is wrong with a line
 
+-- the character stands before the first piece
 abbrev pub onto_first : ℕ → List (List ℕ) → List (List ℕ)
 onto_first c [] = (c ∷ []) ∷ []
 onto_first c (piece ∷ pieces) = (c ∷ piece) ∷ pieces
@@ -85,9 +87,11 @@ unfoldable pub pieces : List ℕ → List (List ℕ)
 pieces [] = [] ∷ []
 pieces (c ∷ cs) = if c == 32 then [] ∷ pieces cs else onto_first c (pieces cs)
 
+-- the field at this place, from 0 on; an empty one behind the last
 abbrev pub field : List (List ℕ) → ℕ → List ℕ
 field fields i = slice_index_or fields i []
 
+-- the channels in order of rising priority
 abbrev pub channels : List Channel
 channels = channel.A ∷ channel.B ∷ channel.C ∷ channel.D ∷ channel.E ∷ []
 
@@ -139,22 +143,27 @@ is_misplaced None field = false
 is_misplaced (Some true) field = is_dash field
 is_misplaced (Some false) field = not (is_dash field)
 
+-- the first fault of the values of a line that has its channel's form: an opcode that isn't in use,
+-- a param beyond the channel's width, data where the opcode carries none or none where it does
 abbrev pub opcode_fault : Channel → List (List ℕ) → Option LineFault
 opcode_fault channel fields =
     first_if (is_none (carries_with channel (value_of (field fields 2)))) F4
     (first_if (nat_lt (greatest_param channel) (value_of (field fields 3))) F5
     (first_if (is_misplaced (carries_with channel (value_of (field fields 2))) (field fields (data_place channel))) F6 None))
 
+-- the first fault of the values of a line; those of channel E have none
 abbrev pub value_fault : Channel → List (List ℕ) → Option LineFault
 value_fault channel.E fields = None
 value_fault channel fields = opcode_fault channel fields
 
+-- the first fault of a line of this channel, which its second field names, if it names one
 abbrev pub channel_fault : ℕ → Option Channel → List (List ℕ) → Option LineFault
 channel_fault w None fields = Some F2
 channel_fault w (Some channel) fields =
     first_if (not (length fields == length (forms w channel))) F1
     (first_if (not (are_of_form (forms w channel) fields)) F3 (value_fault channel fields))
 
+-- the first fault of a line of these fields
 abbrev pub fields_fault : ℕ → List (List ℕ) → Option LineFault
 fields_fault w fields = first_if (nat_lt (length fields) 2) F1 (channel_fault w (channel_named (field fields 1)) fields)
 

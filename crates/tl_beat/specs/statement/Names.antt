@@ -13,6 +13,7 @@ use Rattle.tl_beat.specs.declared.opcode.OpC.TheVariants as c
 use Rattle.tl_beat.specs.declared.opcode.OpD.{OpD}
 use Rattle.tl_beat.specs.declared.opcode.OpD.TheVariants as d
 
+-- the letter of a channel
 abbrev pub letter_of : Channel → ℕ
 letter_of channel.A = 65
 letter_of channel.B = 66
@@ -20,6 +21,7 @@ letter_of channel.C = 67
 letter_of channel.D = 68
 letter_of channel.E = 69
 
+-- the standard's names of the opcodes on channel A
 abbrev pub a_name : OpA → List ℕ
 a_name a.PutFullData = codes "PutFullData"
 a_name a.PutPartialData = codes "PutPartialData"
@@ -30,6 +32,7 @@ a_name a.Intent = codes "Intent"
 a_name a.AcquireBlock = codes "AcquireBlock"
 a_name a.AcquirePerm = codes "AcquirePerm"
 
+-- the standard's names of the opcodes on channel B
 abbrev pub b_name : OpB → List ℕ
 b_name b.PutFullData = codes "PutFullData"
 b_name b.PutPartialData = codes "PutPartialData"
@@ -40,6 +43,7 @@ b_name b.Intent = codes "Intent"
 b_name b.ProbeBlock = codes "ProbeBlock"
 b_name b.ProbePerm = codes "ProbePerm"
 
+-- the standard's names of the opcodes on channel C
 abbrev pub c_name : OpC → List ℕ
 c_name c.AccessAck = codes "AccessAck"
 c_name c.AccessAckData = codes "AccessAckData"
@@ -49,6 +53,7 @@ c_name c.ProbeAckData = codes "ProbeAckData"
 c_name c.Release = codes "Release"
 c_name c.ReleaseData = codes "ReleaseData"
 
+-- the standard's names of the opcodes on channel D
 abbrev pub d_name : OpD → List ℕ
 d_name d.AccessAck = codes "AccessAck"
 d_name d.AccessAckData = codes "AccessAckData"
@@ -57,6 +62,7 @@ d_name d.Grant = codes "Grant"
 d_name d.GrantData = codes "GrantData"
 d_name d.ReleaseAck = codes "ReleaseAck"
 
+-- the name of a line's fault
 abbrev pub line_fault_name : LineFault → List ℕ
 line_fault_name fault.F1 = codes "F1"
 line_fault_name fault.F2 = codes "F2"

@@ -44,6 +44,7 @@ abbrev pub lanes_at : Bool → ℕ → List ℕ → ℕ → Option (List ℕ)
 lanes_at true w payload i = Some (slice_range payload (w * i) (w * i + w))
 lanes_at false w payload i = None
 
+-- the mask of beat i: as many bits of the message's mask as the beat has lanes
 abbrev pub mask_at : ℕ → ℕ → ℕ → ℕ
 mask_at w mask i = mask / 2 ^ (w * i) % 2 ^ w
 
@@ -67,6 +68,7 @@ a_beat_of {w} m i = record {
   carries = some_lanes (a_carries_data m.opcode) w m.payload i;
 }
 
+-- beat i of a message on channel B
 abbrev pub b_beat_of : {w : ℕ} → MessageB w → ℕ → BeatB w
 b_beat_of {w} m i = record {
   opcode = m.opcode;
@@ -80,6 +82,7 @@ b_beat_of {w} m i = record {
   carries = some_lanes (b_carries_data m.opcode) w m.payload i;
 }
 
+-- beat i of a message on channel C
 abbrev pub c_beat_of : {w : ℕ} → MessageC w → ℕ → BeatC w
 c_beat_of {w} m i = record {
   opcode = m.opcode;
@@ -92,6 +95,7 @@ c_beat_of {w} m i = record {
   carries = some_lanes (c_carries_data m.opcode) w m.payload i;
 }
 
+-- beat i of a message on channel D
 abbrev pub d_beat_of : {w : ℕ} → MessageD w → ℕ → BeatD w
 d_beat_of {w} m i = record {
   opcode = m.opcode;
@@ -105,6 +109,7 @@ d_beat_of {w} m i = record {
   carries = some_lanes (d_carries_data m.opcode) w m.payload i;
 }
 
+-- beat i of a message
 abbrev pub beat_of : {w : ℕ} → Message w → ℕ → Beat w
 beat_of (message.A m) i = beat.A (a_beat_of m i)
 beat_of (message.B m) i = beat.B (b_beat_of m i)
@@ -125,6 +130,7 @@ burst_of m = begun m (beats_of m)
 abbrev pub carried : {w : ℕ} → Message w → ℕ
 carried {w} m = if carries_data m then w * beats_of m else 0
 
+-- all bytes of a payload are zero from this one on
 abbrev pub IsZeroFrom : ℕ → List ℕ → Type 0
 IsZeroFrom n payload = drop n payload ≡ replicate (64 - n) 0
 
@@ -149,6 +155,7 @@ abbrev pub byte_if : (ℕ → Bool) → List ℕ → Option ℕ → Option ℕ
 byte_if counts payload None = None
 byte_if counts payload (Some p) = if counts p then slice_get payload p else None
 
+-- the address is one of the 2^size from this base on
 abbrev pub reaches : ℕ → ℕ → ℕ → Bool
 reaches base size address = nat_le base address && nat_lt address (base + 2 ^ size)
 

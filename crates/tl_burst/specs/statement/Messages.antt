@@ -21,6 +21,7 @@ burst_length {w} (beat.C x) = if c_carries_data x.opcode then data_beats w x.siz
 burst_length {w} (beat.D x) = if d_carries_data x.opcode then data_beats w x.size else 1
 burst_length (beat.E x) = 1
 
+-- the channel of a beat
 abbrev pub channel_of : {w : ℕ} → Beat w → Channel
 channel_of (beat.A x) = channel.A
 channel_of (beat.B x) = channel.B
@@ -83,6 +84,7 @@ bursts (m ∷ ms) = burst_of m ++ bursts ms
 abbrev pub IsBeginning : {w : ℕ} → List (Beat w) → Type 0
 IsBeginning {w} rest = (m : Message w) × (n : ℕ) × (n < beats_of m) × (rest ≡ begun m n)
 
+-- the beats of each of these messages make up a whole burst
 abbrev pub AllWhole : {w : ℕ} → List (Message w) → Type 0
 AllWhole [] = ⊤
 AllWhole (m ∷ ms) = IsBurst m (burst_of m) × AllWhole ms

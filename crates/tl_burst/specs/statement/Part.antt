@@ -31,6 +31,7 @@ place true false = First
 place false true = Last
 place false false = Middle
 
+-- no beat has come of the burst
 abbrev pub is_empty : {w : ℕ} → List (Beat w) → Bool
 is_empty [] = true
 is_empty (x ∷ xs) = false

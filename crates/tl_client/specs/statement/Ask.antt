@@ -41,12 +41,14 @@ abbrev pub is_access : {w : ℕ} → Level → Message w → Bool
 is_access l (message.A m) = is_access_of l m.opcode
 is_access l _ = false
 
+-- B4: the operation isn't of the level
 abbrev pub breaks_b4 : {w : ℕ} → Level → Op w → Bool
 breaks_b4 l (Access m) = not (is_access l m)
 breaks_b4 l _ = not (has_transfers l)
 
 -- ---- B5: the operation isn't well formed, or is outside the map
 
+-- the bytes are the same
 abbrev pub same_bytes : List ℕ → List ℕ → Bool
 same_bytes [] [] = true
 same_bytes (x ∷ xs) (y ∷ ys) = (x == y) && same_bytes xs ys
@@ -63,10 +65,13 @@ is_clean {w} m =
 abbrev pub is_word : ℕ → ℕ → Bool
 is_word address size = nat_le size 3 && is_aligned address size
 
+-- a message that may be sent as an access: an A request that breaks no L rule, with no corrupt bit
+-- set and zeros where no beat carries anything
 abbrev pub is_sound : {w : ℕ} → Level → Message w → Bool
 is_sound l (message.A m) = is_none (illegal_message l channel.A (message.A m)) && is_clean m
 is_sound l _ = false
 
+-- the block of an operation
 abbrev pub op_block : {w : ℕ} → Op w → ℕ
 op_block (Load address size) = block_at address
 op_block (Store address size value) = block_at address
@@ -76,28 +81,33 @@ op_block (Release block prune) = block
 op_block (Access (message.A m)) = block_at m.address
 op_block (Access _) = 0
 
+-- size, address and message of an operation are as they must be
 abbrev pub is_formed : {w : ℕ} → Level → Op w → Bool
 is_formed l (Load address size) = is_word address size
 is_formed l (Store address size value) = is_word address size
 is_formed l (Access m) = is_sound l m
 is_formed l _ = true
 
+-- B5: outside the map, or malformed
 abbrev pub breaks_b5 : {w : ℕ} → EndConfig → Op w → Bool
 breaks_b5 terms op = nat_le terms.blocks (op_block op) || not (is_formed terms.level op)
 
 -- ---- B2: a transfer of the block is outstanding
 
+-- the operation moves a permission
 abbrev pub is_transfer : {w : ℕ} → Op w → Bool
 is_transfer (Acquire block grow) = true
 is_transfer (AcquireWhole block bytes) = true
 is_transfer (Release block prune) = true
 is_transfer _ = false
 
+-- B2: an Acquire or Release of the block is outstanding already
 abbrev pub breaks_b2 : {w : ℕ} → Op w → History w → Bool
 breaks_b2 op t = is_transfer op && (pending (AcquireOf (op_block op)) t || pending (ReleaseOf (op_block op)) t)
 
 -- ---- B3: the operation doesn't begin at the permission that is held
 
+-- B3: the operation doesn't start from the permission that is held
 abbrev pub breaks_b3 : {w : ℕ} → Op w → Perm → Bool
 breaks_b3 (Acquire block grow) p = not (same_perm (grow_left grow) p)
 breaks_b3 (AcquireWhole block bytes) p = same_perm perm.Trunk p
@@ -111,12 +121,15 @@ unfoldable pub least_free : (ℕ → Bool) → ℕ → ℕ → Option ℕ
 least_free taken s zero = None
 least_free taken s (suc n) = if taken s then least_free taken (s + 1) n else Some s
 
+-- the least source that is free for a request, where there is one
 abbrev pub free_request : {w : ℕ} → EndConfig → History w → Option ℕ
 free_request terms t = least_free (λ s. pending (RequestSource s) t) 0 terms.sources
 
+-- the least source that is free for a Release, where there is one
 abbrev pub free_release : {w : ℕ} → EndConfig → History w → Option ℕ
 free_release terms t = least_free (λ s. pending (ReleaseSource s) t) 0 terms.sources
 
+-- B1: no source is free; Load and Store need none
 abbrev pub breaks_b1 : {w : ℕ} → EndConfig → Op w → History w → Bool
 breaks_b1 terms (Load address size) t = false
 breaks_b1 terms (Store address size value) t = false
@@ -125,6 +138,7 @@ breaks_b1 terms _ t = is_none (free_request terms t)
 
 -- ---- the first that applies
 
+-- why an operation is refused, where it is: the first that applies in the order B4, B5, B2, B3, B1
 unfoldable pub busy : {w : ℕ} → EndConfig → Op w → Endpoint w → Option Busy
 busy terms op e =
     first_if (breaks_b4 terms.level op) B4
@@ -163,10 +177,12 @@ low_bytes value i (suc n) = byte_of value i ∷ low_bytes value (i + 1) n
 abbrev pub copy_stored : ℕ → ℕ → ℕ → List ℕ → List ℕ
 copy_stored address size value copy = take (address % 64) copy ++ low_bytes value 0 (2 ^ size) ++ drop (address % 64 + 2 ^ size) copy
 
+-- a Load reads the copy, where there is one
 abbrev pub load : {w : ℕ} → ℕ → ℕ → Perm → Endpoint w → Asked w
 load address size perm.None e = only reply.Miss e
 load address size _ e = only (reply.Value (loaded address size (copy_at e (block_at address)))) e
 
+-- a Store writes the copy, where the block is held as Trunk
 abbrev pub store : {w : ℕ} → ℕ → ℕ → ℕ → Perm → Endpoint w → Asked w
 store address size value perm.Trunk e =
     only reply.Stored (with_copy (block_at address) (Some (copy_stored address size value (copy_at e (block_at address)))) e)
@@ -181,9 +197,11 @@ whole_grow _ = grow.NtoT
 abbrev pub source_or_0 : Option ℕ → ℕ
 source_or_0 source = unwrap_or source 0
 
+-- a request is started with the least free source
 abbrev pub start_request : {w : ℕ} → EndConfig → (ℕ → Message w) → Endpoint w → Asked w
 start_request terms m e = started (source_or_0 (free_request terms e.past)) (m (source_or_0 (free_request terms e.past))) e
 
+-- a Release is started with the least free source
 abbrev pub start_release : {w : ℕ} → EndConfig → (ℕ → Message w) → Endpoint w → Asked w
 start_release terms m e = started (source_or_0 (free_release terms e.past)) (m (source_or_0 (free_release terms e.past))) e
 
@@ -201,6 +219,7 @@ done terms (Release block prune) e =
 done terms (Access (message.A m)) e = start_request terms (λ s. access s m) e
 done terms (Access _) e = only (reply.Busy B4) e
 
+-- what an operation does, given whether it is refused
 abbrev pub asked_given : {w : ℕ} → Option Busy → EndConfig → Op w → Endpoint w → Asked w
 asked_given (Some b) terms op e = only (reply.Busy b) e
 asked_given None terms op e = done terms op e

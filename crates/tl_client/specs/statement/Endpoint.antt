@@ -28,6 +28,7 @@ pub record Endpoint (w : ℕ) : Type 0 where
   -- the 64 bytes of each store of a whole block that waits for its Grant
   pub waiting : ℕ → Option (List ℕ)
 
+-- no block has any bytes
 abbrev pub nothing : ℕ → Option (List ℕ)
 nothing block = None
 
@@ -35,6 +36,7 @@ nothing block = None
 abbrev pub fresh : {w : ℕ} → Endpoint w
 fresh = record { past = []; closed = false; copies = nothing; waiting = nothing }
 
+-- the bytes of a block, all zero
 abbrev pub zeros : List ℕ
 zeros = replicate 64 0
 
@@ -46,12 +48,15 @@ copy_at e block = unwrap_or (e.copies block) zeros
 abbrev pub set_at : ℕ → Option (List ℕ) → (ℕ → Option (List ℕ)) → ℕ → Option (List ℕ)
 set_at block bytes blocks = λ k. if k == block then bytes else blocks k
 
+-- with this history
 abbrev pub with_past : {w : ℕ} → History w → Endpoint w → Endpoint w
 with_past t e = record e { past = t }
 
+-- with these bytes as the copy of a block, or none
 abbrev pub with_copy : {w : ℕ} → ℕ → Option (List ℕ) → Endpoint w → Endpoint w
 with_copy block bytes e = record e { copies = set_at block bytes e.copies }
 
+-- with these bytes waiting for the Grant of a block, or none
 abbrev pub with_waiting : {w : ℕ} → ℕ → Option (List ℕ) → Endpoint w → Endpoint w
 with_waiting block bytes e = record e { waiting = set_at block bytes e.waiting }
 
@@ -60,6 +65,7 @@ abbrev pub kept_for : {w : ℕ} → ℕ → Perm → Endpoint w → Endpoint w
 kept_for block perm.None e = with_copy block None e
 kept_for block _ e = e
 
+-- the permission held of a block
 abbrev pub held_at : {w : ℕ} → Endpoint w → ℕ → Perm
 held_at e block = held block e.past
 

@@ -20,6 +20,7 @@ abbrev pub holds : Perm → Bool
 holds perm.None = false
 holds _ = true
 
+-- the opcode is AcquirePerm, by which a whole block is stored
 abbrev pub is_acquire_perm : OpA → Bool
 is_acquire_perm a.AcquirePerm = true
 is_acquire_perm _ = false
@@ -29,10 +30,12 @@ abbrev pub acquires : {w : ℕ} → ℕ → Option (BeatA w) → Bool
 acquires k None = false
 acquires k (Some r) = is_acquire r.opcode && (block_at r.address == k)
 
+-- it is an Acquire of the block for a store of the whole
 abbrev pub stores_whole : {w : ℕ} → ℕ → Option (BeatA w) → Bool
 stores_whole k None = false
 stores_whole k (Some r) = is_acquire_perm r.opcode && (block_at r.address == k)
 
+-- the request, where there is one, is an Acquire
 abbrev pub is_acquire_beat : {w : ℕ} → Option (BeatA w) → Bool
 is_acquire_beat None = false
 is_acquire_beat (Some r) = is_acquire r.opcode
@@ -44,6 +47,7 @@ IsGranting (beat.D x ∷ burst) t =
     is_grant x.opcode ≡ true → (is_grant_without_data x.opcode ≡ false) × (holds (capped x.param) ≡ true) × (is_acquire_beat (open_beat x.source t) ≡ true)
 IsGranting _ t = ⊤
 
+-- what holds of each endpoint that a client can reach
 pub record IsEndpointInvariant {w : ℕ} (e : Endpoint w) : Type 0 where
   -- messages are handed out whole, and a Probe has one beat
   pub a_whole : unfinished channel.A e.past ≡ []

@@ -69,6 +69,7 @@ pub record Offered (w : ℕ) : Type 0 where
   pub answer : Result (Verdict × Option (Message w)) Rule
   pub after : Endpoint w
 
+-- a refusal closes the link and changes nothing else
 abbrev pub refused : {w : ℕ} → Rule → Endpoint w → Offered w
 refused rule e = record { answer = Err rule; after = shut e }
 
@@ -76,6 +77,7 @@ refused rule e = record { answer = Err rule; after = shut e }
 abbrev pub silent : {w : ℕ} → Verdict → Endpoint w → Offered w
 silent v e = record { answer = Ok (v, None); after = e }
 
+-- the beat is taken, and a message is handed out
 abbrev pub answered : {w : ℕ} → Verdict → Message w → Endpoint w → Offered w
 answered v m e = record { answer = Ok (v, Some m); after = sending m e }
 
@@ -97,6 +99,7 @@ probed x block p e =
 abbrev pub padded : List ℕ → List ℕ
 padded bytes = bytes ++ replicate (64 - length bytes) 0
 
+-- the address of the request that is answered
 abbrev pub address_asked : {w : ℕ} → Option (BeatA w) → ℕ
 address_asked None = 0
 address_asked (Some r) = r.address
@@ -119,6 +122,8 @@ abbrev pub granted_perm : {w : ℕ} → OpA → ℕ → Endpoint w → Endpoint 
 granted_perm a.AcquirePerm block e = with_waiting block None (with_copy block (e.waiting block) e)
 granted_perm _ block e = e
 
+-- what a Grant leaves of the copy: AcquirePerm stores the block that waited, GrantData replaces the
+-- copy
 abbrev pub granted : {w : ℕ} → OpD → Option (BeatA w) → List ℕ → Endpoint w → Endpoint w
 granted d.Grant (Some r) payload e = granted_perm r.opcode (block_at r.address) e
 granted d.GrantData (Some r) payload e = with_copy (block_at r.address) (Some payload) e
@@ -137,6 +142,7 @@ responded {w} x r payload e =
 
 -- ---- what is taken
 
+-- what a beat that breaks no rule does: a Probe is answered at once, a response at its last beat
 abbrev pub taken : {w : ℕ} → Beat w → Endpoint w → Offered w
 taken (beat.B x) e = probed x (block_at x.address) (held_at e (block_at x.address)) e
 taken (beat.D x) e =
@@ -145,10 +151,12 @@ taken (beat.D x) e =
     else silent verdict.Taken (with_past (beat.D x ∷ e.past) e)
 taken x e = silent verdict.Taken (with_past (x ∷ e.past) e)
 
+-- refused by a rule that comes after the stall, or taken
 abbrev pub judged_later : {w : ℕ} → Option Rule → Beat w → Endpoint w → Offered w
 judged_later (Some rule) x e = refused rule e
 judged_later None x e = taken x e
 
+-- refused by a rule that comes before the stall, stalled, or judged by the others
 abbrev pub judged : {w : ℕ} → Option Rule → EndConfig → Beat w → Endpoint w → Offered w
 judged (Some rule) terms x e = refused rule e
 judged None terms x e = if waits x e.past then silent verdict.Stalled e else judged_later (broken_later terms x e) x e
@@ -159,6 +167,7 @@ offered terms ch x e = judged (broken_before terms ch x e) terms x e
 
 -- ---- whether a beat is stalled, by the answer
 
+-- the answer is Stalled
 abbrev pub is_stalled : {w : ℕ} → Result (Verdict × Option (Message w)) Rule → Bool
 is_stalled (Ok (verdict.Stalled, m)) = true
 is_stalled _ = false

@@ -21,6 +21,7 @@ use Rattle.tl_client.specs.declared.request.Request.{Request}
 abbrev pub fields_in : {w : ℕ} → MessageA w → Request
 fields_in m = record { opcode = m.opcode; param = m.param; size = m.size; address = m.address }
 
+-- the fields of the request that is pending with a source, by its first beat
 abbrev pub fields_of : {w : ℕ} → Option (BeatA w) → Option Request
 fields_of None = None
 fields_of (Some x) = Some (record { opcode = x.opcode; param = x.param; size = x.size; address = x.address })
@@ -29,6 +30,7 @@ fields_of (Some x) = Some (record { opcode = x.opcode; param = x.param; size = x
 abbrev pub open_beat : {w : ℕ} → ℕ → History w → Option (BeatA w)
 open_beat s t = if pending (RequestSource s) t then request_of s t else None
 
+-- the request that is pending with a source
 abbrev pub open_request : {w : ℕ} → ℕ → History w → Option Request
 open_request s t = fields_of (open_beat s t)
 
@@ -52,9 +54,11 @@ abbrev pub releases_block : ℕ → Option Release → Bool
 releases_block k None = false
 releases_block k (Some r) = block_at r.address == k
 
+-- the fields of a Release that are kept until its answer
 abbrev pub release_in : {w : ℕ} → MessageC w → Release
 release_in m = record { size = m.size; address = m.address }
 
+-- the fields of the Release that is pending with a source, by its first beat
 abbrev pub release_fields : {w : ℕ} → Option (BeatC w) → Option Release
 release_fields None = None
 release_fields (Some x) = Some (record { size = x.size; address = x.address })

@@ -23,6 +23,7 @@ use Rattle.tl_client.specs.statement.Endpoint.{zeros}
 abbrev pub sourced : {w : ℕ} → ℕ → MessageA w → MessageA w
 sourced source m = record m { source = source }
 
+-- an access with this source
 abbrev pub access : {w : ℕ} → ℕ → MessageA w → Message w
 access source m = message.A (sourced source m)
 
@@ -40,6 +41,7 @@ acquisition {w} opcode grow source block = record {
   small = lit≤ tt;
 }
 
+-- an Acquire of a block with this source
 abbrev pub acquire : {w : ℕ} → OpA → Grow → ℕ → ℕ → Message w
 acquire opcode grow source block = message.A (acquisition opcode grow source block)
 
@@ -56,6 +58,7 @@ about opcode param source block payload = record {
   small = lit≤ tt;
 }
 
+-- a message of channel C about a block
 abbrev pub on_c : {w : ℕ} → OpC → ℕ → ℕ → ℕ → List ℕ → Message w
 on_c opcode param source block payload = message.C (about opcode param source block payload)
 
@@ -70,5 +73,6 @@ abbrev pub probe_ack : {w : ℕ} → OpB → Perm → Report → ℕ → List �
 probe_ack b.ProbeBlock perm.Trunk report block copy = on_c c.ProbeAckData (report_code report) 0 block copy
 probe_ack _ _ report block copy = on_c c.ProbeAck (report_code report) 0 block zeros
 
+-- the GrantAck of a Grant with this sink
 abbrev pub grant_ack : {w : ℕ} → ℕ → Message w
 grant_ack sink = message.E (record { sink = sink })

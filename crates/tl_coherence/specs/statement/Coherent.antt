@@ -14,6 +14,8 @@ use Rattle.tl_coherence.specs.statement.Log.{Log}
 use Rattle.tl_coherence.specs.statement.Machine.{Machine, Pool, pool_of, pool_of_op, same_pool}
 use Rattle.tl_coherence.specs.statement.System.{System}
 
+-- the operation that is open with a source of a client after one more event: started by it, ended
+-- by it, or as before
 abbrev pub started_at : {w : ℕ} → Event w → Outcome w → ℕ → Pool → ℕ → Option (Op w) → Option (Op w)
 started_at (Ask client op) (Replied (Started n)) c pool source before =
     if (client == c) && (same_pool (pool_of_op op) pool && (n == source)) then Some op else before
@@ -26,6 +28,7 @@ unfoldable pub started : {w : ℕ} → ℕ → Pool → ℕ → Log w → Option
 started c pool source [] = None
 started c pool source (x ∷ log) = started_at x.0 x.1 c pool source (started c pool source log)
 
+-- copies are coherent with one memory, and what is open is what the log started and didn't end
 pub record IsCoherent {w : ℕ} (s : System w) (log : Log w) (m : Machine w) : Type 0 where
   -- where one client may write a block, no other has a copy
   pub one_writer : (c d block : ℕ) → c ≢ d → held_at (s.clients c) block ≡ perm.Trunk → held_at (s.clients d) block ≡ perm.None

@@ -32,6 +32,7 @@ use Rattle.tl_coherence.specs.statement.Headline.{IsGiven}
 abbrev pub sender : {w : ℕ} → Channel → ℕ → System w → History w
 sender ch link s = if is_to_client ch then on_link link s.manager.trace else (s.clients link).past
 
+-- the history at the end that takes the beats of a channel
 abbrev pub receiver : {w : ℕ} → Channel → ℕ → System w → History w
 receiver ch link s = if is_to_client ch then (s.clients link).past else on_link link s.manager.trace
 
@@ -41,6 +42,7 @@ pub record IsFifo {w : ℕ} (s : System w) (log : Log w) (link : ℕ) (ch : Chan
   pub under_way : carried_on ch (sender ch link s) ≡ reverse (s.channels link ch) ++ carried_on ch (receiver ch link s)
   pub delivered : carried_on ch (receiver ch link s) ≡ carried_on ch (flow link log)
 
+-- each channel of each link loses nothing and keeps order
 abbrev pub Fifo : ℕ → Type 0
 Fifo w = (config : Config) (log : Log w) → IsGiven config log → (link : ℕ) (ch : Channel) → IsFifo (system_after config log) log link ch
 
@@ -65,6 +67,7 @@ capacity n sources trackers channel.C = n * (sources + trackers)
 capacity n sources trackers channel.D = (n + 1) * sources
 capacity n sources trackers channel.E = trackers
 
+-- the number of sources of a client, where there is one
 abbrev pub sources_of : Option EndConfig → ℕ
 sources_of None = 0
 sources_of (Some terms) = terms.sources
@@ -80,10 +83,12 @@ CapacityBound w = (config : Config) (log : Log w) → IsGiven config log → (li
 abbrev pub outcome_of_delivery : {w : ℕ} → Config → Log w → ℕ → Channel → Outcome w
 outcome_of_delivery config log link ch = (stepped config (Deliver (record { 0 = link }) ch) (system_after config log)).outcome
 
+-- there was no beat to deliver
 abbrev pub is_emptiness : {w : ℕ} → Outcome w → Bool
 is_emptiness outcome.Empty = true
 is_emptiness _ = false
 
+-- the beat stayed on its channel
 abbrev pub is_stall : {w : ℕ} → Outcome w → Bool
 is_stall outcome.Stalled = true
 is_stall _ = false
@@ -104,5 +109,6 @@ pub record IsExact {w : ℕ} (config : Config) (log : Log w) (link : ℕ) (ch : 
   pub stalled : is_stall (outcome_of_delivery config log link ch) ≡ not (is_empty ((system_after config log).channels link ch)) && not (is_movable config link ch (system_after config log))
   pub moves : (x : Beat w) (rest : List (Beat w)) → (system_after config log).channels link ch ≡ x ∷ rest → Moves config log link x
 
+-- a delivery finds a channel empty or stalls exactly where the definitions say so
 abbrev pub Stalls : ℕ → Type 0
 Stalls w = (config : Config) (log : Log w) → IsGiven config log → (link : ℕ) (ch : Channel) → is_client config link ≡ true → IsExact config log link ch

@@ -31,10 +31,12 @@ use Rattle.tl_coherence.specs.statement.Headline.{IsGiven}
 
 -- ---- the bound
 
+-- the event is a delivery
 abbrev pub is_delivery : {w : ℕ} → Event w → Bool
 is_delivery (Ask client op) = false
 is_delivery (Deliver link ch) = true
 
+-- the event moved a beat
 abbrev pub is_moving : {w : ℕ} → Outcome w → Bool
 is_moving (outcome.Moved x) = true
 is_moving (outcome.Done x source finish) = true
@@ -55,6 +57,8 @@ pub record IsDrained {w : ℕ} (config : Config) (log : Log w) (n : ℕ) : Type 
   pub stands : next_delivery config (system_after config (drained config n log)) ≡ None
   pub nothing_left : outstanding (drained config n log) ≡ 0
 
+-- from each state deliveries alone lead to one with nothing outstanding, in no more steps than the
+-- load
 abbrev pub DrainsWithinLoad : ℕ → Type 0
 DrainsWithinLoad w = (config : Config) (log : Log w) → IsGiven config log → (n : ℕ) × IsDrained config log n
 

@@ -25,10 +25,12 @@ IsTypedOp (AcquireWhole block bytes) = length bytes ≡ 64
 IsTypedOp (Access (message.A m)) = length m.payload ≡ 64
 IsTypedOp _ = ⊤
 
+-- blocks of bytes in an event have 64 bytes
 abbrev pub IsTyped : {w : ℕ} → Event w → Type 0
 IsTyped (Ask client op) = IsTypedOp op
 IsTyped (Deliver link ch) = ⊤
 
+-- blocks of bytes in the events of a log have 64 bytes
 unfoldable pub AreTyped : {w : ℕ} → Log w → Type 0
 AreTyped [] = ⊤
 AreTyped (x ∷ log) = IsTyped x.0 × AreTyped log
@@ -53,6 +55,7 @@ Continues {w} config x log =
     (next : Machine w) × (accesses : List (ℕ × ℕ))
     × IsStep config x.0 x.1 (one_memory_after config log) next × Performs accesses next (one_memory_after config (x ∷ log))
 
+-- what holds of each log: it is a run on one memory, and copies are coherent with that
 pub record IsSound {w : ℕ} (config : Config) (log : Log w) : Type 0 where
   -- the outcomes are a run of the one-memory machine
   pub run : Run config log (one_memory_after config log)

@@ -11,6 +11,7 @@ use Rattle.tl_coherence.specs.declared.event.Outcome.{Outcome}
 use Rattle.tl_coherence.specs.declared.event.Outcome.TheVariants.{Replied, Moved, Done}
 use Rattle.tl_coherence.specs.statement.Log.{Log}
 
+-- the operation is a Release
 abbrev pub is_release : {w : ℕ} → Op w → Bool
 is_release (op.Release block prune) = true
 is_release _ = false
@@ -25,6 +26,7 @@ abbrev pub starts_request : {w : ℕ} → Event w → Outcome w → Bool
 starts_request (Ask client operation) (Replied (reply.Started source)) = if is_release operation then false else true
 starts_request _ _ = false
 
+-- a Release ended
 abbrev pub ends_release : {w : ℕ} → Outcome w → Bool
 ends_release (Done x source finish.Released) = true
 ends_release _ = false
@@ -45,6 +47,7 @@ number test log = length (filter (λ x. test x.0 x.1) log)
 unfoldable pub requests : {w : ℕ} → Log w → ℕ
 requests log = number starts_request log - number (λ e o. ends_request o) log
 
+-- how many Releases are outstanding: those started without those ended
 unfoldable pub releases : {w : ℕ} → Log w → ℕ
 releases log = number starts_release log - number (λ e o. ends_release o) log
 
@@ -53,6 +56,7 @@ pub record IsBalanced {w : ℕ} (log : Log w) : Type 0 where
   pub requests : number (λ e o. ends_request o) log ≤ number starts_request log
   pub releases : number (λ e o. ends_release o) log ≤ number starts_release log
 
+-- how many operations are outstanding
 abbrev pub outstanding : {w : ℕ} → Log w → ℕ
 outstanding log = requests log + releases log
 

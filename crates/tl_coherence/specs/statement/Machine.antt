@@ -49,15 +49,18 @@ first = record { memory = λ address. 0; opened = λ client pool source. None }
 
 -- ---- what an operation does to the memory
 
+-- the pools are the same
 abbrev pub same_pool : Pool → Pool → Bool
 same_pool Requests Requests = true
 same_pool Releases Releases = true
 same_pool _ _ = false
 
+-- with this operation open under a source of a client, or none
 abbrev pub with_open : {w : ℕ} → ℕ → Pool → ℕ → Option (Open w) → Machine w → Machine w
 with_open client pool source o m =
     record m { opened = λ c p s. if (c == client) && (same_pool p pool && (s == source)) then o else m.opened c p s }
 
+-- with this memory
 abbrev pub with_memory : {w : ℕ} → Memory → Machine w → Machine w
 with_memory memory m = record m { memory = memory }
 
@@ -67,6 +70,7 @@ with_number base size value memory address = if reaches base size address then b
 
 -- ---- a client is asked and replies
 
+-- the pool from which an operation takes its source
 abbrev pub pool_of_op : {w : ℕ} → Op w → Pool
 pool_of_op (Release block prune) = Releases
 pool_of_op _ = Requests
@@ -94,6 +98,7 @@ after_reply client op r m = m
 
 -- ---- a response ends an operation
 
+-- the pool to which the end of an operation gives its source back
 abbrev pub pool_of : Finish → Pool
 pool_of Released = Releases
 pool_of _ = Requests
@@ -115,6 +120,7 @@ abbrev pub EndsAccess : {w : ℕ} → Message w → Option memory.AccessResult �
 EndsAccess m None f = ⊥
 EndsAccess m (Some r) f = f ≡ finish_with m r
 
+-- an operation, performed with this answer, may end so by this beat
 abbrev pub EndsOp : {w : ℕ} → Op w → Option memory.AccessResult → Beat w → Finish → Type 0
 EndsOp (Access m) answer x f = EndsAccess m answer f
 EndsOp (Acquire block grow) answer x f = f ≡ Granted (cap_named x)
@@ -122,6 +128,7 @@ EndsOp (AcquireWhole block bytes) answer x f = f ≡ Granted perm.Trunk
 EndsOp (Release block prune) answer x f = f ≡ Released
 EndsOp _ answer x f = ⊥
 
+-- the open operation, where there is one, may end so by this beat
 abbrev pub Ends : {w : ℕ} → Option (Open w) → Beat w → Finish → Type 0
 Ends None x f = ⊥
 Ends (Some o) x f = EndsOp o.asked o.answer x f
@@ -131,6 +138,8 @@ abbrev pub memory_after : {w : ℕ} → Op w → Memory → Memory
 memory_after (AcquireWhole block bytes) memory = with_block block bytes memory
 memory_after _ memory = memory
 
+-- the machine after an operation ended: its source is free, and a store of a whole block is in
+-- memory
 abbrev pub after_end : {w : ℕ} → ℕ → Pool → ℕ → Option (Open w) → Machine w → Machine w
 after_end client pool source None m = m
 after_end client pool source (Some o) m = with_open client pool source None (with_memory (memory_after o.asked m.memory) m)
@@ -152,6 +161,7 @@ moved (Ask client op) (outcome.Replied r) m = after_reply client op r m
 moved (Deliver link ch) (outcome.Done x source f) m = after_end link.0 (pool_of f) source (m.opened link.0 (pool_of f) source) m
 moved _ _ m = m
 
+-- there is a client of this number
 abbrev pub is_client : Config → ℕ → Bool
 is_client config client = is_some (terms_at config client)
 
@@ -162,11 +172,13 @@ IsStep config e o m n = (is_client config (client_of e) ≡ true) × Allows e o 
 
 -- ---- performing: an open access without answer changes the memory and gets its answer
 
+-- the machine after an open access is performed, once; other operations perform nothing
 abbrev pub performed_op : {w : ℕ} → ℕ → ℕ → Op w → Option memory.AccessResult → Machine w → Option (Machine w)
 performed_op client source (Access a) None m =
     Some (with_open client Requests source (Some (record { asked = Access a; answer = Some (effect a m.memory).1 })) (with_memory (effect a m.memory).0 m))
 performed_op client source op answer m = None
 
+-- the machine after the open operation is performed, where there is one
 abbrev pub performed_open : {w : ℕ} → ℕ → ℕ → Option (Open w) → Machine w → Option (Machine w)
 performed_open client source None m = None
 performed_open client source (Some o) m = performed_op client source o.asked o.answer m

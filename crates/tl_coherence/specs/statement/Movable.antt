@@ -20,6 +20,7 @@ stalls config terms link ch x s =
     then client.stalls terms ch x (s.clients link)
     else manager.stalls config (record { 0 = link }) ch x s.manager
 
+-- the first beat of the channel, where there is one, isn't stalled
 abbrev pub moves : {w : ℕ} → Config → Option EndConfig → ℕ → Channel → List (Beat w) → System w → Bool
 moves config (Some terms) link ch (x ∷ rest) s = not (stalls config terms link ch x s)
 moves config _ link ch _ s = false
@@ -28,16 +29,18 @@ moves config _ link ch _ s = false
 unfoldable pub is_movable : {w : ℕ} → Config → ℕ → Channel → System w → Bool
 is_movable config link ch s = moves config (terms_at config link) link ch (s.channels link ch) s
 
--- the first movable delivery of a channel, on so many links from this one on
+-- the first movable delivery of a channel, on this many links from this one on
 unfoldable pub first_movable : {w : ℕ} → Config → Channel → ℕ → ℕ → System w → Option (Link × Channel)
 first_movable config ch link zero s = None
 first_movable config ch link (suc n) s =
     if is_movable config link ch s then Some (record { 0 = link }, ch) else first_movable config ch (link + 1) n s
 
+-- the first, where there is one, or the later one
 abbrev pub or_later : {X : Type 0} → Option X → Option X → Option X
 or_later (Some x) later = Some x
 or_later None later = later
 
+-- the first movable delivery of a channel, links rising
 abbrev pub movable_on : {w : ℕ} → Config → Channel → System w → Option (Link × Channel)
 movable_on config ch s = first_movable config ch 0 (length config.clients.items) s
 
@@ -52,6 +55,7 @@ next_delivery config s =
 
 -- ---- draining
 
+-- the log with this delivery, where there is one
 abbrev pub with_delivery : {w : ℕ} → Config → Option (Link × Channel) → Log w → Log w
 with_delivery config None log = log
 with_delivery config (Some d) log = (Deliver d.0 d.1, (stepped config (Deliver d.0 d.1) (system_after config log)).outcome) ∷ log

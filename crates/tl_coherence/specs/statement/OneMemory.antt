@@ -10,6 +10,7 @@ use Rattle.tl_coherence.specs.statement.Log.{Log, system_after}
 use Rattle.tl_coherence.specs.statement.Machine.{Machine, first, moved, performed}
 use Rattle.tl_coherence.specs.statement.Step.{stepped}
 
+-- the access that a message answers, by link and source, before the rest
 abbrev pub with_access : {w : ℕ} → Link → Message w → List (ℕ × ℕ) → List (ℕ × ℕ)
 with_access link (message.D m) rest = if is_access_answer m.opcode then (link.0, m.source) ∷ rest else rest
 with_access link _ rest = rest

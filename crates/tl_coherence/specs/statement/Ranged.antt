@@ -21,10 +21,12 @@ IsRangedOp (AcquireWhole block bytes) = AreBytes bytes
 IsRangedOp (Access (message.A m)) = AreBytes m.payload
 IsRangedOp _ = ⊤
 
+-- the numbers in an event are in their ranges
 abbrev pub IsRanged : {w : ℕ} → Event w → Type 0
 IsRanged (Ask client op) = IsRangedOp op
 IsRanged (Deliver link ch) = ⊤
 
+-- the numbers in the events of a log are in their ranges
 unfoldable pub AreRanged : {w : ℕ} → Log w → Type 0
 AreRanged [] = ⊤
 AreRanged (x ∷ log) = IsRanged x.0 × AreRanged log

@@ -30,6 +30,7 @@ pub record Step (w : ℕ) : Type 0 where
 abbrev pub only : {w : ℕ} → Outcome w → System w → Step w
 only o s = record { outcome = o; handed = []; after = s }
 
+-- an outcome with messages that are put on their channels
 abbrev pub handing : {w : ℕ} → Outcome w → Handed w → System w → Step w
 handing o handed s = record { outcome = o; handed = handed; after = with_messages handed s }
 
@@ -40,6 +41,7 @@ handed_by link (Some m) = (record { 0 = link }, m) ∷ []
 
 -- ---- a client is asked
 
+-- a client that was asked: its reply, and its message on its channel
 abbrev pub replied : {w : ℕ} → ℕ → Asked w → System w → Step w
 replied link a s = handing (outcome.Replied a.reply) (handed_by link a.message) (with_client link a.after s)
 
@@ -57,6 +59,7 @@ judged (Err rule) link ch x rest e s = only outcome.Stalled (with_client link e 
 judged (Ok (verdict.Stalled, m)) link ch x rest e s = only outcome.Stalled s
 judged (Ok (v, m)) link ch x rest e s = handing (outcome_of x v) (handed_by link m) (with_client link e (with_channel link ch rest s))
 
+-- a client was offered the first beat of a channel
 abbrev pub client_took : {w : ℕ} → ℕ → Channel → Beat w → List (Beat w) → Offered w → System w → Step w
 client_took link ch x rest o s = judged o.answer link ch x rest o.after s
 
@@ -72,6 +75,7 @@ is_to_client channel.B = true
 is_to_client channel.D = true
 is_to_client _ = false
 
+-- the first beat of a channel is offered to the end that takes it
 abbrev pub delivered : {w : ℕ} → Config → client.EndConfig → ℕ → Channel → List (Beat w) → System w → Step w
 delivered config terms link ch [] s = only outcome.Empty s
 delivered config terms link ch (x ∷ rest) s =
@@ -81,10 +85,12 @@ delivered config terms link ch (x ∷ rest) s =
 
 -- ---- an event
 
+-- the client that an event is about
 abbrev pub client_of : {w : ℕ} → Event w → ℕ
 client_of (Ask client operation) = client
 client_of (Deliver link ch) = link.0
 
+-- what comes of an event, given whether there is such a client
 abbrev pub stepped_at : {w : ℕ} → Config → Option client.EndConfig → Event w → System w → Step w
 stepped_at config None event s = only outcome.NoSuchClient s
 stepped_at config (Some terms) (Ask client operation) s = replied client (asked terms operation (s.clients client)) s

@@ -5,6 +5,7 @@ use Rattle.tl_coherence.specs.statement.Draining.{DeliveryBound, DrainsWithinLoa
 use Rattle.tl_coherence.specs.statement.Headline.{Headline}
 use Rattle.tl_coherence.specs.statement.Recorded.{Recorded}
 
+-- what is proved of all logs of all configurations, at beats of w bytes
 pub record Theorem (w : ℕ) : Type 0 where
   -- One memory, coherent copies, no beat refused, and a movable delivery exactly while something is outstanding.
   pub headline : Headline w

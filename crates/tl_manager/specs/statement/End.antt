@@ -10,5 +10,6 @@ pub record End (w : ℕ) : Type 0 where
   pub closed : List ℕ
   pub memory : Memory
 
+-- as a manager begins: nothing was taken or handed out, no link is closed, and memory is zero
 abbrev pub fresh : {w : ℕ} → End w
 fresh = record { trace = []; closed = []; memory = λ address. 0 }

@@ -30,7 +30,7 @@ use Rattle.tl_params.specs.statement.Param.{grow_code, cap_code}
 use Rattle.tl_manager.specs.statement.Service.{Service}
 use Rattle.tl_manager.specs.statement.Holders.{recorded, is_unheld}
 
--- messages, each with the link on which it is handed out, the first first
+-- messages, each with the link on which it is handed out, in order
 abbrev pub Handed : ℕ → Type 0
 Handed w = List (Link × Message w)
 
@@ -39,11 +39,13 @@ unfoldable pub with_handed : {w : ℕ} → Handed w → Trace w → Trace w
 with_handed [] t = t
 with_handed (x ∷ handed) t = with_handed handed (map (λ beat. (x.0, beat)) (burst_of x.1) ++ t)
 
+-- the payload of a message without data
 abbrev pub no_payload : List ℕ
 no_payload = replicate 64 0
 
 -- ---- Probes
 
+-- the ProbeBlock of a block, which leaves its client at most this cap
 abbrev pub probe_message : {w : ℕ} → ℕ → Cap → MessageB w
 probe_message {w} block cap = record {
   opcode = b.ProbeBlock;
@@ -57,6 +59,7 @@ probe_message {w} block cap = record {
   small = lit≤ tt;
 }
 
+-- the ProbeBlock of a block, as a message
 abbrev pub probe_of_block : {w : ℕ} → ℕ → Cap → Message w
 probe_of_block block cap = message.B (probe_message block cap)
 
@@ -64,6 +67,7 @@ probe_of_block block cap = message.B (probe_message block cap)
 abbrev pub probe_beat : {w : ℕ} → ℕ → Cap → BeatB w
 probe_beat block cap = b_beat_of (probe_message block cap) 0
 
+-- a ProbeBlock of the block for each of these clients
 abbrev pub probes : {w : ℕ} → ℕ → Cap → List ℕ → Handed w
 probes block cap clients = map (λ client. (record { 0 = client }, probe_of_block block cap)) clients
 
@@ -118,14 +122,17 @@ abbrev pub is_granted_data : OpA → ℕ → Perm → Bool
 is_granted_data a.AcquireBlock param held = not ((param == grow_code grow.BtoT) && same_perm held perm.Branch)
 is_granted_data _ param held = false
 
+-- GrantData or Grant
 abbrev pub grant_opcode : Bool → OpD
 grant_opcode true = d.GrantData
 grant_opcode false = d.Grant
 
+-- the bytes of a block in memory, or none
 abbrev pub grant_payload : Bool → Memory → ℕ → List ℕ
 grant_payload true memory block = bytes_from memory (64 * block) 64
 grant_payload false memory block = no_payload
 
+-- the answer to an Acquire, with data or without; its sink is the service's tracker
 abbrev pub grant_with : {w : ℕ} → Service w → Cap → Bool → Memory → Message w
 grant_with s cap with_data memory = message.D (record {
   opcode = grant_opcode with_data;
@@ -154,9 +161,11 @@ pub record Reaction (w : ℕ) : Type 0 where
   pub handed : Handed w
   pub memory : Memory
 
+-- nothing is handed out, and memory stays
 abbrev pub nothing : {w : ℕ} → Memory → Reaction w
 nothing memory = record { handed = []; memory = memory }
 
+-- a request is performed and answered: an Acquire is granted, an access is done in memory
 abbrev pub performed : {w : ℕ} → Config → Service w → Trace w → Memory → Reaction w
 performed config s t memory =
     if is_acquire s.request.opcode

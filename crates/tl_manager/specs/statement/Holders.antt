@@ -22,18 +22,21 @@ recorded client block t = held block (on_link client t)
 abbrev pub is_missing : {w : ℕ} → ℕ → ℕ → Trace w → Bool
 is_missing client block t = pending (ProbeOf block) (on_link client t)
 
--- of so many clients, from this one on, those that pass the test, in rising order
+-- of this many clients, from this one on, those that pass the test, in rising order
 unfoldable pub clients_from : ℕ → ℕ → (ℕ → Bool) → List ℕ
 clients_from first zero test = []
 clients_from first (suc n) test = if test first then first ∷ clients_from (first + 1) n test else clients_from (first + 1) n test
 
+-- the clients that pass the test, in rising order
 abbrev pub clients_where : Config → (ℕ → Bool) → List ℕ
 clients_where config test = clients_from 0 (length config.clients.items) test
 
+-- there is no client
 abbrev pub is_nobody : List ℕ → Bool
 is_nobody [] = true
 is_nobody (client ∷ clients) = false
 
+-- a client with this permission has a copy
 abbrev pub has_copy : Perm → Bool
 has_copy perm.None = false
 has_copy perm.Branch = true

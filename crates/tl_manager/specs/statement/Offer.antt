@@ -58,10 +58,12 @@ pub data Judgement : Type 0 where
   Waits : Judgement
   Passes : Judgement
 
+-- broken by this rule, where there is one, or judged by the rest
 abbrev pub breaks_or : Option Rule → Judgement → Judgement
 breaks_or None rest = rest
 breaks_or (Some rule) rest = Breaks rule
 
+-- it waits, or is judged by the rest
 abbrev pub waits_or : Bool → Judgement → Judgement
 waits_or true rest = Waits
 waits_or false rest = rest
@@ -75,15 +77,18 @@ judged_at config l link ch x t =
     (breaks_or (broken_in_order config.profile x (on_link link.0 t))
     (breaks_or (first_if (is_outside config.blocks x) A1 (first_if (is_spoiled x) A2 None)) Passes))))
 
+-- how a beat is judged on a link of this level; a link that is closed or isn't there breaks A3
 abbrev pub judged_on : {w : ℕ} → Config → Option Level → Link → Channel → Beat w → Trace w → Judgement
 judged_on config None link ch x t = Breaks A3
 judged_on config (Some l) link ch x t = judged_at config l link ch x t
 
+-- how a beat is judged that is offered to a manager
 abbrev pub judged : {w : ℕ} → Config → Link → Channel → Beat w → End w → Judgement
 judged config link ch x e = judged_on config (open_level config link e) link ch x e.trace
 
 -- ---- a beat that is offered
 
+-- what comes of a beat that is offered
 pub data Reception (w : ℕ) : Type 0 where
   Refused : Rule → Reception w
   Stalled : Reception w
@@ -93,9 +98,11 @@ pub data Reception (w : ℕ) : Type 0 where
 abbrev pub refused : {w : ℕ} → Link → End w → End w
 refused link e = record { trace = e.trace; closed = link.0 ∷ e.closed; memory = e.memory }
 
+-- the manager after a beat was taken, with what it did
 abbrev pub taken : {w : ℕ} → Link → Beat w → Reaction w → End w → End w
 taken link x reaction e = record { trace = with_handed reaction.handed ((link, x) ∷ e.trace); closed = e.closed; memory = reaction.memory }
 
+-- what comes of a beat that was judged so: a refusal closes the link, a stall changes nothing
 abbrev pub offered_as : {w : ℕ} → Judgement → Config → Link → Beat w → End w → Reception w × End w
 offered_as (Breaks rule) config link x e = (Refused rule, refused link e)
 offered_as Waits config link x e = (Stalled, e)
@@ -105,6 +112,7 @@ offered_as Passes config link x e = (Sent (reaction config link x e).handed, tak
 unfoldable pub offered : {w : ℕ} → Config → Link → Channel → Beat w → End w → Reception w × End w
 offered config link ch x e = offered_as (judged config link ch x e) config link x e
 
+-- the beat has to wait
 abbrev pub is_waiting : Judgement → Bool
 is_waiting Waits = true
 is_waiting _ = false

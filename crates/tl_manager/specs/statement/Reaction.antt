@@ -22,15 +22,19 @@ abbrev pub probing_or : {w : ℕ} → Reaction w → ℕ → Cap → List ℕ �
 probing_or reaction block cap [] memory = reaction
 probing_or reaction block cap (client ∷ clients) memory = record { handed = probes block cap (client ∷ clients); memory = memory }
 
+-- a request is taken into service: it probes those that hold more than the cap leaves, or is
+-- performed at once
 abbrev pub begun_with : {w : ℕ} → Config → Option Cap → Service w → Trace w → Memory → Reaction w
 begun_with config None s t memory = performed config s t memory
 begun_with config (Some cap) s t memory =
     probing_or (performed config s t memory) (block_at s.request.address) cap (probed config s cap t) memory
 
+-- the request that a beat completes is taken into service, where there is one
 abbrev pub begun_if_any : {w : ℕ} → Config → Option (Service w) → Trace w → Memory → Reaction w
 begun_if_any config None t memory = nothing memory
 begun_if_any config (Some s) t memory = begun_with config (cap_probed s.request.opcode s.request.param) s t memory
 
+-- the request of a service is performed and answered, where there is one
 abbrev pub performed_if_any : {w : ℕ} → Config → Option (Service w) → Trace w → Memory → Reaction w
 performed_if_any config None t memory = nothing memory
 performed_if_any config (Some s) t memory = performed config s t memory
@@ -61,6 +65,7 @@ completed config link (beat.A x) burst t memory = begun_if_any config (service_o
 completed config link (beat.C x) burst t memory = completed_c config link x ((link, beat.C x) ∷ t) (written x (beat.C x ∷ burst) memory)
 completed config link x burst t memory = nothing memory
 
+-- what a manager does at a beat that it takes: something only where the beat completes a message
 unfoldable pub reaction : {w : ℕ} → Config → Link → Beat w → End w → Reaction w
 reaction config link x e =
     if ends x (on_link link.0 e.trace)

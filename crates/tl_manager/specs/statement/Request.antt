@@ -7,6 +7,7 @@ use Rattle.tl_beat.specs.declared.beat.BeatA.{BeatA}
 use Rattle.tl_burst.specs.declared.message.MessageA.{MessageA}
 use Rattle.tl_rules.specs.statement.Admission.{payload_of}
 
+-- the mask of a beat of channel A
 abbrev pub mask_of : {w : ℕ} → Beat w → ℕ
 mask_of (beat.A x) = x.mask
 mask_of _ = 0
@@ -26,6 +27,7 @@ unfoldable pub corrupt_carried : {w : ℕ} → List (Beat w) → ℕ
 corrupt_carried [] = 0
 corrupt_carried (x ∷ beats) = corrupt_carried beats + corrupt_of x * 2 ^ length beats
 
+-- the request that these beats make up, where its size is at most a block
 abbrev pub request_if : {w : ℕ} (x : BeatA w) → List (Beat w) → (fits : Bool) → nat_le x.size 6 ≡ fits → Option (MessageA w)
 request_if x beats false fits = None
 request_if x beats true fits = Some (record {

@@ -20,7 +20,7 @@ pub record Service (w : ℕ) : Type 0 where
   pub link : Link
   pub request : MessageA w
 
--- the first of the numbers from n on, so many and one more, that isn't taken; the last isn't tried
+-- the first of the numbers from n on, this many and one more, that isn't taken; the last isn't tried
 abbrev pub free_from : ℕ → ℕ → List ℕ → ℕ
 free_from n zero taken = n
 free_from n (suc more) taken = if is_one_of n taken then free_from (n + 1) more taken else n
@@ -29,6 +29,7 @@ free_from n (suc more) taken = if is_one_of n taken then free_from (n + 1) more 
 unfoldable pub least_untaken : List ℕ → ℕ
 least_untaken taken = free_from 0 (length taken) taken
 
+-- the trackers in use
 abbrev pub trackers_of : {w : ℕ} → List (Service w) → List ℕ
 trackers_of services = map (λ s. s.tracker) services
 
@@ -44,9 +45,11 @@ is_access_answer d.AccessAckData = true
 is_access_answer d.HintAck = true
 is_access_answer _ = false
 
+-- the beat answers this access
 abbrev pub answers_access : {w : ℕ} → BeatD w → Service w → Bool
 answers_access x s = is_access_answer x.opcode && (not (is_acquire s.request.opcode) && (s.request.source == x.source))
 
+-- the GrantAck is of this service, whose tracker was the Grant's sink
 abbrev pub acknowledges : {w : ℕ} → BeatE → Service w → Bool
 acknowledges x s = is_acquire s.request.opcode && (s.tracker == x.sink)
 
@@ -57,6 +60,7 @@ is_ended_by (link, beat.D x) s = (s.link.0 == link.0) && answers_access x s
 is_ended_by (link, beat.E x) s = (s.link.0 == link.0) && acknowledges x s
 is_ended_by _ s = false
 
+-- with one service more, where there is one
 abbrev pub with_service : {w : ℕ} → Option (Service w) → List (Service w) → List (Service w)
 with_service None services = services
 with_service (Some s) services = s ∷ services
@@ -79,5 +83,6 @@ services (x ∷ t) =
 abbrev pub service_of_block : {w : ℕ} → ℕ → List (Service w) → Option (Service w)
 service_of_block block services = find (λ s. block_at s.request.address == block) services
 
+-- a request for the block is in service
 abbrev pub is_in_service : {w : ℕ} → ℕ → List (Service w) → Bool
 is_in_service block services = is_some (service_of_block block services)

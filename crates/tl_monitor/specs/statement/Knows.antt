@@ -24,7 +24,7 @@ pub record Knows {w : ℕ} (m : Monitor w) (levels : List Level) (p : Profile) (
   pub closed_is : m.closed ≡ closed
   pub links_are : (n : ℕ) (d : LinkState) → n < length levels → Keeps (slice_index_or m.links.items n d) (on_link n t)
 
--- so many links of which nothing is kept
+-- this many links of which nothing is kept
 pub record AllEmpty (count : ℕ) (links : List LinkState) : Type 0 where
   pub so_many : length links ≡ count
   pub all_empty : (n : ℕ) (d : LinkState) → n < count → IsEmpty (slice_index_or links n d)
@@ -42,6 +42,8 @@ abbrev pub broken : Option Rule → Option MonitorFault
 broken None = None
 broken (Some rule) = Some (monitor.Broken rule)
 
+-- the fault of a beat, want of memory aside: Closed after a refusal, else the first rule that it
+-- breaks on its link
 abbrev pub fault_of : {w : ℕ} → List Level → Profile → Trace w → Bool → Link × Beat w → Option MonitorFault
 fault_of levels p t true x = Some monitor.Closed
 fault_of levels p t false x = broken (broken_on_link levels p x t)

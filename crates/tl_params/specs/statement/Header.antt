@@ -15,25 +15,30 @@ width_of First = Eight
 width_of (Second width) = width
 width_of (Third width profile) = width
 
+-- the profile that the version of a header names: the first where it names none
 abbrev pub profile_of : Version → Profile
 profile_of First = profile.One
 profile_of (Second width) = profile.One
 profile_of (Third width profile) = profile
 
+-- a width as a header spells it, in bytes of a beat
 abbrev pub width_text : Width → List ℕ
 width_text Four = codes "4"
 width_text Eight = codes "8"
 width_text Sixteen = codes "16"
 
+-- a profile as a header spells it
 abbrev pub profile_text : Profile → List ℕ
 profile_text profile.One = codes "1"
 profile_text profile.Two = codes "2"
 
+-- a version as a header spells it, with the width and the profile that it names
 abbrev pub version_text : Version → List ℕ
 version_text First = codes "1"
 version_text (Second width) = codes "2 " ++ width_text width
 version_text (Third width profile) = codes "3 " ++ width_text width ++ codes " " ++ profile_text profile
 
+-- a level as a header spells it
 abbrev pub level_text : Level → List ℕ
 level_text level.UL = codes "UL"
 level_text level.UH = codes "UH"

@@ -17,21 +17,25 @@ use Rattle.tl_params.specs.declared.param.Intent.TheVariants as intent
 use Rattle.tl_params.specs.declared.rule.Rule.{Rule}
 use Rattle.tl_params.specs.declared.rule.Rule.TheVariants as rule
 
+-- the standard's names of the grows
 abbrev pub grow_name : Grow → List ℕ
 grow_name grow.NtoB = codes "NtoB"
 grow_name grow.NtoT = codes "NtoT"
 grow_name grow.BtoT = codes "BtoT"
 
+-- the standard's names of the caps
 abbrev pub cap_name : Cap → List ℕ
 cap_name cap.ToT = codes "toT"
 cap_name cap.ToB = codes "toB"
 cap_name cap.ToN = codes "toN"
 
+-- the standard's names of the prunes
 abbrev pub prune_name : Prune → List ℕ
 prune_name prune.TtoB = codes "TtoB"
 prune_name prune.TtoN = codes "TtoN"
 prune_name prune.BtoN = codes "BtoN"
 
+-- the standard's names of the reports
 abbrev pub report_name : Report → List ℕ
 report_name report.TtoB = codes "TtoB"
 report_name report.TtoN = codes "TtoN"
@@ -40,6 +44,7 @@ report_name report.TtoT = codes "TtoT"
 report_name report.BtoB = codes "BtoB"
 report_name report.NtoN = codes "NtoN"
 
+-- the standard's names of the arithmetic operations
 abbrev pub arithmetic_name : Arithmetic → List ℕ
 arithmetic_name arithmetic.Min = codes "MIN"
 arithmetic_name arithmetic.Max = codes "MAX"
@@ -47,16 +52,19 @@ arithmetic_name arithmetic.MinU = codes "MINU"
 arithmetic_name arithmetic.MaxU = codes "MAXU"
 arithmetic_name arithmetic.Add = codes "ADD"
 
+-- the standard's names of the logical operations
 abbrev pub logical_name : Logical → List ℕ
 logical_name logical.Xor = codes "XOR"
 logical_name logical.Or = codes "OR"
 logical_name logical.And = codes "AND"
 logical_name logical.Swap = codes "SWAP"
 
+-- the standard's names of the intents
 abbrev pub intent_name : Intent → List ℕ
 intent_name intent.PrefetchRead = codes "PrefetchRead"
 intent_name intent.PrefetchWrite = codes "PrefetchWrite"
 
+-- the name of a rule
 abbrev pub rule_name : Rule → List ℕ
 rule_name rule.L1 = codes "L1"
 rule_name rule.L2 = codes "L2"

@@ -24,6 +24,7 @@ grow_code grow.NtoB = 0
 grow_code grow.NtoT = 1
 grow_code grow.BtoT = 2
 
+-- the grow of this param, where there is one
 abbrev pub grow_of : ℕ → Option Grow
 grow_of n =
     if n == 0 then Some grow.NtoB else
@@ -37,6 +38,7 @@ cap_code cap.ToT = 0
 cap_code cap.ToB = 1
 cap_code cap.ToN = 2
 
+-- the cap of this param, where there is one
 abbrev pub cap_of : ℕ → Option Cap
 cap_of n =
     if n == 0 then Some cap.ToT else
@@ -50,6 +52,7 @@ prune_code prune.TtoB = 0
 prune_code prune.TtoN = 1
 prune_code prune.BtoN = 2
 
+-- the prune of this param, where there is one
 abbrev pub prune_of : ℕ → Option Prune
 prune_of n =
     if n == 0 then Some prune.TtoB else
@@ -66,6 +69,7 @@ report_code report.TtoT = 3
 report_code report.BtoB = 4
 report_code report.NtoN = 5
 
+-- the report of this param, where there is one
 abbrev pub report_named : ℕ → Option Report
 report_named n =
     if n == 0 then Some report.TtoB else
@@ -84,6 +88,7 @@ arithmetic_code arithmetic.MinU = 2
 arithmetic_code arithmetic.MaxU = 3
 arithmetic_code arithmetic.Add = 4
 
+-- the arithmetic operation of this param, where there is one
 abbrev pub arithmetic_of : ℕ → Option Arithmetic
 arithmetic_of n =
     if n == 0 then Some arithmetic.Min else
@@ -100,6 +105,7 @@ logical_code logical.Or = 1
 logical_code logical.And = 2
 logical_code logical.Swap = 3
 
+-- the logical operation of this param, where there is one
 abbrev pub logical_of : ℕ → Option Logical
 logical_of n =
     if n == 0 then Some logical.Xor else
@@ -113,6 +119,7 @@ abbrev pub intent_code : Intent → ℕ
 intent_code intent.PrefetchRead = 0
 intent_code intent.PrefetchWrite = 1
 
+-- the intent of this param, where there is one
 abbrev pub intent_of : ℕ → Option Intent
 intent_of n =
     if n == 0 then Some intent.PrefetchRead else
@@ -125,26 +132,31 @@ grow_left grow.NtoB = perm.None
 grow_left grow.NtoT = perm.None
 grow_left grow.BtoT = perm.Branch
 
+-- the permission that an Acquire of this grow asks for
 abbrev pub grow_right : Grow → Perm
 grow_right grow.NtoB = perm.Branch
 grow_right grow.NtoT = perm.Trunk
 grow_right grow.BtoT = perm.Trunk
 
+-- the most that a cap leaves or gives
 abbrev pub cap_right : Cap → Perm
 cap_right cap.ToT = perm.Trunk
 cap_right cap.ToB = perm.Branch
 cap_right cap.ToN = perm.None
 
+-- the permission that a Release of this prune starts from
 abbrev pub prune_left : Prune → Perm
 prune_left prune.TtoB = perm.Trunk
 prune_left prune.TtoN = perm.Trunk
 prune_left prune.BtoN = perm.Branch
 
+-- the permission that a Release of this prune leaves
 abbrev pub prune_right : Prune → Perm
 prune_right prune.TtoB = perm.Branch
 prune_right prune.TtoN = perm.None
 prune_right prune.BtoN = perm.None
 
+-- the permission that a report says was held
 abbrev pub report_left : Report → Perm
 report_left report.TtoB = perm.Trunk
 report_left report.TtoN = perm.Trunk
@@ -153,6 +165,7 @@ report_left report.TtoT = perm.Trunk
 report_left report.BtoB = perm.Branch
 report_left report.NtoN = perm.None
 
+-- the permission that a report says is left
 abbrev pub report_right : Report → Perm
 report_right report.TtoB = perm.Branch
 report_right report.TtoN = perm.None

@@ -14,13 +14,14 @@ use Rattle.tl_rules.specs.statement.History.{block_at}
 abbrev pub sent : {w : ℕ} → Message w → History w → History w
 sent m t = burst_of m ++ t
 
+-- the history after a message was handed out, where one was
 abbrev pub sent_if_any : {w : ℕ} → Option (Message w) → History w → History w
 sent_if_any None t = t
 sent_if_any (Some m) t = sent m t
 
 -- ---- what an agent judges of a beat that breaks no L, S or H rule
 
--- A1: the address is outside a map of so many blocks
+-- A1: the address is outside a map of this many blocks
 abbrev pub is_outside : {w : ℕ} → ℕ → Beat w → Bool
 is_outside blocks (beat.A x) = nat_le blocks (block_at x.address)
 is_outside blocks (beat.B x) = nat_le blocks (block_at x.address)
@@ -37,6 +38,7 @@ is_spoiled (beat.E x) = false
 
 -- ---- the data of a message, from its beats
 
+-- the data lanes of a beat: none where it carries no data
 abbrev pub lanes_of : {w : ℕ} → Beat w → List ℕ
 lanes_of (beat.A x) = unwrap_or x.lanes []
 lanes_of (beat.B x) = unwrap_or x.lanes []

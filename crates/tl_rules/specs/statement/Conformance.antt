@@ -35,6 +35,7 @@ use Rattle.tl_params.specs.declared.param.Grow.TheVariants as grow
 use Rattle.tl_params.specs.declared.param.Prune.{Prune}
 use Rattle.tl_params.specs.statement.Param.{grow_code, cap_code, cap_of, prune_of, prune_left, report_at, report_code}
 
+-- the permissions are the same
 abbrev pub same_perm : Perm → Perm → Bool
 same_perm perm.None perm.None = true
 same_perm perm.Branch perm.Branch = true
@@ -62,10 +63,12 @@ abbrev pub comes_in_request : {w : ℕ} → ℕ → List (Beat w) → Bool
 comes_in_request s (beat.A x ∷ burst) = x.source == s
 comes_in_request s _ = false
 
+-- the unfinished burst of channel C is of a Release with this source
 abbrev pub comes_in_release : {w : ℕ} → ℕ → List (Beat w) → Bool
 comes_in_release s (beat.C x ∷ burst) = is_release x.opcode && (x.source == s)
 comes_in_release s _ = false
 
+-- the unfinished burst of channel D is of a Grant with this sink
 abbrev pub comes_in_grant : {w : ℕ} → ℕ → List (Beat w) → Bool
 comes_in_grant s (beat.D x ∷ burst) = is_grant x.opcode && (x.sink == s)
 comes_in_grant s _ = false
@@ -83,10 +86,12 @@ has_request x t =
     then pending (ReleaseSource x.source) t && not (comes_in_release x.source (unfinished channel.C t))
     else pending (RequestSource x.source) t && (not (comes_in_request x.source (unfinished channel.A t)) && admits x.opcode (request_of x.source t))
 
+-- the size of a request that is pending
 abbrev pub size_of_request : {w : ℕ} → Option (BeatA w) → ℕ
 size_of_request None = 0
 size_of_request (Some x) = x.size
 
+-- the size of a Release that is pending
 abbrev pub size_of_release : {w : ℕ} → Option (BeatC w) → ℕ
 size_of_release None = 0
 size_of_release (Some x) = x.size
@@ -110,10 +115,12 @@ fits_grow profile.Two a.AcquireBlock param given =
     else given == cap_code cap.ToT
 fits_grow _ opcode param given = if param == grow_code grow.NtoB then given == cap_code cap.ToB else given == cap_code cap.ToT
 
+-- the opcode is Grant, which gives a permission without data
 abbrev pub is_grant_without_data : OpD → Bool
 is_grant_without_data d.Grant = true
 is_grant_without_data _ = false
 
+-- the opcode is AcquireBlock, which asks for the block's data too
 abbrev pub is_acquire_block : OpA → Bool
 is_acquire_block a.AcquireBlock = true
 is_acquire_block _ = false
@@ -127,6 +134,7 @@ misgrants p x (Some r) t =
     || ((is_grant_without_data x.opcode && (is_acquire_block r.opcode && not (same_perm (held (block_at r.address) t) perm.Branch)))
     || pending (ProbeOf (block_at r.address)) t)
 
+-- the opcode is ProbeBlock, which wants the data of a dirty copy
 abbrev pub is_probe_block : OpB → Bool
 is_probe_block b.ProbeBlock = true
 is_probe_block _ = false
@@ -136,6 +144,7 @@ abbrev pub answers_wrong_probe : {w : ℕ} → BeatC w → Option (BeatB w) → 
 answers_wrong_probe x None = false
 answers_wrong_probe x (Some probe) = c_carries_data x.opcode && not (is_probe_block probe.opcode)
 
+-- the param is the report that follows from the Probe's cap and the permission held
 abbrev pub is_report_at : ℕ → Option Cap → Perm → Bool
 is_report_at param None p = false
 is_report_at param (Some cap) p = param == report_code (report_at cap p)
@@ -145,39 +154,51 @@ abbrev pub misreports : {w : ℕ} → BeatC w → Option (BeatB w) → Perm → 
 misreports x None p = false
 misreports x (Some probe) p = not (is_report_at x.param (cap_of probe.param) p)
 
+-- the prune starts from this permission
 abbrev pub prunes_from : Option Prune → Perm → Bool
 prunes_from None p = false
 prunes_from (Some prune) p = same_perm (prune_left prune) p
 
 -- ---- the order of messages: the first H rule that a message beginning with this beat breaks
 
+-- the first of H1, H4 and H5 that a message on channel A breaks: its source isn't free; an Acquire
+-- of a block on which an Acquire or Release is pending; a grow that doesn't start from the
+-- permission held
 abbrev pub broken_a : {w : ℕ} → BeatA w → History w → Option Rule
 broken_a x t =
     first_if (pending (RequestSource x.source) t) H1
     (first_if (is_acquire x.opcode && (pending (AcquireOf (block_at x.address)) t || pending (ReleaseOf (block_at x.address)) t)) H4
     (first_if (is_acquire x.opcode && not (grows_from x.param (held (block_at x.address) t))) H5 None))
 
+-- H9: a Probe of a block of which a Probe or a GrantAck is pending
 abbrev pub broken_b : {w : ℕ} → BeatB w → History w → Option Rule
 broken_b x t =
     first_if (is_probe x.opcode && (pending (ProbeOf (block_at x.address)) t || pending (GrantAckOf (block_at x.address)) t)) H9 None
 
+-- the first of H1 and H13 that a Release breaks: its source isn't free; an Acquire or Release of
+-- its block is pending, or the prune doesn't start from the permission held
 abbrev pub broken_release : {w : ℕ} → BeatC w → History w → Option Rule
 broken_release x t =
     first_if (pending (ReleaseSource x.source) t) H1
     (first_if (pending (AcquireOf (block_at x.address)) t
     || (pending (ReleaseOf (block_at x.address)) t || not (prunes_from (prune_of x.param) (held (block_at x.address) t)))) H13 None)
 
+-- the first of H10, H11 and H12 that a ProbeAck breaks: it answers no Probe of the block that is
+-- pending; a Release of the block is pending; its report doesn't follow from cap and permission
 abbrev pub broken_probe_ack : {w : ℕ} → BeatC w → History w → Option Rule
 broken_probe_ack x t =
     first_if (not (pending (ProbeOf (block_at x.address)) t) || answers_wrong_probe x (probe_of (block_at x.address) t)) H10
     (first_if (pending (ReleaseOf (block_at x.address)) t) H11
     (first_if (misreports x (probe_of (block_at x.address) t) (held (block_at x.address) t)) H12 None))
 
+-- the first rule of the order of messages that a message on channel C breaks
 abbrev pub broken_c : {w : ℕ} → BeatC w → History w → Option Rule
 broken_c x t =
     if is_release x.opcode then broken_release x t else
     if is_probe_ack x.opcode then broken_probe_ack x t else None
 
+-- the first of H2, H3, H6 and H7 that a response breaks: it answers no request that is pending; its
+-- size isn't the request's; it grants what isn't due; its sink isn't free
 abbrev pub broken_d : {w : ℕ} → Profile → BeatD w → History w → Option Rule
 broken_d p x t =
     first_if (not (has_request x t)) H2
@@ -185,9 +206,11 @@ broken_d p x t =
     (first_if (is_grant x.opcode && misgrants p x (request_of x.source t) t) H6
     (first_if (is_grant x.opcode && pending (GrantSink x.sink) t) H7 None)))
 
+-- H8: a GrantAck whose sink is that of no Grant that is complete and pending
 abbrev pub broken_e : {w : ℕ} → BeatE → History w → Option Rule
 broken_e x t = first_if (not (pending (GrantSink x.sink) t) || comes_in_grant x.sink (unfinished channel.D t)) H8 None
 
+-- the first rule of the order of messages that a message breaks after this history of its link
 unfoldable pub broken_order : {w : ℕ} → Profile → Beat w → History w → Option Rule
 broken_order p (beat.A x) t = broken_a x t
 broken_order p (beat.B x) t = broken_b x t
@@ -228,6 +251,8 @@ unfoldable pub on_link : {w : ℕ} → ℕ → Trace w → History w
 on_link n [] = []
 on_link n (x ∷ t) = if x.0.0 == n then x.1 ∷ on_link n t else on_link n t
 
+-- the first rule that a beat breaks after this history of its link; a link without a level has no
+-- beats
 abbrev pub broken_at_level : {w : ℕ} → Option Level → Profile → Beat w → History w → Option Rule
 broken_at_level None p x t = Some L1
 broken_at_level (Some l) p x t = broken_after l p x t
@@ -237,6 +262,7 @@ broken_at_level (Some l) p x t = broken_after l p x t
 abbrev pub broken_on_link : {w : ℕ} → List Level → Profile → Link × Beat w → Trace w → Option Rule
 broken_on_link levels p x t = broken_at_level (slice_get levels x.0.0) p x.1 (on_link x.0.0 t)
 
+-- this fault at place i, where there is one, or the first of the rest
 abbrev pub fault_or : Option Rule → ℕ → Option (ℕ × Rule) → Option (ℕ × Rule)
 fault_or None i rest = rest
 fault_or (Some rule) i rest = Some (i, rule)
@@ -249,5 +275,6 @@ fault_from levels p before [] = None
 fault_from levels p before (x ∷ trace) =
     fault_or (broken_on_link levels p x before) (length before) (fault_from levels p (x ∷ before) trace)
 
+-- the place of the first beat of a trace that breaks a rule, with the rule
 abbrev pub first_fault : {w : ℕ} → List Level → Profile → Trace w → Option (ℕ × Rule)
 first_fault levels p trace = fault_from levels p [] trace

@@ -39,6 +39,8 @@ byte_of n i = n / 256 ^ i % 256
 abbrev pub signed : ℕ → ℕ → ℤ
 signed k n = if nat_lt n (2 ^ (k - 1)) then pos n else pos n -ℤ pos (2 ^ k)
 
+-- what an arithmetic operation leaves, of numbers of k bits; MIN and MAX compare with sign, and ADD
+-- wraps
 abbrev pub arithmetic_result : Arithmetic → ℕ → ℕ → ℕ → ℕ
 arithmetic_result arithmetic.Min k old operand = if int_lt (signed k operand) (signed k old) then operand else old
 arithmetic_result arithmetic.Max k old operand = if int_lt (signed k old) (signed k operand) then operand else old
@@ -46,6 +48,7 @@ arithmetic_result arithmetic.MinU k old operand = min old operand
 arithmetic_result arithmetic.MaxU k old operand = max old operand
 arithmetic_result arithmetic.Add k old operand = (old + operand) % 2 ^ k
 
+-- what a logical operation leaves
 abbrev pub logical_result : Logical → ℕ → ℕ → ℕ
 logical_result logical.Xor old operand = bit_xor old operand
 logical_result logical.Or old operand = bit_or old operand
@@ -89,6 +92,7 @@ pub data AccessResult : Type 0 where
   Hinted : AccessResult
   Bytes : List ℕ → AccessResult
 
+-- what an access answers: nothing, or the bytes that it finds, which an atomic changes afterwards
 abbrev pub access_result : {w : ℕ} → OpA → MessageA w → Memory → AccessResult
 access_result a.PutFullData m memory = Done
 access_result a.PutPartialData m memory = Done
@@ -127,6 +131,7 @@ answer_at w address Done = answer.Ack
 answer_at w address Hinted = answer.Hint
 answer_at w address (Bytes bytes) = answer.Data (as_payload (address % w) bytes)
 
+-- the answer to an access, its bytes laid out on the lanes of the request's address
 abbrev pub answer_of : {w : ℕ} → Message w → AccessResult → Answer
 answer_of {w} (message.A m) r = answer_at w m.address r
 answer_of {w} _ r = answer_at w 0 r

@@ -35,34 +35,41 @@ ends x t = completes x (unfinished (channel_of x) t)
 
 -- ---- kinds of messages
 
+-- the number of the block that an address is in
 abbrev pub block_at : ℕ → ℕ
 block_at address = address / 64
 
+-- a request for a permission
 abbrev pub is_acquire : OpA → Bool
 is_acquire a.AcquireBlock = true
 is_acquire a.AcquirePerm = true
 is_acquire _ = false
 
+-- a request of the manager that a client give up a permission
 abbrev pub is_probe : OpB → Bool
 is_probe b.ProbeBlock = true
 is_probe b.ProbePerm = true
 is_probe _ = false
 
+-- the answer to a Probe
 abbrev pub is_probe_ack : OpC → Bool
 is_probe_ack c.ProbeAck = true
 is_probe_ack c.ProbeAckData = true
 is_probe_ack _ = false
 
+-- a client gives up a permission unasked
 abbrev pub is_release : OpC → Bool
 is_release c.Release = true
 is_release c.ReleaseData = true
 is_release _ = false
 
+-- the answer to an Acquire
 abbrev pub is_grant : OpD → Bool
 is_grant d.Grant = true
 is_grant d.GrantData = true
 is_grant _ = false
 
+-- the answer to a Release
 abbrev pub is_release_ack : OpD → Bool
 is_release_ack d.ReleaseAck = true
 is_release_ack _ = false
@@ -87,10 +94,12 @@ probe_of k [] = None
 probe_of k (beat.B x ∷ t) = if begins (beat.B x) t && (is_probe x.opcode && (block_at x.address == k)) then Some x else probe_of k t
 probe_of k (_ ∷ t) = probe_of k t
 
+-- the request, where there is one, is for an address of this block
 abbrev pub asks_for : {w : ℕ} → ℕ → Option (BeatA w) → Bool
 asks_for k None = false
 asks_for k (Some x) = block_at x.address == k
 
+-- the Release, where there is one, is of this block
 abbrev pub releases : {w : ℕ} → ℕ → Option (BeatC w) → Bool
 releases k None = false
 releases k (Some x) = block_at x.address == k
@@ -105,6 +114,7 @@ grant_sink k [] = None
 grant_sink k (beat.D x ∷ t) = if begins (beat.D x) t && grants k x t then Some x.sink else grant_sink k t
 grant_sink k (_ ∷ t) = grant_sink k t
 
+-- the sink, where there is one, is this one
 abbrev pub is_sink : ℕ → Option ℕ → Bool
 is_sink s None = false
 is_sink s (Some n) = n == s

@@ -28,6 +28,7 @@ use Rattle.tl_params.specs.statement.Param.{grow_of, cap_of, prune_of, prune_cod
 
 -- ---- L1: the opcodes of a level
 
+-- the number stands in the list
 abbrev pub is_one_of : ℕ → List ℕ → Bool
 is_one_of n [] = false
 is_one_of n (k ∷ ks) = (n == k) || is_one_of n ks
@@ -71,17 +72,20 @@ breaks_l1 _ _ _ = true
 
 -- ---- L7: an access forwarded on channel B, or the answer to one on channel C
 
+-- an access that is forwarded on channel B
 abbrev pub is_forwarded : OpB → Bool
 is_forwarded b.ProbeBlock = false
 is_forwarded b.ProbePerm = false
 is_forwarded _ = true
 
+-- the answer on channel C to a forwarded access
 abbrev pub answers_forwarded : OpC → Bool
 answers_forwarded c.AccessAck = true
 answers_forwarded c.AccessAckData = true
 answers_forwarded c.HintAck = true
 answers_forwarded _ = false
 
+-- L7: a forwarded access or the answer to one, which this profile leaves out
 abbrev pub breaks_l7 : {w : ℕ} → Beat w → Bool
 breaks_l7 (beat.B x) = is_forwarded x.opcode
 breaks_l7 (beat.C x) = answers_forwarded x.opcode
@@ -89,6 +93,7 @@ breaks_l7 _ = false
 
 -- ---- L2: params, and the sources and sinks that are fixed
 
+-- the standard's params of an opcode on channel A
 abbrev pub a_has_param : OpA → ℕ → Bool
 a_has_param a.PutFullData param = param == 0
 a_has_param a.PutPartialData param = param == 0
@@ -99,6 +104,8 @@ a_has_param a.Intent param = is_some (intent_of param)
 a_has_param a.AcquireBlock param = is_some (grow_of param)
 a_has_param a.AcquirePerm param = is_some (grow_of param)
 
+-- the params of an opcode on channel C: a ProbeAck reports, a Release prunes, and data come only
+-- from Trunk
 abbrev pub c_has_param : OpC → ℕ → Bool
 c_has_param c.ProbeAck param = is_some (report_named param)
 c_has_param c.ProbeAckData param = is_one_of param (report_code report.TtoB ∷ report_code report.TtoN ∷ report_code report.TtoT ∷ [])
@@ -106,21 +113,25 @@ c_has_param c.Release param = is_some (prune_of param)
 c_has_param c.ReleaseData param = is_one_of param (prune_code prune.TtoB ∷ prune_code prune.TtoN ∷ [])
 c_has_param _ param = param == 0
 
+-- the params of an opcode on channel D: a Grant has a cap, the others 0
 abbrev pub d_has_param : OpD → ℕ → Bool
 d_has_param d.Grant param = is_some (cap_of param)
 d_has_param d.GrantData param = is_some (cap_of param)
 d_has_param _ param = param == 0
 
+-- a ProbeAck has source 0, as its Probe has
 abbrev pub c_has_source : OpC → ℕ → Bool
 c_has_source c.ProbeAck source = source == 0
 c_has_source c.ProbeAckData source = source == 0
 c_has_source _ source = true
 
+-- a Grant names a sink of the manager's, the others have 0
 abbrev pub d_has_sink : OpD → ℕ → Bool
 d_has_sink d.Grant sink = true
 d_has_sink d.GrantData sink = true
 d_has_sink _ sink = sink == 0
 
+-- L2: a param, source or sink that the opcode doesn't have
 abbrev pub breaks_l2 : {w : ℕ} → Beat w → Bool
 breaks_l2 (beat.A x) = not (a_has_param x.opcode x.param)
 breaks_l2 (beat.B x) = not (is_some (cap_of x.param) && (x.source == 0))
@@ -131,11 +142,13 @@ breaks_l2 (beat.E x) = false
 -- ---- L3: sizes. An access has at most a beat's bytes at UL and at most a block's above it; a
 -- transfer has a block
 
+-- the sizes of an access at a level: at UL those within a beat, at UH and C those within a block
 abbrev pub access_has_size : ℕ → Level → ℕ → Bool
 access_has_size w level.UL size = nat_le (2 ^ size) w
 access_has_size w level.UH size = nat_le size 6
 access_has_size w level.C size = nat_le size 6
 
+-- the sizes of an opcode on channel A at a level: 4 or 8 bytes for atomics, a block for transfers
 abbrev pub a_has_size : ℕ → Level → OpA → ℕ → Bool
 a_has_size w l a.ArithmeticData size = is_one_of size (2 ∷ 3 ∷ [])
 a_has_size w l a.LogicalData size = is_one_of size (2 ∷ 3 ∷ [])
@@ -143,12 +156,14 @@ a_has_size w l a.AcquireBlock size = size == 6
 a_has_size w l a.AcquirePerm size = size == 6
 a_has_size w l _ size = access_has_size w l size
 
+-- the sizes of an opcode on channel D at a level: a block for transfers
 abbrev pub d_has_size : ℕ → Level → OpD → ℕ → Bool
 d_has_size w l d.Grant size = size == 6
 d_has_size w l d.GrantData size = size == 6
 d_has_size w l d.ReleaseAck size = size == 6
 d_has_size w l _ size = access_has_size w l size
 
+-- L3: a size that the opcode doesn't have at the level
 abbrev pub breaks_l3 : {w : ℕ} → Level → Beat w → Bool
 breaks_l3 {w} l (beat.A x) = not (a_has_size w l x.opcode x.size)
 breaks_l3 l (beat.B x) = not (x.size == 6)
@@ -158,9 +173,11 @@ breaks_l3 l (beat.E x) = false
 
 -- ---- L4: alignment
 
+-- the address is a multiple of the number of bytes
 abbrev pub is_aligned : ℕ → ℕ → Bool
 is_aligned address size = address % 2 ^ size == 0
 
+-- L4: an address that isn't aligned to the size
 abbrev pub breaks_l4 : {w : ℕ} → Beat w → Bool
 breaks_l4 (beat.A x) = not (is_aligned x.address x.size)
 breaks_l4 (beat.B x) = not (is_aligned x.address x.size)
@@ -189,10 +206,13 @@ is_full_mask w size address mask = each_below 16 (λ lane. beq (bit mask lane) (
 abbrev pub is_part_mask : ℕ → ℕ → ℕ → ℕ → Bool
 is_part_mask w size address mask = each_below 16 (λ lane. not (bit mask lane) || is_lane w size address lane)
 
+-- the masks of an opcode on channel A: PutPartialData may leave lanes out, the others name all that
+-- the size covers
 abbrev pub a_has_mask : ℕ → OpA → ℕ → ℕ → ℕ → Bool
 a_has_mask w a.PutPartialData size address mask = is_part_mask w size address mask
 a_has_mask w _ size address mask = is_full_mask w size address mask
 
+-- L5: a mask that doesn't fit size and address
 abbrev pub breaks_l5 : {w : ℕ} → Beat w → Bool
 breaks_l5 {w} (beat.A x) = not (a_has_mask w x.opcode x.size x.address x.mask)
 breaks_l5 {w} (beat.B x) = not (is_full_mask w x.size x.address x.mask)
@@ -207,6 +227,7 @@ may_be_denied d.AccessAckData corrupt = corrupt
 may_be_denied d.HintAck corrupt = true
 may_be_denied _ corrupt = false
 
+-- L6: corrupt where no data are carried, or denied where the opcode can't be denied
 abbrev pub breaks_l6 : {w : ℕ} → Beat w → Bool
 breaks_l6 (beat.A x) = x.corrupt && not (a_carries_data x.opcode)
 breaks_l6 (beat.B x) = x.corrupt && not (b_carries_data x.opcode)

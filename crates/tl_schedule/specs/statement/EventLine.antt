@@ -47,6 +47,7 @@ pub data Said : Type 0 where
 
 -- ---- its one spelling
 
+-- the word of an access on a line
 abbrev pub asked_name : Asked → List ℕ
 asked_name Get = codes "get"
 asked_name (Put bytes) = codes "put"
@@ -82,6 +83,7 @@ said_fields w (Deliver link channel) = digits 2 link ∷ codes "deliver" ∷ let
 abbrev pub event_line : ℕ → Said → List ℕ
 event_line w said = spaced (said_fields w said) ++ 10 ∷ []
 
+-- the line that drains the world
 abbrev pub drain_line : List ℕ
 drain_line = codes "drain\n"
 
@@ -91,10 +93,11 @@ drain_line = codes "drain\n"
 abbrev pub HasRoom : ℕ → ℕ → Type 0
 HasRoom n number = number < 2 ^ (4 * n)
 
--- so many bytes
+-- this many bytes
 abbrev pub AreBytes : ℕ → List ℕ → Type 0
 AreBytes n bytes = (length bytes ≡ n) × All (λ byte. byte < 2 ^ 8) bytes
 
+-- the bytes and the mask of an access are of its size
 abbrev pub AskedFits : ℕ → ℕ → Asked → Type 0
 AskedFits w size Get = ⊤
 AskedFits w size (Put bytes) = AreBytes (2 ^ size) bytes
@@ -131,13 +134,14 @@ placed w size address bytes =
 abbrev pub payload_of : ℕ → ℕ → ℕ → List ℕ → List ℕ
 payload_of w size address bytes = placed w size address (filled bytes)
 
--- a mask of the lanes that carry a byte of an access, in so many beats
+-- a mask of the lanes that carry a byte of an access, in this many beats
 abbrev pub lanes_of : ℕ → ℕ → ℕ → ℕ → ℕ
 lanes_of w size address beats =
     if nat_lt (2 ^ size) w
     then (2 ^ 2 ^ size - 1) * 2 ^ (address % w) % 2 ^ w
     else 2 ^ (w * beats) - 1
 
+-- the opcode of an access on a line
 abbrev pub asked_opcode : Asked → OpA
 asked_opcode Get = a.Get
 asked_opcode (Put bytes) = a.PutFullData
@@ -146,12 +150,14 @@ asked_opcode (Arith operation bytes) = a.ArithmeticData
 asked_opcode (Logic operation bytes) = a.LogicalData
 asked_opcode (Hint intent) = a.Intent
 
+-- the param of an access on a line
 abbrev pub asked_param : Asked → ℕ
 asked_param (Arith operation bytes) = arithmetic_code operation
 asked_param (Logic operation bytes) = logical_code operation
 asked_param (Hint intent) = intent_code intent
 asked_param _ = 0
 
+-- the payload of an access on a line, its bytes on the lanes of the address
 abbrev pub asked_payload : ℕ → ℕ → ℕ → Asked → List ℕ
 asked_payload w size address Get = replicate 64 0
 asked_payload w size address (Put bytes) = payload_of w size address bytes
@@ -160,6 +166,7 @@ asked_payload w size address (Arith operation bytes) = payload_of w size address
 asked_payload w size address (Logic operation bytes) = payload_of w size address bytes
 asked_payload w size address (Hint intent) = replicate 64 0
 
+-- the mask of an access on a line
 abbrev pub asked_mask : ℕ → ℕ → ℕ → Asked → ℕ
 asked_mask w size address Get = lanes_of w size address 1
 asked_mask w size address (Part mask bytes) = mask
@@ -180,6 +187,7 @@ message_of {w} size address asked small = record {
   small = small;
 }
 
+-- the event that a line says
 abbrev pub event_of : {w : ℕ} (said : Said) → Fits w said → Event w
 event_of (Load client size address) fits = event.Ask client (op.Load address size)
 event_of (Store client size address value) fits = event.Ask client (op.Store address size value)

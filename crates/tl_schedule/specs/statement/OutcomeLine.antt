@@ -29,10 +29,12 @@ abbrev pub load_size : {w : ℕ} → Op w → ℕ
 load_size (Load address size) = size
 load_size _ = 0
 
+-- the size of what was asked, of which a value has the bytes
 abbrev pub asked_size : {w : ℕ} → Event w → ℕ
 asked_size (Ask client operation) = load_size operation
 asked_size (Deliver link channel) = 0
 
+-- the name of a Busy answer
 abbrev pub busy_name : Busy → List ℕ
 busy_name B1 = codes "B1"
 busy_name B2 = codes "B2"
@@ -40,6 +42,7 @@ busy_name B3 = codes "B3"
 busy_name B4 = codes "B4"
 busy_name B5 = codes "B5"
 
+-- what is written of a reply
 abbrev pub reply_text : ℕ → Reply → List ℕ
 reply_text size (reply.Value value) = codes "value " ++ data_text size (to_le_bytes w64 value)
 reply_text size reply.Stored = codes "stored"
@@ -47,11 +50,13 @@ reply_text size reply.Miss = codes "miss"
 reply_text size (reply.Started source) = codes "started " ++ digits 2 source
 reply_text size (reply.Busy busy) = codes "busy " ++ busy_name busy
 
+-- the letter of a permission
 abbrev pub perm_name : Perm → List ℕ
 perm_name perm.None = codes "N"
 perm_name perm.Branch = codes "B"
 perm_name perm.Trunk = codes "T"
 
+-- what is written of the end of an operation
 abbrev pub finish_text : Finish → List ℕ
 finish_text finish.Ack = codes "ack"
 finish_text finish.Hint = codes "hint"
@@ -68,6 +73,7 @@ link_of (Deliver link channel) = link
 abbrev pub done_text : ℕ → Finish → List ℕ
 done_text source finish = codes " done " ++ digits 2 source ++ codes " " ++ finish_text finish
 
+-- what is written of an outcome
 abbrev pub outcome_text : {w : ℕ} → Event w → Outcome w → List ℕ
 outcome_text event (outcome.Replied reply) = reply_text (asked_size event) reply
 outcome_text event outcome.Empty = codes "empty"
@@ -86,7 +92,7 @@ trace_text event (outcome.Moved beat) = line_of (link_of event) beat
 trace_text event (outcome.Done beat source finish) = line_of (link_of event) beat
 trace_text event _ = []
 
--- the line behind so many deliveries of a drain
+-- the line behind this many deliveries of a drain
 abbrev pub drained_line : ℕ → List ℕ
 drained_line count = codes "drained " ++ decimal count ++ codes "\n"
 

@@ -4,6 +4,7 @@ use Rattle.tl_tool.specs.declared.status.Status.{Status}
 use Rattle.tl_tool.specs.declared.status.Status.TheVariants.{Clean, Broken}
 use Rattle.tl_tool.specs.declared.status.ToolFault.{ToolFault}
 
+-- the status that a command exits with
 abbrev pub exit_status : Result Status ToolFault → ℕ
 exit_status (Ok Clean) = 0
 exit_status (Ok Broken) = 1

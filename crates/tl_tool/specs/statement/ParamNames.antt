@@ -11,6 +11,7 @@ use Rattle.tl_beat.specs.declared.opcode.OpD.TheVariants as d
 use Rattle.tl_params.specs.statement.Names.{arithmetic_name, cap_name, grow_name, intent_name, logical_name, prune_name, report_name}
 use Rattle.tl_params.specs.statement.Param.{arithmetic_of, cap_of, grow_of, intent_of, logical_of, prune_of, report_named}
 
+-- the standard's name of a param on channel A, where the opcode has one
 abbrev pub a_param_name : OpA → ℕ → Option (List ℕ)
 a_param_name a.ArithmeticData param = option_map arithmetic_name (arithmetic_of param)
 a_param_name a.LogicalData param = option_map logical_name (logical_of param)
@@ -19,6 +20,7 @@ a_param_name a.AcquireBlock param = option_map grow_name (grow_of param)
 a_param_name a.AcquirePerm param = option_map grow_name (grow_of param)
 a_param_name _ param = None
 
+-- the standard's name of a param on channel B, where the opcode has one
 abbrev pub b_param_name : OpB → ℕ → Option (List ℕ)
 b_param_name b.ArithmeticData param = option_map arithmetic_name (arithmetic_of param)
 b_param_name b.LogicalData param = option_map logical_name (logical_of param)
@@ -27,6 +29,7 @@ b_param_name b.ProbeBlock param = option_map cap_name (cap_of param)
 b_param_name b.ProbePerm param = option_map cap_name (cap_of param)
 b_param_name _ param = None
 
+-- the standard's name of a param on channel C, where the opcode has one
 abbrev pub c_param_name : OpC → ℕ → Option (List ℕ)
 c_param_name c.ProbeAck param = option_map report_name (report_named param)
 c_param_name c.ProbeAckData param = option_map report_name (report_named param)
@@ -34,6 +37,7 @@ c_param_name c.Release param = option_map prune_name (prune_of param)
 c_param_name c.ReleaseData param = option_map prune_name (prune_of param)
 c_param_name _ param = None
 
+-- the standard's name of a param on channel D, where the opcode has one
 abbrev pub d_param_name : OpD → ℕ → Option (List ℕ)
 d_param_name d.Grant param = option_map cap_name (cap_of param)
 d_param_name d.GrantData param = option_map cap_name (cap_of param)

@@ -69,9 +69,11 @@ pub record IsEmpty {M : Type 0} (perm_of : M → ℕ → ℕ → Perm) (blocks_o
 
 -- ---- what a caller sees of it
 
+-- the permission that a client holds of a block: none where there is no such client
 abbrev pub held_by : {w : ℕ} → Config → ℕ → ℕ → System w → Perm
 held_by config client block s = if nat_lt client (clients_of config) then held_at (s.clients client) block else perm.None
 
+-- the bytes of a client's copy of a block: none where it has none, or there is no such client
 abbrev pub copy_by : {w : ℕ} → Config → ℕ → ℕ → System w → Option (List ℕ)
 copy_by config client block s = if nat_lt client (clients_of config) then (s.clients client).copies block else None
 

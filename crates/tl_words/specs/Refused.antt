@@ -23,6 +23,9 @@ usage_status kind.DisplayHelp = 0
 usage_status kind.DisplayVersion = 0
 usage_status _ = 2
 
+abbrev pub status_of_usage : Error → ℕ
+status_of_usage error = usage_status (kind_of error)
+
 -- the command of a subcommand with its entries
 abbrev pub command_given : Option (Text × List Row) → Option Command
 command_given None = None

@@ -10,7 +10,7 @@ ghost use Rattle.tl_coherence.specs.statement.Load.{IsBalanced};
 ghost use Rattle.tl_coherence.specs.statement.Log.{Log, system_after, logged};
 ghost use Rattle.tl_coherence.specs.statement.Step.{stepped};
 ghost use Rattle.tl_coherence.specs.statement.System.{terms_at};
-ghost use Rattle.tl_world.specs.statement.World.{IsReached, IsNewWorld, IsReplayed, AreReady, IsEmpty, held_by, copy_by, deepest_by};
+ghost use Rattle.tl_world.specs.statement.World.{IsReached, IsWorld, IsNewWorld, IsReplayed, AreReady, IsEmpty, held_by, copy_by, deepest_by};
 ghost use Rattle.tl_coherence.specs.statement.Movable;
 ghost use Rattle.tl_coherence.specs.statement.Movable.{drained};
 ghost use Rattle.tl_coherence.specs.statement.Draining.{IsDrained};
@@ -40,8 +40,9 @@ fn set_outcome<const W: usize>(outcomes: &mut [Outcome<W>], i: usize, outcome: O
     outcomes[i] = outcome;
 }
 
-/// A manager and its clients, joined by the channels of their links. A contract speaks of every
-/// configuration and log by which the world is reached: of all that can have happened to it.
+/// A manager and its clients, joined by the channels of their links. Some configuration and log reach
+/// it, for it was made by `new` and only its calls have changed it (`IsWorld`). A contract speaks of
+/// each by which the world is reached: of all that can have happened to it.
 #[derive(Drop)]
 pub struct World<const W: usize, A: Agent<W>, D: Directory> {
     state: WorldState<W, A, D>,
@@ -50,12 +51,13 @@ pub struct World<const W: usize, A: Agent<W>, D: Directory> {
 impl<const W: usize, A: Agent<W>, D: Directory> Model for World<W, A, D> {
     ghost use Rattle.tl_beat.specs.statement.Width.{IsWidth};
     ghost use Rattle.tl_world.specs.declared.state.WorldState.{WorldState};
+    ghost use Rattle.tl_world.specs.statement.World.{IsWorld};
 
     ghost Value = { WorldState W A D };
 
     ghost view = { λ w. w.state };
 
-    ghost invariant = { λ w. IsWidth W };
+    ghost invariant = { λ w. IsWidth W × IsWorld A.represents A.terms D.perm_of w.state };
 }
 
 impl<const W: usize, A: Agent<W>, D: Directory> World<W, A, D> {
@@ -93,6 +95,7 @@ impl<const W: usize, A: Agent<W>, D: Directory> World<W, A, D> {
 
     /// Something happens: what comes of it.
     pub fn step(&mut self, event: Event<W>) -> Outcome<W>
+        ensures world { IsWorld A.represents A.terms D.perm_of self.old }
         ensures reached { (config : Config) (log : Log W) → IsReached A.represents A.terms D.perm_of config self.old log →
             IsReached A.represents A.terms D.perm_of config self.new ((event.entry, result) ∷ log) }
         ensures outcome { (config : Config) (log : Log W) → IsReached A.represents A.terms D.perm_of config self.old log →
@@ -108,10 +111,12 @@ impl<const W: usize, A: Agent<W>, D: Directory> World<W, A, D> {
     /// The events happen one after another: what comes of each.
     pub fn run(&mut self, events: &[Event<W>], outcomes: &mut [Outcome<W>])
         requires { length events.now ≡ length outcomes.old }
+        ensures world { IsWorld A.represents A.terms D.perm_of self.old }
         ensures reached { (config : Config) (log : Log W) → IsReached A.represents A.terms D.perm_of config self.old log →
             IsReached A.represents A.terms D.perm_of config self.new (logged events.now outcomes.new log) }
         ensures number { length outcomes.new ≡ length outcomes.old }
     {
+        let _ = &self.state;
         for (i, event) in events.iter().enumerate() {
             set_outcome(outcomes, i, self.step(*event));
         }
@@ -141,7 +146,8 @@ impl<const W: usize, A: Agent<W>, D: Directory> World<W, A, D> {
     /// The next delivery: the first on a client's link that finds a beat which isn't stalled, in the
     /// order E, D, C, B, A of the channels, and of the links within one.
     pub fn next_delivery(&self) -> Option<(Link, Channel)>
-        ensures { (config : Config) (log : Log W) → IsReached A.represents A.terms D.perm_of config self.now log →
+        ensures world { IsWorld A.represents A.terms D.perm_of self.now }
+        ensures next { (config : Config) (log : Log W) → IsReached A.represents A.terms D.perm_of config self.now log →
             result ≡ Movable.next_delivery config (system_after config log) }
     {
         self.state.network.next_delivery()
@@ -150,6 +156,7 @@ impl<const W: usize, A: Agent<W>, D: Directory> World<W, A, D> {
     /// Delivers what is next until nothing is, and nothing is outstanding: the number of deliveries, which
     /// is at most the load before.
     pub fn drain(&mut self) -> u64
+        ensures world { IsWorld A.represents A.terms D.perm_of self.old }
         ensures reached { (config : Config) (log : Log W) → IsReached A.represents A.terms D.perm_of config self.old log →
             IsReached A.represents A.terms D.perm_of config self.new (drained config result log) }
         ensures drained { (config : Config) (log : Log W) → IsReached A.represents A.terms D.perm_of config self.old log →
@@ -171,7 +178,8 @@ impl<const W: usize, A: Agent<W>, D: Directory> World<W, A, D> {
 
     /// What a client holds of a block: None where there is no such client.
     pub fn held(&self, client: u8, block: u16) -> Perm
-        ensures { (config : Config) (log : Log W) → IsReached A.represents A.terms D.perm_of config self.now log →
+        ensures world { IsWorld A.represents A.terms D.perm_of self.now }
+        ensures held { (config : Config) (log : Log W) → IsReached A.represents A.terms D.perm_of config self.now log →
             result ≡ held_by config client block (system_after config log) }
     {
         held_at(&self.state.network.clients, usize::from(client), block)
@@ -179,6 +187,7 @@ impl<const W: usize, A: Agent<W>, D: Directory> World<W, A, D> {
 
     /// The bytes of a client's copy of a block: there is a copy exactly where the client holds something.
     pub fn copy(&self, client: u8, block: u16) -> Option<[u8; 64]>
+        ensures world { IsWorld A.represents A.terms D.perm_of self.now }
         ensures copy { (config : Config) (log : Log W) → IsReached A.represents A.terms D.perm_of config self.now log →
             result ≡ copy_by config client block (system_after config log) }
         ensures held { (config : Config) (log : Log W) → IsReached A.represents A.terms D.perm_of config self.now log →
@@ -190,6 +199,7 @@ impl<const W: usize, A: Agent<W>, D: Directory> World<W, A, D> {
     /// The greatest number of beats that ever stood in a channel, which is no more than it is made for:
     /// 0 for a link without a client.
     pub fn deepest(&self, link: Link, channel: Channel) -> u16
+        ensures world { IsWorld A.represents A.terms D.perm_of self.now }
         ensures deepest { (config : Config) (log : Log W) → IsReached A.represents A.terms D.perm_of config self.now log →
             result ≡ deepest_by config log link.0 channel }
         ensures room { (config : Config) (log : Log W) → IsReached A.represents A.terms D.perm_of config self.now log →
@@ -200,6 +210,7 @@ impl<const W: usize, A: Agent<W>, D: Directory> World<W, A, D> {
 
     /// How many deliveries what is outstanding can still need.
     pub fn load(&self) -> u64
+        ensures world { IsWorld A.represents A.terms D.perm_of self.now }
         ensures load { (config : Config) (log : Log W) → IsReached A.represents A.terms D.perm_of config self.now log →
             result ≡ Load.load log }
         ensures balanced { (config : Config) (log : Log W) → IsReached A.represents A.terms D.perm_of config self.now log →

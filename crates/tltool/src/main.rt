@@ -1,9 +1,11 @@
 //! `tltool`: reads, judges and runs TileLink traces.
 #![tactic(auto)]
 
-ghost use Rattle.std.specs.Prelude.{◌≡◌};
+ghost use Rattle.std.specs.Prelude.{◌≡◌, IfOk, OnOk, OnErr, Err};
 ghost use Rattle.tl_tool.specs.statement.Exit.{exit_status};
+ghost use Rattle.tltool.specs.Ended.{EndsAs, EndsOver, IsRefused};
 
+use std::io::{Read, Write};
 use std::process::ExitCode;
 use std::{env, fs, io};
 use tl_tool::command::Command;
@@ -22,18 +24,69 @@ fn told(rt: &HostRuntime, outcome: Result<Status, ToolFault>) -> u8
     exit_of(&outcome)
 }
 
+/// The exit status of a usage, whose text was printed or couldn't be.
+fn printed(rt: &HostRuntime, status: u8, printing: io::Result<()>) -> u8
+    ensures ok { OnOk printing (result ≡ status) }
+    ensures err { OnErr printing (result ≡ exit_status (Err ToolFault.Write)) }
+{
+    match printing {
+        Ok(()) => status,
+        Err(_) => told(rt, Err(ToolFault::Write)),
+    }
+}
+
+/// The exit status where the words give no command, which is told.
+fn refused(rt: &HostRuntime, fault: WordsFault) -> u8
+    ensures { IsRefused fault result }
+{
+    match fault {
+        WordsFault::Memory => told(rt, Err(ToolFault::Memory)),
+        WordsFault::Usage(error) => printed(rt, usage_status(&error), error.print(rt)),
+    }
+}
+
+/// Runs a command over an input.
+fn run_over<R: Read, W: Write>(
+    rt: &HostRuntime,
+    command: Command,
+    input: &mut R,
+    output: &mut W,
+) -> u8
+    ensures { EndsAs command (R.remaining input.old) (R.remaining input.new) (W.contents output.old) (W.contents output.new) result }
+{
+    told(rt, run_tool(rt.alloc(), command, input, output))
+}
+
+/// Runs a command over the file of this name, or tells that it couldn't be opened.
+fn run_file<R: Read + Drop, W: Write>(
+    rt: &HostRuntime,
+    command: Command,
+    name: &str,
+    opened: io::Result<R>,
+    output: &mut W,
+) -> u8
+    ensures opened { IfOk opened (λ file. EndsOver command (R.remaining file) (W.contents output.old) (W.contents output.new) result) }
+    ensures unopened { OnErr opened (result ≡ exit_status (Err ToolFault.Read)) }
+{
+    match opened {
+        Ok(mut file) => run_over(rt, command, &mut file, output),
+        Err(_) => {
+            let _ = write_open_fault(name, &mut rt.stderr());
+            exit_of(&Err(ToolFault::Read))
+        }
+    }
+}
+
 /// Runs a command over standard input, or over the file of this name.
 fn run(rt: &HostRuntime, command: Command, name: Option<String>) -> u8 {
     let mut output = io::writer(rt);
-    let Some(name) = name else {
-        let outcome = run_tool(rt.alloc(), command, &mut rt.reader(), &mut output);
-        return told(rt, outcome);
-    };
-    let Ok(mut file) = fs::open(rt, name.as_str()) else {
-        let _ = write_open_fault(name.as_str(), &mut rt.stderr());
-        return exit_of(&Err(ToolFault::Read));
-    };
-    told(rt, run_tool(rt.alloc(), command, &mut file, &mut output))
+    match name {
+        None => run_over(rt, command, &mut rt.reader(), &mut output),
+        Some(name) => {
+            let opened = fs::open(rt, name.as_str());
+            run_file(rt, command, name.as_str(), opened, &mut output)
+        }
+    }
 }
 
 /// The words of the program, its own name first.
@@ -46,14 +99,7 @@ fn main(rt: HostRuntime) -> ExitCode {
         Err(_) => told(&rt, Err(ToolFault::Memory)),
         Ok(words) => match invocation(rt.alloc(), words.as_slice()) {
             Ok((command, name)) => run(&rt, command, name),
-            Err(WordsFault::Memory) => told(&rt, Err(ToolFault::Memory)),
-            Err(WordsFault::Usage(error)) => {
-                if error.print(&rt).is_err() {
-                    told(&rt, Err(ToolFault::Write))
-                } else {
-                    usage_status(&error)
-                }
-            }
+            Err(fault) => refused(&rt, fault),
         },
     };
     ExitCode::from(status)

@@ -40,6 +40,10 @@ pub record IsReached {w : ℕ} {A M : Type 0} (knows : A → Endpoint w → Type
   -- and none ever held more than it is made for
   pub shallow : (link : ℕ) (ch : Channel) → deepest config log link ch ≤ capacity (64 / w) (sources_of (terms_at config link)) config.trackers ch
 
+-- some configuration and log reach these contents
+unfoldable pub IsWorld : {w : ℕ} {A M : Type 0} → (A → Endpoint w → Type 0) → (A → EndConfig) → (M → ℕ → ℕ → Perm) → WorldState w A M → Type 0
+IsWorld {w} knows terms perm_of state = (config : Config) × (log : Log w) × IsReached knows terms perm_of config state log
+
 -- the first limit that is broken, or want of memory
 abbrev pub IsFault : Config → NewFault → Type 0
 IsFault config fault = (config_fault config ≡ Some fault) ⊎ ((config_fault config ≡ None) × (fault ≡ Memory))

@@ -18,12 +18,12 @@ pub loop-count-preserved : goal.loop-count-preserved
 loop-count-preserved g c = λ config log r.
     let so_far = c.loop-count.invariant config log r in
     delivered-more c.args.trace config log c.loop-count.world _ _ c.loop-count.out.items _ c.loop-count.count c.in-Some.link c.in-Some.channel so_far
-    (search (rules, c.in-Some.ensures config _ so_far.reached)) c.in_ok-play_event-in-Some.ensures.happens
+    (search (rules, c.in-Some.ensures.next config _ so_far.reached)) c.in_ok-play_event-in-Some.ensures.happens
 
 pub returns-in-None-clause-drains : goal.returns-in-None-clause-drains
 returns-in-None-clause-drains g c = λ config log r.
     let so_far = c.loop-count.invariant config log r in
-    drains-all c.args.trace config log _ _ _ c.loop-count.count r.given so_far (inl (sym (c.in-None.ensures config _ so_far.reached)))
+    drains-all c.args.trace config log _ _ _ c.loop-count.count r.given so_far (inl (sym (c.in-None.ensures.next config _ so_far.reached)))
 
 pub returns-clause-drains : goal.returns-clause-drains
 returns-clause-drains g c = λ config log r.

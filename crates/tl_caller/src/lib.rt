@@ -1,0 +1,5 @@
+//! A caller of worlds, generic in their agents and their directory, which knows the contracts of the
+//! world's calls and no law beside them.
+#![tactic(auto)]
+
+pub mod caller;

@@ -124,6 +124,3 @@ impl<const W: usize, D: Directory> Manager<W, D> {
         self.state.closed(link)
     }
 }
-
-#[cfg(test)]
-mod tests;

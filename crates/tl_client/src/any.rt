@@ -117,6 +117,3 @@ impl<const W: usize> Agent<W> for AnyClient<W> {
         }
     }
 }
-
-#[cfg(test)]
-mod tests;

@@ -143,6 +143,3 @@ impl<const W: usize> Agent<W> for Caching<W> {
         self.closed
     }
 }
-
-#[cfg(test)]
-mod tests;

@@ -191,6 +191,3 @@ impl<const W: usize> Agent<W> for Plain<W> {
         self.closed
     }
 }
-
-#[cfg(test)]
-mod tests;

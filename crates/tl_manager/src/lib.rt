@@ -6,6 +6,4 @@ pub mod directory;
 pub mod law;
 pub mod manager;
 pub mod table;
-#[cfg(test)]
-mod tests;
 pub mod word;

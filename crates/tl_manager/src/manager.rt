@@ -125,6 +125,3 @@ impl<const W: usize, D: Directory> Manager<W, D> {
         self.state.closed(link)
     }
 }
-
-#[cfg(test)]
-mod tests;

@@ -219,6 +219,3 @@ impl<const W: usize, A: Agent<W>, D: Directory> World<W, A, D> {
         self.state.outstanding.load::<W>()
     }
 }
-
-#[cfg(test)]
-mod tests;

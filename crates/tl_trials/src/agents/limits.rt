@@ -1,0 +1,139 @@
+//! Limits of a configuration, one by one and several at once, in their order.
+
+use crate::agents::worlds::config_of;
+use crate::play::made::{Covers, Hires, make_manager, make_world};
+use crate::play::replay::replayed;
+use std::alloc::Global;
+use std::process::Abort;
+use tl_beat::beat::Link;
+use tl_beat::channel::Channel;
+use tl_client::any::AnyClient;
+use tl_client::caching::Caching;
+use tl_client::plain::Plain;
+use tl_coherence::event::{Event, Outcome};
+use tl_manager::bits::BitDirectory;
+use tl_manager::table::TableDirectory;
+use tl_rules::config::{ClientConfig, Config, NewFault};
+use tl_rules::level::Level;
+use tl_rules::profile::Profile;
+use tl_world::agents::agents_of;
+use tl_world::world::World;
+
+/// Blocks, trackers, and the sources of each client, with the limit that is broken first.
+const BROKEN: [(u16, u8, &[u8], NewFault); 11] = [
+    (1, 1, &[], NewFault::N1),
+    (0, 1, &[1], NewFault::N2),
+    (1025, 1, &[1], NewFault::N2),
+    (1, 0, &[1], NewFault::N3),
+    (1, 9, &[1], NewFault::N3),
+    (1, 1, &[0], NewFault::N4),
+    (1, 1, &[8, 9], NewFault::N4),
+    (0, 9, &[], NewFault::N1),
+    (1025, 0, &[0], NewFault::N2),
+    (1024, 9, &[1, 9], NewFault::N3),
+    (1024, 8, &[1, 0], NewFault::N4),
+];
+
+#[test]
+fn limits_of_clients(rt: HostRuntime) {
+    for (blocks, trackers, sources, fault) in &BROKEN {
+        let config = config_of(*blocks, *trackers, Level::C, sources);
+        let made = agents_of::<8>(rt.alloc(), &config);
+        assert_eq!(rt; made.err(), Some(*fault));
+    }
+}
+
+#[test]
+fn limits_of_managers(rt: HostRuntime) {
+    for (blocks, trackers, sources, fault) in &BROKEN {
+        let config = config_of(*blocks, *trackers, Level::C, sources);
+        let made = make_manager::<8, BitDirectory>(rt.alloc(), &config);
+        assert_eq!(rt; made.err(), Some(*fault));
+        let made = make_manager::<8, TableDirectory>(rt.alloc(), &config);
+        assert_eq!(rt; made.err(), Some(*fault));
+    }
+}
+
+fn is_refused<A: Hires<8>, D: Covers>(
+    rt: &impl Abort,
+    made: Result<World<8, A, D>, NewFault>,
+    expected: NewFault,
+) {
+    match made {
+        Ok(_) => panic!(rt; "a world"),
+        Err(fault) => assert_eq!(rt; fault, expected),
+    }
+}
+
+/// A replay of one event on a world that is refused leaves its outcome alone.
+fn replay_of<A: Hires<8>, D: Covers>(
+    rt: &impl Abort,
+    alloc: Global,
+    config: Config,
+) -> Result<World<8, A, D>, NewFault> {
+    let link = Link(0);
+    let channel = Channel::A;
+    let events = [Event::Deliver { link, channel }];
+    let mut outcomes = [Outcome::Stalled];
+    let made = replayed::<8, A, D>(alloc, config, &events, &mut outcomes);
+    assert_eq!(rt; outcomes, [Outcome::Stalled]);
+    made
+}
+
+/// Of blocks and sources that are out of their limits no clients can be had, so that a world is refused for
+/// the number of clients, before anything else, or of trackers.
+const NO_WORLD: [(u16, u8, &[u8], NewFault); 4] = [
+    (1, 1, &[], NewFault::N1),
+    (0, 9, &[], NewFault::N1),
+    (1, 0, &[1], NewFault::N3),
+    (1, 9, &[1], NewFault::N3),
+];
+
+#[test]
+fn limits_of_worlds(rt: HostRuntime) {
+    let alloc = rt.alloc();
+    for (blocks, trackers, sources, fault) in NO_WORLD {
+        let config = |level| config_of(blocks, trackers, level, sources);
+        let made = make_world::<8, AnyClient<8>, BitDirectory>(alloc, config(Level::C));
+        is_refused(&rt, made, fault);
+        let made = make_world::<8, Plain<8>, TableDirectory>(alloc, config(Level::UH));
+        is_refused(&rt, made, fault);
+        let made = make_world::<8, AnyClient<8>, TableDirectory>(alloc, config(Level::UL));
+        is_refused(&rt, made, fault);
+        let made = make_world::<8, Caching<8>, BitDirectory>(alloc, config(Level::C));
+        is_refused(&rt, made, fault);
+        let made = replay_of::<AnyClient<8>, BitDirectory>(&rt, alloc, config(Level::C));
+        is_refused(&rt, made, fault);
+        let made = replay_of::<Caching<8>, TableDirectory>(&rt, alloc, config(Level::C));
+        is_refused(&rt, made, fault);
+    }
+}
+
+/// The limits of one client: blocks before sources.
+fn limits_of<A: Hires<8>>(rt: &impl Abort, alloc: Global, level: Level) {
+    let rows = [
+        (1, 1, None),
+        (8, 1024, None),
+        (1, 0, Some(NewFault::N2)),
+        (1, 1025, Some(NewFault::N2)),
+        (0, 1, Some(NewFault::N4)),
+        (9, 1, Some(NewFault::N4)),
+        (0, 1024, Some(NewFault::N4)),
+        (0, 0, Some(NewFault::N2)),
+        (9, 0, Some(NewFault::N2)),
+        (0, 1025, Some(NewFault::N2)),
+    ];
+    for (sources, blocks, fault) in rows {
+        let config = ClientConfig { level, sources };
+        let made = A::hire(alloc, config, blocks, Profile::One);
+        assert_eq!(rt; made.err(), fault);
+    }
+}
+
+#[test]
+fn limits_of_a_client(rt: HostRuntime) {
+    limits_of::<Plain<8>>(&rt, rt.alloc(), Level::UH);
+    limits_of::<Caching<8>>(&rt, rt.alloc(), Level::C);
+    limits_of::<AnyClient<8>>(&rt, rt.alloc(), Level::UL);
+    limits_of::<AnyClient<8>>(&rt, rt.alloc(), Level::C);
+}

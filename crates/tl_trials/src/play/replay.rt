@@ -1,0 +1,343 @@
+//! Plays a trial on worlds of each kind, in each way.
+
+ghost use Rattle.std.specs.Prelude.{◌≡◌, length};
+ghost use Rattle.tl_beat.specs.statement.Width.{IsWidth};
+
+use crate::play::line::{append_number, append_text};
+use crate::play::made::{Covers, Hires, hire_all, make_world};
+use crate::play::trial::{Trial, config_of};
+use crate::play::world::{Record, Way, answer, is_idle, play_line};
+use std::alloc::{AllocError, Global};
+use tl_client::agent::Agent;
+use tl_client::any::AnyClient;
+use tl_client::caching::Caching;
+use tl_client::plain::Plain;
+use tl_coherence::event::{Event, Outcome};
+use tl_manager::bits::BitDirectory;
+use tl_manager::directory::Directory;
+use tl_manager::table::TableDirectory;
+use tl_rules::config::{Config, NewFault};
+use tl_rules::level::Level;
+use tl_schedule::line::read_event;
+use tl_world::world::World;
+
+fn play_lines<const W: usize, A: Agent<W>, D: Directory>(
+    world: &mut World<W, A, D>,
+    trial: Trial,
+    way: Way,
+    record: &mut Record<W>,
+) -> Result<(), NewFault>
+    requires { IsWidth W }
+{
+    for line in trial.text.split_inclusive('\n').skip(1) {
+        play_line(world, way, line, record)?;
+    }
+    Ok(())
+}
+
+/// Plays a trial on a new world of one kind.
+fn play_anew<const W: usize, A: Hires<W>, D: Covers>(
+    alloc: Global,
+    trial: Trial,
+    way: Way,
+    record: &mut Record<W>,
+) -> Result<World<W, A, D>, NewFault>
+    requires { IsWidth W }
+{
+    let config = config_of(trial)?;
+    let mut world = make_world::<W, A, D>(alloc, config)?;
+    play_lines(&mut world, trial, way, record)?;
+    Ok(world)
+}
+
+/// What a world answers to the questions behind the last event.
+fn last_answers<const W: usize, A: Agent<W>, D: Directory>(
+    alloc: Global,
+    world: &World<W, A, D>,
+    trial: Trial,
+) -> Result<Vec<u8>, NewFault>
+    requires { IsWidth W }
+{
+    let mut text = Vec::new(alloc);
+    for line in trial.text.split_inclusive('\n').skip(1) {
+        if read_event::<W>(line.as_bytes()).is_ok() {
+            text.clear();
+        } else {
+            answer(world, line, &mut text)?;
+        }
+    }
+    Ok(text)
+}
+
+/// Room for what comes of events.
+#[derive(Drop)]
+struct Again<const W: usize> {
+    outcomes: Vec<Outcome<W>>,
+}
+
+fn unset<const W: usize>(alloc: Global, count: usize) -> Result<Again<W>, AllocError>
+    requires { IsWidth W }
+{
+    let mut outcomes = Vec::new(alloc);
+    outcomes.resize(count, Outcome::NoSuchClient)?;
+    Ok(Again { outcomes })
+}
+
+/// A new world of a replay of events.
+pub fn replayed<const W: usize, A: Hires<W>, D: Covers>(
+    alloc: Global,
+    config: Config,
+    events: &[Event<W>],
+    outcomes: &mut [Outcome<W>],
+) -> Result<World<W, A, D>, NewFault>
+    requires width { IsWidth W }
+    requires number { length events.now ≡ length outcomes.old }
+{
+    let clients = hire_all::<W, A>(alloc, &config)?;
+    let directory = D::cover(alloc, &config)?;
+    World::replay(alloc, config, clients, directory, events, outcomes)
+}
+
+/// The first events, as many as there is room for.
+fn first_events<'a, const W: usize>(told: &'a Record<W>, again: &Again<W>) -> &'a [Event<W>] {
+    let events = told.events.as_slice();
+    events.get(..again.outcomes.len()).unwrap_or(events)
+}
+
+fn replayed_into<const W: usize, A: Hires<W>, D: Covers>(
+    alloc: Global,
+    config: Config,
+    told: &Record<W>,
+    again: &mut Again<W>,
+) -> Result<World<W, A, D>, NewFault>
+    requires { IsWidth W }
+{
+    let events = first_events::<W>(told, again);
+    if events.len() != again.outcomes.len() {
+        return Err(NewFault::Memory);
+    }
+    replayed::<W, A, D>(alloc, config, events, again.outcomes.as_mut_slice())
+}
+
+/// What a world answers behind the last event is what was told.
+fn answer_again<const W: usize, A: Agent<W>, D: Directory>(
+    alloc: Global,
+    world: &World<W, A, D>,
+    trial: Trial,
+    told: &Record<W>,
+    same: &mut bool,
+) -> Result<(), NewFault>
+    requires { IsWidth W }
+{
+    let answers = last_answers(alloc, world, trial)?;
+    *same = *same && told.ends_with(answers.as_slice());
+    Ok(())
+}
+
+/// Whether these are the first outcomes that were told.
+fn begins_with<const W: usize>(told: &Record<W>, again: &Again<W>) -> bool
+    requires { IsWidth W }
+{
+    told.begins_with(again.outcomes.as_slice())
+}
+
+/// A replay of what was told comes to the same.
+fn replay_again<const W: usize, A: Hires<W>, D: Covers>(
+    alloc: Global,
+    trial: Trial,
+    told: &Record<W>,
+    same: &mut bool,
+) -> Result<World<W, A, D>, NewFault>
+    requires { IsWidth W }
+{
+    let config = config_of(trial)?;
+    let mut again = unset::<W>(alloc, told.events.len())?;
+    let world = replayed_into::<W, A, D>(alloc, config, told, &mut again)?;
+    *same = *same && begins_with::<W>(told, &again);
+    answer_again::<W, A, D>(alloc, &world, trial, told, same)?;
+    Ok(world)
+}
+
+/// A new world to which events happen in one call.
+fn ran<const W: usize, A: Hires<W>, D: Covers>(
+    alloc: Global,
+    config: Config,
+    events: &[Event<W>],
+    outcomes: &mut [Outcome<W>],
+) -> Result<World<W, A, D>, NewFault>
+    requires width { IsWidth W }
+    requires number { length events.now ≡ length outcomes.old }
+{
+    let mut world = make_world::<W, A, D>(alloc, config)?;
+    world.run(events, outcomes);
+    Ok(world)
+}
+
+fn ran_into<const W: usize, A: Hires<W>, D: Covers>(
+    alloc: Global,
+    config: Config,
+    told: &Record<W>,
+    again: &mut Again<W>,
+) -> Result<World<W, A, D>, NewFault>
+    requires { IsWidth W }
+{
+    let events = first_events::<W>(told, again);
+    if events.len() != again.outcomes.len() {
+        return Err(NewFault::Memory);
+    }
+    ran::<W, A, D>(alloc, config, events, again.outcomes.as_mut_slice())
+}
+
+/// Whether a world drains within its load, after which it is idle.
+fn drains<const W: usize, A: Agent<W>, D: Directory>(world: &mut World<W, A, D>) -> bool
+    requires { IsWidth W }
+{
+    let load = world.load();
+    world.drain() <= load && is_idle(world)
+}
+
+/// So many events happen to a new world, and come to the same. Then it drains.
+fn drain_behind<const W: usize, A: Hires<W>, D: Covers>(
+    alloc: Global,
+    trial: Trial,
+    count: usize,
+    told: &Record<W>,
+    same: &mut bool,
+) -> Result<World<W, A, D>, NewFault>
+    requires { IsWidth W }
+{
+    let config = config_of(trial)?;
+    let mut again = unset::<W>(alloc, count)?;
+    let mut world = ran_into::<W, A, D>(alloc, config, told, &mut again)?;
+    *same = *same && begins_with::<W>(told, &again) && drains::<W, A, D>(&mut world);
+    Ok(world)
+}
+
+/// The same behind each beginning of what was told.
+fn drain_behind_each<const W: usize, A: Hires<W>, D: Covers>(
+    alloc: Global,
+    trial: Trial,
+    told: &Record<W>,
+    same: &mut bool,
+) -> Result<World<W, A, D>, NewFault>
+    requires { IsWidth W }
+{
+    for count in 0..told.events.len() {
+        let _ = drain_behind::<W, A, D>(alloc, trial, count, told, same)?;
+    }
+    drain_behind(alloc, trial, told.events.len(), told, same)
+}
+
+/// How far a trial is played again.
+#[derive(Clone, Copy)]
+pub enum Depth {
+    /// In each way.
+    EachWay,
+    /// Behind each beginning too.
+    EachBeginning,
+}
+
+/// Worlds of one kind are played in each way.
+fn tell_again<const W: usize, A: Hires<W>, D: Covers>(
+    alloc: Global,
+    trial: Trial,
+    told: &Record<W>,
+    same: &mut bool,
+) -> Result<World<W, A, D>, NewFault>
+    requires { IsWidth W }
+{
+    let mut again = Record::new(alloc);
+    let _ = play_anew::<W, A, D>(alloc, trial, Way::Told, &mut again)?;
+    *same = *same && again.text.as_slice() == told.text.as_slice();
+    let mut counted = Record::new(alloc);
+    let _ = play_anew::<W, A, D>(alloc, trial, Way::Counted, &mut counted)?;
+    let mut at_once = Record::new(alloc);
+    let _ = play_anew::<W, A, D>(alloc, trial, Way::AtOnce, &mut at_once)?;
+    *same = *same && counted.text.as_slice() == at_once.text.as_slice();
+    replay_again(alloc, trial, told, same)
+}
+
+/// The same, as far as is asked.
+fn tell_as_deep<const W: usize, A: Hires<W>, D: Covers>(
+    alloc: Global,
+    trial: Trial,
+    depth: Depth,
+    told: &Record<W>,
+    same: &mut bool,
+) -> Result<World<W, A, D>, NewFault>
+    requires { IsWidth W }
+{
+    match depth {
+        Depth::EachWay => {}
+        Depth::EachBeginning => {
+            let _ = drain_behind_each::<W, A, D>(alloc, trial, told, same)?;
+        }
+    }
+    tell_again(alloc, trial, told, same)
+}
+
+/// Whether all clients keep copies.
+fn all_keep(config: &Config) -> bool {
+    let clients = config.clients.as_slice();
+    clients
+        .iter()
+        .all(|client| matches!(client.level, Level::C))
+}
+
+/// Whether none does.
+fn none_keeps(config: &Config) -> bool {
+    let clients = config.clients.as_slice();
+    clients
+        .iter()
+        .all(|client| !matches!(client.level, Level::C))
+}
+
+/// Plays a trial on worlds of each kind that the levels allow.
+fn tell_all<const W: usize>(
+    alloc: Global,
+    trial: Trial,
+    depth: Depth,
+    told: &Record<W>,
+    same: &mut bool,
+) -> Result<(), NewFault>
+    requires { IsWidth W }
+{
+    let config = config_of(trial)?;
+    let _ = tell_as_deep::<W, AnyClient<W>, BitDirectory>(alloc, trial, depth, told, same)?;
+    let _ = tell_as_deep::<W, AnyClient<W>, TableDirectory>(alloc, trial, depth, told, same)?;
+    if all_keep(&config) {
+        let _ = tell_as_deep::<W, Caching<W>, BitDirectory>(alloc, trial, depth, told, same)?;
+        let _ = tell_as_deep::<W, Caching<W>, TableDirectory>(alloc, trial, depth, told, same)?;
+    }
+    if none_keeps(&config) {
+        let _ = tell_as_deep::<W, Plain<W>, BitDirectory>(alloc, trial, depth, told, same)?;
+        let _ = tell_as_deep::<W, Plain<W>, TableDirectory>(alloc, trial, depth, told, same)?;
+    }
+    Ok(())
+}
+
+/// Plays a trial on worlds: appends what all of them tell, and how many events it told of.
+pub fn play_worlds<const W: usize>(
+    alloc: Global,
+    trial: Trial,
+    depth: Depth,
+    out: &mut Vec<u8>,
+) -> Result<(), NewFault>
+    requires { IsWidth W }
+{
+    let mut told = Record::new(alloc);
+    let _ = play_anew::<W, AnyClient<W>, BitDirectory>(alloc, trial, Way::Told, &mut told)?;
+    let mut same = true;
+    tell_all(alloc, trial, depth, &told, &mut same)?;
+    out.extend_from_slice(told.text.as_slice())?;
+    append_number(told.events.len() as u64, out)?;
+    append_text(
+        if same {
+            " events\n"
+        } else {
+            " events, told in two ways\n"
+        },
+        out,
+    )?;
+    Ok(())
+}

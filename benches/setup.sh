@@ -1,0 +1,29 @@
+#!/usr/bin/env bash
+# Installs by apt-get what the benches need beside the toolchain. It fails where a tool is missing
+# afterwards.
+set -euo pipefail
+
+tools=(verilator iverilog vvp g++ make python3)
+
+missing() {
+  for tool in "${tools[@]}"; do
+    command -v "$tool" >/dev/null || echo "$tool"
+  done
+}
+
+if [ -n "$(missing)" ]; then
+  root=()
+  [ "$(id -u)" -eq 0 ] || root=(sudo)
+  "${root[@]}" apt-get update
+  "${root[@]}" env DEBIAN_FRONTEND=noninteractive apt-get install -y --no-install-recommends \
+    verilator iverilog g++ make python3
+fi
+
+if [ -n "$(missing)" ]; then
+  echo "benches/setup.sh: still missing: $(missing | tr '\n' ' ')" >&2
+  exit 1
+fi
+verilator --version
+iverilog -V 2>/dev/null | sed -n 1p
+g++ --version | sed -n 1p
+python3 --version

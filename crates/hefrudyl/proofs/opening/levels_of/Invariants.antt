@@ -1,0 +1,6 @@
+use Rattle.std.proofs.Common.{◌≡◌, ◌++◌, map, drop}
+use Rattle.hefrudyl.specs.statement.Opened.{level_at}
+use Rattle.hefrudyl.proofs.opening.levels_of.Given as goal
+
+abbrev pub invariant-loop-code : goal.invariant-loop-code
+invariant-loop-code l = l.levels.items ++ map level_at (drop l.code-index l.codes) ≡ map level_at l.codes

@@ -1,0 +1,107 @@
+//! What C holds.
+
+ghost use Rattle.std.specs.Prelude.{◌≡◌, ◌⊎◌, Option, Some, None, is_some, option_map, IsTrue};
+ghost use Rattle.hefrudyl.specs.code.Owned.{owned};
+ghost use Rattle.hefrudyl.specs.declared.session.Session.{Session};
+ghost use Rattle.hefrudyl.specs.contracts.session.Session.{the_row};
+ghost use Rattle.std.specs.contracts.impls.GlobalAllocator.TheImpl.{ghosts};
+
+use crate::parts::Parts;
+use crate::session::Session;
+use std::alloc::Global;
+use std::marker::Model;
+use std::ptr;
+
+/// The memory behind a handle, as C sees it.
+#[repr(C)]
+#[derive(Drop)]
+pub struct Opaque {
+    first: u8,
+}
+
+/// The pointer to a session, or one to nothing.
+#[repr(C)]
+#[derive(Drop)]
+pub struct Place {
+    at: *mut Opaque,
+    alloc: Global,
+    pub ghost value: { Option Session },
+}
+
+impl Model for Place {
+    ghost also_owns = { λ p. owned (ghosts.dealloc_token p.alloc) the_row p.at p.value };
+}
+
+impl Place {
+    /// One that holds nothing.
+    fn empty(alloc: Global) -> Place
+        ensures { result.value ≡ None }
+    {
+        Place {
+            at: ptr::null_mut(),
+            alloc,
+        }
+    }
+
+    fn of(parts: Parts<Session, Global>) -> Place
+        ensures { result.value ≡ Some parts.value }
+    {
+        let Parts { at, alloc } = parts;
+        Place {
+            at: at.cast::<Opaque>(),
+            alloc,
+        }
+    }
+
+    fn into_parts(self) -> Parts<Session, Global>
+        requires { IsTrue (is_some self.value) }
+        ensures { Some result.value ≡ self.value }
+    {
+        let Place { at, alloc } = self;
+        Parts {
+            at: at.cast::<Session>(),
+            alloc,
+        }
+    }
+}
+
+/// A handle.
+#[repr(C)]
+#[derive(Drop)]
+pub struct Handle {
+    place: Place,
+    full: bool,
+    ghost is_full: { full ≡ is_some place.value },
+}
+
+impl Handle {
+    /// One that holds nothing.
+    pub fn empty(alloc: Global) -> Handle
+        ensures { result.place.value ≡ None }
+    {
+        Handle {
+            place: Place::empty(alloc),
+            full: false,
+        }
+    }
+
+    pub fn of(session: Box<Session>) -> Handle
+        ensures { result.place.value ≡ Some session.value }
+    {
+        Handle {
+            place: Place::of(Parts::of(session)),
+            full: true,
+        }
+    }
+
+    pub fn into_box(self) -> Option<Box<Session>>
+        ensures { option_map (λ b. b.value) result ≡ self.place.value }
+    {
+        let Handle { place, full } = self;
+        if full {
+            Some(place.into_parts().into_box())
+        } else {
+            None
+        }
+    }
+}

@@ -1,4 +1,5 @@
-//! Judges each trace of data/ and plays each schedule, and writes what comes of it.
+//! Judges each trace of data/, plays each schedule, and explains the traces and the rules; writes what
+//! comes of it.
 #![tactic(auto)]
 
 ghost use Rattle.std.specs.Prelude.{IfOk};
@@ -9,6 +10,8 @@ use std::io::{Read, Write};
 use std::process::ExitCode;
 use std::{fs, io};
 use tl_tool::command::Command;
+use tl_tool::explain::{ExplainFault, explain_input};
+use tl_tool::named::tell_named;
 use tl_tool::output::write_all;
 use tl_tool::status::{Status, ToolFault};
 use tl_tool::tool::run_tool;
@@ -93,6 +96,45 @@ const TRACED: [&str; 4] = [
     "schedules/a_writer_becomes_a_reader.schedule",
 ];
 
+/// The files that are no traces, or have a line that spells no beat, by their names in data/.
+const FAULTS: [&str; 26] = [
+    "faults/F1_comment.trace",
+    "faults/F1_end.trace",
+    "faults/F1_fields.trace",
+    "faults/F1_long.trace",
+    "faults/F1_more_fields.trace",
+    "faults/F2.trace",
+    "faults/F3.trace",
+    "faults/F3_cr.trace",
+    "faults/F3_width.trace",
+    "faults/F4.trace",
+    "faults/F5.trace",
+    "faults/F6.trace",
+    "faults/F6_missing.trace",
+    "faults/F7_beats.trace",
+    "faults/F7_cr.trace",
+    "faults/F7_empty.trace",
+    "faults/F7_end.trace",
+    "faults/F7_gzip.trace",
+    "faults/F7_level.trace",
+    "faults/F7_levels.trace",
+    "faults/F7_mark.trace",
+    "faults/F7_profile.trace",
+    "faults/F7_schedule.trace",
+    "faults/F7_space.trace",
+    "faults/F7_version.trace",
+    "faults/F7_width.trace",
+];
+
+/// The traces at whose end something is pending.
+const PENDING: [&str; 2] = ["pending/each_kind.trace", "pending/more_than_twenty.trace"];
+
+/// The names of the rules and faults that are explained.
+const NAMES: [&str; 29] = [
+    "L1", "L2", "L3", "L4", "L5", "L6", "L7", "S1", "H1", "H2", "H3", "H4", "H5", "H6", "H7", "H8",
+    "H9", "H10", "H11", "H12", "H13", "F1", "F2", "F3", "F4", "F5", "F6", "F7", "F8",
+];
+
 /// Writes the name of a file, a separator, and what the command tells of the file. Its faults are those
 /// of `run_tool`.
 fn tell<R: Read, W: Write>(
@@ -132,12 +174,67 @@ fn tell_all(rt: &HostRuntime, command: Command, names: &[&str], separator: &[u8]
     true
 }
 
+/// Writes the name of a trace, and explains what it is judged.
+fn explain<R: Read, S: Read, W: Write>(
+    alloc: Global,
+    name: &str,
+    first: &mut R,
+    second: &mut S,
+    output: &mut W,
+) -> Result<Status, ExplainFault> {
+    write_all(output, name.as_bytes())?;
+    write_all(output, b": ")?;
+    explain_input(alloc, first, second, output)
+}
+
+/// Explains each of the traces with these names. Answers whether all could be read and explained.
+fn explain_all(rt: &HostRuntime, names: &[&str]) -> bool {
+    for name in names {
+        let Ok(mut first) = fs::open(rt, *name) else {
+            return false;
+        };
+        let Ok(mut second) = fs::open(rt, *name) else {
+            return false;
+        };
+        if explain(
+            rt.alloc(),
+            name,
+            &mut first,
+            &mut second,
+            &mut io::writer(rt),
+        )
+        .is_err()
+        {
+            return false;
+        }
+    }
+    true
+}
+
+/// Writes what is said of each of these rules and faults. Answers whether it could.
+fn tell_names(rt: &HostRuntime, names: &[&str]) -> bool {
+    for name in names {
+        let mut text = Vec::new(rt.alloc());
+        if !matches!(tell_named(name, &mut text), Ok(true)) {
+            return false;
+        }
+        if write_all(&mut io::writer(rt), &text).is_err() {
+            return false;
+        }
+    }
+    true
+}
+
 fn main(rt: HostRuntime) -> ExitCode {
     let run = Command::Run { trace: false };
     let trace = Command::Run { trace: true };
     if tell_all(&rt, Command::Monitor, &TRACES, b": ")
         && tell_all(&rt, run, &SCHEDULES, b":\n")
         && tell_all(&rt, trace, &TRACED, b" --trace:\n")
+        && explain_all(&rt, &TRACES)
+        && explain_all(&rt, &FAULTS)
+        && explain_all(&rt, &PENDING)
+        && tell_names(&rt, &NAMES)
     {
         ExitCode::SUCCESS
     } else {

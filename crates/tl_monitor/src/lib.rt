@@ -3,8 +3,8 @@
 
 mod blocks;
 mod bursts;
-mod byte_table;
-mod control;
+pub mod byte_table;
+pub mod control;
 pub mod fault;
 mod judge;
 mod link_state;

@@ -13,6 +13,7 @@ use crate::link_state::LinkState;
 use std::alloc::{AllocError, Global};
 use tl_beat::beat::{Beat, Link};
 use tl_rules::level::Level;
+use tl_rules::past::{Past, Request};
 use tl_rules::profile::Profile;
 use tl_rules::rule::Rule;
 
@@ -29,7 +30,7 @@ pub struct Monitor<const W: usize> {
 
 impl<const W: usize> Monitor<W> {
     ghost use Rattle.tl_monitor.specs.statement.Numbers.{IsMoreWhereRefused, entries_of};
-    ghost use Rattle.tl_monitor.specs.statement.Knows.{Knows, IsNew, Answers, fault_of, recorded_after, closed_after, AllEmpty};
+    ghost use Rattle.tl_monitor.specs.statement.Knows.{Knows, IsNew, Answers, fault_of, recorded_after, closed_after, request_on, AllEmpty};
 
     /// What is kept of this many links that have carried nothing.
     fn empty_links(alloc: Global, count: usize) -> Result<Vec<LinkState>, AllocError>
@@ -99,6 +100,19 @@ impl<const W: usize> Monitor<W> {
                 Err(_) => Err(MonitorFault::Memory),
             },
         }
+    }
+
+    /// The request with this source that is pending and complete on a link; none on a link without a level.
+    pub fn request(&self, link: Link, source: u8) -> Option<Request>
+        ensures { (levels : List Level) (p : Profile) (t : Trace W) (closed : Bool) →
+            Knows self.now levels p t closed →
+            result ≡ request_on levels link source t }
+    {
+        let n = usize::from(link.0);
+        if n >= self.levels.len() {
+            return None;
+        }
+        Past::<W>::request(&self.links[n], source)
     }
 
     /// How many keys are pending on a link, and how many blocks aren't held as None; 0 for a link

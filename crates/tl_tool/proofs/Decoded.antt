@@ -20,7 +20,7 @@ use Rattle.tl_beat.specs.statement.First.{first_if}
 use Rattle.std.specs.Result.{result_err}
 use Rattle.tl_tool.specs.code.Lines.{IsOpen}
 use Rattle.tl_tool.specs.statement.Fault.{fault_text}
-use Rattle.tl_tool.specs.statement.Text.{text_of}
+use Rattle.tl_explain.specs.statement.Text.{text_of}
 
 -- a line that spells a beat
 pub before-line : (w : ℕ) (lines : List (List ℕ)) (text line : List ℕ) (link : Link) (beat : Beat w) → DecodesBefore w lines text → Spells line link beat

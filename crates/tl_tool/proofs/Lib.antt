@@ -4,8 +4,6 @@ pub mod Parts
 pub mod Progress
 pub mod Runs
 pub mod Decoded
-pub mod Cuts
-pub mod BeatTexts
 pub mod Headers
 pub mod Judged
 pub mod OneText

@@ -1,4 +1,3 @@
-pub mod Cuts
 pub mod Judging
 pub mod Lines
 pub mod Parts

@@ -2,9 +2,7 @@ pub mod Decoded
 pub mod Exit
 pub mod Fault
 pub mod Judged
-pub mod ParamNames
 pub mod Played
-pub mod Text
 pub mod Told
 pub mod Trace
 pub mod Width

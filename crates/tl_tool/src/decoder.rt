@@ -5,10 +5,10 @@ ghost use Rattle.tl_tool.specs.statement.Decoded.{DecodesBefore, DecodesTo, is_w
 
 use crate::fault::Fault;
 use crate::line_handler::LineHandler;
-use crate::text::append_text;
 use std::alloc::AllocError;
 use tl_beat::fault::LineFault;
 use tl_beat::read::read_line;
+use tl_explain::text::append_text;
 
 /// Judges lines of beats of `W` bytes (4, 8 or 16), each for itself: a line that spells a beat has a
 /// readable line.

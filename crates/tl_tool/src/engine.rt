@@ -19,7 +19,8 @@ use std::io::{Read, Write};
 /// How many bytes are asked of the reader at once.
 const CHUNK: usize = 65536;
 
-fn new_chunk(alloc: Global) -> Result<Vec<u8>, AllocError>
+/// Room for a piece of the input.
+pub fn new_chunk(alloc: Global) -> Result<Vec<u8>, AllocError>
     ensures { IfOk result (λ chunk. 0 < vec_len chunk) }
 {
     let mut chunk = Vec::new(alloc);
@@ -28,7 +29,7 @@ fn new_chunk(alloc: Global) -> Result<Vec<u8>, AllocError>
 }
 
 /// The next piece of the input; it is empty at the end alone.
-fn next_piece<R: Read>(reader: &mut R, chunk: &mut Vec<u8>) -> Result<usize, ToolFault>
+pub fn next_piece<R: Read>(reader: &mut R, chunk: &mut Vec<u8>) -> Result<usize, ToolFault>
     requires { 0 < vec_len chunk.old }
     ensures some { IfOk result (λ count. count ≤ vec_len chunk.new) }
     ensures room { vec_len chunk.new ≡ vec_len chunk.old }

@@ -3,6 +3,8 @@
 
 pub mod decoder;
 pub mod engine;
+pub mod examiner;
+pub mod explain;
 pub mod fault;
 pub mod header;
 pub mod law;
@@ -10,12 +12,12 @@ pub mod line_handler;
 pub mod lines;
 pub mod monitor_lines;
 pub mod output;
-pub mod param_names;
 pub mod play;
+mod replay;
 pub mod run_lines;
 pub mod status;
-pub mod text;
 pub mod tool;
 pub mod trace_header;
 
+pub use tl_explain::named;
 pub use tl_words::{command, words};

@@ -2,7 +2,7 @@
 
 ghost use Rattle.std.specs.Prelude.{◌≡◌, ◌++◌, ◌∷◌, [], ℕ, OnOk, OnErr, IfErr, codes};
 ghost use Rattle.std.specs.Io.KnownBytes.{Appends};
-ghost use Rattle.tl_tool.specs.statement.Fault.{open_fault_text};
+ghost use Rattle.tl_tool.specs.statement.Fault.{changed_text, open_fault_text};
 ghost use Rattle.tl_tool.specs.code.Parts.{AppendsPart};
 
 use crate::status::ToolFault;
@@ -30,6 +30,23 @@ pub fn write_all<W: Write>(writer: &mut W, bytes: &[u8]) -> Result<(), ToolFault
     Ok(())
 }
 
+/// Writes a name between two texts. Its only fault is `Write`.
+fn write_around<W: Write>(
+    front: &[u8],
+    name: &str,
+    back: &[u8],
+    writer: &mut W,
+) -> Result<(), ToolFault>
+    ensures ok { OnOk result (Appends (W.contents writer.old) (W.contents writer.new) (front.now ++ name.now ++ back.now)) }
+    ensures err { OnErr result (AppendsPart (W.contents writer.old) (W.contents writer.new) (front.now ++ name.now ++ back.now)) }
+    ensures fault { IfErr result (λ fault. fault ≡ ToolFault.Write) }
+{
+    write_all(writer, front)?;
+    write_all(writer, name.as_bytes())?;
+    write_all(writer, back)?;
+    Ok(())
+}
+
 /// Writes the line for standard error where a file of this name can't be opened. Its only fault is
 /// `Write`.
 pub fn write_open_fault<W: Write>(name: &str, writer: &mut W) -> Result<(), ToolFault>
@@ -37,8 +54,15 @@ pub fn write_open_fault<W: Write>(name: &str, writer: &mut W) -> Result<(), Tool
     ensures err { OnErr result (AppendsPart (W.contents writer.old) (W.contents writer.new) (open_fault_text name.now)) }
     ensures fault { IfErr result (λ fault. fault ≡ ToolFault.Write) }
 {
-    write_all(writer, b"tltool: cannot open ")?;
-    write_all(writer, name.as_bytes())?;
-    write_all(writer, b"\n")?;
-    Ok(())
+    write_around(b"tltool: cannot open ", name, b"\n", writer)
+}
+
+/// Writes the line for standard error where a file of this name changed between its two readings. Its
+/// only fault is `Write`.
+pub fn write_changed<W: Write>(name: &str, writer: &mut W) -> Result<(), ToolFault>
+    ensures ok { OnOk result (Appends (W.contents writer.old) (W.contents writer.new) (changed_text name.now)) }
+    ensures err { OnErr result (AppendsPart (W.contents writer.old) (W.contents writer.new) (changed_text name.now)) }
+    ensures fault { IfErr result (λ fault. fault ≡ ToolFault.Write) }
+{
+    write_around(b"tltool: ", name, b" changed while it was read\n", writer)
 }

@@ -14,7 +14,7 @@ use std::io::{Read, Write};
 use tl_words::command::{Command, Width};
 
 /// Runs a command: reads the input to its end or to the first line at fault, and writes the command's
-/// text of it. `decode` takes memory that doesn't grow with the input; `monitor` keeps what is unfinished,
+/// text of it; of `explain` the first line, since its reasons take a second reading. `decode` takes memory that doesn't grow with the input; `monitor` keeps what is unfinished,
 /// pending and held on each link besides, and `run` the world that the schedule's header names.
 ///
 /// `Broken` says that a `line N X` was written, and that it stands whatever follows the input, unless
@@ -38,6 +38,7 @@ pub fn run_tool<R: Read, W: Write>(
             Width::Sixteen => handle_input(alloc, Decoder::<16> {}, reader, writer),
         },
         Command::Monitor => handle_input(alloc, MonitorLines::Waiting(alloc), reader, writer),
+        Command::Explain => handle_input(alloc, MonitorLines::Waiting(alloc), reader, writer),
         Command::Run { trace: false } => {
             handle_input(alloc, RunLines::<0>::Waiting(alloc), reader, writer)
         }

@@ -32,7 +32,7 @@ command_given None = None
 command_given (Some (name, rows)) = command_in name rows
 
 -- `clap` doesn't take the words (it shows help or the version, or says what is wrong), or they name no
--- width of a beat
+-- width of a beat, or no file to explain
 abbrev pub AreRefused : List Text → Type 0
 AreRefused words = (takes tool_of words ≡ false) ⊎ (command_given (subcommand_of tool_of words) ≡ None)
 

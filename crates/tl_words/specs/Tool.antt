@@ -4,7 +4,7 @@ use Rattle.std.specs.Str.{bytes_eq}
 use Rattle.clap.specs.declared.builder.action.ArgAction.TheVariants.{SetTrue}
 use Rattle.clap.specs.Words.{App, Row, Rule, Text, first_of, new_app, new_rule, with_rule, with_subcommand}
 use Rattle.tl_words.specs.declared.command.Command.{Command}
-use Rattle.tl_words.specs.declared.command.Command.TheVariants.{Decode, Monitor, Run}
+use Rattle.tl_words.specs.declared.command.Command.TheVariants.{Decode, Monitor, Explain, Run}
 use Rattle.tl_params.specs.declared.width.Width.{Width}
 use Rattle.tl_params.specs.declared.width.Width.TheVariants.{Four, Eight, Sixteen}
 
@@ -19,6 +19,10 @@ decode_of = with_rule (with_rule (new_app (codes "decode")) width_rule) (new_rul
 -- `monitor [FILE]`
 abbrev pub monitor_of : App
 monitor_of = with_rule (new_app (codes "monitor")) (new_rule (codes "FILE"))
+
+-- `explain [FILE]`
+abbrev pub explain_of : App
+explain_of = with_rule (new_app (codes "explain")) (new_rule (codes "FILE"))
 
 -- `--trace`
 abbrev pub trace_rule : Rule
@@ -38,9 +42,13 @@ with_version a = record a { top = record a.top { has_version = true } }
 abbrev pub reading_of : App
 reading_of = with_subcommand (with_subcommand (with_required_subcommand (with_version (new_app (codes "tltool")))) decode_of.top) monitor_of.top
 
+-- and with the one that explains
+abbrev pub explaining_of : App
+explaining_of = with_subcommand reading_of explain_of.top
+
 -- and with the one that plays
 abbrev pub tool_of : App
-tool_of = with_subcommand reading_of run_of.top
+tool_of = with_subcommand explaining_of run_of.top
 
 -- the width that a word stands for, 8 bytes where there is no word
 abbrev pub width_named : Option Text → Option Width
@@ -52,16 +60,17 @@ abbrev pub flag_named : Option Text → Bool
 flag_named None = false
 flag_named (Some word) = bytes_eq word (codes "true")
 
--- the command of this name, with the words of its width and of its flag
-abbrev pub command_named : Text → Option Text → Option Text → Option Command
-command_named name width trace =
+-- the command of this name, with the words of its width, of its flag and of its file, which `explain` must have
+abbrev pub command_named : Text → Option Text → Option Text → Option Text → Option Command
+command_named name width trace file =
     if bytes_eq name (codes "decode") then option_map Decode (width_named width) else
     if bytes_eq name (codes "monitor") then Some Monitor else
+    if bytes_eq name (codes "explain") then option_map (λ _. Explain) file else
     if bytes_eq name (codes "run") then Some (Run (flag_named trace)) else None
 
 -- the command and the FILE that a subcommand's name and entries give
 abbrev pub command_in : Text → List Row → Option Command
-command_in name rows = command_named name (first_of (codes "width") rows) (first_of (codes "trace") rows)
+command_in name rows = command_named name (first_of (codes "width") rows) (first_of (codes "trace") rows) (first_of (codes "FILE") rows)
 
 abbrev pub file_in : List Row → Option Text
 file_in rows = first_of (codes "FILE") rows

@@ -9,6 +9,8 @@ pub enum Command {
     Decode { width: Width },
     /// Judges a recorded trace.
     Monitor,
+    /// Judges a recorded trace, and says why its first line at fault is so.
+    Explain,
     /// Plays a schedule: writes what comes of each event, or the trace of it.
     Run { trace: bool },
 }

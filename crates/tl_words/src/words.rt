@@ -1,12 +1,12 @@
 //! Reads the program's words: `tltool decode [--width 4|8|16] [FILE]`, `tltool monitor [FILE]`,
-//! `tltool run [--trace] [FILE]`, and those that ask for help or the version.
+//! `tltool explain FILE`, `tltool run [--trace] [FILE]`, and those that ask for help or the version.
 
 ghost use Rattle.std.specs.Prelude.{◌≡◌, IfOk, IfErr, true, false, List, Some, map, option_map};
 ghost use Rattle.std.specs.String.{string_bytes};
 ghost use Rattle.clap.specs.Words.{Row, Text, app_of, is_simple_and_free, kind_of, subcommand_of};
 ghost use Rattle.clap.specs.declared.builder.command.Command.TheViews.{out-Command};
 ghost use Rattle.tl_words.specs.Refused.{IsRefusal, usage_status, words_fault};
-ghost use Rattle.tl_words.specs.Tool.{command_in, command_named, decode_of, file_in, flag_named, monitor_of, reading_of, run_of, tool_of, width_named};
+ghost use Rattle.tl_words.specs.Tool.{command_in, command_named, decode_of, explain_of, explaining_of, file_in, flag_named, monitor_of, reading_of, run_of, tool_of, width_named};
 
 use crate::command::{Command, Width};
 use clap::error::ErrorKind;
@@ -56,9 +56,14 @@ pub fn usage_status(error: &clap::Error) -> u8
 const FILE_HELP: &str =
     "The file to read [default: standard input]; `-` is a file's name as any other";
 
+/// What help says of what is explained.
+const EXPLAINED_HELP: &str =
+    "The trace to read, twice, so it can be no pipe; or, where there is no such file, the name of a rule or fault";
+
 /// What help says of the text `line N X`, and of the exit status.
 const OUTCOMES: &str = "\
-At the first line at fault the text is `line N X`: N is its number, X what is wrong with it.
+At the first line at fault the text is `line N X`: N is its number, X what is wrong with it. `tltool
+explain FILE` says why, and `tltool explain X` what X says.
   F1 to F6      the line spells no beat
   F7            the first line is no header
   F8            the line says no event
@@ -76,6 +81,8 @@ Exit status:
 Examples:
   printf '00 A 4 0 3 00 00000040 ff - 0\\n' | tltool decode
   tltool monitor recorded.trace
+  tltool explain recorded.trace
+  tltool explain H12
   tail -n +2 recorded.trace | tltool decode
   tltool run --trace two_caches.schedule | tltool monitor";
 
@@ -104,6 +111,17 @@ fn monitor<'a>(alloc: Global) -> Result<clap::Command<'a>, AllocError>
     let file = Arg::new(alloc, "FILE").help(FILE_HELP);
     clap::Command::new(alloc, "monitor")
         .about("Judges a recorded trace: writes `clean N`, N its beats, or the first line at fault")
+        .after_help(OUTCOMES)
+        .arg(file)
+}
+
+fn explain<'a>(alloc: Global) -> Result<clap::Command<'a>, AllocError>
+    ensures app { IfOk result (λ c. app_of c ≡ explain_of) }
+    ensures local { IfOk result (λ c. (out-Command c).has_globals ≡ false) }
+{
+    let file = Arg::new(alloc, "FILE").help(EXPLAINED_HELP);
+    clap::Command::new(alloc, "explain")
+        .about("Writes what `monitor` does of FILE, and why; or what a rule says")
         .after_help(OUTCOMES)
         .arg(file)
 }
@@ -139,11 +157,19 @@ fn reading<'a>(alloc: Global) -> Result<clap::Command<'a>, AllocError>
         .subcommand(monitor)
 }
 
+/// The program with its commands that read traces and explain them.
+fn explaining<'a>(alloc: Global) -> Result<clap::Command<'a>, AllocError>
+    ensures { IfOk result (λ c. app_of c ≡ explaining_of) }
+{
+    let explain = explain(alloc)?;
+    reading(alloc)?.subcommand(explain)
+}
+
 fn tool<'a>(alloc: Global) -> Result<clap::Command<'a>, AllocError>
     ensures { IfOk result (λ c. app_of c ≡ tool_of) }
 {
     let run = run(alloc)?;
-    reading(alloc)?.subcommand(run)
+    explaining(alloc)?.subcommand(run)
 }
 
 /// The width that a word stands for, 8 bytes where there is no word.
@@ -169,9 +195,14 @@ fn flag_named(word: Option<&str>) -> bool
     }
 }
 
-/// The command of this name, with the words of its width and of its flag.
-fn command_named(name: &str, width: Option<&str>, trace: Option<&str>) -> Option<Command>
-    ensures { result ≡ command_named name.now (option_map (λ s. s.now) width.entry) (option_map (λ s. s.now) trace.entry) }
+/// The command of this name, with the words of its width, of its flag and of its file.
+fn command_named(
+    name: &str,
+    width: Option<&str>,
+    trace: Option<&str>,
+    file: Option<&str>,
+) -> Option<Command>
+    ensures { result ≡ command_named name.now (option_map (λ s. s.now) width.entry) (option_map (λ s. s.now) trace.entry) (option_map (λ s. s.now) file.entry) }
 {
     match name {
         "decode" => {
@@ -179,6 +210,10 @@ fn command_named(name: &str, width: Option<&str>, trace: Option<&str>) -> Option
             Some(Command::Decode { width })
         }
         "monitor" => Some(Command::Monitor),
+        "explain" => match file {
+            None => None,
+            Some(_) => Some(Command::Explain),
+        },
         "run" => Some(Command::Run {
             trace: flag_named(trace),
         }),
@@ -207,6 +242,24 @@ fn wrong_width(alloc: Global, word: Option<&str>) -> Result<clap::Error, AllocEr
     decode.error(ErrorKind::InvalidValue, message.as_str())
 }
 
+/// The error of an `explain` without FILE.
+fn missing_file(alloc: Global) -> Result<clap::Error, AllocError> {
+    let mut explain = explain(alloc)?.bin_name("tltool explain")?;
+    explain.error(
+        ErrorKind::MissingRequiredArgument,
+        "explain reads FILE twice, and a pipe can be read once: write the trace to a file, and name it",
+    )
+}
+
+/// The error of words that name no width, or no file to explain.
+fn wrong_words(alloc: Global, name: &str, width: Option<&str>) -> Result<clap::Error, AllocError> {
+    if name == "explain" {
+        missing_file(alloc)
+    } else {
+        wrong_width(alloc, width)
+    }
+}
+
 /// That `clap`'s statements on simple command lines hold of the program's.
 pub fn is_simple_command()
     ensures { is_simple_and_free tool_of ≡ true }
@@ -225,9 +278,12 @@ pub fn invocation(alloc: Global, words: &[String]) -> Result<(Command, Option<St
         let error = tool.error(ErrorKind::MissingSubcommand, "a subcommand is required")?;
         return Err(WordsFault::Usage(error));
     };
-    let Some(command) = command_named(name, found.get_str("width"), found.get_str("trace")) else {
-        return Err(WordsFault::Usage(wrong_width(alloc, found.get_str("width"))?));
+    let width = found.get_str("width");
+    let trace = found.get_str("trace");
+    let name_of_file = found.get_str("FILE");
+    let Some(command) = command_named(name, width, trace, name_of_file) else {
+        return Err(WordsFault::Usage(wrong_words(alloc, name, width)?));
     };
-    let file = copied(alloc, found.get_str("FILE"))?;
+    let file = copied(alloc, name_of_file)?;
     Ok((command, file))
 }

@@ -9,7 +9,9 @@ use std::io::{Read, Write};
 use std::process::ExitCode;
 use std::{env, fs, io};
 use tl_tool::command::Command;
-use tl_tool::output::write_open_fault;
+use tl_tool::explain::{ExplainFault, explain_input};
+use tl_tool::named::tell_named;
+use tl_tool::output::{write_all, write_changed, write_open_fault};
 use tl_tool::status::{Status, ToolFault, exit_of};
 use tl_tool::tool::run_tool;
 use tl_tool::words::{WordsFault, invocation, usage_status};
@@ -57,6 +59,14 @@ fn run_over<R: Read, W: Write>(
     told(rt, run_tool(rt.alloc(), command, input, output))
 }
 
+/// Says on standard error that a file can't be opened. Answers the exit status.
+fn unopened(rt: &HostRuntime, name: &str) -> u8
+    ensures { result ≡ exit_status (Err ToolFault.Read) }
+{
+    let _ = write_open_fault(name, &mut rt.stderr());
+    exit_of(&Err(ToolFault::Read))
+}
+
 /// Runs a command over the file of this name, or tells that it couldn't be opened.
 fn run_file<R: Read + Drop, W: Write>(
     rt: &HostRuntime,
@@ -70,8 +80,36 @@ fn run_file<R: Read + Drop, W: Write>(
 {
     match opened {
         Ok(mut file) => run_over(rt, command, &mut file, output),
-        Err(_) => {
-            let _ = write_open_fault(name, &mut rt.stderr());
+        Err(_) => unopened(rt, name),
+    }
+}
+
+/// Writes what is said of the rule or fault of this name, or that there is no such file.
+fn explain_name(rt: &HostRuntime, name: &str) -> u8 {
+    let mut text = Vec::new(rt.alloc());
+    match tell_named(name, &mut text) {
+        Err(_) => told(rt, Err(ToolFault::Memory)),
+        Ok(false) => unopened(rt, name),
+        Ok(true) => match write_all(&mut io::writer(rt), &text) {
+            Ok(()) => 0,
+            Err(fault) => told(rt, Err(fault)),
+        },
+    }
+}
+
+/// Explains the file of this name, or the rule or fault where there is no such file.
+fn explain(rt: &HostRuntime, name: &str) -> u8 {
+    let Ok(mut first) = fs::open(rt, name) else {
+        return explain_name(rt, name);
+    };
+    let Ok(mut second) = fs::open(rt, name) else {
+        return unopened(rt, name);
+    };
+    match explain_input(rt.alloc(), &mut first, &mut second, &mut io::writer(rt)) {
+        Ok(status) => told(rt, Ok(status)),
+        Err(ExplainFault::Tool(fault)) => told(rt, Err(fault)),
+        Err(ExplainFault::Changed) => {
+            let _ = write_changed(name, &mut rt.stderr());
             exit_of(&Err(ToolFault::Read))
         }
     }
@@ -82,6 +120,7 @@ fn run(rt: &HostRuntime, command: Command, name: Option<String>) -> u8 {
     let mut output = io::writer(rt);
     match name {
         None => run_over(rt, command, &mut rt.reader(), &mut output),
+        Some(name) if command == Command::Explain => explain(rt, name.as_str()),
         Some(name) => {
             let opened = fs::open(rt, name.as_str());
             run_file(rt, command, name.as_str(), opened, &mut output)

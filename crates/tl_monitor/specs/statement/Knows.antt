@@ -1,5 +1,5 @@
 -- What a monitor knows of the trace that it was given.
-use Rattle.std.specs.Prelude.{ℕ, Bool, true, false, List, [], ◌∷◌, ◌≡◌, ◌<◌, ◌≤◌, length, slice_index_or, Option, Some, None, Result, Ok, Err, ⊤}
+use Rattle.std.specs.Prelude.{ℕ, Bool, true, false, List, [], ◌∷◌, ◌≡◌, ◌<◌, ◌≤◌, if◌then◌else◌, length, nat_lt, slice_index_or, Option, Some, None, Result, Ok, Err, ⊤}
 use Rattle.tl_beat.specs.declared.beat.Beat.{Beat}
 use Rattle.tl_beat.specs.declared.beat.Link.{Link}
 use Rattle.tl_params.specs.declared.level.Level.{Level}
@@ -7,6 +7,8 @@ use Rattle.tl_params.specs.declared.profile.Profile.{Profile}
 use Rattle.tl_params.specs.declared.rule.Rule.{Rule}
 use Rattle.tl_params.specs.statement.Config.{IsCount}
 use Rattle.tl_rules.specs.statement.Conformance.{Trace, on_link, broken_on_link, first_fault}
+use Rattle.tl_rules.specs.code.Open.{open_request}
+use Rattle.tl_rules.specs.declared.past.Request.{Request}
 use Rattle.tl_monitor.specs.declared.link_state.LinkState.{LinkState}
 use Rattle.tl_monitor.specs.code.LinkState.{IsEmpty}
 use Rattle.tl_monitor.specs.code.Keeps.{Keeps}
@@ -23,6 +25,10 @@ pub record Knows {w : ℕ} (m : Monitor w) (levels : List Level) (p : Profile) (
   pub profile_is : m.profile ≡ p
   pub closed_is : m.closed ≡ closed
   pub links_are : (n : ℕ) (d : LinkState) → n < length levels → Keeps (slice_index_or m.links.items n d) (on_link n t)
+
+-- the request with this source that is pending and complete on a link; none on a link without a level
+abbrev pub request_on : {w : ℕ} → List Level → Link → ℕ → Trace w → Option Request
+request_on levels link source t = if nat_lt link.0 (length levels) then open_request source (on_link link.0 t) else None
 
 -- this many links of which nothing is kept
 pub record AllEmpty (count : ℕ) (links : List LinkState) : Type 0 where

@@ -8,7 +8,7 @@ use Rattle.tl_tool.specs.declared.fault.Fault.TheVariants.{Line}
 use Rattle.tl_tool.specs.declared.status.Status.{Status}
 use Rattle.tl_tool.specs.declared.status.Status.TheVariants.{Clean, Broken}
 use Rattle.tl_tool.specs.statement.Fault.{fault_text}
-use Rattle.tl_tool.specs.statement.Text.{text_of}
+use Rattle.tl_explain.specs.statement.Text.{text_of}
 
 -- These lines, of which the first has the number n, decode to the text: a readable line for each that
 -- spells a beat, and `line N X` for the first at fault, which ends the text whatever follows it.

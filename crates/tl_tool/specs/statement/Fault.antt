@@ -22,3 +22,7 @@ fault_text n fault = codes "line " ++ decimal n ++ codes " " ++ fault_name fault
 -- the line for standard error where a file can't be opened
 abbrev pub open_fault_text : List ℕ → List ℕ
 open_fault_text name = codes "tltool: cannot open " ++ name ++ codes "\n"
+
+-- the line for standard error where a file changed between its two readings
+abbrev pub changed_text : List ℕ → List ℕ
+changed_text name = codes "tltool: " ++ name ++ codes " changed while it was read\n"

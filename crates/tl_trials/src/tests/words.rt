@@ -25,7 +25,7 @@ fn gives_the_command_and_the_file(rt: HostRuntime) -> Result<(), Fail> {
     };
     let outcomes = Command::Run { trace: false };
     let trace = Command::Run { trace: true };
-    let rows: [(&[&str], Command, Option<&str>); 14] = [
+    let rows: [(&[&str], Command, Option<&str>); 15] = [
         (&["tltool", "decode"], eight, None),
         (&["tltool", "decode", "beats.txt"], eight, Some("beats.txt")),
         (&["tltool", "decode", "--width", "4"], four, None),
@@ -35,6 +35,7 @@ fn gives_the_command_and_the_file(rt: HostRuntime) -> Result<(), Fail> {
         (&["tltool", "decode", "--width", "8", "a"], eight, Some("a")),
         (&["tltool", "decode", "--width", "16"], sixteen, None),
         (&["tltool", "monitor"], Command::Monitor, None),
+        (&["tltool", "explain", "a"], Command::Explain, Some("a")),
         (&["tltool", "run"], outcomes, None),
         (&["tltool", "run", "a"], outcomes, Some("a")),
         (&["tltool", "run", "--trace"], trace, None),
@@ -68,7 +69,8 @@ fn usage(alloc: Global, words: &[&str]) -> Result<clap::Error, Fail> {
 
 #[test]
 fn refuses_other_words(rt: HostRuntime) -> Result<(), Fail> {
-    let rows: [(&[&str], i32); 15] = [
+    let rows: [(&[&str], i32); 16] = [
+        (&["tltool", "explain"], 2),
         (&["tltool"], 2),
         (&["tltool", "encode"], 2),
         (&["tltool", "decode", "--width", "5"], 2),

@@ -16,6 +16,9 @@ handle_input-requires-in-Sixteen-clause-total g c = λ handler. decodes_more 16 
 pub handle_input-requires-in-Monitor-clause-total : goal.handle_input-requires-in-Monitor-clause-total
 handle_input-requires-in-Monitor-clause-total g c = judged_total
 
+pub handle_input-requires-in-Explain-clause-total : goal.handle_input-requires-in-Explain-clause-total
+handle_input-requires-in-Explain-clause-total g c = judged_total
+
 pub handle_input-requires-in-Run-false-clause-total : goal.handle_input-requires-in-Run-false-clause-total
 handle_input-requires-in-Run-false-clause-total g c = played-total 0
 

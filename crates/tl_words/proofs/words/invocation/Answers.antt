@@ -45,6 +45,10 @@ unparsed texts e passes = go (takes tool_of texts) refl
     go true is = rw (passes is) tt
     go false is = refusal texts (is_want_of_memory (kind_of e)) e (inl is)
 
+-- the same words name the same command
+named_alike : (name : Text) {a b c x y z : Option Text} → a ≡ x → b ≡ y → c ≡ z → command_named name x y z ≡ command_named name a b c
+named_alike name p q r = cc
+
 -- the subcommand with its entries that `clap` found
 chosen : (texts : List Text) (a : App) (m : ArgMatches) (name : Text) (rows : List Row) → a ≡ tool_of → subcommand_rows_of m ≡ subcommand_of a texts
     → Some name ≡ subcommand_name_of m → Some rows ≡ option_map (λ p. p.1) (subcommand_rows_of m) → subcommand_of tool_of texts ≡ Some (name, rows)
@@ -64,9 +68,11 @@ returns-clause-given c =
       c.in-Some.name.now,
       rows,
       chosen texts _ c.in_ok-matches.matches c.in-Some.name.now rows c.in_ok-tool.ensures h.1 c.in-Some.ensures.name c.in-Some.ensures.rows,
-      ap₂ (command_named c.in-Some.name.now) (sym (c.get_str.ensures ∙ first_value-rows (found_of c.in-Some.found.now) (codes "width")))
-          (sym (c.get_str-2.ensures ∙ first_value-rows (found_of c.in-Some.found.now) (codes "trace"))) ∙ sym c.in-Some-command_named.ensures,
-      c.in_ok-file.ensures ∙ c.get_str-3.ensures ∙ first_value-rows (found_of c.in-Some.found.now) (codes "FILE"),
+      named_alike c.in-Some.name.now
+          (c.get_str-width.ensures ∙ first_value-rows (found_of c.in-Some.found.now) (codes "width"))
+          (c.get_str-trace.ensures ∙ first_value-rows (found_of c.in-Some.found.now) (codes "trace"))
+          (c.get_str-name_of_file.ensures ∙ first_value-rows (found_of c.in-Some.found.now) (codes "FILE")) ∙ sym c.in-Some-command_named.ensures,
+      c.in_ok-file.ensures ∙ c.get_str-name_of_file.ensures ∙ first_value-rows (found_of c.in-Some.found.now) (codes "FILE"),
     )
 
 pub returns-in_err-matches-clause-refused : goal.returns-in_err-matches-clause-refused
@@ -82,5 +88,7 @@ returns-in_default-command_named-clause-refused c =
     let h = c.in_ok-matches.ensures.ok.2 (ap is_simple c.in_ok-tool.ensures ∙ simple) in
     let is = chosen texts _ c.in_ok-matches.matches c.in-Some.name.now rows c.in_ok-tool.ensures h.1 c.in-Some.ensures.name c.in-Some.ensures.rows in
     inr (ap command_given is
-    ∙ ap₂ (command_named c.in-Some.name.now) (sym (c.get_str.ensures ∙ first_value-rows (found_of c.in-Some.found.now) (codes "width")))
-    (sym (c.get_str-2.ensures ∙ first_value-rows (found_of c.in-Some.found.now) (codes "trace"))) ∙ sym c.in_default-command_named.ensures)
+    ∙ named_alike c.in-Some.name.now
+    (c.get_str-width.ensures ∙ first_value-rows (found_of c.in-Some.found.now) (codes "width"))
+    (c.get_str-trace.ensures ∙ first_value-rows (found_of c.in-Some.found.now) (codes "trace"))
+    (c.get_str-name_of_file.ensures ∙ first_value-rows (found_of c.in-Some.found.now) (codes "FILE")) ∙ sym c.in_default-command_named.ensures)

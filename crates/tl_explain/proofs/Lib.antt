@@ -1,0 +1,4 @@
+pub mod Cuts
+pub mod BeatTexts
+pub mod Follows
+pub mod Rests

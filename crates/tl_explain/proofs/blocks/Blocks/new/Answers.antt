@@ -1,0 +1,5 @@
+use Rattle.tl_explain.proofs.Follows.{no_blocks}
+use Rattle.tl_explain.proofs.blocks.Blocks.new.Goals as goal
+
+pub returns : goal.returns
+returns c = λ w. no_blocks w _ _ c.new.ensures c.new-2.ensures

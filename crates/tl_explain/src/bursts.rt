@@ -1,0 +1,159 @@
+//! The bursts of a link that have begun and aren't complete, each with its first beat.
+
+ghost use Rattle.std.specs.Prelude.{◌≡◌, ◌≤◌, ◌+◌, ◌==◌, IfOk, IsTrue, None, is_none, true};
+ghost use Rattle.tl_beat.specs.declared.channel.Channel.{Channel};
+ghost use Rattle.tl_beat.specs.statement.Width.{IsWidth};
+ghost use Rattle.tl_burst.specs.statement.Messages;
+ghost use Rattle.tl_burst.specs.statement.Part.{is_small};
+ghost use Rattle.tl_explain.specs.code.Recorded.{burst_on, burst_after, channel_in, burst_with, completes_burst, has_room};
+
+use crate::told::Told;
+use tl_beat::beat::Beat;
+use tl_beat::channel::Channel;
+use tl_burst::burst::burst_length;
+use tl_monitor::control::Control;
+
+/// How many beats the longest burst has.
+const LONGEST: u8 = 16;
+
+/// A burst that isn't complete: its first beat, its newest, and how many have come.
+#[derive(Clone, Copy)]
+pub struct Begun {
+    pub first: Told,
+    pub newest: Control,
+    pub came: u8,
+}
+
+/// What is unfinished on each channel.
+#[derive(Clone, Copy)]
+pub struct Bursts {
+    pub a: Option<Begun>,
+    pub b: Option<Begun>,
+    pub c: Option<Begun>,
+    pub d: Option<Begun>,
+    pub e: Option<Begun>,
+}
+
+/// The channel that carries a beat.
+pub fn channel_of<const W: usize>(beat: &Beat<W>) -> Channel
+    ensures { result ≡ Messages.channel_of beat.now }
+{
+    match beat {
+        Beat::A(_) => Channel::A,
+        Beat::B(_) => Channel::B,
+        Beat::C(_) => Channel::C,
+        Beat::D(_) => Channel::D,
+        Beat::E(_) => Channel::E,
+    }
+}
+
+/// Whether the size is one that a message may have.
+pub fn is_small<const W: usize>(beat: &Beat<W>) -> bool
+    ensures { result ≡ is_small beat.now }
+{
+    match beat {
+        Beat::A(x) => x.size <= 6,
+        Beat::B(x) => x.size <= 6,
+        Beat::C(x) => x.size <= 6,
+        Beat::D(x) => x.size <= 6,
+        Beat::E(_) => true,
+    }
+}
+
+/// A burst with one more beat, or nothing where that is its last.
+fn after(told: &Told, burst: Option<Begun>, completes: bool) -> Option<Begun>
+    requires { has_room burst ≡ true }
+    ensures { result ≡ burst_after told.now completes burst }
+{
+    if completes {
+        return None;
+    }
+    match burst {
+        None => Some(Begun {
+            first: *told,
+            newest: told.mention.control,
+            came: 1,
+        }),
+        Some(burst) => Some(Begun {
+            first: burst.first,
+            newest: told.mention.control,
+            came: burst.came + 1,
+        }),
+    }
+}
+
+impl Bursts {
+    /// No burst on any channel.
+    pub fn new() -> Self
+        ensures a { result.a ≡ None }
+        ensures b { result.b ≡ None }
+        ensures c { result.c ≡ None }
+        ensures d { result.d ≡ None }
+        ensures e { result.e ≡ None }
+    {
+        Bursts {
+            a: None,
+            b: None,
+            c: None,
+            d: None,
+            e: None,
+        }
+    }
+
+    /// What is unfinished on a channel.
+    pub fn on(&self, channel: Channel) -> Option<Begun>
+        ensures { result ≡ burst_on self.now channel }
+    {
+        match channel {
+            Channel::A => self.a,
+            Channel::B => self.b,
+            Channel::C => self.c,
+            Channel::D => self.d,
+            Channel::E => self.e,
+        }
+    }
+
+    /// Whether a beat begins a message.
+    pub fn begins<const W: usize>(&self, beat: &Beat<W>) -> bool
+        ensures { result ≡ is_none (burst_on self.now (Messages.channel_of beat.now)) }
+    {
+        self.on(channel_of(beat)).is_none()
+    }
+
+    /// Whether a burst has room for one more beat.
+    pub fn has_room<const W: usize>(&self, beat: &Beat<W>) -> bool
+        ensures { result ≡ has_room (burst_on self.now (Messages.channel_of beat.now)) }
+    {
+        match self.on(channel_of(beat)) {
+            None => true,
+            Some(burst) => burst.came < LONGEST,
+        }
+    }
+
+    /// Whether a beat completes its message.
+    pub fn completes<const W: usize>(&self, beat: &Beat<W>) -> bool
+        requires width { IsWidth W }
+        requires small { IsTrue (is_small beat.now) }
+        requires room { has_room (burst_on self.now (Messages.channel_of beat.now)) ≡ true }
+        ensures { result ≡ completes_burst beat.now (burst_on self.now (Messages.channel_of beat.now)) }
+    {
+        match self.on(channel_of(beat)) {
+            None => burst_length(beat) == 1,
+            Some(burst) => burst.came + 1 == burst_length(beat),
+        }
+    }
+
+    /// Takes a beat, which completes its message or doesn't.
+    pub fn take(&mut self, told: &Told, completes: bool)
+        requires { has_room (burst_on self.old (channel_in told.now.mention.control)) ≡ true }
+        ensures { (ch : Channel) → burst_on self.new ch ≡ burst_with ch told.now completes (burst_on self.old ch) }
+    {
+        match told.mention.control {
+            Control::A(_) => self.a = after(told, self.a, completes),
+            Control::B(_) => self.b = after(told, self.b, completes),
+            Control::C(_) => self.c = after(told, self.c, completes),
+            Control::D(_) => self.d = after(told, self.d, completes),
+            Control::E(_) => self.e = after(told, self.e, completes),
+        }
+    }
+}

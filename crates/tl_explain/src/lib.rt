@@ -1,0 +1,24 @@
+//! Why a line of a trace is at fault: what a verdict rests on, and its words.
+#![tactic(auto)]
+
+mod blocks;
+pub mod bursts;
+mod example;
+pub mod heading;
+mod key;
+pub mod law;
+pub mod ledger;
+pub mod legal;
+pub mod named;
+mod params;
+pub mod reason;
+pub mod recorder;
+mod sentence;
+mod shown;
+pub mod spelling;
+pub mod tell;
+pub mod text;
+pub mod told;
+pub mod turn;
+pub mod turns;
+pub mod words;

@@ -1,0 +1,114 @@
+//! What a rule or a fault says, by its name.
+
+use crate::example::example_of;
+use crate::sentence::{basis, judged_messages, sentence};
+use std::io;
+use std::io::Write;
+use tl_params::rule::Rule;
+
+/// The rules that traces are judged by, in the order in which they are judged.
+const RULES: [Rule; 21] = [
+    Rule::L1,
+    Rule::L7,
+    Rule::L2,
+    Rule::L3,
+    Rule::L4,
+    Rule::L5,
+    Rule::L6,
+    Rule::S1,
+    Rule::H1,
+    Rule::H2,
+    Rule::H3,
+    Rule::H4,
+    Rule::H5,
+    Rule::H6,
+    Rule::H7,
+    Rule::H8,
+    Rule::H9,
+    Rule::H10,
+    Rule::H11,
+    Rule::H12,
+    Rule::H13,
+];
+
+/// The rule of this name.
+fn rule_named(name: &str) -> Option<Rule> {
+    for rule in RULES {
+        if rule.name() == name {
+            return Some(rule);
+        }
+    }
+    None
+}
+
+/// What a fault of a line says, by its name, in the words of docs/FORMATS.md.
+fn fault_named(name: &str) -> Option<&'static str> {
+    match name {
+        "F1" => Some(
+            "more than 256 bytes, or the last byte isn't LF, or fewer than two fields; or the number of fields isn't the channel's",
+        ),
+        "F2" => Some("the second field isn't one of the letters A to E"),
+        "F3" => Some(
+            "a field isn't of its form: lower-case digits of the wanted number, 0 or 1, or DATA",
+        ),
+        "F4" => Some("the opcode isn't in use"),
+        "F5" => Some("the param is over 7 on A, B and C, or over 3 on D"),
+        "F6" => Some("digits where the opcode carries no data, or `-` where it does"),
+        "F7" => Some("the first line is no header"),
+        "F8" => Some("the line of a schedule says no event"),
+        _ => None,
+    }
+}
+
+/// Appends a trace, each line behind two spaces.
+fn append_trace(trace: &str, out: &mut Vec<u8>) -> io::Result<()> {
+    for line in trace.lines() {
+        write!(out, "  {line}\n")?;
+    }
+    Ok(())
+}
+
+/// Appends the name of a rule, with the messages that it judges, and its sentence.
+pub fn append_sentence(rule: Rule, out: &mut Vec<u8>) -> io::Result<()> {
+    let name = rule.name();
+    let messages = judged_messages(rule);
+    let sentence = sentence(rule);
+    if messages.is_empty() {
+        write!(out, "{name}: {sentence}\n")
+    } else {
+        write!(out, "{name} ({messages}): {sentence}\n")
+    }
+}
+
+fn tell_rule(rule: Rule, out: &mut Vec<u8>) -> io::Result<()> {
+    append_sentence(rule, out)?;
+    let basis = basis(rule);
+    write!(out, "judged by: {basis}\n")?;
+    let Some(example) = example_of(rule) else {
+        return Ok(());
+    };
+    let what = example.what;
+    let instead = example.instead;
+    write!(
+        out,
+        "a shortest trace that breaks it, in its last line ({what}):\n"
+    )?;
+    append_trace(example.wrong, out)?;
+    write!(out, "right instead ({instead}):\n")?;
+    append_trace(example.right, out)
+}
+
+/// Appends what is said of the rule or fault of this name. Answers whether there is one.
+pub fn tell_named(name: &str, out: &mut Vec<u8>) -> io::Result<bool> {
+    if let Some(rule) = rule_named(name) {
+        tell_rule(rule, out)?;
+        return Ok(true);
+    }
+    match fault_named(name) {
+        None => Ok(false),
+        Some(sentence) => {
+            write!(out, "{name}: {sentence}\n")?;
+            Ok(true)
+        }
+    }
+}

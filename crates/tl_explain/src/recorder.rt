@@ -1,0 +1,76 @@
+//! What a verdict on one beat rests on, from the beats before it.
+
+ghost use Rattle.std.specs.Prelude.{ℕ, ◌≡◌, ◌∷◌, [], OnOk};
+ghost use Rattle.tl_beat.specs.statement.Width.{IsWidth};
+ghost use Rattle.tl_explain.specs.code.Recorded.{IsRecord};
+ghost use Rattle.tl_explain.specs.statement.Evidence.{next_line};
+ghost use Rattle.tl_rules.specs.statement.Conformance.{Trace};
+
+use crate::blocks::Blocks;
+use crate::bursts::{Bursts, is_small};
+use crate::told::{Mention, Spelling, Told};
+use crate::turns::{Moment, Subject, Turns};
+use tl_beat::beat::{Beat, Link};
+use tl_monitor::control::control_of;
+
+/// A recorder can't go on: a monitor has taken no such beats.
+#[derive(Clone, Copy, Debug, PartialEq, Eq)]
+pub struct Unrecorded;
+
+/// Follows the keys of a subject through the beats of its link.
+#[derive(Drop)]
+pub struct Recorder {
+    pub subject: Subject,
+    pub bursts: Bursts,
+    blocks: Blocks,
+    pub turns: Turns,
+}
+
+impl Recorder {
+    /// A recorder that has seen no beat.
+    pub fn new(subject: Subject) -> Self
+        ensures { (w : ℕ) → IsRecord {w = w} result [] }
+    {
+        Recorder {
+            subject,
+            bursts: Bursts::new(),
+            blocks: Blocks::new(),
+            turns: Turns::new(),
+        }
+    }
+
+    /// Takes the next beat of a trace, which stands in the line of this number.
+    pub fn take<const W: usize>(
+        &mut self,
+        number: u64,
+        line: &[u8],
+        link: Link,
+        beat: &Beat<W>,
+    ) -> Result<(), Unrecorded>
+        requires { IsWidth W }
+        ensures { OnOk result ((t : Trace W) → number ≡ next_line t → IsRecord self.old t → IsRecord self.new ((link, beat.now) ∷ t)) }
+    {
+        if link != self.subject.link {
+            return Ok(());
+        }
+        if !is_small(beat) || !self.bursts.has_room(beat) {
+            return Err(Unrecorded);
+        }
+        let moment = Moment {
+            told: Told {
+                mention: Mention {
+                    line: number,
+                    control: control_of(beat),
+                },
+                spelling: Spelling::of(line),
+            },
+            first: self.bursts.begins(beat),
+            last: self.bursts.completes(beat),
+            block: self.blocks.of(beat),
+        };
+        self.turns.take(self.subject, &moment);
+        self.blocks.take(beat, moment.first);
+        self.bursts.take(&moment.told, moment.last);
+        Ok(())
+    }
+}

@@ -1,0 +1,231 @@
+//! Writes a beat line as a readable line. The digits are those of the beat line.
+
+ghost use Rattle.std.specs.Prelude.{◌≡◌, ◌+◌, ◌≤◌, ◌/◌, ◌++◌, length, OnOk, option_map, unwrap_or, slice_index, slice_range, codes, [], ◌∷◌};
+ghost use Rattle.tl_beat.specs.declared.beat.Link.{Link};
+ghost use Rattle.tl_beat.specs.statement.Line.{Spells};
+ghost use Rattle.tl_beat.specs.statement.Width.{IsWidth};
+ghost use Rattle.tl_explain.specs.statement.Text.{text_of};
+ghost use Rattle.tl_explain.specs.code.Cuts.{IsShort, acknowledgement_text, address_text, head_text, release_text, request_text, response_text, size_and_source, tail_text};
+
+use crate::params::{name_on_a, name_on_b, name_on_c, name_on_d};
+use arrayvec::ArrayVec;
+use std::alloc::AllocError;
+use tl_beat::beat::Beat;
+
+/// A param by its name, or by its digit in the line where it has none.
+fn param_text<'a>(line: &'a [u8], param: Option<&'a str>) -> &'a [u8]
+    requires { 8 ≤ length line.now }
+    ensures { result.now ≡ unwrap_or (option_map (λ s. s.now) param.entry) (slice_range line.now 7 8) }
+{
+    match param {
+        Some(name) => name.as_bytes(),
+        None => &line[7..8],
+    }
+}
+
+/// Appends bytes that there is room for.
+#[inline(always)]
+fn append(text: &mut ArrayVec<u8, 128>, bytes: &[u8])
+    requires { length text.old.items + length bytes.now ≤ 128 }
+    ensures text { text.new.items ≡ text.old.items ++ bytes.now }
+    ensures len { length text.new.items ≡ length text.old.items + length bytes.now }
+{
+    let _ = text.try_extend_from_slice(bytes);
+}
+
+/// Link, channel, name and param.
+#[inline(always)]
+#[tactic(auto, unfolding(crate::specs::code::Cuts::head_text))]
+fn append_head(text: &mut ArrayVec<u8, 128>, line: &[u8], name: &str, param: Option<&str>)
+    requires line { 13 ≤ length line.now }
+    requires names { (length name.now ≤ 14) × IsShort (option_map (λ s. s.now) param) }
+    requires empty { text.old.items ≡ [] }
+    ensures text { text.new.items ≡ head_text line.now name.now (option_map (λ s. s.now) param.entry) }
+    ensures len { length text.new.items ≤ 33 }
+{
+    append(text, &line[..5]);
+    append(text, name.as_bytes());
+    text.push(b' ');
+    append(text, param_text(line, param));
+}
+
+/// Size, source and address of a line of channels A to C.
+#[inline(always)]
+#[tactic(auto, unfolding(crate::specs::code::Cuts::size_and_source, crate::specs::code::Cuts::address_text))]
+fn address_block(line: &[u8]) -> [u8; 34]
+    requires { 22 ≤ length line.now }
+    ensures { result ≡ size_and_source line.now (address_text line.now []) }
+{
+    let mut block = *b" size=0 source=00 address=00000000";
+    block[6] = line[9];
+    block[15] = line[11];
+    block[16] = line[12];
+    block[26] = line[14];
+    block[27] = line[15];
+    block[28] = line[16];
+    block[29] = line[17];
+    block[30] = line[18];
+    block[31] = line[19];
+    block[32] = line[20];
+    block[33] = line[21];
+    block
+}
+
+/// Size, source, sink and denied of a line of channel D.
+#[inline(always)]
+#[tactic(auto, unfolding(crate::specs::code::Cuts::size_and_source))]
+fn sink_block(line: &[u8]) -> [u8; 34]
+    requires { 18 ≤ length line.now }
+    ensures { result ≡ size_and_source line.now (codes " sink=" ++ slice_index line.now 14 ∷ slice_index line.now 15 ∷ (codes " denied=" ++ slice_index line.now 17 ∷ [])) }
+{
+    let mut block = *b" size=0 source=00 sink=00 denied=0";
+    block[6] = line[9];
+    block[15] = line[11];
+    block[16] = line[12];
+    block[23] = line[14];
+    block[24] = line[15];
+    block[33] = line[17];
+    block
+}
+
+/// Data and the corrupt bit.
+#[inline(always)]
+#[tactic(auto, unfolding(crate::specs::code::Cuts::tail_text))]
+fn append_tail<const W: usize>(text: &mut ArrayVec<u8, 128>, tail: &[u8])
+    requires width { IsWidth W }
+    requires tail { 3 ≤ length tail.now }
+    requires room { length text.old.items + length tail.now + 14 ≤ 128 }
+    ensures { text.new.items ≡ text.old.items ++ tail_text tail.now }
+{
+    let mut end = *b" corrupt=0\n";
+    end[9] = tail[tail.len() - 2];
+    let data = &tail[..tail.len() - 3];
+    append(text, b" data=");
+    // A number of bytes that the compiler knows is copied without a call.
+    if data.len() == 2 * W {
+        append(text, &data[..2 * W]);
+    } else {
+        append(text, data);
+    }
+    append(text, &end);
+}
+
+/// Size, source, address and mask of a line of channels A and B.
+#[inline(always)]
+#[tactic(auto, unfolding(crate::specs::code::Cuts::request_text))]
+fn append_request<const W: usize>(
+    text: &mut ArrayVec<u8, 128>,
+    line: &[u8],
+    name: &str,
+    param: Option<&str>,
+)
+    requires width { IsWidth W }
+    requires line { (27 + W / 4 ≤ length line.now) × (length line.now ≤ 63) }
+    requires names { (length name.now ≤ 14) × IsShort (option_map (λ s. s.now) param) }
+    requires empty { text.old.items ≡ [] }
+    ensures { text.new.items ≡ request_text (W / 4) line.now name.now (option_map (λ s. s.now) param.entry) }
+{
+    let mask = W / 4;
+    append_head(text, line, name, param);
+    append(text, &address_block(line));
+    append(text, b" mask=");
+    append(text, &line[23..23 + mask]);
+    append_tail::<W>(text, &line[24 + mask..]);
+}
+
+/// A line of channel C.
+#[inline(always)]
+#[tactic(auto, unfolding(crate::specs::code::Cuts::release_text))]
+fn append_release<const W: usize>(
+    text: &mut ArrayVec<u8, 128>,
+    line: &[u8],
+    name: &str,
+    param: Option<&str>,
+)
+    requires width { IsWidth W }
+    requires line { (26 ≤ length line.now) × (length line.now ≤ 63) }
+    requires names { (length name.now ≤ 14) × IsShort (option_map (λ s. s.now) param) }
+    requires empty { text.old.items ≡ [] }
+    ensures { text.new.items ≡ release_text line.now name.now (option_map (λ s. s.now) param.entry) }
+{
+    append_head(text, line, name, param);
+    append(text, &address_block(line));
+    append_tail::<W>(text, &line[23..]);
+}
+
+/// A line of channel D.
+#[inline(always)]
+#[tactic(auto, unfolding(crate::specs::code::Cuts::response_text))]
+fn append_response<const W: usize>(
+    text: &mut ArrayVec<u8, 128>,
+    line: &[u8],
+    name: &str,
+    param: Option<&str>,
+)
+    requires width { IsWidth W }
+    requires line { (22 ≤ length line.now) × (length line.now ≤ 63) }
+    requires names { (length name.now ≤ 14) × IsShort (option_map (λ s. s.now) param) }
+    requires empty { text.old.items ≡ [] }
+    ensures { text.new.items ≡ response_text line.now name.now (option_map (λ s. s.now) param.entry) }
+{
+    append_head(text, line, name, param);
+    append(text, &sink_block(line));
+    append_tail::<W>(text, &line[19..]);
+}
+
+/// A line of channel E.
+#[inline(always)]
+#[tactic(auto, unfolding(crate::specs::code::Cuts::acknowledgement_text))]
+fn append_acknowledgement(text: &mut ArrayVec<u8, 128>, line: &[u8])
+    requires line { (5 ≤ length line.now) × (length line.now ≤ 63) }
+    requires empty { text.old.items ≡ [] }
+    ensures { text.new.items ≡ acknowledgement_text line.now }
+{
+    append(text, &line[..5]);
+    append(text, b"GrantAck sink=");
+    append(text, &line[5..]);
+}
+
+/// The readable line of the beat that a line spells.
+#[inline(always)]
+fn append_beat<const W: usize>(text: &mut ArrayVec<u8, 128>, line: &[u8], beat: &Beat<W>)
+    requires width { IsWidth W }
+    requires spelled { (link : Link) × Spells line.now link beat.now }
+    requires empty { text.old.items ≡ [] }
+    ensures { (link : Link) → Spells line.now link beat.now → text.new.items ≡ text_of link beat.now }
+{
+    match beat {
+        Beat::A(beat) => {
+            let param = name_on_a(beat.opcode, beat.param);
+            append_request::<W>(text, line, beat.opcode.name(), param);
+        }
+        Beat::B(beat) => {
+            let param = name_on_b(beat.opcode, beat.param);
+            append_request::<W>(text, line, beat.opcode.name(), param);
+        }
+        Beat::C(beat) => {
+            let param = name_on_c(beat.opcode, beat.param);
+            append_release::<W>(text, line, beat.opcode.name(), param);
+        }
+        Beat::D(beat) => {
+            let param = name_on_d(beat.opcode, beat.param);
+            append_response::<W>(text, line, beat.opcode.name(), param);
+        }
+        Beat::E(_) => append_acknowledgement(text, line),
+    }
+}
+
+/// Appends the readable line of the beat that a line spells.
+pub fn append_text<const W: usize>(
+    line: &[u8],
+    beat: &Beat<W>,
+    out: &mut Vec<u8>,
+) -> Result<(), AllocError>
+    requires width { IsWidth W }
+    requires spelled { (link : Link) × Spells line.now link beat.now }
+    ensures { OnOk result ((link : Link) → Spells line.now link beat.now → out.new.items ≡ out.old.items ++ text_of link beat.now) }
+{
+    let mut text = ArrayVec::new();
+    append_beat(&mut text, line, beat);
+    out.extend_from_slice(text.as_slice())
+}

@@ -1,0 +1,43 @@
+//! Beats with the numbers of their lines.
+
+use tl_monitor::control::Control;
+
+/// A beat by its control fields, with the number of its line.
+#[derive(Clone, Copy)]
+pub struct Mention {
+    pub line: u64,
+    pub control: Control,
+}
+
+/// The line of a beat, which has fewer than 64 bytes.
+#[derive(Clone, Copy)]
+pub struct Spelling {
+    pub bytes: [u8; 64],
+    pub len: u8,
+}
+
+/// A beat that can be told: what is known of it, and its line.
+#[derive(Clone, Copy)]
+pub struct Told {
+    pub mention: Mention,
+    pub spelling: Spelling,
+}
+
+impl Spelling {
+    /// The bytes of a line; what stands behind the first 64 is left out.
+    pub fn of(line: &[u8]) -> Self {
+        let mut bytes = [0u8; 64];
+        let len = line.len().min(64);
+        bytes[..len].copy_from_slice(&line[..len]);
+        Spelling {
+            bytes,
+            len: len as u8,
+        }
+    }
+
+    /// The line.
+    pub fn line(&self) -> &[u8] {
+        let end = usize::from(self.len).min(64);
+        &self.bytes[..end]
+    }
+}

@@ -1,0 +1,50 @@
+//! The last messages that opened and closed a key.
+
+ghost use Rattle.std.specs.Prelude.{◌≡◌, if◌then◌else◌, None, Some};
+ghost use Rattle.tl_explain.specs.code.Recorded.{open_message};
+
+use crate::told::Told;
+
+/// The last message that opened a key, and the last that closed it.
+#[derive(Clone, Copy)]
+pub struct Turn {
+    pub opening: Option<Told>,
+    pub closing: Option<Told>,
+}
+
+impl Turn {
+    /// No message has opened or closed the key.
+    pub fn new() -> Self
+        ensures opening { result.opening ≡ None }
+        ensures closing { result.closing ≡ None }
+    {
+        Turn {
+            opening: None,
+            closing: None,
+        }
+    }
+
+    /// Takes a message, which may open the key or close it.
+    pub fn take(&mut self, told: &Told, opens: bool, closes: bool)
+        ensures opening { self.new.opening ≡ (if opens then Some told.now else self.old.opening) }
+        ensures closing { self.new.closing ≡ (if closes then Some told.now else self.old.closing) }
+    {
+        if opens {
+            self.opening = Some(*told);
+        }
+        if closes {
+            self.closing = Some(*told);
+        }
+    }
+
+    /// The message that opened the key, where none has closed it.
+    pub fn pending(&self) -> Option<Told>
+        ensures { result ≡ open_message self.now }
+    {
+        let opening = self.opening?;
+        match self.closing {
+            Some(closing) if closing.mention.line > opening.mention.line => None,
+            _ => Some(opening),
+        }
+    }
+}

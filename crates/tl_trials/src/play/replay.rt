@@ -1,6 +1,5 @@
 //! Plays a trial on worlds of each kind, in each way.
 
-ghost use Rattle.std.specs.Prelude.{◌≡◌, length};
 ghost use Rattle.tl_beat.specs.statement.Width.{IsWidth};
 
 use crate::play::line::{append_number, append_text};
@@ -69,54 +68,43 @@ fn last_answers<const W: usize, A: Agent<W>, D: Directory>(
     Ok(text)
 }
 
-/// Room for what comes of events.
+/// Room for so many outcomes.
 #[derive(Drop)]
-struct Again<const W: usize> {
+struct Room<const W: usize> {
     outcomes: Vec<Outcome<W>>,
 }
 
-fn unset<const W: usize>(alloc: Global, count: usize) -> Result<Again<W>, AllocError>
+fn room_for<const W: usize>(alloc: Global, count: usize) -> Result<Room<W>, AllocError>
     requires { IsWidth W }
 {
     let mut outcomes = Vec::new(alloc);
     outcomes.resize(count, Outcome::NoSuchClient)?;
-    Ok(Again { outcomes })
+    Ok(Room { outcomes })
 }
 
-/// A new world of a replay of events.
+fn clear<const W: usize>(outcomes: &mut [Outcome<W>])
+    requires { IsWidth W }
+{
+    for outcome in outcomes.iter_mut() {
+        *outcome = Outcome::NoSuchClient;
+    }
+}
+
+/// A new world of a replay of events, where there is room for as many outcomes.
 pub fn replayed<const W: usize, A: Hires<W>, D: Covers>(
     alloc: Global,
     config: Config,
     events: &[Event<W>],
     outcomes: &mut [Outcome<W>],
 ) -> Result<World<W, A, D>, NewFault>
-    requires width { IsWidth W }
-    requires number { length events.now ≡ length outcomes.old }
+    requires { IsWidth W }
 {
+    if events.len() != outcomes.len() {
+        return Err(NewFault::Memory);
+    }
     let clients = hire_all::<W, A>(alloc, &config)?;
     let directory = D::cover(alloc, &config)?;
     World::replay(alloc, config, clients, directory, events, outcomes)
-}
-
-/// The first events, as many as there is room for.
-fn first_events<'a, const W: usize>(told: &'a Record<W>, again: &Again<W>) -> &'a [Event<W>] {
-    let events = told.events.as_slice();
-    events.get(..again.outcomes.len()).unwrap_or(events)
-}
-
-fn replayed_into<const W: usize, A: Hires<W>, D: Covers>(
-    alloc: Global,
-    config: Config,
-    told: &Record<W>,
-    again: &mut Again<W>,
-) -> Result<World<W, A, D>, NewFault>
-    requires { IsWidth W }
-{
-    let events = first_events::<W>(told, again);
-    if events.len() != again.outcomes.len() {
-        return Err(NewFault::Memory);
-    }
-    replayed::<W, A, D>(alloc, config, events, again.outcomes.as_mut_slice())
 }
 
 /// What a world answers behind the last event is what was told.
@@ -134,26 +122,21 @@ fn answer_again<const W: usize, A: Agent<W>, D: Directory>(
     Ok(())
 }
 
-/// Whether these are the first outcomes that were told.
-fn begins_with<const W: usize>(told: &Record<W>, again: &Again<W>) -> bool
-    requires { IsWidth W }
-{
-    told.begins_with(again.outcomes.as_slice())
-}
-
 /// A replay of what was told comes to the same.
 fn replay_again<const W: usize, A: Hires<W>, D: Covers>(
     alloc: Global,
     trial: Trial,
     told: &Record<W>,
+    outcomes: &mut [Outcome<W>],
     same: &mut bool,
 ) -> Result<World<W, A, D>, NewFault>
     requires { IsWidth W }
 {
+    clear(outcomes);
     let config = config_of(trial)?;
-    let mut again = unset::<W>(alloc, told.events.len())?;
-    let world = replayed_into::<W, A, D>(alloc, config, told, &mut again)?;
-    *same = *same && begins_with::<W>(told, &again);
+    let events = told.events.as_slice();
+    let world = replayed::<W, A, D>(alloc, config, events, outcomes)?;
+    *same = *same && told.begins_with(outcomes);
     answer_again::<W, A, D>(alloc, &world, trial, told, same)?;
     Ok(world)
 }
@@ -165,27 +148,13 @@ fn ran<const W: usize, A: Hires<W>, D: Covers>(
     events: &[Event<W>],
     outcomes: &mut [Outcome<W>],
 ) -> Result<World<W, A, D>, NewFault>
-    requires width { IsWidth W }
-    requires number { length events.now ≡ length outcomes.old }
-{
-    let mut world = make_world::<W, A, D>(alloc, config)?;
-    world.run(events, outcomes);
-    Ok(world)
-}
-
-fn ran_into<const W: usize, A: Hires<W>, D: Covers>(
-    alloc: Global,
-    config: Config,
-    told: &Record<W>,
-    again: &mut Again<W>,
-) -> Result<World<W, A, D>, NewFault>
     requires { IsWidth W }
 {
-    let events = first_events::<W>(told, again);
-    if events.len() != again.outcomes.len() {
-        return Err(NewFault::Memory);
+    let mut world = make_world::<W, A, D>(alloc, config)?;
+    if events.len() == outcomes.len() {
+        world.run(events, outcomes);
     }
-    ran::<W, A, D>(alloc, config, events, again.outcomes.as_mut_slice())
+    Ok(world)
 }
 
 /// Whether a world drains within its load, after which it is idle.
@@ -196,20 +165,21 @@ fn drains<const W: usize, A: Agent<W>, D: Directory>(world: &mut World<W, A, D>)
     world.drain() <= load && is_idle(world)
 }
 
-/// So many events happen to a new world, and come to the same. Then it drains.
+/// As many events happen to a new world as there is room for, and come to the same. Then it drains.
 fn drain_behind<const W: usize, A: Hires<W>, D: Covers>(
     alloc: Global,
     trial: Trial,
-    count: usize,
     told: &Record<W>,
+    outcomes: &mut [Outcome<W>],
     same: &mut bool,
 ) -> Result<World<W, A, D>, NewFault>
     requires { IsWidth W }
 {
+    clear(outcomes);
     let config = config_of(trial)?;
-    let mut again = unset::<W>(alloc, count)?;
-    let mut world = ran_into::<W, A, D>(alloc, config, told, &mut again)?;
-    *same = *same && begins_with::<W>(told, &again) && drains::<W, A, D>(&mut world);
+    let events = told.first_events(outcomes.len());
+    let mut world = ran::<W, A, D>(alloc, config, events, outcomes)?;
+    *same = *same && told.begins_with(outcomes) && drains::<W, A, D>(&mut world);
     Ok(world)
 }
 
@@ -218,14 +188,15 @@ fn drain_behind_each<const W: usize, A: Hires<W>, D: Covers>(
     alloc: Global,
     trial: Trial,
     told: &Record<W>,
+    outcomes: &mut [Outcome<W>],
     same: &mut bool,
 ) -> Result<World<W, A, D>, NewFault>
     requires { IsWidth W }
 {
-    for count in 0..told.events.len() {
-        let _ = drain_behind::<W, A, D>(alloc, trial, count, told, same)?;
+    for count in 0..outcomes.len() {
+        let _ = drain_behind::<W, A, D>(alloc, trial, told, &mut outcomes[..count], same)?;
     }
-    drain_behind(alloc, trial, told.events.len(), told, same)
+    drain_behind(alloc, trial, told, outcomes, same)
 }
 
 /// How far a trial is played again.
@@ -242,6 +213,7 @@ fn tell_again<const W: usize, A: Hires<W>, D: Covers>(
     alloc: Global,
     trial: Trial,
     told: &Record<W>,
+    outcomes: &mut [Outcome<W>],
     same: &mut bool,
 ) -> Result<World<W, A, D>, NewFault>
     requires { IsWidth W }
@@ -254,7 +226,7 @@ fn tell_again<const W: usize, A: Hires<W>, D: Covers>(
     let mut at_once = Record::new(alloc);
     let _ = play_anew::<W, A, D>(alloc, trial, Way::AtOnce, &mut at_once)?;
     *same = *same && counted.text.as_slice() == at_once.text.as_slice();
-    replay_again(alloc, trial, told, same)
+    replay_again(alloc, trial, told, outcomes, same)
 }
 
 /// The same, as far as is asked.
@@ -263,6 +235,7 @@ fn tell_as_deep<const W: usize, A: Hires<W>, D: Covers>(
     trial: Trial,
     depth: Depth,
     told: &Record<W>,
+    outcomes: &mut [Outcome<W>],
     same: &mut bool,
 ) -> Result<World<W, A, D>, NewFault>
     requires { IsWidth W }
@@ -270,10 +243,10 @@ fn tell_as_deep<const W: usize, A: Hires<W>, D: Covers>(
     match depth {
         Depth::EachWay => {}
         Depth::EachBeginning => {
-            let _ = drain_behind_each::<W, A, D>(alloc, trial, told, same)?;
+            let _ = drain_behind_each::<W, A, D>(alloc, trial, told, outcomes, same)?;
         }
     }
-    tell_again(alloc, trial, told, same)
+    tell_again(alloc, trial, told, outcomes, same)
 }
 
 /// Whether all clients keep copies.
@@ -298,20 +271,33 @@ fn tell_all<const W: usize>(
     trial: Trial,
     depth: Depth,
     told: &Record<W>,
+    outcomes: &mut [Outcome<W>],
     same: &mut bool,
 ) -> Result<(), NewFault>
     requires { IsWidth W }
 {
     let config = config_of(trial)?;
-    let _ = tell_as_deep::<W, AnyClient<W>, BitDirectory>(alloc, trial, depth, told, same)?;
-    let _ = tell_as_deep::<W, AnyClient<W>, TableDirectory>(alloc, trial, depth, told, same)?;
+    let _ = tell_as_deep::<W, AnyClient<W>, BitDirectory>(
+        alloc, trial, depth, told, outcomes, same,
+    )?;
+    let _ = tell_as_deep::<W, AnyClient<W>, TableDirectory>(
+        alloc, trial, depth, told, outcomes, same,
+    )?;
     if all_keep(&config) {
-        let _ = tell_as_deep::<W, Caching<W>, BitDirectory>(alloc, trial, depth, told, same)?;
-        let _ = tell_as_deep::<W, Caching<W>, TableDirectory>(alloc, trial, depth, told, same)?;
+        let _ = tell_as_deep::<W, Caching<W>, BitDirectory>(
+            alloc, trial, depth, told, outcomes, same,
+        )?;
+        let _ = tell_as_deep::<W, Caching<W>, TableDirectory>(
+            alloc, trial, depth, told, outcomes, same,
+        )?;
     }
     if none_keeps(&config) {
-        let _ = tell_as_deep::<W, Plain<W>, BitDirectory>(alloc, trial, depth, told, same)?;
-        let _ = tell_as_deep::<W, Plain<W>, TableDirectory>(alloc, trial, depth, told, same)?;
+        let _ = tell_as_deep::<W, Plain<W>, BitDirectory>(
+            alloc, trial, depth, told, outcomes, same,
+        )?;
+        let _ = tell_as_deep::<W, Plain<W>, TableDirectory>(
+            alloc, trial, depth, told, outcomes, same,
+        )?;
     }
     Ok(())
 }
@@ -328,7 +314,9 @@ pub fn play_worlds<const W: usize>(
     let mut told = Record::new(alloc);
     let _ = play_anew::<W, AnyClient<W>, BitDirectory>(alloc, trial, Way::Told, &mut told)?;
     let mut same = true;
-    tell_all(alloc, trial, depth, &told, &mut same)?;
+    let mut room = room_for::<W>(alloc, told.events.len())?;
+    let outcomes = room.outcomes.as_mut_slice();
+    tell_all(alloc, trial, depth, &told, outcomes, &mut same)?;
     out.extend_from_slice(told.text.as_slice())?;
     append_number(told.events.len() as u64, out)?;
     append_text(

@@ -53,6 +53,12 @@ impl<const W: usize> Record<W> {
         Some(answers) == self.text.as_slice().get(self.last..)
     }
 
+    /// So many events from the first one on, or all.
+    pub fn first_events(&self, count: usize) -> &[Event<W>] {
+        let events = self.events.as_slice();
+        events.get(..count).unwrap_or(events)
+    }
+
     /// Whether these are its first outcomes.
     pub fn begins_with(&self, outcomes: &[Outcome<W>]) -> bool {
         Some(outcomes) == self.outcomes.as_slice().get(..outcomes.len())

@@ -16,7 +16,8 @@ wrong = []
 
 said = dict(re.findall(r"Rule::(\w+) => \{?\s*\"(.*?)\"", source, re.S))
 for rule in RULES:
-    row = re.search(r"^\| %s \|(?: [^|]* \|)? ([^|]*) \|$" % rule, protocol, re.M)
+    messages = r" [^|]* \|" if rule[0] == "H" else ""
+    row = re.search(r"^\| %s \|%s ([^|]*) \| [^|]* \|$" % (rule, messages), protocol, re.M)
     if row is None or said.get(rule) != row.group(1):
         wrong.append("%s: the sentences differ" % rule)
     for suffix in ["", "_right"]:

@@ -64,29 +64,29 @@ const EXPLAINED_HELP: &str =
 const OUTCOMES: &str = "\
 At the first line at fault the text is `line N X`: N is its number, X what is wrong with it. `tltool
 explain FILE` says why, and `tltool explain X` what X says.
-  F1 to F6      the line spells no beat
+  F1 to F6      the line spells no beat (F1 and F8: no event, for `run`)
   F7            the first line is no header
-  F8            the line says no event
+  F8            the line says no event (`run`)
   L1 to L7      the beat is not a legal one by itself
   S1            the beat does not continue its burst
   H1 to H13     the beat breaks the order of messages
 
 Exit status:
-  0  clean, or help or the version was asked for
+  0  no line is at fault; or help or the version was asked for
   1  `line N X` was written
   2  the words are not of the form above
   3  no memory, or reading, writing or opening a file failed; a directory can be opened, but not
      read, and a reader of the output that goes away makes writing fail
 
-Examples:
+Examples, in the folder of examples (crates/tl_examples/data):
   printf '00 A 4 0 3 00 00000040 ff - 0\\n' | tltool decode
-  tltool monitor recorded.trace
-  tltool explain recorded.trace
+  tltool monitor two_caches.trace
+  tltool explain wrong_report.trace
   tltool explain H12
-  tail -n +2 recorded.trace | tltool decode
-  tltool run --trace two_caches.schedule | tltool monitor";
+  tail -n +2 two_caches.trace | tltool decode
+  tltool run --trace schedules/a_writer_becomes_a_reader.schedule | tltool monitor";
 
-const VERSION: &str = "0.1.0";
+const VERSION: &str = "0.2.0";
 
 fn decode<'a>(alloc: Global) -> Result<clap::Command<'a>, AllocError>
     ensures app { IfOk result (λ c. app_of c ≡ decode_of) }

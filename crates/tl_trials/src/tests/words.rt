@@ -101,7 +101,7 @@ fn texts_of_the_program(rt: HostRuntime) -> Result<(), Fail> {
     let version = usage(rt.alloc(), &["tltool", "--version"])?;
     assert_eq!(rt; version.kind(), ErrorKind::DisplayVersion);
     let text = format!(in rt.alloc(); "{version}")?;
-    assert_eq!(rt; text.as_str(), "tltool 0.1.0\n");
+    assert_eq!(rt; text.as_str(), "tltool 0.2.0\n");
     let width = usage(rt.alloc(), &["tltool", "decode", "--width", "5"])?;
     assert_eq!(rt; width.kind(), ErrorKind::InvalidValue);
     let text = format!(in rt.alloc(); "{width}")?;

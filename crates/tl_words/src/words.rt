@@ -64,7 +64,7 @@ const EXPLAINED_HELP: &str =
 const OUTCOMES: &str = "\
 At the first line at fault the text is `line N X`: N is its number, X what is wrong with it. `tltool
 explain FILE` says why, and `tltool explain X` what X says.
-  F1 to F6      the line spells no beat (F1 and F8: no event, for `run`)
+  F1 to F6      the line spells no beat
   F7            the first line is no header
   F8            the line says no event (`run`)
   L1 to L7      the beat is not a legal one by itself

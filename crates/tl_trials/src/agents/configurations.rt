@@ -1,9 +1,12 @@
 //! A world of each number of clients and sources, on few and on many blocks.
 
-use crate::agents::worlds::{comes_to, config_of, world_of};
-use crate::play::made::Covers;
+ghost use Rattle.tl_beat.specs.statement.Width.{IsWidth};
+
+use crate::agents::worlds::config_of;
+use crate::play::replay::ran;
 use std::alloc::Global;
 use std::process::Abort;
+use tl_client::agent::Agent;
 use tl_client::any::AnyClient;
 use tl_client::operation::Op;
 use tl_client::reply::Reply;
@@ -11,55 +14,86 @@ use tl_coherence::event::{Event, Outcome};
 use tl_manager::bits::BitDirectory;
 use tl_manager::directory::Directory;
 use tl_manager::table::TableDirectory;
+use tl_rules::config::NewFault;
 use tl_rules::level::Level;
 use tl_rules::param::Grow;
 use tl_rules::perm::Perm;
 use tl_world::world::World;
 
-/// So many clients acquire a block to read, which they are granted.
-fn all_read<D: Directory>(
+/// Each client acquires a block to read.
+fn acquires(block: u16) -> [Event<8>; 16] {
+    let grow = Grow::NtoB;
+    let operation = Op::Acquire { block, grow };
+    let mut events = [Event::Ask {
+        client: 0,
+        operation,
+    }; 16];
+    for (client, event) in (0..16u8).zip(events.iter_mut()) {
+        *event = Event::Ask { client, operation };
+    }
+    events
+}
+
+fn world_in<D: Directory>(
     rt: &impl Abort,
-    world: &mut World<8, AnyClient<8>, D>,
+    made: Result<World<8, AnyClient<8>, D>, NewFault>,
+) -> World<8, AnyClient<8>, D> {
+    match made {
+        Ok(world) => world,
+        Err(_) => panic!(rt; "no world"),
+    }
+}
+
+/// So many clients have been granted what they asked for.
+fn all_read<const W: usize, A: Agent<W>, D: Directory>(
+    rt: &impl Abort,
+    world: &World<W, A, D>,
     count: u8,
     block: u16,
-) {
-    for client in 0..count {
-        let grow = Grow::NtoB;
-        let operation = Op::Acquire { block, grow };
-        let reply = Reply::Started(0);
-        comes_to(
-            rt,
-            world,
-            Event::Ask { client, operation },
-            Outcome::Replied { reply },
-        );
-    }
-    assert_eq!(rt; world.drain(), 10 * u64::from(count));
+)
+    requires { IsWidth W }
+{
     for client in 0..count {
         assert_eq!(rt; world.held(client, block), Perm::Branch);
     }
     assert_eq!(rt; world.held(count, block), Perm::None);
 }
 
-/// The clients of a new world read its last block.
-fn reads<D: Covers>(
-    rt: &impl Abort,
-    alloc: Global,
-    blocks: u16,
-    sources: &[u8],
-) -> World<8, AnyClient<8>, D> {
+fn all_started(rt: &impl Abort, outcomes: &[Outcome<8>], count: usize) {
+    let reply = Reply::Started(0);
+    for outcome in outcomes.iter().take(count) {
+        assert_eq!(rt; *outcome, Outcome::Replied { reply });
+    }
+}
+
+/// The clients of a new world with each directory read its last block.
+fn reads(rt: &impl Abort, alloc: Global, blocks: u16, sources: &[u8]) {
+    let block = blocks.saturating_sub(1);
+    let all = acquires(block);
+    let events = all.get(..sources.len()).unwrap_or(&[]);
+    let count = events.len() as u8;
+    let mut outcomes = [Outcome::Stalled; 16];
     let config = config_of(blocks, 1, Level::C, sources);
-    let count = config.clients.len() as u8;
-    let mut world = world_of::<8, AnyClient<8>, D>(rt, alloc, config);
-    all_read(rt, &mut world, count, blocks.saturating_sub(1));
-    world
+    let room = &mut outcomes[..events.len()];
+    let made = ran::<8, AnyClient<8>, BitDirectory>(alloc, config, events, room);
+    let mut world = world_in(rt, made);
+    assert_eq!(rt; world.drain(), 10 * u64::from(count));
+    all_read(rt, &world, count, block);
+    all_started(rt, &outcomes, events.len());
+    let mut outcomes = [Outcome::Stalled; 16];
+    let config = config_of(blocks, 1, Level::C, sources);
+    let room = &mut outcomes[..events.len()];
+    let made = ran::<8, AnyClient<8>, TableDirectory>(alloc, config, events, room);
+    let mut world = world_in(rt, made);
+    assert_eq!(rt; world.drain(), 10 * u64::from(count));
+    all_read(rt, &world, count, block);
+    all_started(rt, &outcomes, events.len());
 }
 
 fn each_number_of_clients(rt: &impl Abort, alloc: Global, blocks: u16, sources: u8) {
     let all = [sources; 16];
     for count in 1..=16usize {
-        let _ = reads::<BitDirectory>(rt, alloc, blocks, &all[..count]);
-        let _ = reads::<TableDirectory>(rt, alloc, blocks, &all[..count]);
+        reads(rt, alloc, blocks, &all[..count]);
     }
 }
 

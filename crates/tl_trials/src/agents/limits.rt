@@ -65,21 +65,6 @@ fn is_refused<A: Hires<8>, D: Covers>(
     }
 }
 
-/// A replay of one event on a world that is refused leaves its outcome alone.
-fn replay_of<A: Hires<8>, D: Covers>(
-    rt: &impl Abort,
-    alloc: Global,
-    config: Config,
-) -> Result<World<8, A, D>, NewFault> {
-    let link = Link(0);
-    let channel = Channel::A;
-    let events = [Event::Deliver { link, channel }];
-    let mut outcomes = [Outcome::Stalled];
-    let made = replayed::<8, A, D>(alloc, config, &events, &mut outcomes);
-    assert_eq!(rt; outcomes, [Outcome::Stalled]);
-    made
-}
-
 /// Of blocks and sources that are out of their limits no clients can be had, so that a world is refused for
 /// the number of clients, before anything else, or of trackers.
 const NO_WORLD: [(u16, u8, &[u8], NewFault); 4] = [
@@ -102,10 +87,34 @@ fn limits_of_worlds(rt: HostRuntime) {
         is_refused(&rt, made, fault);
         let made = make_world::<8, Caching<8>, BitDirectory>(alloc, config(Level::C));
         is_refused(&rt, made, fault);
-        let made = replay_of::<AnyClient<8>, BitDirectory>(&rt, alloc, config(Level::C));
+    }
+}
+
+/// The outcomes are then as they were.
+#[test]
+fn limits_of_replays(rt: HostRuntime) {
+    let alloc = rt.alloc();
+    let link = Link(0);
+    let channel = Channel::A;
+    let events = [Event::Deliver { link, channel }];
+    for (blocks, trackers, sources, fault) in NO_WORLD {
+        let config = |level| config_of(blocks, trackers, level, sources);
+        let mut outcomes = [Outcome::Stalled];
+        let made = replayed::<8, AnyClient<8>, BitDirectory>(
+            alloc,
+            config(Level::C),
+            &events,
+            &mut outcomes,
+        );
         is_refused(&rt, made, fault);
-        let made = replay_of::<Caching<8>, TableDirectory>(&rt, alloc, config(Level::C));
+        let made = replayed::<8, Caching<8>, TableDirectory>(
+            alloc,
+            config(Level::C),
+            &events,
+            &mut outcomes,
+        );
         is_refused(&rt, made, fault);
+        assert_eq!(rt; outcomes, [Outcome::Stalled]);
     }
 }
 

@@ -3,8 +3,9 @@
 ghost use Rattle.std.specs.Prelude.{◌≤◌};
 ghost use Rattle.tl_beat.specs.statement.Width.{IsWidth};
 
-use crate::agents::worlds::{comes_to, config_of, world_of};
-use crate::play::made::{Covers, Hires};
+use crate::agents::worlds::config_of;
+use crate::play::made::Hires;
+use crate::play::replay::ran;
 use std::alloc::Global;
 use std::process::Abort;
 use tl_beat::beat::Link;
@@ -24,7 +25,6 @@ use tl_manager::table::TableDirectory;
 use tl_rules::config::ClientConfig;
 use tl_rules::level::Level;
 use tl_rules::profile::Profile;
-use tl_world::world::World;
 
 fn request<const W: usize>(opcode: OpA, size: u8, mask: u64) -> MessageA<W>
     requires { size ≤ 6 }
@@ -108,44 +108,51 @@ fn corrupt_put<const W: usize>() -> Op<W> {
     access(put)
 }
 
-/// A message that has a corrupt bit, or is no access, isn't sent.
-fn not_sent<const W: usize, A: Hires<W>, D: Covers>(
-    rt: &impl Abort,
-    alloc: Global,
-    level: Level,
-) -> World<W, A, D>
+/// What is asked, each time followed by a delivery on channel A.
+fn asked_for<const W: usize>() -> [Event<W>; 4]
     requires { IsWidth W }
 {
-    let config = config_of(1, 1, level, &[1]);
-    let mut world = world_of::<W, A, D>(rt, alloc, config);
-    for (operation, busy) in [(corrupt_put(), Busy::B5), (grant_ack(), Busy::B4)] {
-        let client = 0;
-        let reply = Reply::Busy(busy);
-        comes_to(
-            rt,
-            &mut world,
-            Event::Ask { client, operation },
-            Outcome::Replied { reply },
-        );
-        let link = Link(0);
-        let channel = Channel::A;
-        comes_to(
-            rt,
-            &mut world,
-            Event::Deliver { link, channel },
-            Outcome::Empty,
-        );
-    }
-    world
+    let client = 0;
+    let link = Link(0);
+    let channel = Channel::A;
+    let operation = corrupt_put();
+    let first = Event::Ask { client, operation };
+    let operation = grant_ack();
+    let second = Event::Ask { client, operation };
+    let delivery = Event::Deliver { link, channel };
+    [first, delivery, second, delivery]
+}
+
+/// A message that has a corrupt bit, or is no access, isn't sent.
+fn is_not_sent<const W: usize>(rt: &impl Abort, outcomes: [Outcome<W>; 4])
+    requires { IsWidth W }
+{
+    let put = Outcome::Replied {
+        reply: Reply::Busy(Busy::B5),
+    };
+    let ack = Outcome::Replied {
+        reply: Reply::Busy(Busy::B4),
+    };
+    assert_eq!(rt; outcomes, [put, Outcome::Empty, ack, Outcome::Empty]);
 }
 
 fn not_sent_by<const W: usize>(rt: &impl Abort, alloc: Global)
     requires { IsWidth W }
 {
-    let _ = not_sent::<W, AnyClient<W>, BitDirectory>(rt, alloc, Level::UH);
-    let _ = not_sent::<W, AnyClient<W>, TableDirectory>(rt, alloc, Level::C);
-    let _ = not_sent::<W, Plain<W>, BitDirectory>(rt, alloc, Level::UH);
-    let _ = not_sent::<W, Plain<W>, TableDirectory>(rt, alloc, Level::UH);
+    let events = asked_for::<W>();
+    let config = |level| config_of(1, 1, level, &[1]);
+    let mut outcomes = [Outcome::Stalled; 4];
+    let _ = ran::<W, AnyClient<W>, BitDirectory>(alloc, config(Level::UH), &events, &mut outcomes);
+    is_not_sent(rt, outcomes);
+    let mut outcomes = [Outcome::Stalled; 4];
+    let _ = ran::<W, AnyClient<W>, TableDirectory>(alloc, config(Level::C), &events, &mut outcomes);
+    is_not_sent(rt, outcomes);
+    let mut outcomes = [Outcome::Stalled; 4];
+    let _ = ran::<W, Plain<W>, BitDirectory>(alloc, config(Level::UH), &events, &mut outcomes);
+    is_not_sent(rt, outcomes);
+    let mut outcomes = [Outcome::Stalled; 4];
+    let _ = ran::<W, Plain<W>, TableDirectory>(alloc, config(Level::UL), &events, &mut outcomes);
+    is_not_sent(rt, outcomes);
 }
 
 #[test]

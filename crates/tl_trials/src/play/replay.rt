@@ -141,8 +141,8 @@ fn replay_again<const W: usize, A: Hires<W>, D: Covers>(
     Ok(world)
 }
 
-/// A new world to which events happen in one call.
-fn ran<const W: usize, A: Hires<W>, D: Covers>(
+/// A new world to which events happen in one call, where there is room for as many outcomes.
+pub fn ran<const W: usize, A: Hires<W>, D: Covers>(
     alloc: Global,
     config: Config,
     events: &[Event<W>],

@@ -30,7 +30,7 @@ pub trait Hires<const W: usize>: Agent<W> {
         profile: Profile,
     ) -> Result<Self, NewFault>
         requires { IsWidth W }
-        ensures { IfOk result (λ client. IsHired Self.knows Self.terms config blocks profile client) };
+        ensures { IfOk result (λ client. IsHired Self.represents Self.terms config blocks profile client) };
 }
 
 impl<const W: usize> Hires<W> for AnyClient<W> {

@@ -2,7 +2,7 @@
 //! and TL-C): each with the number that a beat carries, and with the permissions at the two ends of
 //! a transition.
 
-ghost use Rattle.std.specs.Prelude.{◌≡◌, IfSome};
+ghost use Rattle.std.specs.Prelude.{◌≡◌, IfSome, slice_get};
 ghost use Rattle.tl_params.specs.statement.Names.{grow_name, cap_name, prune_name, report_name};
 ghost use Rattle.tl_params.specs.statement.Names.{arithmetic_name, logical_name, intent_name};
 ghost use Rattle.tl_params.specs.statement.Param.{grow_of, grow_code, grow_left, grow_right};
@@ -74,18 +74,22 @@ pub enum Intent {
     PrefetchWrite,
 }
 
+/// The value with this number, where all values of a kind stand in the order of their numbers.
+fn numbered<P: Copy>(all: &[P], number: u8) -> Option<P>
+    ensures { result ≡ slice_get all.now number }
+{
+    all.get(usize::from(number)).copied()
+}
+
 impl Grow {
+    const NAMES: [&'static str; 3] = ["NtoB", "NtoT", "BtoT"];
+
     /// The grow of this number, if there is one.
     pub fn from_param(param: u8) -> Option<Self>
         ensures value { result ≡ grow_of param }
         ensures again { IfSome result (λ grow. grow_code grow ≡ param) }
     {
-        match param {
-            0 => Some(Self::NtoB),
-            1 => Some(Self::NtoT),
-            2 => Some(Self::BtoT),
-            _ => None,
-        }
+        numbered(&[Self::NtoB, Self::NtoT, Self::BtoT], param)
     }
 
     /// The number that a beat carries.
@@ -93,22 +97,14 @@ impl Grow {
         ensures value { result ≡ grow_code self }
         ensures again { grow_of result ≡ Some self }
     {
-        match self {
-            Self::NtoB => 0,
-            Self::NtoT => 1,
-            Self::BtoT => 2,
-        }
+        self as u8
     }
 
     /// The grow's name, as the specification has it.
     pub fn name(self) -> &'static str
         ensures { result.now ≡ grow_name self }
     {
-        match self {
-            Self::NtoB => "NtoB",
-            Self::NtoT => "NtoT",
-            Self::BtoT => "BtoT",
-        }
+        Self::NAMES[self as usize]
     }
 
     /// The permission from which it grows.
@@ -133,17 +129,14 @@ impl Grow {
 }
 
 impl Cap {
+    const NAMES: [&'static str; 3] = ["toT", "toB", "toN"];
+
     /// The cap of this number, if there is one.
     pub fn from_param(param: u8) -> Option<Self>
         ensures value { result ≡ cap_of param }
         ensures again { IfSome result (λ cap. cap_code cap ≡ param) }
     {
-        match param {
-            0 => Some(Self::ToT),
-            1 => Some(Self::ToB),
-            2 => Some(Self::ToN),
-            _ => None,
-        }
+        numbered(&[Self::ToT, Self::ToB, Self::ToN], param)
     }
 
     /// The number that a beat carries.
@@ -151,22 +144,14 @@ impl Cap {
         ensures value { result ≡ cap_code self }
         ensures again { cap_of result ≡ Some self }
     {
-        match self {
-            Self::ToT => 0,
-            Self::ToB => 1,
-            Self::ToN => 2,
-        }
+        self as u8
     }
 
     /// The cap's name, as the specification has it.
     pub fn name(self) -> &'static str
         ensures { result.now ≡ cap_name self }
     {
-        match self {
-            Self::ToT => "toT",
-            Self::ToB => "toB",
-            Self::ToN => "toN",
-        }
+        Self::NAMES[self as usize]
     }
 
     /// The most that may be held under it.
@@ -182,17 +167,14 @@ impl Cap {
 }
 
 impl Prune {
+    const NAMES: [&'static str; 3] = ["TtoB", "TtoN", "BtoN"];
+
     /// The prune of this number, if there is one.
     pub fn from_param(param: u8) -> Option<Self>
         ensures value { result ≡ prune_of param }
         ensures again { IfSome result (λ prune. prune_code prune ≡ param) }
     {
-        match param {
-            0 => Some(Self::TtoB),
-            1 => Some(Self::TtoN),
-            2 => Some(Self::BtoN),
-            _ => None,
-        }
+        numbered(&[Self::TtoB, Self::TtoN, Self::BtoN], param)
     }
 
     /// The number that a beat carries.
@@ -200,22 +182,14 @@ impl Prune {
         ensures value { result ≡ prune_code self }
         ensures again { prune_of result ≡ Some self }
     {
-        match self {
-            Self::TtoB => 0,
-            Self::TtoN => 1,
-            Self::BtoN => 2,
-        }
+        self as u8
     }
 
     /// The prune's name, as the specification has it.
     pub fn name(self) -> &'static str
         ensures { result.now ≡ prune_name self }
     {
-        match self {
-            Self::TtoB => "TtoB",
-            Self::TtoN => "TtoN",
-            Self::BtoN => "BtoN",
-        }
+        Self::NAMES[self as usize]
     }
 
     /// The permission that is given up.
@@ -240,20 +214,24 @@ impl Prune {
 }
 
 impl Report {
+    const NAMES: [&'static str; 6] = ["TtoB", "TtoN", "BtoN", "TtoT", "BtoB", "NtoN"];
+
     /// The report of this number, if there is one.
     pub fn from_param(param: u8) -> Option<Self>
         ensures value { result ≡ report_named param }
         ensures again { IfSome result (λ report. report_code report ≡ param) }
     {
-        match param {
-            0 => Some(Self::TtoB),
-            1 => Some(Self::TtoN),
-            2 => Some(Self::BtoN),
-            3 => Some(Self::TtoT),
-            4 => Some(Self::BtoB),
-            5 => Some(Self::NtoN),
-            _ => None,
-        }
+        numbered(
+            &[
+                Self::TtoB,
+                Self::TtoN,
+                Self::BtoN,
+                Self::TtoT,
+                Self::BtoB,
+                Self::NtoN,
+            ],
+            param,
+        )
     }
 
     /// The number that a beat carries.
@@ -261,28 +239,14 @@ impl Report {
         ensures value { result ≡ report_code self }
         ensures again { report_named result ≡ Some self }
     {
-        match self {
-            Self::TtoB => 0,
-            Self::TtoN => 1,
-            Self::BtoN => 2,
-            Self::TtoT => 3,
-            Self::BtoB => 4,
-            Self::NtoN => 5,
-        }
+        self as u8
     }
 
     /// The report's name, as the specification has it.
     pub fn name(self) -> &'static str
         ensures { result.now ≡ report_name self }
     {
-        match self {
-            Self::TtoB => "TtoB",
-            Self::TtoN => "TtoN",
-            Self::BtoN => "BtoN",
-            Self::TtoT => "TtoT",
-            Self::BtoB => "BtoB",
-            Self::NtoN => "NtoN",
-        }
+        Self::NAMES[self as usize]
     }
 
     /// The permission that was held.
@@ -309,19 +273,17 @@ impl Report {
 }
 
 impl Arithmetic {
+    const NAMES: [&'static str; 5] = ["MIN", "MAX", "MINU", "MAXU", "ADD"];
+
     /// The operation of this number, if there is one.
     pub fn from_param(param: u8) -> Option<Self>
         ensures value { result ≡ arithmetic_of param }
         ensures again { IfSome result (λ operation. arithmetic_code operation ≡ param) }
     {
-        match param {
-            0 => Some(Self::Min),
-            1 => Some(Self::Max),
-            2 => Some(Self::MinU),
-            3 => Some(Self::MaxU),
-            4 => Some(Self::Add),
-            _ => None,
-        }
+        numbered(
+            &[Self::Min, Self::Max, Self::MinU, Self::MaxU, Self::Add],
+            param,
+        )
     }
 
     /// The number that a beat carries.
@@ -329,42 +291,26 @@ impl Arithmetic {
         ensures value { result ≡ arithmetic_code self }
         ensures again { arithmetic_of result ≡ Some self }
     {
-        match self {
-            Self::Min => 0,
-            Self::Max => 1,
-            Self::MinU => 2,
-            Self::MaxU => 3,
-            Self::Add => 4,
-        }
+        self as u8
     }
 
     /// The operation's name, as the specification has it.
     pub fn name(self) -> &'static str
         ensures { result.now ≡ arithmetic_name self }
     {
-        match self {
-            Self::Min => "MIN",
-            Self::Max => "MAX",
-            Self::MinU => "MINU",
-            Self::MaxU => "MAXU",
-            Self::Add => "ADD",
-        }
+        Self::NAMES[self as usize]
     }
 }
 
 impl Logical {
+    const NAMES: [&'static str; 4] = ["XOR", "OR", "AND", "SWAP"];
+
     /// The operation of this number, if there is one.
     pub fn from_param(param: u8) -> Option<Self>
         ensures value { result ≡ logical_of param }
         ensures again { IfSome result (λ operation. logical_code operation ≡ param) }
     {
-        match param {
-            0 => Some(Self::Xor),
-            1 => Some(Self::Or),
-            2 => Some(Self::And),
-            3 => Some(Self::Swap),
-            _ => None,
-        }
+        numbered(&[Self::Xor, Self::Or, Self::And, Self::Swap], param)
     }
 
     /// The number that a beat carries.
@@ -372,38 +318,26 @@ impl Logical {
         ensures value { result ≡ logical_code self }
         ensures again { logical_of result ≡ Some self }
     {
-        match self {
-            Self::Xor => 0,
-            Self::Or => 1,
-            Self::And => 2,
-            Self::Swap => 3,
-        }
+        self as u8
     }
 
     /// The operation's name, as the specification has it.
     pub fn name(self) -> &'static str
         ensures { result.now ≡ logical_name self }
     {
-        match self {
-            Self::Xor => "XOR",
-            Self::Or => "OR",
-            Self::And => "AND",
-            Self::Swap => "SWAP",
-        }
+        Self::NAMES[self as usize]
     }
 }
 
 impl Intent {
+    const NAMES: [&'static str; 2] = ["PrefetchRead", "PrefetchWrite"];
+
     /// The intent of this number, if there is one.
     pub fn from_param(param: u8) -> Option<Self>
         ensures value { result ≡ intent_of param }
         ensures again { IfSome result (λ intent. intent_code intent ≡ param) }
     {
-        match param {
-            0 => Some(Self::PrefetchRead),
-            1 => Some(Self::PrefetchWrite),
-            _ => None,
-        }
+        numbered(&[Self::PrefetchRead, Self::PrefetchWrite], param)
     }
 
     /// The number that a beat carries.
@@ -411,19 +345,13 @@ impl Intent {
         ensures value { result ≡ intent_code self }
         ensures again { intent_of result ≡ Some self }
     {
-        match self {
-            Self::PrefetchRead => 0,
-            Self::PrefetchWrite => 1,
-        }
+        self as u8
     }
 
     /// The intent's name, as the specification has it.
     pub fn name(self) -> &'static str
         ensures { result.now ≡ intent_name self }
     {
-        match self {
-            Self::PrefetchRead => "PrefetchRead",
-            Self::PrefetchWrite => "PrefetchWrite",
-        }
+        Self::NAMES[self as usize]
     }
 }

@@ -24,14 +24,28 @@ def label(words, folder):
     return crate, "tests" if "--test" in words else "proof"
 
 
-def look(seen):
-    """Notes the processor seconds and the memory of each process that checks a crate."""
+def below(child):
+    """The processes that a process started, and those that these started, with the fields of their stat."""
+    fields = {}
     for it in pathlib.Path("/proc").glob("[0-9]*"):
+        try:
+            fields[int(it.name)] = (it / "stat").read_text().rpartition(")")[2].split()
+        except OSError:
+            continue
+    ours = {child}
+    while more := {it for it in fields if it not in ours and int(fields[it][1]) in ours}:
+        ours |= more
+    return {it: fields[it] for it in ours if it in fields}
+
+
+def look(seen, child):
+    """Notes the processor seconds and the memory of each process below the command's that checks a crate."""
+    for number, fields in below(child).items():
+        it = pathlib.Path("/proc") / str(number)
         try:
             words = (it / "cmdline").read_bytes().decode(errors="replace").split("\0")
             found = label(words, os.readlink(it / "cwd"))
             if found:
-                fields = (it / "stat").read_text().rpartition(")")[2].split()
                 memory = int(re.search(r"VmHWM:\s+(\d+)", (it / "status").read_text())[1])
                 seen[it.name, fields[19]] = (*found, (int(fields[11]) + int(fields[12])) / TICKS, memory)
         except (OSError, TypeError):
@@ -42,7 +56,7 @@ def main():
     seen, began = {}, time.time()
     child = subprocess.Popen(sys.argv[1:])
     while child.poll() is None:
-        look(seen)
+        look(seen, child.pid)
         time.sleep(1)
     taken, memory = collections.Counter(), collections.Counter()
     for crate, what, seconds, kib in seen.values():

@@ -1,38 +1,25 @@
 -- What is pending as a client takes a beat.
-use Rattle.std.proofs.Common.{◌≡◌, ℕ, true, false, not, ◌⊎◌, List, [], ◌∷◌, Option, Some, None, refl, sym, ◌∙◌, ap, inl, inr}
+use Rattle.tl_client.proofs.Imports.{IsWidth, Beat, BeatA, BeatB, BeatD, OpA, OpD, d_carries_data, C, MessageC, History}
+use Rattle.tl_client.proofs.Imports.{unfinished, same_control, breaks_burst, beats-positive, Key, RequestSource}
+use Rattle.tl_client.proofs.Imports.{ReleaseSource, AcquireOf, ReleaseOf, GrantSink, GrantAckOf, ProbeOf, Profile, S1}
+use Rattle.tl_client.proofs.Imports.{H2, sent, admits, answers, broken_order, broken_in_order, pending_with}
+use Rattle.tl_client.proofs.Imports.{release_with, block_at, is_probe, is_probe_ack, is_release, is_release_ack, ends}
+use Rattle.tl_client.proofs.Imports.{grant_sink, pending, request_of, release_of, next_rule, pending-whole}
+use Rattle.tl_client.proofs.Imports.{unfinished-whole, request_of-whole, release_of-whole, pending-quiet, IsClaimed}
+use Rattle.tl_client.proofs.Imports.{IsAcked, open_beat, open_release}
+use Rattle.std.proofs.Common.{◌≡◌, ℕ, true, false, not, ◌⊎◌, List, [], ◌∷◌, Option, Some, None, refl, sym, ◌∙◌, ap, inl}
+use Rattle.std.proofs.Common.{inr}
 use Rattle.std.specs.Prelude.{◌==◌, ⊤}
 use Rattle.std.proofs.lemmas.Bool.{and_parts, not-false, both_ways, cases_Bool}
-use Rattle.tl_beat.specs.statement.Width.{IsWidth}
-use Rattle.tl_beat.specs.declared.beat.Beat.{Beat}
 use Rattle.tl_beat.specs.declared.beat.Beat.TheVariants as beat
-use Rattle.tl_beat.specs.declared.beat.BeatA.{BeatA}
-use Rattle.tl_beat.specs.declared.beat.BeatB.{BeatB}
-use Rattle.tl_beat.specs.declared.beat.BeatD.{BeatD}
 use Rattle.tl_beat.specs.declared.channel.Channel.TheVariants as channel
-use Rattle.tl_beat.specs.declared.opcode.OpA.{OpA}
 use Rattle.tl_beat.specs.declared.opcode.OpA.TheVariants as a
-use Rattle.tl_beat.specs.declared.opcode.OpD.{OpD}
 use Rattle.tl_beat.specs.declared.opcode.OpD.TheVariants as d
-use Rattle.tl_beat.specs.statement.Opcode.{d_carries_data}
-use Rattle.tl_burst.specs.declared.message.Message.TheVariants.{C}
-use Rattle.tl_burst.specs.declared.message.MessageC.{MessageC}
-use Rattle.tl_burst.specs.statement.Messages.{History, unfinished, same_control, breaks_burst}
 use Rattle.tl_burst.proofs.ControlFields.{control_d}
-use Rattle.tl_burst.proofs.Splitting.{beats-positive}
-use Rattle.tl_params.specs.declared.key.Key.{Key}
-use Rattle.tl_params.specs.declared.key.Key.TheVariants.{RequestSource, ReleaseSource, AcquireOf, ReleaseOf, GrantSink, GrantAckOf, ProbeOf}
-use Rattle.tl_params.specs.declared.profile.Profile.{Profile}
-use Rattle.tl_params.specs.declared.rule.Rule.TheVariants.{S1, H2}
-use Rattle.tl_rules.specs.statement.Admission.{sent}
-use Rattle.tl_rules.specs.statement.Conformance.{admits, answers, has_request, broken_order, broken_in_order}
-use Rattle.tl_rules.specs.laws.Handed.{pending_with, release_with}
-use Rattle.tl_rules.specs.statement.History.{block_at, is_probe, is_probe_ack, is_release, is_release_ack, ends, grant_sink, pending, request_of, release_of}
-use Rattle.tl_rules.proofs.Bursts.{next_rule}
-use Rattle.tl_rules.proofs.Handed.{pending-whole, unfinished-whole, request_of-whole, release_of-whole, grant_sink-whole}
-use Rattle.tl_rules.proofs.Sent.{pending-quiet}
+use Rattle.tl_rules.specs.statement.Conformance.{has_request}
+use Rattle.tl_rules.proofs.Handed.{grant_sink-whole}
 use Rattle.tl_rules.proofs.Open.{never}
-use Rattle.tl_client.specs.laws.Accounted.{IsClaimed, IsAcked, IsAnswering}
-use Rattle.tl_client.specs.statement.Requests.{open_beat, open_release}
+use Rattle.tl_client.specs.laws.Accounted.{IsAnswering}
 use Rattle.tl_client.proofs.AccountedSent.{acked_same, all_same}
 use Rattle.tl_client.proofs.Opens.{open_beat-b, open_beat-c, request_of-b}
 
@@ -47,23 +34,28 @@ pub record SameClaims {w : ℕ} (t u : History w) : Type 0 where
 pub claimed_same : {w : ℕ} (t u : History w) → SameClaims t u → IsClaimed t → IsClaimed u
 claimed_same t u same old = record {
   acquired = λ k e. let p = old.acquired k (sym (same.same_acquires k) ∙ e) in (p.0, rw (same.same_open p.0) p.1);
-  released = λ k e. let p = old.released k (sym (same.same_releases k) ∙ e) in (p.0, rw (same.same_open_release p.0) p.1);
+  released = λ k e. let p = old.released k (sym (same.same_releases k) ∙ e) in
+      (p.0, rw (same.same_open_release p.0) p.1);
   releasing = λ s k e. same.same_releases k ∙ old.releasing s k (rw (same.same_open_release s) at e);
-  release_once = λ s r k e f. old.release_once s r k (rw (same.same_open_release s) at e) (rw (same.same_open_release r) at f);
+  release_once = λ s r k e f. old.release_once s r k (rw (same.same_open_release s) at e)
+      (rw (same.same_open_release r) at f);
   apart = λ k e. same.same_releases k ∙ old.apart k (sym (same.same_acquires k) ∙ e);
 }
 
 -- ---- a Probe and its ProbeAck
 
-burst_b : {w : ℕ} (x : BeatB w) (t : History w) → (unfinished channel.C (beat.B x ∷ t) ≡ unfinished channel.C t) × (unfinished channel.D (beat.B x ∷ t) ≡ unfinished channel.D t)
+burst_b : {w : ℕ} (x : BeatB w) (t : History w) → (unfinished channel.C (beat.B x ∷ t) ≡ unfinished channel.C t)
+    × (unfinished channel.D (beat.B x ∷ t) ≡ unfinished channel.D t)
 unfolding unfinished
 burst_b x t = (refl, refl)
 
-pub names_b : {w : ℕ} (s : ℕ) (x : BeatB w) (t : History w) → (release_of s (beat.B x ∷ t) ≡ release_of s t) × (grant_sink s (beat.B x ∷ t) ≡ grant_sink s t)
+pub names_b : {w : ℕ} (s : ℕ) (x : BeatB w) (t : History w) → (release_of s (beat.B x ∷ t) ≡ release_of s t)
+    × (grant_sink s (beat.B x ∷ t) ≡ grant_sink s t)
 unfolding release_of grant_sink
 names_b s x t = (refl, refl)
 
-pub acked-probe : {w : ℕ} (m : MessageC w) (x : BeatB w) (t : History w) → IsWidth w → unfinished channel.C t ≡ [] → is_probe_ack m.opcode ≡ true → block_at m.address ≡ block_at x.address
+pub acked-probe : {w : ℕ} (m : MessageC w) (x : BeatB w) (t : History w) → IsWidth w → unfinished channel.C t ≡ []
+    → is_probe_ack m.opcode ≡ true → block_at m.address ≡ block_at x.address
     → IsAcked t → IsAcked (sent (C m) (beat.B x ∷ t))
 acked-probe {w} m x t is none kind block old =
     acked_same t (sent (C m) (beat.B x ∷ t))
@@ -74,7 +66,8 @@ acked-probe {w} m x t is none kind block old =
           (λ s. open_beat-c s m (beat.B x ∷ t) is none_now ∙ open_beat-b s x t);
       same_sinks = λ s. now (GrantSink s) ∙ pending-quiet (GrantSink s) (beat.B x) t refl refl;
       same_acks = λ k. now (GrantAckOf k) ∙ pending-quiet (GrantAckOf k) (beat.B x) t refl refl;
-      same_ack_sinks = λ k. grant_sink-whole k (C m) (beat.B x ∷ t) none_now (beats-positive (C m) is) ∙ (names_b k x t).1;
+      same_ack_sinks = λ k. grant_sink-whole k (C m) (beat.B x ∷ t) none_now (beats-positive (C m) is)
+          ∙ (names_b k x t).1;
     })
     (λ k. now (ProbeOf k) ∙ answered k (cases_Bool (block_at m.address == k))) old
   where
@@ -84,13 +77,16 @@ acked-probe {w} m x t is none kind block old =
     now : (key : Key) → pending key (sent (C m) (beat.B x ∷ t)) ≡ pending_with key (C m) (beat.B x ∷ t)
     now key = pending-whole key (C m) (beat.B x ∷ t) none_now (beats-positive (C m) is)
 
-    answered : (k : ℕ) → ((block_at m.address == k) ≡ true) ⊎ ((block_at m.address == k) ≡ false) → pending_with (ProbeOf k) (C m) (beat.B x ∷ t) ≡ false
+    answered : (k : ℕ) → ((block_at m.address == k) ≡ true) ⊎ ((block_at m.address == k) ≡ false)
+        → pending_with (ProbeOf k) (C m) (beat.B x ∷ t) ≡ false
     answered k (inl here) = rw (kind, here) refl
     answered k (inr other) =
         let elsewhere : (block_at x.address == k) ≡ false = ap (λ j. j == k) (sym block) ∙ other in
-        rw (kind, other) (pending-quiet (ProbeOf k) (beat.B x) t (rw elsewhere (never (is_probe x.opcode))) refl ∙ old.probes k)
+        rw (kind, other) (pending-quiet (ProbeOf k) (beat.B x) t (rw elsewhere (never (is_probe x.opcode)))
+        refl ∙ old.probes k)
 
-pub claimed-probe : {w : ℕ} (m : MessageC w) (x : BeatB w) (t : History w) → IsWidth w → unfinished channel.C t ≡ [] → is_release m.opcode ≡ false → IsClaimed t → IsClaimed (sent (C m) (beat.B x ∷ t))
+pub claimed-probe : {w : ℕ} (m : MessageC w) (x : BeatB w) (t : History w) → IsWidth w → unfinished channel.C t ≡ []
+    → is_release m.opcode ≡ false → IsClaimed t → IsClaimed (sent (C m) (beat.B x ∷ t))
 claimed-probe {w} m x t is none kind old =
     claimed_same t (sent (C m) (beat.B x ∷ t))
     (record {
@@ -106,7 +102,8 @@ claimed-probe {w} m x t is none kind old =
     now : (key : Key) → pending key (sent (C m) (beat.B x ∷ t)) ≡ pending_with key (C m) (beat.B x ∷ t)
     now key = pending-whole key (C m) (beat.B x ∷ t) none_now (beats-positive (C m) is)
 
-    opened_with : (s : ℕ) → pending_with (ReleaseSource s) (C m) (beat.B x ∷ t) ≡ pending (ReleaseSource s) (beat.B x ∷ t)
+    opened_with : (s : ℕ) → pending_with (ReleaseSource s) (C m) (beat.B x ∷ t) ≡ pending (ReleaseSource s)
+        (beat.B x ∷ t)
     opened_with s = rw kind refl
 
     source_now : (s : ℕ) → pending (ReleaseSource s) (sent (C m) (beat.B x ∷ t)) ≡ pending (ReleaseSource s) t
@@ -116,7 +113,8 @@ claimed-probe {w} m x t is none kind old =
     named_with s = rw kind refl
 
     release_now : (s : ℕ) → release_of s (sent (C m) (beat.B x ∷ t)) ≡ release_of s t
-    release_now s = release_of-whole s (C m) (beat.B x ∷ t) none_now (beats-positive (C m) is) ∙ named_with s ∙ (names_b s x t).0
+    release_now s = release_of-whole s (C m) (beat.B x ∷ t) none_now (beats-positive (C m) is) ∙ named_with
+        s ∙ (names_b s x t).0
 
 -- ---- what is known of a response that breaks no rule of order
 
@@ -131,7 +129,8 @@ pub record IsFit {w : ℕ} (x : BeatD w) (t : History w) : Type 0 where
   pub acks : is_release_ack x.opcode ≡ true → (pending (ReleaseSource x.source) t ≡ true) × (ends (beat.D x) t ≡ true)
   pub goes_on : GoesOn x (unfinished channel.D t)
 
-admits_open : {w : ℕ} (opcode : OpD) (s : ℕ) (t : History w) → pending (RequestSource s) t ≡ true → admits opcode (request_of s t) ≡ true → admits opcode (open_beat s t) ≡ true
+admits_open : {w : ℕ} (opcode : OpD) (s : ℕ) (t : History w) → pending (RequestSource s) t ≡ true
+    → admits opcode (request_of s t) ≡ true → admits opcode (open_beat s t) ≡ true
 admits_open opcode s t live e = rw live e
 
 single_ack : (opcode : OpD) → is_release_ack opcode ≡ true → d_carries_data opcode ≡ false
@@ -142,7 +141,8 @@ single_ack d.Grant e = refl
 single_ack d.AccessAckData e = absurd (let no : false ≡ true = e in cc)
 single_ack d.GrantData e = absurd (let no : false ≡ true = e in cc)
 
-first_fit : {w : ℕ} (p : Profile) (x : BeatD w) (t : History w) → unfinished channel.D t ≡ [] → broken_order p (beat.D x) t ≡ None → IsFit x t
+first_fit : {w : ℕ} (p : Profile) (x : BeatD w) (t : History w) → unfinished channel.D t ≡ []
+    → broken_order p (beat.D x) t ≡ None → IsFit x t
 unfolding broken_order
 first_fit {w} p x t none e =
     let asked : has_request x t ≡ true = not-false (has_request x t) (next_rule (not (has_request x t)) H2 _ e).0 in
@@ -151,7 +151,11 @@ first_fit {w} p x t none e =
           let parts = and_parts (pending (RequestSource x.source) t) _ (rw kind at asked) in
           let admitted = and_parts _ (admits x.opcode (request_of x.source t)) parts.1 in
           admits_open x.opcode x.source t parts.0 admitted.1;
-      acks = λ kind. ((and_parts (pending (ReleaseSource x.source) t) _ (rw kind at asked)).0, rw (none, single_ack x.opcode kind) refl);
+      acks = λ kind. (
+        (and_parts (pending (ReleaseSource x.source) t) _ (rw kind at asked)).0,
+        rw
+            (none, single_ack x.opcode kind) refl,
+      );
       goes_on = rw none tt;
     }
 
@@ -174,11 +178,14 @@ admits_no_ack : {w : ℕ} (opcode : OpD) (o : Option (BeatA w)) → admits opcod
 admits_no_ack opcode None e = absurd cc
 admits_no_ack opcode (Some r) e = no_release_ack opcode r.opcode e
 
-later_fit : {w : ℕ} (x y : BeatD w) (burst : List (Beat w)) (t : History w) → unfinished channel.D t ≡ (beat.D y ∷ burst) → same_control (beat.D x) (beat.D y) ≡ true
+later_fit : {w : ℕ} (x y : BeatD w) (burst : List (Beat w)) (t : History w)
+    → unfinished channel.D t ≡ (beat.D y ∷ burst) → same_control (beat.D x) (beat.D y) ≡ true
     → admits y.opcode (open_beat y.source t) ≡ true → IsFit x t
 later_fit {w} x y burst t is same old =
     let k = control_d x y same in
-    let admitted : admits x.opcode (open_beat x.source t) ≡ true = ap (λ (o : OpD). admits o (open_beat x.source t)) k.0 ∙ ap (λ (s : ℕ). admits y.opcode (open_beat s t)) k.3 ∙ old in
+    let admitted : admits x.opcode (open_beat x.source t) ≡ true =
+    ap (λ (o : OpD). admits o (open_beat x.source t)) k.0 ∙ ap (λ (s : ℕ). admits y.opcode (open_beat s t))
+    k.3 ∙ old in
     let other = admits_no_ack x.opcode (open_beat x.source t) admitted in
     record {
       answers = λ kind. admitted;
@@ -186,15 +193,21 @@ later_fit {w} x y burst t is same old =
       goes_on = rw is (k.0, k.3, k.4);
     }
 
-fit_from : {w : ℕ} (p : Profile) (x : BeatD w) (t : History w) (burst : List (Beat w)) → unfinished channel.D t ≡ burst → IsAnswering burst t → broken_in_order p (beat.D x) t ≡ None → IsFit x t
+fit_from : {w : ℕ} (p : Profile) (x : BeatD w) (t : History w) (burst : List (Beat w)) → unfinished channel.D t ≡ burst
+    → IsAnswering burst t → broken_in_order p (beat.D x) t ≡ None → IsFit x t
 fit_from p x t [] is old e = first_fit p x t is (rw is at e)
 fit_from p x t (beat.D y ∷ burst) is old e =
     let goes = next_rule (breaks_burst (beat.D x) (beat.D y ∷ burst)) S1 None (rw is at e) in
     later_fit x y burst t is (not-false (same_control (beat.D x) (beat.D y)) goes.0) old
-fit_from p x t (beat.A y ∷ burst) is old e = absurd (let bad = (next_rule (breaks_burst (beat.D x) (beat.A y ∷ burst)) S1 None (rw is at e)).0 in cc)
-fit_from p x t (beat.B y ∷ burst) is old e = absurd (let bad = (next_rule (breaks_burst (beat.D x) (beat.B y ∷ burst)) S1 None (rw is at e)).0 in cc)
-fit_from p x t (beat.C y ∷ burst) is old e = absurd (let bad = (next_rule (breaks_burst (beat.D x) (beat.C y ∷ burst)) S1 None (rw is at e)).0 in cc)
-fit_from p x t (beat.E y ∷ burst) is old e = absurd (let bad = (next_rule (breaks_burst (beat.D x) (beat.E y ∷ burst)) S1 None (rw is at e)).0 in cc)
+fit_from p x t (beat.A y ∷ burst) is old e =
+    absurd (let bad = (next_rule (breaks_burst (beat.D x) (beat.A y ∷ burst)) S1 None (rw is at e)).0 in cc)
+fit_from p x t (beat.B y ∷ burst) is old e =
+    absurd (let bad = (next_rule (breaks_burst (beat.D x) (beat.B y ∷ burst)) S1 None (rw is at e)).0 in cc)
+fit_from p x t (beat.C y ∷ burst) is old e =
+    absurd (let bad = (next_rule (breaks_burst (beat.D x) (beat.C y ∷ burst)) S1 None (rw is at e)).0 in cc)
+fit_from p x t (beat.E y ∷ burst) is old e =
+    absurd (let bad = (next_rule (breaks_burst (beat.D x) (beat.E y ∷ burst)) S1 None (rw is at e)).0 in cc)
 
-pub fit : {w : ℕ} (p : Profile) (x : BeatD w) (t : History w) → IsAcked t → broken_in_order p (beat.D x) t ≡ None → IsFit x t
+pub fit : {w : ℕ} (p : Profile) (x : BeatD w) (t : History w) → IsAcked t → broken_in_order p (beat.D x) t ≡ None
+    → IsFit x t
 fit p x t old e = fit_from p x t (unfinished channel.D t) refl old.answering e

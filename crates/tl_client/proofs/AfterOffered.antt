@@ -1,28 +1,19 @@
 -- A client's end after a beat, by what it was before.
-use Rattle.std.proofs.Common.{◌≡◌, ℕ, Bool, true, false, cond, ◌&&◌, ◌||◌, ◌⊎◌, List, ◌∷◌, Option, Some, None, refl, sym, ◌∙◌, ap, inl, inr}
+use Rattle.tl_client.proofs.Imports.{Beat, BeatA, BeatD, Channel, OpA, OpD, unfinished, Rule, report_right, payload_of}
+use Rattle.tl_client.proofs.Imports.{sent_if_any, block_at, ends, request_of, Finish, Stalled, Taken, heard, handed}
+use Rattle.tl_client.proofs.Imports.{is_refused, copy_granted, waiting_granted, EndConfig, Endpoint, held_at, with_past}
+use Rattle.tl_client.proofs.Imports.{set_at, is_acquire_perm, Offered, offered, taken, ended, granted, granted_perm}
+use Rattle.tl_client.proofs.Imports.{responded, silent, judged, judged_later, broken_before, broken_later, waits}
+use Rattle.tl_client.proofs.Imports.{report_for}
+use Rattle.std.proofs.Common.{◌≡◌, ℕ, Bool, true, false, cond, ◌&&◌, ◌||◌, ◌⊎◌, List, ◌∷◌, Option, Some, None, refl}
+use Rattle.std.proofs.Common.{sym, ◌∙◌, ap, inl, inr}
 use Rattle.std.specs.Prelude.{◌==◌}
 use Rattle.std.proofs.lemmas.Bool.{cases_Bool, eqb-true}
-use Rattle.tl_beat.specs.declared.beat.Beat.{Beat}
 use Rattle.tl_beat.specs.declared.beat.Beat.TheVariants as beat
-use Rattle.tl_beat.specs.declared.beat.BeatA.{BeatA}
-use Rattle.tl_beat.specs.declared.beat.BeatD.{BeatD}
-use Rattle.tl_beat.specs.declared.channel.Channel.{Channel}
 use Rattle.tl_beat.specs.declared.channel.Channel.TheVariants as channel
-use Rattle.tl_beat.specs.declared.opcode.OpA.{OpA}
 use Rattle.tl_beat.specs.declared.opcode.OpA.TheVariants as a
-use Rattle.tl_beat.specs.declared.opcode.OpD.{OpD}
 use Rattle.tl_beat.specs.declared.opcode.OpD.TheVariants as d
-use Rattle.tl_burst.specs.statement.Messages.{unfinished}
-use Rattle.tl_params.specs.declared.rule.Rule.{Rule}
-use Rattle.tl_params.specs.statement.Param.{report_right}
-use Rattle.tl_rules.specs.statement.Admission.{payload_of, sent_if_any}
-use Rattle.tl_rules.specs.statement.History.{block_at, ends, request_of}
-use Rattle.tl_client.specs.declared.verdict.Finish.{Finish}
-use Rattle.tl_client.specs.declared.verdict.Verdict.TheVariants.{Stalled, Taken}
-use Rattle.tl_client.specs.laws.After.{heard, handed, is_refused, copy_granted, copy_with, copy_by, waiting_granted, waiting_with, waiting_by}
-use Rattle.tl_client.specs.statement.Endpoint.{EndConfig, Endpoint, held_at, with_past, set_at}
-use Rattle.tl_client.specs.statement.EndpointInvariant.{is_acquire_perm}
-use Rattle.tl_client.specs.statement.Offer.{Offered, offered, taken, ended, granted, granted_perm, responded, silent, judged, judged_later, broken_before, broken_later, waits, report_for}
+use Rattle.tl_client.specs.laws.After.{copy_with, copy_by, waiting_with, waiting_by}
 use Rattle.tl_client.proofs.AfterAsked.{kept_closed, kept_copies}
 use Rattle.tl_client.proofs.KeptAsked.{kept_waiting}
 use Rattle.tl_client.proofs.HeldAfter.{kept_past}
@@ -47,10 +38,12 @@ pub record IsGranted {w : ℕ} (copy waiting : ℕ → Option (List ℕ)) (e f :
   pub new_copies : (k : ℕ) → f.copies k ≡ copy k
   pub new_waiting : (k : ℕ) → f.waiting k ≡ waiting k
 
-taken_waiting : {w : ℕ} (e : Endpoint w) (block k : ℕ) → set_at block (e.waiting block) e.copies k ≡ cond ((k == block) && true) (e.waiting k) (e.copies k)
+taken_waiting : {w : ℕ} (e : Endpoint w) (block k : ℕ) → set_at block (e.waiting block) e.copies k ≡ cond
+    ((k == block) && true) (e.waiting k) (e.copies k)
 taken_waiting e block k = go (cases_Bool (k == block))
   where
-    go : ((k == block) ≡ true) ⊎ ((k == block) ≡ false) → cond (k == block) (e.waiting block) (e.copies k) ≡ cond ((k == block) && true) (e.waiting k) (e.copies k)
+    go : ((k == block) ≡ true) ⊎ ((k == block) ≡ false) → cond (k == block) (e.waiting block) (e.copies k) ≡ cond
+        ((k == block) && true) (e.waiting k) (e.copies k)
     go (inr other) = rw other refl
     go (inl here) = rw here (ap e.waiting (sym (eqb-true k block here)))
 
@@ -69,39 +62,125 @@ bare_copy opcode block k e = cond ((k == block) && is_acquire_perm opcode) (e.wa
 bare_waiting : {w : ℕ} → OpA → ℕ → ℕ → Endpoint w → Option (List ℕ)
 bare_waiting opcode block k e = cond ((k == block) && is_acquire_perm opcode) None (e.waiting k)
 
-granted_bare : {w : ℕ} (opcode : OpA) (block : ℕ) (e : Endpoint w) → IsGranted (λ k. bare_copy opcode block k e) (λ k. bare_waiting opcode block k e) e (granted_perm opcode block e)
+granted_bare : {w : ℕ} (opcode : OpA) (block : ℕ) (e : Endpoint w)
+    → IsGranted (λ k. bare_copy opcode block k e) (λ k. bare_waiting opcode block k e) e (granted_perm opcode block e)
 unfolding bare_copy bare_waiting
-granted_bare a.AcquirePerm block e = record { same_past = refl; same_closed = refl; new_copies = λ k. taken_waiting e block k; new_waiting = λ k. with_true (k == block) None (e.waiting k) }
+granted_bare a.AcquirePerm block e = record {
+  same_past = refl;
+  same_closed = refl;
+  new_copies =
+      λ k. taken_waiting e block k;
+  new_waiting = λ k. with_true (k == block) None (e.waiting k);
+}
 granted_bare a.PutFullData block e =
-    record { same_past = refl; same_closed = refl; new_copies = λ k. with_false (k == block) (e.waiting k) (e.copies k); new_waiting = λ k. with_false (k == block) None (e.waiting k) }
+    record {
+      same_past = refl;
+      same_closed = refl;
+      new_copies = λ k. with_false (k == block) (e.waiting k) (e.copies k);
+      new_waiting = λ k. with_false (k == block) None (e.waiting k);
+    }
 granted_bare a.PutPartialData block e =
-    record { same_past = refl; same_closed = refl; new_copies = λ k. with_false (k == block) (e.waiting k) (e.copies k); new_waiting = λ k. with_false (k == block) None (e.waiting k) }
+    record {
+      same_past = refl;
+      same_closed = refl;
+      new_copies = λ k. with_false (k == block) (e.waiting k) (e.copies k);
+      new_waiting = λ k. with_false (k == block) None (e.waiting k);
+    }
 granted_bare a.ArithmeticData block e =
-    record { same_past = refl; same_closed = refl; new_copies = λ k. with_false (k == block) (e.waiting k) (e.copies k); new_waiting = λ k. with_false (k == block) None (e.waiting k) }
+    record {
+      same_past = refl;
+      same_closed = refl;
+      new_copies = λ k. with_false (k == block) (e.waiting k) (e.copies k);
+      new_waiting = λ k. with_false (k == block) None (e.waiting k);
+    }
 granted_bare a.LogicalData block e =
-    record { same_past = refl; same_closed = refl; new_copies = λ k. with_false (k == block) (e.waiting k) (e.copies k); new_waiting = λ k. with_false (k == block) None (e.waiting k) }
+    record {
+      same_past = refl;
+      same_closed = refl;
+      new_copies = λ k. with_false (k == block) (e.waiting k) (e.copies k);
+      new_waiting = λ k. with_false (k == block) None (e.waiting k);
+    }
 granted_bare a.Get block e =
-    record { same_past = refl; same_closed = refl; new_copies = λ k. with_false (k == block) (e.waiting k) (e.copies k); new_waiting = λ k. with_false (k == block) None (e.waiting k) }
+    record {
+      same_past = refl;
+      same_closed = refl;
+      new_copies = λ k. with_false (k == block) (e.waiting k) (e.copies k);
+      new_waiting = λ k. with_false (k == block) None (e.waiting k);
+    }
 granted_bare a.Intent block e =
-    record { same_past = refl; same_closed = refl; new_copies = λ k. with_false (k == block) (e.waiting k) (e.copies k); new_waiting = λ k. with_false (k == block) None (e.waiting k) }
+    record {
+      same_past = refl;
+      same_closed = refl;
+      new_copies = λ k. with_false (k == block) (e.waiting k) (e.copies k);
+      new_waiting = λ k. with_false (k == block) None (e.waiting k);
+    }
 granted_bare a.AcquireBlock block e =
-    record { same_past = refl; same_closed = refl; new_copies = λ k. with_false (k == block) (e.waiting k) (e.copies k); new_waiting = λ k. with_false (k == block) None (e.waiting k) }
+    record {
+      same_past = refl;
+      same_closed = refl;
+      new_copies = λ k. with_false (k == block) (e.waiting k) (e.copies k);
+      new_waiting = λ k. with_false (k == block) None (e.waiting k);
+    }
 
 pub granted_is : {w : ℕ} (opcode : OpD) (r : Option (BeatA w)) (payload : List ℕ) (e : Endpoint w)
-    → IsGranted (λ k. copy_granted opcode r payload k e) (λ k. waiting_granted opcode r k (e.waiting k)) e (granted opcode r payload e)
+    → IsGranted (λ k. copy_granted opcode r payload k e) (λ k. waiting_granted opcode r k (e.waiting k)) e
+    (granted opcode r payload e)
 unfolding bare_copy bare_waiting
 granted_is d.Grant (Some r) payload e = granted_bare r.opcode (block_at r.address) e
-granted_is d.GrantData (Some r) payload e = record { same_past = refl; same_closed = refl; new_copies = λ k. refl; new_waiting = λ k. refl }
-granted_is d.Grant None payload e = record { same_past = refl; same_closed = refl; new_copies = λ k. refl; new_waiting = λ k. refl }
-granted_is d.GrantData None payload e = record { same_past = refl; same_closed = refl; new_copies = λ k. refl; new_waiting = λ k. refl }
-granted_is d.AccessAck r payload e = record { same_past = refl; same_closed = refl; new_copies = λ k. refl; new_waiting = λ k. refl }
-granted_is d.AccessAckData r payload e = record { same_past = refl; same_closed = refl; new_copies = λ k. refl; new_waiting = λ k. refl }
-granted_is d.HintAck r payload e = record { same_past = refl; same_closed = refl; new_copies = λ k. refl; new_waiting = λ k. refl }
-granted_is d.ReleaseAck r payload e = record { same_past = refl; same_closed = refl; new_copies = λ k. refl; new_waiting = λ k. refl }
+granted_is d.GrantData (Some r) payload e = record {
+  same_past = refl;
+  same_closed = refl;
+  new_copies =
+      λ k. refl;
+  new_waiting = λ k. refl;
+}
+granted_is d.Grant None payload e = record {
+  same_past = refl;
+  same_closed = refl;
+  new_copies = λ k. refl;
+  new_waiting =
+      λ k. refl;
+}
+granted_is d.GrantData None payload e = record {
+  same_past = refl;
+  same_closed = refl;
+  new_copies =
+      λ k. refl;
+  new_waiting = λ k. refl;
+}
+granted_is d.AccessAck r payload e = record {
+  same_past = refl;
+  same_closed = refl;
+  new_copies =
+      λ k. refl;
+  new_waiting = λ k. refl;
+}
+granted_is d.AccessAckData r payload e = record {
+  same_past = refl;
+  same_closed = refl;
+  new_copies =
+      λ k. refl;
+  new_waiting = λ k. refl;
+}
+granted_is d.HintAck r payload e = record {
+  same_past = refl;
+  same_closed = refl;
+  new_copies = λ k. refl;
+  new_waiting =
+      λ k. refl;
+}
+granted_is d.ReleaseAck r payload e = record {
+  same_past = refl;
+  same_closed = refl;
+  new_copies =
+      λ k. refl;
+  new_waiting = λ k. refl;
+}
 
 -- f is the end without the GrantAck
 ended_is : {w : ℕ} (opcode : OpD) (x : BeatD w) (finish : Finish) (e f : Endpoint w)
-    → IsGranted (λ k. copy_with (beat.D x) k e) (λ k. waiting_with (beat.D x) k e) (with_past (beat.D x ∷ e.past) e) f → IsTaken (beat.D x) e (ended opcode x finish f)
+    → IsGranted (λ k. copy_with (beat.D x) k e) (λ k. waiting_with (beat.D x) k e) (with_past (beat.D x ∷ e.past) e) f
+    → IsTaken (beat.D x) e (ended opcode x finish f)
 ended_is {w} opcode x finish e f g = go opcode
   where
     go : (opcode : OpD) → IsTaken (beat.D x) e (ended opcode x finish f)
@@ -121,23 +200,62 @@ ended_is {w} opcode x finish e f g = go opcode
           copies_are = g.new_copies;
           waiting_is = g.new_waiting;
         }
-    go d.AccessAck = record { past_is = g.same_past; closed_is = g.same_closed ∙ or_false e.closed; copies_are = g.new_copies; waiting_is = g.new_waiting }
-    go d.AccessAckData = record { past_is = g.same_past; closed_is = g.same_closed ∙ or_false e.closed; copies_are = g.new_copies; waiting_is = g.new_waiting }
-    go d.HintAck = record { past_is = g.same_past; closed_is = g.same_closed ∙ or_false e.closed; copies_are = g.new_copies; waiting_is = g.new_waiting }
-    go d.ReleaseAck = record { past_is = g.same_past; closed_is = g.same_closed ∙ or_false e.closed; copies_are = g.new_copies; waiting_is = g.new_waiting }
+    go d.AccessAck = record {
+      past_is = g.same_past;
+      closed_is = g.same_closed ∙ or_false e.closed;
+      copies_are =
+          g.new_copies;
+      waiting_is = g.new_waiting;
+    }
+    go d.AccessAckData = record {
+      past_is = g.same_past;
+      closed_is = g.same_closed ∙ or_false e.closed;
+      copies_are =
+          g.new_copies;
+      waiting_is = g.new_waiting;
+    }
+    go d.HintAck = record {
+      past_is = g.same_past;
+      closed_is = g.same_closed ∙ or_false e.closed;
+      copies_are =
+          g.new_copies;
+      waiting_is = g.new_waiting;
+    }
+    go d.ReleaseAck = record {
+      past_is = g.same_past;
+      closed_is = g.same_closed ∙ or_false e.closed;
+      copies_are =
+          g.new_copies;
+      waiting_is = g.new_waiting;
+    }
 
-part_is : {w : ℕ} (x : BeatD w) (e : Endpoint w) → ends (beat.D x) e.past ≡ false → IsTaken (beat.D x) e (silent Taken (with_past (beat.D x ∷ e.past) e))
-part_is x e more = record { past_is = refl; closed_is = or_false e.closed; copies_are = λ k. rw more refl; waiting_is = λ k. rw more refl }
+part_is : {w : ℕ} (x : BeatD w) (e : Endpoint w) → ends (beat.D x) e.past ≡ false
+    → IsTaken (beat.D x) e (silent Taken (with_past (beat.D x ∷ e.past) e))
+part_is x e more = record {
+  past_is = refl;
+  closed_is = or_false e.closed;
+  copies_are = λ k. rw more refl;
+  waiting_is =
+      λ k. rw more refl;
+}
 
-last_is : {w : ℕ} (x : BeatD w) (e : Endpoint w) (payload : List ℕ) → payload_of (beat.D x ∷ unfinished channel.D e.past) ≡ payload → ends (beat.D x) e.past ≡ true
+last_is : {w : ℕ} (x : BeatD w) (e : Endpoint w) (payload : List ℕ)
+    → payload_of (beat.D x ∷ unfinished channel.D e.past) ≡ payload → ends (beat.D x) e.past ≡ true
     → IsTaken (beat.D x) e (responded x (request_of x.source e.past) payload e)
 last_is {w} x e payload is last =
     let f : Endpoint w = with_past (beat.D x ∷ e.past) e in
     let g = granted_is x.opcode (request_of x.source e.past) payload f in
     ended_is x.opcode x _ e (granted x.opcode (request_of x.source e.past) payload f)
-    (record { same_past = g.same_past; same_closed = g.same_closed; new_copies = λ k. g.new_copies k ∙ same_copy k; new_waiting = λ k. g.new_waiting k ∙ same_waiting k })
+    (record {
+      same_past = g.same_past;
+      same_closed = g.same_closed;
+      new_copies =
+          λ k. g.new_copies k ∙ same_copy k;
+      new_waiting = λ k. g.new_waiting k ∙ same_waiting k;
+    })
   where
-    copy_there : (opcode : OpD) (o : Option (BeatA w)) (k : ℕ) → copy_granted opcode o payload k (with_past (beat.D x ∷ e.past) e) ≡ copy_granted opcode o payload k e
+    copy_there : (opcode : OpD) (o : Option (BeatA w)) (k : ℕ)
+        → copy_granted opcode o payload k (with_past (beat.D x ∷ e.past) e) ≡ copy_granted opcode o payload k e
     copy_there d.Grant (Some r) k = refl
     copy_there d.GrantData (Some r) k = refl
     copy_there d.Grant None k = refl
@@ -147,22 +265,32 @@ last_is {w} x e payload is last =
     copy_there d.HintAck o k = refl
     copy_there d.ReleaseAck o k = refl
 
-    same_copy : (k : ℕ) → copy_granted x.opcode (request_of x.source e.past) payload k (with_past (beat.D x ∷ e.past) e) ≡ copy_with (beat.D x) k e
+    same_copy : (k : ℕ) → copy_granted x.opcode (request_of x.source e.past) payload k (with_past (beat.D x ∷ e.past) e)
+        ≡ copy_with (beat.D x) k e
     same_copy k = rw (last, is) (copy_there x.opcode (request_of x.source e.past) k)
 
-    same_waiting : (k : ℕ) → waiting_granted x.opcode (request_of x.source e.past) k (e.waiting k) ≡ waiting_with (beat.D x) k e
+    same_waiting : (k : ℕ) → waiting_granted x.opcode (request_of x.source e.past) k (e.waiting k) ≡ waiting_with
+        (beat.D x) k e
     same_waiting k = rw last refl
 
 taken_d : {w : ℕ} (x : BeatD w) (e : Endpoint w) → IsTaken (beat.D x) e (taken (beat.D x) e)
 taken_d {w} x e = go (ends (beat.D x) e.past) refl
   where
     go : (b : Bool) → ends (beat.D x) e.past ≡ b
-        → IsTaken (beat.D x) e (cond b (responded x (request_of x.source e.past) (payload_of (beat.D x ∷ unfinished channel.D e.past)) e) (silent Taken (with_past (beat.D x ∷ e.past) e)))
+        → IsTaken (beat.D x) e (cond b
+        (responded x (request_of x.source e.past) (payload_of (beat.D x ∷ unfinished channel.D e.past)) e)
+        (silent Taken (with_past (beat.D x ∷ e.past) e)))
     go true last = last_is x e (payload_of (beat.D x ∷ unfinished channel.D e.past)) refl last
     go false more = part_is x e more
 
 taken_is : {w : ℕ} (x : Beat w) (e : Endpoint w) → IsTaken x e (taken x e)
-taken_is (beat.A x) e = record { past_is = refl; closed_is = or_false e.closed; copies_are = λ k. refl; waiting_is = λ k. refl }
+taken_is (beat.A x) e = record {
+  past_is = refl;
+  closed_is = or_false e.closed;
+  copies_are = λ k. refl;
+  waiting_is =
+      λ k. refl;
+}
 taken_is (beat.B x) e =
     let block = block_at x.address in
     let p = report_right (report_for x (held_at e block)) in
@@ -172,9 +300,21 @@ taken_is (beat.B x) e =
       copies_are = λ k. kept_copies block p _ k;
       waiting_is = λ k. kept_waiting block p _ k;
     }
-taken_is (beat.C x) e = record { past_is = refl; closed_is = or_false e.closed; copies_are = λ k. refl; waiting_is = λ k. refl }
+taken_is (beat.C x) e = record {
+  past_is = refl;
+  closed_is = or_false e.closed;
+  copies_are = λ k. refl;
+  waiting_is =
+      λ k. refl;
+}
 taken_is (beat.D x) e = taken_d x e
-taken_is (beat.E x) e = record { past_is = refl; closed_is = or_false e.closed; copies_are = λ k. refl; waiting_is = λ k. refl }
+taken_is (beat.E x) e = record {
+  past_is = refl;
+  closed_is = or_false e.closed;
+  copies_are = λ k. refl;
+  waiting_is =
+      λ k. refl;
+}
 
 -- ---- any beat
 
@@ -183,11 +323,24 @@ or_true true = refl
 or_true false = refl
 
 refused_is : {w : ℕ} (o : Option Rule) (x : Beat w) (e : Endpoint w) → IsTaken x e (judged_later o x e)
-refused_is (Some r) x e = record { past_is = refl; closed_is = or_true e.closed; copies_are = λ k. refl; waiting_is = λ k. refl }
+refused_is (Some r) x e = record {
+  past_is = refl;
+  closed_is = or_true e.closed;
+  copies_are = λ k. refl;
+  waiting_is =
+      λ k. refl;
+}
 refused_is None x e = taken_is x e
 
-judged_is : {w : ℕ} (o : Option Rule) (terms : EndConfig) (x : Beat w) (e : Endpoint w) → IsTaken x e (judged o terms x e)
-judged_is (Some r) terms x e = record { past_is = refl; closed_is = or_true e.closed; copies_are = λ k. refl; waiting_is = λ k. refl }
+judged_is : {w : ℕ} (o : Option Rule) (terms : EndConfig) (x : Beat w) (e : Endpoint w)
+    → IsTaken x e (judged o terms x e)
+judged_is (Some r) terms x e = record {
+  past_is = refl;
+  closed_is = or_true e.closed;
+  copies_are =
+      λ k. refl;
+  waiting_is = λ k. refl;
+}
 judged_is {w} None terms x e = go (waits x e.past)
   where
     go : (b : Bool) → IsTaken x e (cond b (silent Stalled e) (judged_later (broken_later terms x e) x e))
@@ -195,18 +348,22 @@ judged_is {w} None terms x e = go (waits x e.past)
     go false = refused_is (broken_later terms x e) x e
 
 pub past-offered : {w : ℕ} (terms : EndConfig) (ch : Channel) (x : Beat w) (e : Endpoint w)
-    → (offered terms ch x e).after.past ≡ sent_if_any (handed (offered terms ch x e).answer) (heard (offered terms ch x e).answer x e.past)
+    → (offered terms ch x e).after.past ≡ sent_if_any (handed (offered terms ch x e).answer)
+    (heard (offered terms ch x e).answer x e.past)
 unfolding offered
 past-offered terms ch x e = (judged_is (broken_before terms ch x e) terms x e).past_is
 
-pub closed-offered : {w : ℕ} (terms : EndConfig) (ch : Channel) (x : Beat w) (e : Endpoint w) → (offered terms ch x e).after.closed ≡ (e.closed || is_refused (offered terms ch x e).answer)
+pub closed-offered : {w : ℕ} (terms : EndConfig) (ch : Channel) (x : Beat w) (e : Endpoint w)
+    → (offered terms ch x e).after.closed ≡ (e.closed || is_refused (offered terms ch x e).answer)
 unfolding offered
 closed-offered terms ch x e = (judged_is (broken_before terms ch x e) terms x e).closed_is
 
-pub copies-offered : {w : ℕ} (terms : EndConfig) (ch : Channel) (x : Beat w) (e : Endpoint w) (k : ℕ) → (offered terms ch x e).after.copies k ≡ copy_by (offered terms ch x e).answer x k e
+pub copies-offered : {w : ℕ} (terms : EndConfig) (ch : Channel) (x : Beat w) (e : Endpoint w) (k : ℕ)
+    → (offered terms ch x e).after.copies k ≡ copy_by (offered terms ch x e).answer x k e
 unfolding offered
 copies-offered terms ch x e k = (judged_is (broken_before terms ch x e) terms x e).copies_are k
 
-pub waiting-offered : {w : ℕ} (terms : EndConfig) (ch : Channel) (x : Beat w) (e : Endpoint w) (k : ℕ) → (offered terms ch x e).after.waiting k ≡ waiting_by (offered terms ch x e).answer x k e
+pub waiting-offered : {w : ℕ} (terms : EndConfig) (ch : Channel) (x : Beat w) (e : Endpoint w) (k : ℕ)
+    → (offered terms ch x e).after.waiting k ≡ waiting_by (offered terms ch x e).answer x k e
 unfolding offered
 waiting-offered terms ch x e k = (judged_is (broken_before terms ch x e) terms x e).waiting_is k

@@ -1,14 +1,8 @@
 -- What a new caching client knows.
+use Rattle.tl_client.proofs.Imports.{held, pending, unfinished, Caching, fresh, KnowsCaching, terms_of, open_beat}
+use Rattle.tl_client.proofs.Imports.{open_release, fields_of, release_fields, open_at, held_in, copy_in, waiting_in}
 use Rattle.std.proofs.Common.{◌≡◌, ℕ, false, [], None, refl, ◌∙◌, sym}
 use Rattle.tl_params.specs.declared.perm.Perm.TheVariants as perm
-use Rattle.tl_rules.specs.statement.History.{held, pending}
-use Rattle.tl_burst.specs.statement.Messages.{unfinished}
-use Rattle.tl_client.specs.declared.caching.Caching.{Caching}
-use Rattle.tl_client.specs.statement.Endpoint.{fresh}
-use Rattle.tl_client.specs.code.KnowsCaching.{KnowsCaching, terms_of}
-use Rattle.tl_client.specs.statement.Requests.{open_beat, open_release, fields_of, release_fields}
-use Rattle.tl_client.specs.code.Sources.{open_at}
-use Rattle.tl_client.specs.code.Table.{held_in, copy_in, waiting_in}
 use Rattle.tl_client.proofs.Accounted.{accounted-fresh}
 use Rattle.tl_client.proofs.Inside.{inside-fresh}
 use Rattle.tl_client.proofs.KeptOffered.{kept-fresh}
@@ -21,7 +15,8 @@ no_release : (w s : ℕ) → release_fields (open_release {w = w} s []) ≡ None
 unfolding pending
 no_release w s = refl
 
-pub knows-new : {w : ℕ} (c : Caching w) → c.closed ≡ false → c.responses ≡ [] → c.granting ≡ None → ((k : ℕ) → held_in c.table k ≡ perm.None) → ((k : ℕ) → copy_in c.table k ≡ None)
+pub knows-new : {w : ℕ} (c : Caching w) → c.closed ≡ false → c.responses ≡ [] → c.granting ≡ None
+    → ((k : ℕ) → held_in c.table k ≡ perm.None) → ((k : ℕ) → copy_in c.table k ≡ None)
     → ((k : ℕ) → waiting_in c.table k ≡ None)
     → ((s : ℕ) → open_at c.requests s ≡ None) → ((s : ℕ) → open_at c.releases s ≡ None) → KnowsCaching c fresh
 unfolding unfinished held

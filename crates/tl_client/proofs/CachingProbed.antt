@@ -1,30 +1,22 @@
 -- What a caching client answers to a Probe, and what it knows afterwards.
+use Rattle.tl_client.proofs.Imports.{BeatB, Channel, Message, comes_in_grant, block_at, Caching, Verdict}
+use Rattle.tl_client.proofs.Imports.{comes_granting, Endpoint, copy_at, held_at, KnowsCaching, terms_of, is_granting}
+use Rattle.tl_client.proofs.Imports.{has_sink, offered, taken, report_for, probe_ack, open_at}
 use Rattle.std.proofs.Common.{◌≡◌, ℕ, Option, Some, refl, sym, ◌∙◌, ap}
 use Rattle.std.specs.Prelude.{Ok}
 use Rattle.tl_beat.specs.declared.beat.Beat.TheVariants as beat
-use Rattle.tl_beat.specs.declared.beat.BeatB.{BeatB}
-use Rattle.tl_beat.specs.declared.channel.Channel.{Channel}
-use Rattle.tl_burst.specs.declared.message.Message.{Message}
-use Rattle.tl_rules.specs.statement.Conformance.{comes_in_grant}
-use Rattle.tl_rules.specs.statement.History.{block_at}
-use Rattle.tl_client.specs.declared.caching.Caching.{Caching}
-use Rattle.tl_client.specs.declared.verdict.Verdict.{Verdict}
-use Rattle.tl_client.specs.laws.Accounted.{comes_granting}
-use Rattle.tl_client.specs.statement.Endpoint.{Endpoint, copy_at, held_at}
-use Rattle.tl_client.specs.code.KnowsCaching.{KnowsCaching, terms_of, is_granting, has_sink}
-use Rattle.tl_client.specs.statement.Offer.{offered, taken, report_for}
-use Rattle.tl_client.specs.statement.Send.{probe_ack}
-use Rattle.tl_client.specs.code.Sources.{open_at}
 use Rattle.tl_client.specs.code.Takes.{Probes}
 use Rattle.tl_client.proofs.CachingAnswers.{copy-known}
 use Rattle.tl_client.proofs.CachingTaken.{Follows, taking, knows-after}
 use Rattle.tl_client.proofs.Bytes.{burst_b}
 
-pub answer-probed : {w : ℕ} (c d : Caching w) (x : BeatB w) (e : Endpoint w) (r : Verdict × Option (Message w)) → KnowsCaching c e → Probes c d x r → (taken (beat.B x) e).answer ≡ Ok r
+pub answer-probed : {w : ℕ} (c d : Caching w) (x : BeatB w) (e : Endpoint w) (r : Verdict × Option (Message w))
+    → KnowsCaching c e → Probes c d x r → (taken (beat.B x) e).answer ≡ Ok r
 answer-probed c d x e r knows probes =
     rw (probes.answer, knows.held_is (block_at x.address), ← copy-known c e (block_at x.address) knows) refl
 
-follows-probed : {w : ℕ} (c d : Caching w) (x : BeatB w) (e : Endpoint w) (r : Verdict × Option (Message w)) → KnowsCaching c e → Probes c d x r → Follows c d (beat.B x) e
+follows-probed : {w : ℕ} (c d : Caching w) (x : BeatB w) (e : Endpoint w) (r : Verdict × Option (Message w))
+    → KnowsCaching c e → Probes c d x r → Follows c d (beat.B x) e
 follows-probed c d x e r knows probes = record {
   closed = probes.closed;
   terms = probes.terms;
@@ -34,13 +26,17 @@ follows-probed c d x e r knows probes = record {
   requests = λ s. ap (λ o. open_at o s) probes.requests ∙ knows.requests_are s;
   releases = λ s. ap (λ o. open_at o s) probes.releases ∙ knows.releases_are s;
   response = probes.response ∙ knows.response_is ∙ sym (burst_b x e.past);
-  granting = λ k. ap (is_granting k) probes.granting ∙ knows.granting_is k ∙ ap (λ b. comes_granting k b e.past) (sym (burst_b x e.past));
+  granting = λ k. ap (is_granting k) probes.granting ∙ knows.granting_is k ∙ ap (λ b. comes_granting k b e.past)
+      (sym (burst_b x e.past));
   sink = λ s. ap (has_sink s) probes.granting ∙ knows.sink_is s ∙ ap (comes_in_grant s) (sym (burst_b x e.past));
 }
 
-pub knows-probed : {w : ℕ} (c d : Caching w) (ch : Channel) (x : BeatB w) (e : Endpoint w) (r : Verdict × Option (Message w)) → KnowsCaching c e → Probes c d x r
-    → offered (terms_of c) ch (beat.B x) e ≡ taken (beat.B x) e → KnowsCaching d (offered (terms_of c) ch (beat.B x) e).after
+pub knows-probed : {w : ℕ} (c d : Caching w) (ch : Channel) (x : BeatB w) (e : Endpoint w)
+    (r : Verdict × Option (Message w)) → KnowsCaching c e → Probes c d x r
+    → offered (terms_of c) ch (beat.B x) e ≡ taken (beat.B x) e
+    → KnowsCaching d (offered (terms_of c) ch (beat.B x) e).after
 knows-probed c d ch x e r knows probes is =
     knows-after c d ch (beat.B x) e _ knows (ap (λ o. o.answer) is)
-    (taking (Some (probe_ack x.opcode (held_at e (block_at x.address)) (report_for x (held_at e (block_at x.address))) (block_at x.address)
+    (taking (Some (probe_ack x.opcode (held_at e (block_at x.address)) (report_for x (held_at e (block_at x.address)))
+    (block_at x.address)
     (copy_at e (block_at x.address)))) (beat.B x)) (follows-probed c d x e r knows probes)

@@ -1,29 +1,15 @@
 -- What a caching client knows after a beat that it takes.
+use Rattle.tl_client.proofs.Imports.{Beat, Channel, Message, History, unfinished, Rule, comes_in_grant, asks_for}
+use Rattle.tl_client.proofs.Imports.{is_grant, request_of, Caching, Finish, Verdict, Taken, Done, comes_granting, heard}
+use Rattle.tl_client.proofs.Imports.{is_refused, Endpoint, IsInside, KnowsCaching, terms_of, is_granting, has_sink}
+use Rattle.tl_client.proofs.Imports.{offered, fields_of, release_fields, open_at, held_in, copy_in, waiting_in}
 use Rattle.std.proofs.Common.{◌≡◌, ℕ, Bool, true, false, ◌&&◌, ◌||◌, List, [], ◌∷◌, Option, refl, sym, ◌∙◌, ap, subst}
 use Rattle.std.specs.Prelude.{Result, Ok}
-use Rattle.tl_beat.specs.declared.beat.Beat.{Beat}
 use Rattle.tl_beat.specs.declared.beat.Beat.TheVariants as beat
-use Rattle.tl_beat.specs.declared.channel.Channel.{Channel}
 use Rattle.tl_beat.specs.declared.channel.Channel.TheVariants as channel
-use Rattle.tl_burst.specs.declared.message.Message.{Message}
-use Rattle.tl_burst.specs.statement.Messages.{History, unfinished}
-use Rattle.tl_params.specs.declared.rule.Rule.{Rule}
-use Rattle.tl_rules.specs.statement.Conformance.{comes_in_grant}
-use Rattle.tl_rules.specs.statement.History.{asks_for, is_grant, request_of}
-use Rattle.tl_client.specs.declared.caching.Caching.{Caching}
-use Rattle.tl_client.specs.declared.verdict.Finish.{Finish}
-use Rattle.tl_client.specs.declared.verdict.Verdict.{Verdict}
-use Rattle.tl_client.specs.declared.verdict.Verdict.TheVariants.{Taken, Done}
-use Rattle.tl_client.specs.laws.Accounted.{comes_granting}
-use Rattle.tl_client.specs.laws.After.{heard, is_refused, copy_by, copy_with, waiting_by, waiting_with, open_by, open_heard, release_by, release_heard}
-use Rattle.tl_client.specs.statement.Endpoint.{Endpoint}
+use Rattle.tl_client.specs.laws.After.{copy_by, copy_with, waiting_by, waiting_with, open_by, open_heard, release_by}
+use Rattle.tl_client.specs.laws.After.{release_heard}
 use Rattle.tl_client.specs.laws.Held.{held_by, held_with}
-use Rattle.tl_client.specs.laws.Inside.{IsInside}
-use Rattle.tl_client.specs.code.KnowsCaching.{KnowsCaching, terms_of, is_granting, has_sink}
-use Rattle.tl_client.specs.statement.Offer.{offered}
-use Rattle.tl_client.specs.statement.Requests.{fields_of, release_fields}
-use Rattle.tl_client.specs.code.Sources.{open_at}
-use Rattle.tl_client.specs.code.Table.{held_in, copy_in, waiting_in}
 use Rattle.tl_client.proofs.Accounted.{accounted-offered}
 use Rattle.tl_client.proofs.AfterOffered.{closed-offered, copies-offered, waiting-offered}
 use Rattle.tl_client.proofs.HeldAfter.{held-offered}
@@ -43,12 +29,31 @@ pub record IsTaking {w : ℕ} (a : Result (Verdict × Option (Message w)) Rule) 
   pub accepts : is_refused a ≡ false
 
 pub taking : {w : ℕ} (m : Option (Message w)) (x : Beat w) → IsTaking (Ok (Taken, m)) x
-taking m x = record { holdings = λ t k. refl; copies = λ k e. refl; waiting = λ k e. refl; opens = λ s t. refl; opens_release = λ s t. refl; hears = λ t. refl; accepts = refl }
+taking m x = record {
+  holdings = λ t k. refl;
+  copies = λ k e. refl;
+  waiting = λ k e. refl;
+  opens =
+      λ s t. refl;
+  opens_release = λ s t. refl;
+  hears = λ t. refl;
+  accepts = refl;
+}
 
 pub finishing : {w : ℕ} (s : ℕ) (f : Finish) (m : Option (Message w)) (x : Beat w) → IsTaking (Ok (Done s f, m)) x
-finishing s f m x = record { holdings = λ t k. refl; copies = λ k e. refl; waiting = λ k e. refl; opens = λ s t. refl; opens_release = λ s t. refl; hears = λ t. refl; accepts = refl }
+finishing s f m x = record {
+  holdings = λ t k. refl;
+  copies = λ k e. refl;
+  waiting = λ k e. refl;
+  opens =
+      λ s t. refl;
+  opens_release = λ s t. refl;
+  hears = λ t. refl;
+  accepts = refl;
+}
 
-same_granting : {w : ℕ} (k : ℕ) (burst : List (Beat w)) (t u : History w) → ((s : ℕ) → request_of s t ≡ request_of s u) → comes_granting k burst t ≡ comes_granting k burst u
+same_granting : {w : ℕ} (k : ℕ) (burst : List (Beat w)) (t u : History w) → ((s : ℕ) → request_of s t ≡ request_of s u)
+    → comes_granting k burst t ≡ comes_granting k burst u
 same_granting k [] t u same = refl
 same_granting k (beat.A x ∷ burst) t u same = refl
 same_granting k (beat.B x ∷ burst) t u same = refl
@@ -73,24 +78,33 @@ pub record Follows {w : ℕ} (c d : Caching w) (x : Beat w) (e : Endpoint w) : T
   pub granting : (k : ℕ) → is_granting k d.granting ≡ comes_granting k (unfinished channel.D (x ∷ e.past)) e.past
   pub sink : (s : ℕ) → has_sink s d.granting ≡ comes_in_grant s (unfinished channel.D (x ∷ e.past))
 
-pub knows-after : {w : ℕ} (c d : Caching w) (ch : Channel) (x : Beat w) (e : Endpoint w) (a : Result (Verdict × Option (Message w)) Rule) → KnowsCaching c e
-    → (offered (terms_of c) ch x e).answer ≡ a → IsTaking a x → Follows c d x e → KnowsCaching d (offered (terms_of c) ch x e).after
+pub knows-after : {w : ℕ} (c d : Caching w) (ch : Channel) (x : Beat w) (e : Endpoint w)
+    (a : Result (Verdict × Option (Message w)) Rule) → KnowsCaching c e
+    → (offered (terms_of c) ch x e).answer ≡ a → IsTaking a x → Follows c d x e
+    → KnowsCaching d (offered (terms_of c) ch x e).after
 knows-after {w} c d ch x e a knows is takes follows =
     let after = (offered (terms_of c) ch x e).after in
     let burst : unfinished channel.D after.past ≡ unfinished channel.D (x ∷ e.past) =
-    unfinished-offered (terms_of c) ch x e channel.D c.width knows.kept ∙ rw is (ap (λ t. unfinished channel.D t) (takes.hears e.past)) in
+    unfinished-offered (terms_of c) ch x e channel.D c.width knows.kept ∙ rw is
+    (ap (λ t. unfinished channel.D t) (takes.hears e.past)) in
     record {
-      closed_is = follows.closed ∙ knows.closed_is ∙ sym (closed-offered (terms_of c) ch x e ∙ rw is (unrefused e.closed (is_refused a) takes.accepts));
-      held_is = λ k. follows.holdings k ∙ sym (held-offered (terms_of c) ch x e k c.width knows.kept.c_whole ∙ rw is (takes.holdings e.past k));
+      closed_is = follows.closed ∙ knows.closed_is ∙ sym
+          (closed-offered (terms_of c) ch x e ∙ rw is (unrefused e.closed (is_refused a) takes.accepts));
+      held_is = λ k. follows.holdings k ∙ sym (held-offered (terms_of c) ch x e k c.width knows.kept.c_whole ∙ rw is
+          (takes.holdings e.past k));
       copies_are = λ k. follows.copies k ∙ sym (copies-offered (terms_of c) ch x e k ∙ rw is (takes.copies k e));
       waiting_are = λ k. follows.waiting k ∙ sym (waiting-offered (terms_of c) ch x e k ∙ rw is (takes.waiting k e));
-      requests_are = λ s. follows.requests s ∙ ap fields_of (sym (open-offered (terms_of c) ch x e s c.width knows.kept ∙ rw is (takes.opens s e.past)));
-      releases_are = λ s. follows.releases s ∙ ap release_fields (sym (open_release-offered (terms_of c) ch x e s c.width knows.kept ∙ rw is (takes.opens_release s e.past)));
+      requests_are = λ s. follows.requests s ∙ ap fields_of
+          (sym (open-offered (terms_of c) ch x e s c.width knows.kept ∙ rw is (takes.opens s e.past)));
+      releases_are = λ s. follows.releases s ∙ ap release_fields
+          (sym (open_release-offered (terms_of c) ch x e s c.width knows.kept ∙ rw is (takes.opens_release s e.past)));
       response_is = follows.response ∙ sym burst;
       granting_is = λ k. follows.granting k ∙ sym (ap (λ b. comes_granting k b after.past) burst
-          ∙ same_granting k (unfinished channel.D (x ∷ e.past)) after.past e.past (λ s. request-offered (terms_of c) ch x e s c.width knows.kept));
+          ∙ same_granting k (unfinished channel.D (x ∷ e.past)) after.past e.past
+          (λ s. request-offered (terms_of c) ch x e s c.width knows.kept));
       sink_is = λ s. follows.sink s ∙ ap (comes_in_grant s) (sym burst);
       kept = kept-offered (terms_of c) ch x e c.width knows.kept;
       accounted = accounted-offered (terms_of c) ch x e c.width knows.kept knows.accounted;
-      inside = subst (λ terms. IsInside terms after.past) (sym follows.terms) (inside-offered (terms_of c) ch x e c.width knows.kept knows.inside);
+      inside = subst (λ terms. IsInside terms after.past) (sym follows.terms)
+          (inside-offered (terms_of c) ch x e c.width knows.kept knows.inside);
     }

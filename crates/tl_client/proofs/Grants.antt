@@ -1,31 +1,23 @@
 -- What is known of a Grant that breaks no rule.
-use Rattle.std.proofs.Common.{◌≡◌, ℕ, zero, suc, ◌≤◌, Bool, true, false, not, cond, ◌&&◌, ◌||◌, List, [], ◌∷◌, Option, Some, None, refl, sym, ◌∙◌, arith, inl, inr}
+use Rattle.tl_client.proofs.Imports.{Beat, BeatA, BeatD, OpA, OpD, d_carries_data, History, unfinished, same_control}
+use Rattle.tl_client.proofs.Imports.{breaks_burst, completes, RequestSource, Perm, Profile, S1, H2, H3, answers, admits}
+use Rattle.tl_client.proofs.Imports.{same_perm, broken_order, broken_in_order, block_at, is_acquire, is_grant, capped}
+use Rattle.tl_client.proofs.Imports.{pending, request_of, held, next_rule, IsGranting, holds, is_acquire_beat}
+use Rattle.tl_client.proofs.Imports.{open_beat, not_release_ack}
+use Rattle.std.proofs.Common.{◌≡◌, ℕ, zero, suc, ◌≤◌, Bool, true, false, not, cond, ◌&&◌, ◌||◌, List, [], ◌∷◌, Option}
+use Rattle.std.proofs.Common.{Some, None, refl, sym, ◌∙◌, arith, inl, inr}
 use Rattle.std.specs.Prelude.{◌==◌, ⊤}
 use Rattle.std.proofs.lemmas.Bool.{and_parts, or_parts, not-false, eqb-true, cases_Bool, both_ways, or_cases}
-use Rattle.tl_beat.specs.declared.beat.Beat.{Beat}
 use Rattle.tl_beat.specs.declared.beat.Beat.TheVariants as beat
-use Rattle.tl_beat.specs.declared.beat.BeatA.{BeatA}
-use Rattle.tl_beat.specs.declared.beat.BeatD.{BeatD}
 use Rattle.tl_beat.specs.declared.channel.Channel.TheVariants as channel
-use Rattle.tl_beat.specs.declared.opcode.OpA.{OpA}
 use Rattle.tl_beat.specs.declared.opcode.OpA.TheVariants as a
-use Rattle.tl_beat.specs.declared.opcode.OpD.{OpD}
 use Rattle.tl_beat.specs.declared.opcode.OpD.TheVariants as d
-use Rattle.tl_beat.specs.statement.Opcode.{d_code, d_carries_data}
-use Rattle.tl_burst.specs.statement.Messages.{History, unfinished, same_control, breaks_burst}
-use Rattle.tl_burst.specs.statement.Part.{completes}
-use Rattle.tl_params.specs.declared.key.Key.TheVariants.{RequestSource}
-use Rattle.tl_params.specs.declared.perm.Perm.{Perm}
+use Rattle.tl_beat.specs.statement.Opcode.{d_code}
 use Rattle.tl_params.specs.declared.perm.Perm.TheVariants as perm
-use Rattle.tl_params.specs.declared.profile.Profile.{Profile}
 use Rattle.tl_params.specs.declared.profile.Profile.TheVariants as profile
-use Rattle.tl_params.specs.declared.rule.Rule.TheVariants.{S1, H2, H3, H6}
-use Rattle.tl_rules.specs.statement.Conformance.{answers, admits, fits_grow, has_request, misgrants, same_perm, is_acquire_block, is_grant_without_data, size_asked, broken_order, broken_in_order}
-use Rattle.tl_rules.specs.statement.History.{block_at, is_acquire, is_grant, capped, pending, request_of, held}
-use Rattle.tl_rules.proofs.Bursts.{next_rule}
-use Rattle.tl_client.specs.statement.EndpointInvariant.{IsGranting, holds, is_acquire_beat}
-use Rattle.tl_client.specs.statement.Requests.{open_beat}
-use Rattle.tl_rules.proofs.Open.{not_release_ack}
+use Rattle.tl_params.specs.declared.rule.Rule.TheVariants.{H6}
+use Rattle.tl_rules.specs.statement.Conformance.{fits_grow, has_request, misgrants, is_acquire_block}
+use Rattle.tl_rules.specs.statement.Conformance.{is_grant_without_data, size_asked}
 
 -- a client that gets no data has a copy already
 abbrev pub HasCopy : {w : ℕ} → Option (BeatA w) → History w → Type 0
@@ -39,7 +31,8 @@ pub record IsGoodGrant {w : ℕ} (x : BeatD w) (t : History w) : Type 0 where
 
 -- ---- the first beat
 
-grant_answers : (answer : OpD) (request : OpA) → is_grant answer ≡ true → answers answer request ≡ true → is_acquire request ≡ true
+grant_answers : (answer : OpD) (request : OpA) → is_grant answer ≡ true → answers answer request ≡ true
+    → is_acquire request ≡ true
 grant_answers answer a.AcquireBlock g e = refl
 grant_answers answer a.AcquirePerm g e = refl
 grant_answers d.Grant a.PutFullData g e = absurd cc
@@ -97,25 +90,32 @@ branch_holds perm.None e = absurd cc
 branch_holds perm.Branch e = refl
 branch_holds perm.Trunk e = refl
 
-good_first : {w : ℕ} (p : Profile) (x : BeatD w) (t : History w) (o : Option (BeatA w)) → is_grant x.opcode ≡ true → request_of x.source t ≡ o → pending (RequestSource x.source) t ≡ true
+good_first : {w : ℕ} (p : Profile) (x : BeatD w) (t : History w) (o : Option (BeatA w)) → is_grant x.opcode ≡ true
+    → request_of x.source t ≡ o → pending (RequestSource x.source) t ≡ true
     → admits x.opcode o ≡ true → misgrants p x o t ≡ false → IsGoodGrant x t
 good_first p x t None g is live admitted fine = absurd cc
 good_first p x t (Some r) g is live admitted fine =
     let parts = or_parts (not (fits_grow p r.opcode r.param x.param)) _ fine in
-    let others = or_parts (is_grant_without_data x.opcode && (is_acquire_block r.opcode && not (same_perm (held (block_at r.address) t) perm.Branch))) _ parts.1 in
+    let others = or_parts (is_grant_without_data
+    x.opcode && (is_acquire_block r.opcode && not (same_perm (held (block_at r.address) t) perm.Branch))) _ parts.1
+    in
     record {
       answers_acquire = rw (live, is) (grant_answers x.opcode r.opcode g admitted);
-      gives = gives_at x.param (fits p r.opcode r.param x.param (not-false (fits_grow p r.opcode r.param x.param) parts.0));
-      has_copy = λ bare. rw is (λ block. branch_holds (held (block_at r.address) t) (not-false (same_perm (held (block_at r.address) t) perm.Branch) (rw (bare, block) at others.0)));
+      gives = gives_at x.param
+          (fits p r.opcode r.param x.param (not-false (fits_grow p r.opcode r.param x.param) parts.0));
+      has_copy = λ bare. rw is (λ block. branch_holds (held (block_at r.address) t)
+          (not-false (same_perm (held (block_at r.address) t) perm.Branch) (rw (bare, block) at others.0)));
     }
 
-first_grant : {w : ℕ} (p : Profile) (x : BeatD w) (t : History w) → is_grant x.opcode ≡ true → broken_order p (beat.D x) t ≡ None → IsGoodGrant x t
+first_grant : {w : ℕ} (p : Profile) (x : BeatD w) (t : History w) → is_grant x.opcode ≡ true
+    → broken_order p (beat.D x) t ≡ None → IsGoodGrant x t
 unfolding broken_order
 first_grant p x t g none =
     let two = next_rule (not (has_request x t)) H2 _ none in
     let three = next_rule (not (x.size == size_asked x t)) H3 _ two.1 in
     let six = next_rule (is_grant x.opcode && misgrants p x (request_of x.source t) t) H6 _ three.1 in
-    let asked = and_parts (pending (RequestSource x.source) t) _ (rw (not_release_ack x.opcode g) at (not-false (has_request x t) two.0)) in
+    let asked = and_parts (pending (RequestSource x.source) t) _
+    (rw (not_release_ack x.opcode g) at (not-false (has_request x t) two.0)) in
     let admitted = and_parts _ (admits x.opcode (request_of x.source t)) asked.1 in
     good_first p x t (request_of x.source t) g refl asked.0 admitted.1 (rw g at six.0)
 
@@ -137,7 +137,8 @@ bare-code d.Grant = refl
 bare-code d.GrantData = refl
 bare-code d.ReleaseAck = refl
 
-later_grant : {w : ℕ} (x : BeatD w) (burst : List (Beat w)) (y : Beat w) (t : History w) → is_grant x.opcode ≡ true → same_control (beat.D x) y ≡ true → IsGranting (y ∷ burst) t
+later_grant : {w : ℕ} (x : BeatD w) (burst : List (Beat w)) (y : Beat w) (t : History w) → is_grant x.opcode ≡ true
+    → same_control (beat.D x) y ≡ true → IsGranting (y ∷ burst) t
     → IsGoodGrant x t × (is_grant_without_data x.opcode ≡ false)
 later_grant x burst (beat.A y) t g same granting = absurd cc
 later_grant x burst (beat.B y) t g same granting = absurd cc
@@ -153,8 +154,16 @@ later_grant x burst (beat.D y) t g same granting =
     let source : x.source ≡ y.source = eqb-true x.source y.source four.0 in
     let grants : is_grant y.opcode ≡ true = is_grant-code y.opcode ∙ rw (← code) (sym (is_grant-code x.opcode) ∙ g) in
     let known = granting grants in
-    let bare : is_grant_without_data x.opcode ≡ false = bare-code x.opcode ∙ rw code (sym (bare-code y.opcode) ∙ known.0) in
-    (record { answers_acquire = rw source known.2; gives = rw param known.1; has_copy = λ h. absurd (both_ways (is_grant_without_data x.opcode) bare h) }, bare)
+    let bare : is_grant_without_data x.opcode ≡ false =
+    bare-code x.opcode ∙ rw code (sym (bare-code y.opcode) ∙ known.0) in (
+      record {
+        answers_acquire = rw source known.2;
+        gives = rw param known.1;
+        has_copy =
+            λ h. absurd (both_ways (is_grant_without_data x.opcode) bare h);
+      },
+      bare,
+    )
 
 -- ---- any beat
 
@@ -172,7 +181,8 @@ first_bare x more = elim (cases_Bool (is_grant_without_data x.opcode)) [
   | inr other ↦ other
 ]
 
-pub good_grant : {w : ℕ} (p : Profile) (x : BeatD w) (t : History w) (burst : List (Beat w)) → unfinished channel.D t ≡ burst → IsGranting burst t → is_grant x.opcode ≡ true
+pub good_grant : {w : ℕ} (p : Profile) (x : BeatD w) (t : History w) (burst : List (Beat w))
+    → unfinished channel.D t ≡ burst → IsGranting burst t → is_grant x.opcode ≡ true
     → broken_in_order p (beat.D x) t ≡ None
     → IsGoodGrant x t × (completes (beat.D x) burst ≡ false → is_grant_without_data x.opcode ≡ false)
 good_grant p x t [] is granting g none = (first_grant p x t g (rw is at none), first_bare x)

@@ -1,17 +1,13 @@
 -- What the parts of a plain client's calls answer.
+use Rattle.tl_client.proofs.Imports.{IsWidth, Beat, Message, beats_of, beat_of, completes, Rule, payload_of}
 use Rattle.std.proofs.Common.{◌≡◌, ℕ, zero, suc, ◌+◌, true, List, ◌∷◌, length, Ok, Err, sym, arith}
 use Rattle.std.specs.Prelude.{Result, OnOk, ⊤}
-use Rattle.tl_beat.specs.statement.Width.{IsWidth}
-use Rattle.tl_beat.specs.declared.beat.Beat.{Beat}
 use Rattle.tl_beat.specs.declared.beat.Beat.TheVariants as beat
-use Rattle.tl_burst.specs.declared.message.Message.{Message}
 use Rattle.tl_burst.specs.declared.message.Message.TheVariants as message
 use Rattle.tl_burst.specs.declared.message.MessageD.{MessageD}
-use Rattle.tl_burst.specs.statement.Burst.{beats_of, beat_of, begun, d_beat_of, IsBurst}
-use Rattle.tl_burst.specs.statement.Part.{IsTakeable, completes}
+use Rattle.tl_burst.specs.statement.Burst.{begun, d_beat_of, IsBurst}
+use Rattle.tl_burst.specs.statement.Part.{IsTakeable}
 use Rattle.tl_burst.proofs.Begun.{length-begun}
-use Rattle.tl_params.specs.declared.rule.Rule.{Rule}
-use Rattle.tl_rules.specs.statement.Admission.{payload_of}
 use Rattle.tl_rules.proofs.Sent.{is_last}
 use Rattle.tl_rules.proofs.Payload.{payload-d}
 
@@ -29,16 +25,21 @@ pub record IsLastOf {w : ℕ} (m : MessageD w) (x : Beat w) (burst : List (Beat 
   pub before : burst ≡ begun (message.D m) i
   pub count : i + 1 ≡ beats_of (message.D m)
 
-pub last_of : {w : ℕ} (m : MessageD w) (x : Beat w) (burst : List (Beat w)) (n : ℕ) → n ≡ beats_of (message.D m) → (x ∷ burst) ≡ begun (message.D m) n → (i : ℕ) × IsLastOf m x burst i
+pub last_of : {w : ℕ} (m : MessageD w) (x : Beat w) (burst : List (Beat w)) (n : ℕ) → n ≡ beats_of (message.D m)
+    → (x ∷ burst) ≡ begun (message.D m) n → (i : ℕ) × IsLastOf m x burst i
 last_of m x burst zero e is = absurd cc
 last_of m x burst (suc i) e is = (i, record { last = cc; before = cc; count = omega arith })
 
-pub completed : {w : ℕ} (m : MessageD w) (x : Beat w) (burst : List (Beat w)) (i : ℕ) → IsLastOf m x burst i → completes (beat.D (d_beat_of m i)) burst ≡ true
-completed m x burst i last = rw (last.before, length-begun (message.D m) i) (is_last i (beats_of (message.D m)) last.count)
+pub completed : {w : ℕ} (m : MessageD w) (x : Beat w) (burst : List (Beat w)) (i : ℕ) → IsLastOf m x burst i
+    → completes (beat.D (d_beat_of m i)) burst ≡ true
+completed m x burst i last =
+    rw (last.before, length-begun (message.D m) i) (is_last i (beats_of (message.D m)) last.count)
 
-pub payload_here : {w : ℕ} (m : MessageD w) (beats : List (Beat w)) → IsWidth w → IsBurst (message.D m) beats → length m.payload ≡ 64 → m.payload ≡ payload_of beats
+pub payload_here : {w : ℕ} (m : MessageD w) (beats : List (Beat w)) → IsWidth w → IsBurst (message.D m) beats
+    → length m.payload ≡ 64 → m.payload ≡ payload_of beats
 payload_here m beats is burst long = sym (payload-d m beats is long burst)
 
-pub newest_of : {w : ℕ} (m : Message w) (x : Beat w) (burst : List (Beat w)) (n : ℕ) → (x ∷ burst) ≡ begun m n → (i : ℕ) × (x ≡ beat_of m i)
+pub newest_of : {w : ℕ} (m : Message w) (x : Beat w) (burst : List (Beat w)) (n : ℕ) → (x ∷ burst) ≡ begun m n
+    → (i : ℕ) × (x ≡ beat_of m i)
 newest_of m x burst zero is = absurd cc
 newest_of m x burst (suc i) is = (i, cc)

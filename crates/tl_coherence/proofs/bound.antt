@@ -11,3 +11,4 @@ pub mod ReportDecreases
 pub mod RequestDecreases
 pub mod ResponseDecreases
 pub mod Settling
+pub mod Imports

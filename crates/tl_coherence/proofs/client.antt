@@ -17,3 +17,4 @@ pub mod KnownProbed
 pub mod ProbeDelivered
 pub mod ResponseOrder
 pub mod Waiting
+pub mod Imports

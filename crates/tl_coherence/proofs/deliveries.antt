@@ -14,3 +14,4 @@ pub mod Matching
 pub mod ProbesAfter
 pub mod ReportsAfter
 pub mod RequestsDelivered
+pub mod Imports

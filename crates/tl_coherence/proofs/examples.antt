@@ -4,3 +4,4 @@ pub mod Following
 pub mod Holding
 pub mod Play
 pub mod Rows
+pub mod Imports

@@ -30,3 +30,4 @@ pub mod FlowStep
 pub mod FlowSunk
 pub mod FlowTraces
 pub mod Flows
+pub mod Imports

@@ -5,3 +5,4 @@ pub mod FromInvariant
 pub mod Granting
 pub mod HeadsOfLinks
 pub mod Stalling
+pub mod Imports

@@ -26,3 +26,4 @@ pub mod RequestsTaken
 pub mod Traces
 pub mod Unseen
 pub mod UnseenSteps
+pub mod Imports

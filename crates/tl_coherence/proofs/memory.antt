@@ -7,3 +7,4 @@ pub mod Bytes
 pub mod Coherence
 pub mod OneMemory
 pub mod Runs
+pub mod Imports

@@ -5,3 +5,4 @@ pub mod OpenAsks
 pub mod OpenKinds
 pub mod Outstanding
 pub mod Progress
+pub mod Imports

@@ -22,3 +22,4 @@ pub mod Room
 pub mod Served
 pub mod Taken
 pub mod TakenAll
+pub mod Imports

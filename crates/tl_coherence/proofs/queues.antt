@@ -21,3 +21,4 @@ pub mod Shown
 pub mod Steps
 pub mod Sums
 pub mod Tokens
+pub mod Imports

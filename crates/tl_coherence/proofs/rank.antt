@@ -3,3 +3,4 @@ pub mod Frames
 pub mod RankDecreases
 pub mod RankParts
 pub mod Weights
+pub mod Imports

@@ -12,3 +12,4 @@ pub mod Sized
 pub mod SizedAfter
 pub mod SoundAfter
 pub mod Strangers
+pub mod Imports

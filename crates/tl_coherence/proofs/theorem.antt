@@ -5,3 +5,4 @@ pub mod LoneAcquireEnds
 pub mod LoneAcquireSteps
 pub mod Machined
 pub mod Soundness
+pub mod Imports

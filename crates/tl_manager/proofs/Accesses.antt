@@ -1,22 +1,14 @@
 -- What is pending after the answer to an access was handed out, and after a ReleaseAck.
+use Rattle.tl_manager.proofs.Imports.{IsWidth, Link, OpD, D, MessageD, beat_of, unfinished, RequestSource, AcquireOf}
+use Rattle.tl_manager.proofs.Imports.{GrantSink, GrantAckOf, ProbeOf, Trace, on_link, block_at, is_grant, is_acquire}
+use Rattle.tl_manager.proofs.Imports.{is_release_ack, pending, never, count_where, is_granted, is_asking, is_acquiring}
+use Rattle.tl_manager.proofs.Imports.{is_granted_to, IsNamed, IsHandled, IsAccounted, Service, services}
+use Rattle.tl_manager.proofs.Imports.{service_of_block, is_access_answer, is_ended_by}
 use Rattle.std.proofs.Common.{◌≡◌, ℕ, ◌==◌, Bool, true, false, not, ◌&&◌, [], None, refl, sym, ap, subst, ◌∙◌}
 use Rattle.std.specs.Prelude.{filter, if◌then◌else◌}
 use Rattle.std.proofs.lemmas.Bool.{eqb-true, eq-eqb, and_parts}
-use Rattle.tl_beat.specs.statement.Width.{IsWidth}
-use Rattle.tl_beat.specs.declared.beat.Link.{Link}
 use Rattle.tl_beat.specs.declared.channel.Channel.TheVariants as channel
-use Rattle.tl_beat.specs.declared.opcode.OpD.{OpD}
 use Rattle.tl_beat.specs.declared.opcode.OpD.TheVariants as d
-use Rattle.tl_burst.specs.declared.message.Message.TheVariants.{D}
-use Rattle.tl_burst.specs.declared.message.MessageD.{MessageD}
-use Rattle.tl_burst.specs.statement.Burst.{beat_of}
-use Rattle.tl_burst.specs.statement.Messages.{unfinished}
-use Rattle.tl_params.specs.declared.key.Key.TheVariants.{RequestSource, AcquireOf, GrantSink, GrantAckOf, ProbeOf}
-use Rattle.tl_rules.specs.statement.Conformance.{Trace, on_link}
-use Rattle.tl_rules.specs.statement.History.{block_at, is_grant, is_acquire, is_release_ack, pending}
-use Rattle.tl_rules.proofs.Open.{never}
-use Rattle.tl_manager.specs.laws.Pending.{count_where, is_granted, is_asking, is_acquiring, is_granted_to, IsNamed, IsHandled, IsAccounted}
-use Rattle.tl_manager.specs.statement.Service.{Service, services, service_of_block, is_access_answer, is_ended_by}
 use Rattle.tl_manager.proofs.Counts.{count-filter, counted-kept, filter-same, each_both, same_block, serving-without}
 use Rattle.tl_manager.proofs.Ended.{services-sent}
 use Rattle.tl_manager.proofs.Handed.{after_sent}
@@ -43,13 +35,17 @@ ack_kind d.GrantData e = absurd cc
 ack_kind d.ReleaseAck e = (refl, refl)
 
 -- what a message of channel D that is no Grant leaves
-pub granted-still : {w : ℕ} (link : Link) (m : MessageD w) (t : Trace w) (v : Service w) → IsWidth w → unfinished channel.D (on_link link.0 t) ≡ [] → is_grant m.opcode ≡ false
+pub granted-still : {w : ℕ} (link : Link) (m : MessageD w) (t : Trace w) (v : Service w) → IsWidth w
+    → unfinished channel.D (on_link link.0 t) ≡ [] → is_grant m.opcode ≡ false
     → is_granted (after_sent link (D m) t) v ≡ is_granted t v
 granted-still link m t v width none other =
-    ap (λ b. is_acquire v.request.opcode && b) (reply-quiet (GrantSink v.tracker) link m t v.link.0 width none (λ e. (rw other refl, refl)))
+    ap (λ b. is_acquire v.request.opcode && b) (reply-quiet (GrantSink v.tracker) link m t v.link.0 width none
+    (λ e. (rw other refl, refl)))
 
-same-still : {w : ℕ} (link : Link) (m : MessageD w) (t : Trace w) (k : ℕ) → IsWidth w → unfinished channel.D (on_link link.0 t) ≡ [] → is_grant m.opcode ≡ false
-    → service_of_block k (services (after_sent link (D m) t)) ≡ service_of_block k (services t) → IsSame k t (after_sent link (D m) t)
+same-still : {w : ℕ} (link : Link) (m : MessageD w) (t : Trace w) (k : ℕ) → IsWidth w
+    → unfinished channel.D (on_link link.0 t) ≡ [] → is_grant m.opcode ≡ false
+    → service_of_block k (services (after_sent link (D m) t)) ≡ service_of_block k (services t)
+    → IsSame k t (after_sent link (D m) t)
 same-still link m t k width none other serves = record {
   serves = serves;
   granted = λ v e. granted-still link m t v width none other;
@@ -63,13 +59,16 @@ same-still link m t k width none other serves = record {
 
 -- ---- a ReleaseAck
 
-pub services-release_ack : {w : ℕ} (link : Link) (m : MessageD w) (t : Trace w) → IsWidth w → unfinished channel.D (on_link link.0 t) ≡ [] → is_release_ack m.opcode ≡ true
+pub services-release_ack : {w : ℕ} (link : Link) (m : MessageD w) (t : Trace w) → IsWidth w
+    → unfinished channel.D (on_link link.0 t) ≡ [] → is_release_ack m.opcode ≡ true
     → services (after_sent link (D m) t) ≡ services t
 services-release_ack {w} link m t width none ack =
     services-sent link (D m) t width refl none
-    ∙ filter-all (λ v. not (is_ended_by (link, beat_of (D m) 0) v)) (services t) (λ v. rw ((ack_kind m.opcode ack).1) (ap not (never (v.link.0 == link.0))))
+    ∙ filter-all (λ v. not (is_ended_by (link, beat_of (D m) 0) v)) (services t)
+    (λ v. rw ((ack_kind m.opcode ack).1) (ap not (never (v.link.0 == link.0))))
 
-pub accounted-release_ack : {w : ℕ} (link : Link) (m : MessageD w) (t : Trace w) → IsWidth w → unfinished channel.D (on_link link.0 t) ≡ [] → is_release_ack m.opcode ≡ true → IsAccounted t
+pub accounted-release_ack : {w : ℕ} (link : Link) (m : MessageD w) (t : Trace w) → IsWidth w
+    → unfinished channel.D (on_link link.0 t) ≡ [] → is_release_ack m.opcode ≡ true → IsAccounted t
     → IsAccounted (after_sent link (D m) t)
 accounted-release_ack {w} link m t width none ack ok =
     let other = (ack_kind m.opcode ack).0 in
@@ -82,23 +81,30 @@ accounted-release_ack {w} link m t width none ack ok =
       requests = λ c q. request-reply link m t c q;
     })
     (λ c. reports-reply link m t c width none ok)
-    (λ k. handled-same k t (after_sent link (D m) t) (same-still link m t k width none other (ap (service_of_block k) (services-release_ack link m t width none ack))) (ok.blocks k)) ok
+    (λ k. handled-same k t (after_sent link (D m) t)
+    (same-still link m t k width none other
+    (ap (service_of_block k) (services-release_ack link m t width none ack))) (ok.blocks k)) ok
 
 -- ---- an answer to an access
 
 -- it ends the service of its block, and no other
-pub services-answer : {w : ℕ} (n : ℕ) (s : Service w) (m : MessageD w) (t : Trace w) → IsReply n s m t → is_access_answer m.opcode ≡ true → is_acquire s.request.opcode ≡ false → IsAccounted t
+pub services-answer : {w : ℕ} (n : ℕ) (s : Service w) (m : MessageD w) (t : Trace w) → IsReply n s m t
+    → is_access_answer m.opcode ≡ true → is_acquire s.request.opcode ≡ false → IsAccounted t
     → services (after_sent s.link (D m) t) ≡ filter (λ v. not (block_at v.request.address == n)) (services t)
 services-answer {w} n s m t is answer access ok =
     services-sent s.link (D m) t is.width refl is.whole
-    ∙ filter-same (λ v. not (is_ended_by (s.link, beat_of (D m) 0) v)) (λ v. not (block_at v.request.address == n)) (services t)
-    (each_both (λ v. is_asking s.link.0 s.request.source t v ≡ true → v ≡ s) (λ v. (block_at v.request.address == n) ≡ true → v ≡ s)
+    ∙ filter-same (λ v. not (is_ended_by (s.link, beat_of (D m) 0) v)) (λ v. not (block_at v.request.address == n))
+    (services t)
+    (each_both (λ v. is_asking s.link.0 s.request.source t v ≡ true → v ≡ s)
+    (λ v. (block_at v.request.address == n) ≡ true → v ≡ s)
     (λ v. not (is_ended_by (s.link, beat_of (D m) 0) v) ≡ not (block_at v.request.address == n)) (services t)
-    (λ v alone mine. ap not (both_ways (is_ended_by (s.link, beat_of (D m) 0) v) (block_at v.request.address == n) (λ e. of_block v (alone (asking v e))) (λ e. ended v (mine e))))
+    (λ v alone mine. ap not (both_ways (is_ended_by (s.link, beat_of (D m) 0) v) (block_at v.request.address == n)
+    (λ e. of_block v (alone (asking v e))) (λ e. ended v (mine e))))
     (asks-alone n s m t is ok) (same_block n (services t) s is.blocks_apart is.serves))
   where
     of_block : (v : Service w) → v ≡ s → (block_at v.request.address == n) ≡ true
-    of_block v e = eq-eqb (block_at v.request.address) n (ap (λ (r : Service w). block_at r.request.address) e ∙ block_served n t s is.serves)
+    of_block v e = eq-eqb (block_at v.request.address) n (ap (λ (r : Service w). block_at r.request.address)
+        e ∙ block_served n t s is.serves)
 
     ends_it : is_ended_by (s.link, beat_of (D m) 0) s ≡ true
     ends_it = rw (eq-eqb s.link.0 s.link.0 refl, answer, access, eq-eqb s.request.source m.source (sym is.source)) refl
@@ -106,18 +112,24 @@ services-answer {w} n s m t is answer access ok =
     ended : (v : Service w) → v ≡ s → is_ended_by (s.link, beat_of (D m) 0) v ≡ true
     ended v e = ap (is_ended_by (s.link, beat_of (D m) 0)) e ∙ ends_it
 
-    asking : (v : Service w) → is_ended_by (s.link, beat_of (D m) 0) v ≡ true → is_asking s.link.0 s.request.source t v ≡ true
+    asking : (v : Service w) → is_ended_by (s.link, beat_of (D m) 0) v ≡ true
+        → is_asking s.link.0 s.request.source t v ≡ true
     asking v e =
-        let p = and_parts (v.link.0 == s.link.0) (is_access_answer m.opcode && (not (is_acquire v.request.opcode) && (v.request.source == m.source))) e in
-        let q = and_parts (not (is_acquire v.request.opcode)) (v.request.source == m.source) (and_parts (is_access_answer m.opcode) _ p.1).1 in
-        let from : (v.request.source == s.request.source) ≡ true = eq-eqb v.request.source s.request.source (eqb-true v.request.source m.source q.1 ∙ is.source) in
-        rw (p.0, from) (ungranted (is_acquire v.request.opcode) (pending (GrantSink v.tracker) (on_link v.link.0 t)) q.0)
+        let p = and_parts (v.link.0 == s.link.0)
+        (is_access_answer m.opcode && (not (is_acquire v.request.opcode) && (v.request.source == m.source))) e in
+        let q = and_parts (not (is_acquire v.request.opcode)) (v.request.source == m.source)
+        (and_parts (is_access_answer m.opcode) _ p.1).1 in
+        let from : (v.request.source == s.request.source) ≡ true =
+        eq-eqb v.request.source s.request.source (eqb-true v.request.source m.source q.1 ∙ is.source) in
+        rw (p.0, from) (ungranted (is_acquire v.request.opcode) (pending (GrantSink v.tracker) (on_link v.link.0 t))
+        q.0)
       where
         ungranted : (a b : Bool) → not a ≡ true → not (a && b) ≡ true
         ungranted true b f = absurd cc
         ungranted false b f = refl
 
-pub accounted-answer : {w : ℕ} (n : ℕ) (s : Service w) (m : MessageD w) (t : Trace w) → IsReply n s m t → is_access_answer m.opcode ≡ true → is_acquire s.request.opcode ≡ false
+pub accounted-answer : {w : ℕ} (n : ℕ) (s : Service w) (m : MessageD w) (t : Trace w) → IsReply n s m t
+    → is_access_answer m.opcode ≡ true → is_acquire s.request.opcode ≡ false
     → IsAccounted t → IsAccounted (after_sent s.link (D m) t)
 accounted-answer {w} n s m t is answer access ok = record {
   sources = λ c q. sources-reply n c q s m t is ok (counted c q);
@@ -138,21 +150,26 @@ accounted-answer {w} n s m t is answer access ok = record {
     counted : (c q : ℕ) → count_where (is_asking c q u) (services u) ≡ count_where (asks_else n c q t) (services t)
     counted c q =
         ap (count_where (is_asking c q u)) (services-answer n s m t is answer access ok)
-        ∙ counted-kept t u c q (filter (λ v. not (block_at v.request.address == n)) (services t)) (λ v. granted-still s.link m t v is.width is.whole other)
+        ∙ counted-kept t u c q (filter (λ v. not (block_at v.request.address == n)) (services t))
+        (λ v. granted-still s.link m t v is.width is.whole other)
         ∙ count-filter (λ v. not (block_at v.request.address == n)) (is_asking c q t) (services t)
 
     gone : service_of_block n (services u) ≡ None
     gone = serves n ∙ rw (eq-eqb n n refl) refl
 
     handled : (k : ℕ) (b : Bool) → (n == k) ≡ b → IsHandled k u
-    handled k false e = handled-same k t u (same-still s.link m t k is.width is.whole other (serves k ∙ rw e refl)) (ok.blocks k)
+    handled k false e = handled-same k t u (same-still s.link m t k is.width is.whole other (serves k ∙ rw e refl))
+        (ok.blocks k)
     handled k true e = subst (λ (i : ℕ). IsHandled i u) (eqb-true n k e) (record {
       acquires = λ c.
-          reply-quiet (AcquireOf n) s.link m t c is.width is.whole (λ f. (refl, rw other refl)) ∙ (ok.blocks n).acquires c ∙ ap (is_acquiring c t) is.serves
+          reply-quiet (AcquireOf n) s.link m t c is.width is.whole (λ f. (refl, rw other refl)) ∙ (ok.blocks n).acquires
+          c ∙ ap (is_acquiring c t) is.serves
           ∙ ap (λ b. b && ((s.link.0 == c) && not (is_granted t s))) access ∙ ap (is_acquiring c u) (sym gone);
       grants = λ c.
-          reply-quiet (GrantAckOf n) s.link m t c is.width is.whole (λ f. (rw other refl, refl)) ∙ (ok.blocks n).grants c ∙ ap (is_granted_to c t) is.serves
+          reply-quiet (GrantAckOf n) s.link m t c is.width is.whole (λ f. (rw other refl, refl)) ∙ (ok.blocks n).grants
+          c ∙ ap (is_granted_to c t) is.serves
           ∙ ap (λ b. (s.link.0 == c) && b) is.unanswered ∙ never (s.link.0 == c) ∙ ap (is_granted_to c u) (sym gone);
       named = subst (IsNamed n u) (sym gone) tt;
-      probes = λ c f. absurd (let no : pending (ProbeOf n) (on_link c u) ≡ false = reply-quiet (ProbeOf n) s.link m t c is.width is.whole (λ g. (refl, refl)) ∙ is.settled c in cc);
+      probes = λ c f. absurd (let no : pending (ProbeOf n) (on_link c u) ≡ false =
+          reply-quiet (ProbeOf n) s.link m t c is.width is.whole (λ g. (refl, refl)) ∙ is.settled c in cc);
     })

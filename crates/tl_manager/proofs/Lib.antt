@@ -67,3 +67,4 @@ pub mod Unmoved
 pub mod WordBits
 pub mod Words
 pub mod Written
+pub mod Imports

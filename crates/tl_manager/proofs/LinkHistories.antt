@@ -1,31 +1,28 @@
 -- What is said of each link after a beat was taken, or a message handed out, on one of them.
+use Rattle.tl_manager.proofs.Imports.{Beat, BeatE, Link, Message, History, unfinished, sent, Trace, on_link, begins}
+use Rattle.tl_manager.proofs.Imports.{ends, opens, closes, pending}
 use Rattle.std.proofs.Common.{◌≡◌, ℕ, ◌==◌, Bool, true, false, cond, ◌&&◌, [], ◌∷◌, refl, ap, ◌∙◌}
 use Rattle.std.specs.Prelude.{if◌then◌else◌}
-use Rattle.tl_beat.specs.declared.beat.Beat.{Beat}
 use Rattle.tl_beat.specs.declared.beat.Beat.TheVariants as beat
-use Rattle.tl_beat.specs.declared.beat.BeatE.{BeatE}
-use Rattle.tl_beat.specs.declared.beat.Link.{Link}
 use Rattle.tl_beat.specs.declared.channel.Channel.TheVariants as channel
-use Rattle.tl_burst.specs.declared.message.Message.{Message}
-use Rattle.tl_burst.specs.statement.Messages.{History, unfinished}
 use Rattle.tl_params.specs.declared.key.Key.{Key}
-use Rattle.tl_rules.specs.statement.Admission.{sent}
-use Rattle.tl_rules.specs.statement.Conformance.{Trace, on_link}
-use Rattle.tl_rules.specs.statement.History.{begins, ends, opens, closes, pending}
 use Rattle.tl_manager.proofs.Handed.{after_sent, own_link, other_link}
 
 -- ---- one link
 
-pub own_beat : {w : ℕ} (client : ℕ) (link : Link) (x : Beat w) (t : Trace w) → (link.0 == client) ≡ true → on_link client ((link, x) ∷ t) ≡ x ∷ on_link client t
+pub own_beat : {w : ℕ} (client : ℕ) (link : Link) (x : Beat w) (t : Trace w) → (link.0 == client) ≡ true
+    → on_link client ((link, x) ∷ t) ≡ x ∷ on_link client t
 unfolding on_link
 own_beat client link x t e = rw e refl
 
-pub other_beat : {w : ℕ} (client : ℕ) (link : Link) (x : Beat w) (t : Trace w) → (link.0 == client) ≡ false → on_link client ((link, x) ∷ t) ≡ on_link client t
+pub other_beat : {w : ℕ} (client : ℕ) (link : Link) (x : Beat w) (t : Trace w) → (link.0 == client) ≡ false
+    → on_link client ((link, x) ∷ t) ≡ on_link client t
 unfolding on_link
 other_beat client link x t e = rw e refl
 
 -- what a beat doesn't change
-pub beat-keeps : {w : ℕ} {A : Type 0} (value : History w → A) (client : ℕ) (link : Link) (x : Beat w) (t : Trace w) → ((h : History w) → value (x ∷ h) ≡ value h)
+pub beat-keeps : {w : ℕ} {A : Type 0} (value : History w → A) (client : ℕ) (link : Link) (x : Beat w) (t : Trace w)
+    → ((h : History w) → value (x ∷ h) ≡ value h)
     → value (on_link client ((link, x) ∷ t)) ≡ value (on_link client t)
 beat-keeps value client link x t same = go (link.0 == client) refl
   where
@@ -34,7 +31,8 @@ beat-keeps value client link x t same = go (link.0 == client) refl
     go false e = ap value (other_beat client link x t e)
 
 -- what a message doesn't change
-pub sent-keeps : {w : ℕ} {A : Type 0} (value : History w → A) (client : ℕ) (link : Link) (m : Message w) (t : Trace w) → ((h : History w) → h ≡ on_link client t → value (sent m h) ≡ value h)
+pub sent-keeps : {w : ℕ} {A : Type 0} (value : History w → A) (client : ℕ) (link : Link) (m : Message w) (t : Trace w)
+    → ((h : History w) → h ≡ on_link client t → value (sent m h) ≡ value h)
     → value (on_link client (after_sent link m t)) ≡ value (on_link client t)
 sent-keeps value client link m t same = go (link.0 == client) refl
   where
@@ -45,7 +43,8 @@ sent-keeps value client link m t same = go (link.0 == client) refl
 -- ---- what is pending after a beat (to stand in tl_rules)
 
 -- one that opens it at most
-pub pending-opened : {w : ℕ} (k : Key) (x : Beat w) (t : History w) → closes k x t ≡ false → pending k (x ∷ t) ≡ (if begins x t && opens k x t then true else pending k t)
+pub pending-opened : {w : ℕ} (k : Key) (x : Beat w) (t : History w) → closes k x t ≡ false
+    → pending k (x ∷ t) ≡ (if begins x t && opens k x t then true else pending k t)
 unfolding pending
 pending-opened k x t c = rw c (go (begins x t && opens k x t) (ends x t))
   where
@@ -55,11 +54,13 @@ pending-opened k x t c = rw c (go (begins x t && opens k x t) (ends x t))
     go false false = refl
 
 -- one that closes it at most
-pub pending-closed : {w : ℕ} (k : Key) (x : Beat w) (t : History w) → opens k x t ≡ false → pending k (x ∷ t) ≡ (if ends x t && closes k x t then false else pending k t)
+pub pending-closed : {w : ℕ} (k : Key) (x : Beat w) (t : History w) → opens k x t ≡ false
+    → pending k (x ∷ t) ≡ (if ends x t && closes k x t then false else pending k t)
 unfolding pending
 pending-closed k x t o = rw o (go (begins x t))
   where
-    go : (a : Bool) → cond (a && false) true (cond (ends x t && closes k x t) false (pending k t)) ≡ cond (ends x t && closes k x t) false (pending k t)
+    go : (a : Bool) → cond (a && false) true (cond (ends x t && closes k x t) false (pending k t)) ≡ cond
+        (ends x t && closes k x t) false (pending k t)
     go true = refl
     go false = refl
 
@@ -74,5 +75,6 @@ none-on_e (beat.C x ∷ t) = none-on_e t
 none-on_e (beat.D x ∷ t) = none-on_e t
 none-on_e (beat.E x ∷ t) = rw (none-on_e t) refl
 
-pub whole-e : {w : ℕ} (x : BeatE) (t : History w) → (begins {w = w} (beat.E x) t ≡ true) × (ends {w = w} (beat.E x) t ≡ true)
+pub whole-e : {w : ℕ} (x : BeatE) (t : History w) → (begins {w = w} (beat.E x) t ≡ true)
+    × (ends {w = w} (beat.E x) t ≡ true)
 whole-e x t = rw (none-on_e t) (refl, refl)

@@ -16,7 +16,8 @@ pub each_append : {X : Type 0} (P : X → Type 0) (xs ys : List X) → Each P xs
 each_append P [] ys each others = others
 each_append P (x ∷ xs) ys each others = (each.0, each_append P xs ys each.1 others)
 
-pub each_map : {X Y : Type 0} (P : X → Type 0) (Q : Y → Type 0) (f : X → Y) (xs : List X) → ((x : X) → P x → Q (f x)) → Each P xs → Each Q (map f xs)
+pub each_map : {X Y : Type 0} (P : X → Type 0) (Q : Y → Type 0) (f : X → Y) (xs : List X) → ((x : X) → P x → Q (f x))
+    → Each P xs → Each Q (map f xs)
 each_map P Q f [] step each = tt
 each_map P Q f (x ∷ xs) step each = (step x each.0, each_map P Q f xs step each.1)
 
@@ -27,7 +28,8 @@ each_client zero first test = tt
 each_client (suc n) first test = go (test first) refl (each_client n (first + 1) test)
   where
     go : (b : Bool) → test first ≡ b → Each (λ client. test client ≡ true) (clients_from (first + 1) n test)
-        → Each (λ client. test client ≡ true) (cond b (first ∷ clients_from (first + 1) n test) (clients_from (first + 1) n test))
+        → Each (λ client. test client ≡ true)
+        (cond b (first ∷ clients_from (first + 1) n test) (clients_from (first + 1) n test))
     go true e rest = (e, rest)
     go false e rest = rest
 

@@ -1,21 +1,14 @@
 -- How a beat is answered that was judged, and that a manager is one afterwards.
+use Rattle.tl_manager.proofs.Imports.{Beat, Link, Channel, Config, Perm, Rule, admission_of, Knows, reaction, End}
+use Rattle.tl_manager.proofs.Imports.{Judgement, Breaks, Waits, Passes, Refused, Stalled, Sent, judged, refused, taken}
+use Rattle.tl_manager.proofs.Imports.{offered_as, offered, ManagerState}
 use Rattle.std.proofs.Common.{◌≡◌, ℕ, Ok, Err, refl, arith}
-use Rattle.tl_beat.specs.declared.beat.Beat.{Beat}
-use Rattle.tl_beat.specs.declared.beat.Link.{Link}
-use Rattle.tl_beat.specs.declared.channel.Channel.{Channel}
-use Rattle.tl_params.specs.declared.config.Config.{Config}
-use Rattle.tl_params.specs.declared.perm.Perm.{Perm}
-use Rattle.tl_params.specs.declared.rule.Rule.{Rule}
-use Rattle.tl_manager.specs.code.Admission.{admission_of}
-use Rattle.tl_manager.specs.code.Knows.{Knows, IsManager}
-use Rattle.tl_manager.specs.statement.Reaction.{reaction}
-use Rattle.tl_manager.specs.statement.End.{End}
-use Rattle.tl_manager.specs.statement.Offer.{Judgement, Breaks, Waits, Passes, Refused, Stalled, Sent, judged, refused, taken, offered_as, offered}
+use Rattle.tl_manager.specs.code.Knows.{IsManager}
 use Rattle.tl_manager.specs.declared.manager.admission.Admission.{Admission}
 use Rattle.tl_manager.specs.declared.manager.admission.Admission.TheVariants as admission
-use Rattle.tl_manager.specs.declared.manager.state.ManagerState.{ManagerState}
 
-pub offered-broken : {w : ℕ} (config : Config) (link : Link) (ch : Channel) (x : Beat w) (e : End w) (rule : Rule) → Err rule ≡ admission_of (judged config link ch x e)
+pub offered-broken : {w : ℕ} (config : Config) (link : Link) (ch : Channel) (x : Beat w) (e : End w) (rule : Rule)
+    → Err rule ≡ admission_of (judged config link ch x e)
     → offered config link ch x e ≡ (Refused rule, refused link e)
 unfolding offered
 offered-broken {w} config link ch x e rule is = go (judged config link ch x e) is
@@ -25,7 +18,8 @@ offered-broken {w} config link ch x e rule is = go (judged config link ch x e) i
     go Waits f = absurd cc
     go Passes f = absurd cc
 
-pub offered-waits : {w : ℕ} (config : Config) (link : Link) (ch : Channel) (x : Beat w) (e : End w) (a : Admission) → a ≡ admission.Waits → Ok a ≡ admission_of (judged config link ch x e)
+pub offered-waits : {w : ℕ} (config : Config) (link : Link) (ch : Channel) (x : Beat w) (e : End w) (a : Admission)
+    → a ≡ admission.Waits → Ok a ≡ admission_of (judged config link ch x e)
     → offered config link ch x e ≡ (Stalled, e)
 unfolding offered
 offered-waits {w} config link ch x e a waits is = go (judged config link ch x e) (rw waits at is)
@@ -35,21 +29,30 @@ offered-waits {w} config link ch x e a waits is = go (judged config link ch x e)
     go Waits f = refl
     go Passes f = absurd cc
 
-pub offered-passes : {w : ℕ} (config : Config) (link : Link) (ch : Channel) (x : Beat w) (e : End w) (a : Admission) → a ≡ admission.Passes → Ok a ≡ admission_of (judged config link ch x e)
+pub offered-passes : {w : ℕ} (config : Config) (link : Link) (ch : Channel) (x : Beat w) (e : End w) (a : Admission)
+    → a ≡ admission.Passes → Ok a ≡ admission_of (judged config link ch x e)
     → offered config link ch x e ≡ (Sent (reaction config link x e).handed, taken link x (reaction config link x e) e)
 unfolding offered
 offered-passes {w} config link ch x e a passes is = go (judged config link ch x e) (rw passes at is)
   where
-    go : (j : Judgement) → Ok admission.Passes ≡ admission_of j → offered_as j config link x e ≡ (Sent (reaction config link x e).handed, taken link x (reaction config link x e) e)
+    go : (j : Judgement) → Ok admission.Passes ≡ admission_of j
+        → offered_as j config link x e ≡ (
+          Sent (reaction config link x e).handed,
+          taken link x
+              (reaction config link x e) e,
+        )
     go (Breaks r) f = absurd cc
     go Waits f = absurd cc
     go Passes f = refl
 
 -- ---- it knows some end
 
-pub manager-after : {w : ℕ} {M : Type 0} (perm_of : M → ℕ → ℕ → Perm) (blocks_of clients_of : M → ℕ) (old new : ManagerState w M) (e : End w) → (known : IsManager perm_of blocks_of clients_of old)
+pub manager-after : {w : ℕ} {M : Type 0} (perm_of : M → ℕ → ℕ → Perm) (blocks_of clients_of : M → ℕ)
+    (old new : ManagerState w M) (e : End w) → (known : IsManager perm_of blocks_of clients_of old)
     → Knows perm_of new known.config e
-    → blocks_of new.block_state.directory ≡ blocks_of old.block_state.directory → clients_of new.block_state.directory ≡ clients_of old.block_state.directory → IsManager perm_of blocks_of clients_of new
+    → blocks_of new.block_state.directory ≡ blocks_of old.block_state.directory
+    → clients_of new.block_state.directory ≡ clients_of old.block_state.directory
+    → IsManager perm_of blocks_of clients_of new
 manager-after perm_of blocks_of clients_of old new e known k blocks clients =
     let was = known.knows in
     let size = k.size in

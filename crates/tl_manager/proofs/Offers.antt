@@ -1,26 +1,15 @@
 -- Beats and messages by their fields, and what a manager answers to a list of beats.
+use Rattle.tl_manager.proofs.Imports.{Beat, Link, Channel, OpA, OpC, OpD, a_carries_data, c_carries_data, Message}
+use Rattle.tl_manager.proofs.Imports.{channel_of, Config, Level, Profile, End, fresh, Sent, offered}
 use Rattle.std.proofs.Common.{◌≡◌, refl, lit≤}
 use Rattle.std.specs.Prelude.{ℕ, true, false, List, [], ◌∷◌, ◌-◌, ◌^◌, map, nat_le, replicate, Some, None}
 use Rattle.std.proofs.lemmas.Bool.{leb-true}
-use Rattle.tl_beat.specs.declared.beat.Beat.{Beat}
 use Rattle.tl_beat.specs.declared.beat.Beat.TheVariants.{A, C, D, E}
-use Rattle.tl_beat.specs.declared.beat.Link.{Link}
-use Rattle.tl_beat.specs.declared.channel.Channel.{Channel}
-use Rattle.tl_beat.specs.declared.opcode.OpA.{OpA}
 use Rattle.tl_beat.specs.declared.opcode.OpA.TheVariants as a
 use Rattle.tl_beat.specs.declared.opcode.OpB.TheVariants as b
-use Rattle.tl_beat.specs.declared.opcode.OpC.{OpC}
-use Rattle.tl_beat.specs.declared.opcode.OpD.{OpD}
 use Rattle.tl_beat.specs.declared.opcode.OpD.TheVariants as d
-use Rattle.tl_beat.specs.statement.Opcode.{a_carries_data, c_carries_data}
-use Rattle.tl_burst.specs.declared.message.Message.{Message}
 use Rattle.tl_burst.specs.declared.message.Message.TheVariants as message
-use Rattle.tl_burst.specs.statement.Messages.{channel_of}
-use Rattle.tl_params.specs.declared.config.Config.{Config}
-use Rattle.tl_params.specs.declared.level.Level.{Level}
-use Rattle.tl_params.specs.declared.profile.Profile.{Profile}
-use Rattle.tl_manager.specs.statement.End.{End, fresh}
-use Rattle.tl_manager.specs.statement.Offer.{Reception, Sent, offered}
+use Rattle.tl_manager.specs.statement.Offer.{Reception}
 
 -- a manager of this many blocks and trackers, whose links have these levels
 abbrev pub with_links : Profile → ℕ → ℕ → List Level → Config
@@ -66,11 +55,33 @@ answers_to config offers = (offer_all config offers fresh).0
 
 abbrev pub request : {w : ℕ} (opcode : OpA) → false ≡ a_carries_data opcode → ℕ → ℕ → ℕ → ℕ → ℕ → Beat w
 request opcode carries param size source address mask =
-    A (record { opcode = opcode; param = param; size = size; source = source; address = address; mask = mask; lanes = None; corrupt = false; carries = carries })
+    A (record {
+      opcode = opcode;
+      param = param;
+      size = size;
+      source = source;
+      address = address;
+      mask = mask;
+      lanes =
+          None;
+      corrupt = false;
+      carries = carries;
+    })
 
 abbrev pub request_of_data : {w : ℕ} (opcode : OpA) → true ≡ a_carries_data opcode → ℕ → ℕ → ℕ → ℕ → List ℕ → Beat w
 request_of_data opcode carries param size address mask lanes =
-    A (record { opcode = opcode; param = param; size = size; source = 0; address = address; mask = mask; lanes = Some lanes; corrupt = false; carries = carries })
+    A (record {
+      opcode = opcode;
+      param = param;
+      size = size;
+      source = 0;
+      address = address;
+      mask = mask;
+      lanes =
+          Some lanes;
+      corrupt = false;
+      carries = carries;
+    })
 
 abbrev pub get : {w : ℕ} → ℕ → ℕ → ℕ → Beat w
 get {w} source size address = request a.Get refl 0 size source address (2 ^ w - 1)
@@ -83,20 +94,75 @@ acquire_whole {w} grow address = request a.AcquirePerm refl grow 6 0 address (2 
 
 -- a beat of a Put of a block of ones
 abbrev pub put_block : ℕ → Beat 8
-put_block source = A (record { opcode = a.PutFullData; param = 0; size = 6; source = source; address = 0; mask = 255; lanes = Some (replicate 8 255); corrupt = false; carries = refl })
+put_block source = A (record {
+  opcode = a.PutFullData;
+  param = 0;
+  size = 6;
+  source = source;
+  address = 0;
+  mask =
+      255;
+  lanes = Some (replicate 8 255);
+  corrupt = false;
+  carries = refl;
+})
 
 -- a Put of 8 bytes whose beat is corrupt
 abbrev pub corrupted : ℕ → Beat 8
-corrupted address = A (record { opcode = a.PutFullData; param = 0; size = 3; source = 0; address = address; mask = 255; lanes = Some (replicate 8 0); corrupt = true; carries = refl })
+corrupted address = A (record {
+  opcode = a.PutFullData;
+  param = 0;
+  size = 3;
+  source = 0;
+  address = address;
+  mask =
+      255;
+  lanes = Some (replicate 8 0);
+  corrupt = true;
+  carries = refl;
+})
 
 abbrev pub access_ack : Beat 8
-access_ack = D (record { opcode = d.AccessAck; param = 0; size = 0; source = 0; sink = 0; denied = false; lanes = None; corrupt = false; carries = refl })
+access_ack = D (record {
+  opcode = d.AccessAck;
+  param = 0;
+  size = 0;
+  source = 0;
+  sink = 0;
+  denied = false;
+  lanes =
+      None;
+  corrupt = false;
+  carries = refl;
+})
 
 abbrev pub report : {w : ℕ} (opcode : OpC) → false ≡ c_carries_data opcode → ℕ → ℕ → Beat w
-report opcode carries param address = C (record { opcode = opcode; param = param; size = 6; source = 0; address = address; lanes = None; corrupt = false; carries = carries })
+report opcode carries param address =
+    C (record {
+      opcode = opcode;
+      param = param;
+      size = 6;
+      source = 0;
+      address = address;
+      lanes = None;
+      corrupt =
+          false;
+      carries = carries;
+    })
 
 abbrev pub report_with : {w : ℕ} (opcode : OpC) → true ≡ c_carries_data opcode → ℕ → ℕ → List ℕ → Beat w
-report_with opcode carries param address lanes = C (record { opcode = opcode; param = param; size = 6; source = 0; address = address; lanes = Some lanes; corrupt = false; carries = carries })
+report_with opcode carries param address lanes =
+    C (record {
+      opcode = opcode;
+      param = param;
+      size = 6;
+      source = 0;
+      address = address;
+      lanes = Some lanes;
+      corrupt =
+          false;
+      carries = carries;
+    })
 
 abbrev pub grant_ack : {w : ℕ} → ℕ → Beat w
 grant_ack sink = E (record { sink = sink })
@@ -111,7 +177,19 @@ abbrev pub said : {w : ℕ} → ℕ → Message w → Reception w
 said link m = Sent (to link m ∷ [])
 
 abbrev pub on_d : {w : ℕ} → OpD → ℕ → ℕ → ℕ → List ℕ → Message w
-on_d opcode param source sink payload = message.D (record { opcode = opcode; param = param; size = 6; source = source; sink = sink; denied = false; payload = payload; corrupt = 0; small = lit≤ tt })
+on_d opcode param source sink payload =
+    message.D (record {
+      opcode = opcode;
+      param = param;
+      size = 6;
+      source = source;
+      sink = sink;
+      denied =
+          false;
+      payload = payload;
+      corrupt = 0;
+      small = lit≤ tt;
+    })
 
 abbrev pub zeros : List ℕ
 zeros = replicate 64 0
@@ -122,7 +200,19 @@ block_from byte = byte ∷ replicate 63 0
 
 -- the answer to an access of this size
 abbrev pub answer : {w : ℕ} → OpD → (size : ℕ) → nat_le size 6 ≡ true → List ℕ → Message w
-answer opcode size fits payload = message.D (record { opcode = opcode; param = 0; size = size; source = 0; sink = 0; denied = false; payload = payload; corrupt = 0; small = leb-true size 6 fits })
+answer opcode size fits payload =
+    message.D (record {
+      opcode = opcode;
+      param = 0;
+      size = size;
+      source = 0;
+      sink = 0;
+      denied = false;
+      payload =
+          payload;
+      corrupt = 0;
+      small = leb-true size 6 fits;
+    })
 
 abbrev pub grant_data : {w : ℕ} → ℕ → ℕ → List ℕ → Message w
 grant_data cap sink payload = on_d d.GrantData cap 0 sink payload
@@ -135,4 +225,15 @@ release_ack = on_d d.ReleaseAck 0 0 0 zeros
 
 -- a Probe of block 0
 abbrev pub probe : {w : ℕ} → ℕ → Message w
-probe {w} cap = message.B (record { opcode = b.ProbeBlock; param = cap; size = 6; source = 0; address = 0; payload = zeros; mask = 2 ^ w - 1; corrupt = 0; small = lit≤ tt })
+probe {w} cap = message.B (record {
+  opcode = b.ProbeBlock;
+  param = cap;
+  size = 6;
+  source = 0;
+  address = 0;
+  payload =
+      zeros;
+  mask = 2 ^ w - 1;
+  corrupt = 0;
+  small = lit≤ tt;
+})

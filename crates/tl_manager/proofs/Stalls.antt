@@ -1,25 +1,19 @@
 -- Which beats are stalled.
+use Rattle.tl_manager.proofs.Imports.{Beat, Link, Channel, first_if, Config, Level, Rule, A1, A2, is_outside}
+use Rattle.tl_manager.proofs.Imports.{is_spoiled, Trace, on_link, broken_in_order, End, Judgement, Breaks, Waits}
+use Rattle.tl_manager.proofs.Imports.{Passes, breaks_or, must_wait, judged_at, judged, open_level, offered_as, offered}
 use Rattle.std.proofs.Common.{◌≡◌, ℕ, false, Option, Some, None, refl}
-use Rattle.tl_beat.specs.declared.beat.Beat.{Beat}
-use Rattle.tl_beat.specs.declared.beat.Link.{Link}
-use Rattle.tl_beat.specs.declared.channel.Channel.{Channel}
-use Rattle.tl_beat.specs.statement.First.{first_if}
-use Rattle.tl_params.specs.declared.config.Config.{Config}
-use Rattle.tl_params.specs.declared.level.Level.{Level}
-use Rattle.tl_params.specs.declared.rule.Rule.{Rule}
-use Rattle.tl_params.specs.declared.rule.Rule.TheVariants.{A1, A2}
-use Rattle.tl_rules.specs.statement.Admission.{is_outside, is_spoiled}
-use Rattle.tl_rules.specs.statement.Conformance.{Trace, on_link, broken_in_order}
 use Rattle.tl_manager.specs.code.Kept.{is_stalled}
-use Rattle.tl_manager.specs.statement.End.{End}
-use Rattle.tl_manager.specs.statement.Offer.{Judgement, Breaks, Waits, Passes, breaks_or, unlawful, before_stall, must_wait, judged_at, judged_on, judged, open_level, offered_as, offered, is_waiting, stalls}
+use Rattle.tl_manager.specs.statement.Offer.{unlawful, before_stall, judged_on, is_waiting, stalls}
 
-stalled_as : {w : ℕ} (j : Judgement) (config : Config) (link : Link) (x : Beat w) (e : End w) → is_waiting j ≡ is_stalled (offered_as j config link x e).0
+stalled_as : {w : ℕ} (j : Judgement) (config : Config) (link : Link) (x : Beat w) (e : End w)
+    → is_waiting j ≡ is_stalled (offered_as j config link x e).0
 stalled_as (Breaks r) config link x e = refl
 stalled_as Waits config link x e = refl
 stalled_as Passes config link x e = refl
 
-pub stalls-answered : {w : ℕ} (config : Config) (link : Link) (ch : Channel) (x : Beat w) (e : End w) → stalls config link ch x e ≡ is_stalled (offered config link ch x e).0
+pub stalls-answered : {w : ℕ} (config : Config) (link : Link) (ch : Channel) (x : Beat w) (e : End w)
+    → stalls config link ch x e ≡ is_stalled (offered config link ch x e).0
 unfolding stalls offered
 stalls-answered config link ch x e = stalled_as (judged config link ch x e) config link x e
 
@@ -27,7 +21,8 @@ goes_on : (o : Option Rule) (rest : Judgement) → is_waiting rest ≡ false →
 goes_on None rest e = e
 goes_on (Some r) rest e = refl
 
-never_at : {w : ℕ} (config : Config) (l : Level) (link : Link) (ch : Channel) (x : Beat w) (t : Trace w) → must_wait config link x t ≡ false → is_waiting (judged_at config l link ch x t) ≡ false
+never_at : {w : ℕ} (config : Config) (l : Level) (link : Link) (ch : Channel) (x : Beat w) (t : Trace w)
+    → must_wait config link x t ≡ false → is_waiting (judged_at config l link ch x t) ≡ false
 unfolding judged_at
 never_at config l link ch x t free =
     goes_on (unlawful l ch x) _
@@ -36,7 +31,8 @@ never_at config l link ch x t free =
     (goes_on (first_if (is_outside config.blocks x) A1 (first_if (is_spoiled x) A2 None)) Passes refl))))
 
 -- what needn't wait isn't stalled
-pub never-stalled : {w : ℕ} (config : Config) (link : Link) (ch : Channel) (x : Beat w) (e : End w) → must_wait config link x e.trace ≡ false → stalls config link ch x e ≡ false
+pub never-stalled : {w : ℕ} (config : Config) (link : Link) (ch : Channel) (x : Beat w) (e : End w)
+    → must_wait config link x e.trace ≡ false → stalls config link ch x e ≡ false
 unfolding stalls
 never-stalled config link ch x e free = go (open_level config link e)
   where

@@ -1,5 +1,6 @@
 -- What a caching client makes of what it keeps.
-use Rattle.std.specs.Prelude.{ℕ, Bool, not, List, ◌≡◌, ◌&&◌, ◌||◌, if◌then◌else◌, nat_le, Option, Some, None, is_some, unwrap_or}
+use Rattle.std.specs.Prelude.{ℕ, Bool, not, List, ◌≡◌, ◌&&◌, ◌||◌, if◌then◌else◌, nat_le, Option, Some, None, is_some}
+use Rattle.std.specs.Prelude.{unwrap_or}
 use Rattle.std.specs.List.{list_any}
 use Rattle.tl_beat.specs.declared.opcode.OpA.TheVariants as a
 use Rattle.tl_beat.specs.statement.First.{first_if}
@@ -18,7 +19,8 @@ use Rattle.tl_client.specs.declared.reply.Reply.{Reply}
 use Rattle.tl_client.specs.declared.reply.Reply.TheVariants as reply
 use Rattle.tl_client.specs.declared.sources.Sources.{Sources}
 use Rattle.tl_client.specs.laws.After.{copy_left, waiting_left}
-use Rattle.tl_client.specs.statement.Ask.{least_free, breaks_b3, breaks_b4, op_block, is_formed, is_transfer, loaded, whole_grow}
+use Rattle.tl_client.specs.statement.Ask.{least_free, breaks_b3, breaks_b4, op_block, is_formed, is_transfer, loaded}
+use Rattle.tl_client.specs.statement.Ask.{whole_grow}
 use Rattle.tl_client.specs.statement.Endpoint.{zeros}
 use Rattle.tl_client.specs.laws.Held.{left_by}
 use Rattle.tl_client.specs.statement.EndpointInvariant.{holds}
@@ -36,7 +38,8 @@ bytes_in c k = unwrap_or (copy_in c.table k) zeros
 
 -- a transfer of the block is open
 abbrev pub is_transferring : {w : ℕ} → Caching w → ℕ → Bool
-is_transferring c k = list_any (acquires_block k) c.requests.with_source || list_any (releases_block k) c.releases.with_source
+is_transferring c k = list_any (acquires_block k) c.requests.with_source || list_any (releases_block k)
+    c.releases.with_source
 
 -- why an operation isn't started, but for want of a source
 abbrev pub busy_by : {w : ℕ} → Caching w → Op w → Option Busy
@@ -56,7 +59,8 @@ release_with None prune block copy = (reply.Busy B1, None)
 release_with (Some s) prune block copy = (reply.Started s, Some (release prune s block copy))
 
 abbrev pub load_reply : {w : ℕ} → Caching w → ℕ → ℕ → Reply
-load_reply c address size = if holds (held_in c.table (block_at address)) then reply.Value (loaded address size (bytes_in c (block_at address))) else reply.Miss
+load_reply c address size = if holds (held_in c.table (block_at address)) then reply.Value
+    (loaded address size (bytes_in c (block_at address))) else reply.Miss
 
 abbrev pub store_reply : {w : ℕ} → Caching w → ℕ → Reply
 store_reply c address = if same_perm perm.Trunk (held_in c.table (block_at address)) then reply.Stored else reply.Miss
@@ -65,9 +69,11 @@ store_reply c address = if same_perm perm.Trunk (held_in c.table (block_at addre
 abbrev pub answer_by : {w : ℕ} → Caching w → Op w → Reply × Option (Message w)
 answer_by c (Load address size) = (load_reply c address size, None)
 answer_by c (Store address size value) = (store_reply c address, None)
-answer_by c (Acquire block grow) = start_with (free_in c.requests c.config.sources) (acquisition a.AcquireBlock grow 0 block)
+answer_by c (Acquire block grow) =
+    start_with (free_in c.requests c.config.sources) (acquisition a.AcquireBlock grow 0 block)
 answer_by c (AcquireWhole block bytes) =
-    start_with (free_in c.requests c.config.sources) (acquisition a.AcquirePerm (whole_grow (held_in c.table block)) 0 block)
+    start_with (free_in c.requests c.config.sources) (acquisition a.AcquirePerm (whole_grow (held_in c.table block)) 0
+    block)
 answer_by c (Release block prune) = release_with (free_in c.releases c.config.sources) prune block (bytes_in c block)
 answer_by c (Access (message.A m)) = start_with (free_in c.requests c.config.sources) m
 answer_by c (Access _) = (reply.Busy B4, None)

@@ -47,7 +47,8 @@ order_rule x request burst =
 -- the first rule that a beat breaks at a client that has no channel B and sends on A, C and E itself
 abbrev pub plain_rule : {w : ℕ} → Level → (ℕ → Option Request) → List (Beat w) → Bool → Channel → Beat w → Option Rule
 plain_rule l asked burst true ch x = Some A3
-plain_rule l asked burst false channel.D (beat.D x) = option_or (illegal l channel.D (beat.D x)) (order_rule x (asked x.source) burst)
+plain_rule l asked burst false channel.D (beat.D x) =
+    option_or (illegal l channel.D (beat.D x)) (order_rule x (asked x.source) burst)
 plain_rule l asked burst false _ _ = Some L1
 
 abbrev pub address_in : Option Request → ℕ
@@ -58,7 +59,8 @@ address_in (Some r) = r.address
 abbrev pub plain_verdict : {w : ℕ} → (ℕ → Option Request) → List (Beat w) → Beat w → Verdict
 plain_verdict {w} asked burst (beat.D x) =
     if completes (beat.D x) burst
-    then verdict.Done x.source (finish_of w x.opcode x.param x.size (address_in (asked x.source)) (payload_of (beat.D x ∷ burst)))
+    then verdict.Done x.source (finish_of w x.opcode x.param x.size (address_in (asked x.source))
+    (payload_of (beat.D x ∷ burst)))
     else verdict.Taken
 plain_verdict asked burst _ = verdict.Taken
 

@@ -24,7 +24,15 @@ pub record Response : Type 0 where
   pub payload : List ℕ
 
 abbrev pub in_message : {w : ℕ} → MessageD w → Response
-in_message m = record { opcode = m.opcode; param = m.param; size = m.size; source = m.source; sink = m.sink; payload = m.payload }
+in_message m = record {
+  opcode = m.opcode;
+  param = m.param;
+  size = m.size;
+  source = m.source;
+  sink = m.sink;
+  payload =
+      m.payload;
+}
 
 -- the message, where it is one of channel D
 abbrev pub d_of : {w : ℕ} → Message w → Option (MessageD w)
@@ -33,7 +41,15 @@ d_of _ = None
 
 -- that of a burst whose last beat is this one
 abbrev pub in_beats : {w : ℕ} → BeatD w → List (Beat w) → Response
-in_beats x burst = record { opcode = x.opcode; param = x.param; size = x.size; source = x.source; sink = x.sink; payload = payload_of (beat.D x ∷ burst) }
+in_beats x burst = record {
+  opcode = x.opcode;
+  param = x.param;
+  size = x.size;
+  source = x.source;
+  sink =
+      x.sink;
+  payload = payload_of (beat.D x ∷ burst);
+}
 
 -- what is complete with this beat after its burst
 abbrev pub Completes : {w : ℕ} → Option (MessageD w) → Beat w → List (Beat w) → Type 0

@@ -1,5 +1,6 @@
 -- What a caching client makes of a beat that it takes, by what it keeps.
-use Rattle.std.specs.Prelude.{ℕ, Bool, true, false, not, List, [], ◌∷◌, ◌≡◌, ◌<◌, ◌==◌, ◌&&◌, if◌then◌else◌, IfSome, Option, Some, None, Result, Ok, Err, ⊤}
+use Rattle.std.specs.Prelude.{ℕ, Bool, true, false, not, List, [], ◌∷◌, ◌≡◌, ◌<◌, ◌==◌, ◌&&◌, if◌then◌else◌, IfSome}
+use Rattle.std.specs.Prelude.{Option, Some, None, Result, Ok, Err, ⊤}
 use Rattle.tl_beat.specs.declared.beat.Beat.{Beat}
 use Rattle.tl_beat.specs.declared.beat.Beat.TheVariants as beat
 use Rattle.tl_beat.specs.declared.beat.BeatB.{BeatB}
@@ -36,9 +37,15 @@ report_by c x = report_for x (held_in c.table (block_at x.address))
 
 -- the Probe was answered, and its permission fell
 pub record Probes {w : ℕ} (c d : Caching w) (x : BeatB w) (r : Verdict × Option (Message w)) : Type 0 where
-  pub answer : r ≡ (Taken, Some (probe_ack x.opcode (held_in c.table (block_at x.address)) (report_by c x) (block_at x.address) (bytes_in c (block_at x.address))))
-  pub holdings : (k : ℕ) → held_in d.table k ≡ (if k == block_at x.address then report_right (report_by c x) else held_in c.table k)
-  pub copies : (k : ℕ) → copy_in d.table k ≡ (if (k == block_at x.address) && not (holds (report_right (report_by c x))) then None else copy_in c.table k)
+  pub answer : r ≡ (
+    Taken,
+    Some (probe_ack x.opcode (held_in c.table (block_at x.address)) (report_by c x)
+        (block_at x.address) (bytes_in c (block_at x.address))),
+  )
+  pub holdings : (k : ℕ) → held_in d.table k ≡ (if k == block_at x.address then report_right (report_by c x) else
+      held_in c.table k)
+  pub copies : (k : ℕ) → copy_in d.table k ≡ (if (k == block_at x.address) && not (holds (report_right (report_by c x)))
+      then None else copy_in c.table k)
   pub waiting : (k : ℕ) → waiting_in d.table k ≡ waiting_in c.table k
   pub requests : d.requests ≡ c.requests
   pub releases : d.releases ≡ c.releases
@@ -56,11 +63,13 @@ is_for k (Some r) = k == block_at r.address
 
 abbrev pub copy_after : OpD → Option Request → List ℕ → ℕ → Option (List ℕ) → Option (List ℕ) → Option (List ℕ)
 copy_after d.GrantData (Some r) payload k copy waiting = if k == block_at r.address then Some payload else copy
-copy_after d.Grant (Some r) payload k copy waiting = if (k == block_at r.address) && is_acquire_perm r.opcode then waiting else copy
+copy_after d.Grant (Some r) payload k copy waiting = if (k == block_at r.address) && is_acquire_perm r.opcode then
+    waiting else copy
 copy_after _ _ payload k copy waiting = copy
 
 abbrev pub waiting_after : OpD → Option Request → ℕ → Option (List ℕ) → Option (List ℕ)
-waiting_after d.Grant (Some r) k waiting = if (k == block_at r.address) && is_acquire_perm r.opcode then None else waiting
+waiting_after d.Grant (Some r) k waiting = if (k == block_at r.address) && is_acquire_perm r.opcode then None else
+    waiting
 waiting_after _ _ k waiting = waiting
 
 abbrev pub ack_after : {w : ℕ} → OpD → ℕ → Option (Message w)
@@ -70,9 +79,12 @@ ack_after _ sink = None
 
 -- a Grant with these fields to this request took effect, where its block is one of the map
 pub record Grants {w : ℕ} (c d : Caching w) (m : Response) (r : Request) : Type 0 where
-  pub holdings : block_at r.address < c.blocks → (k : ℕ) → held_in d.table k ≡ (if k == block_at r.address then capped m.param else held_in c.table k)
-  pub copies : block_at r.address < c.blocks → (k : ℕ) → copy_in d.table k ≡ copy_after m.opcode (Some r) m.payload k (copy_in c.table k) (waiting_in c.table k)
-  pub waiting : block_at r.address < c.blocks → (k : ℕ) → waiting_in d.table k ≡ waiting_after m.opcode (Some r) k (waiting_in c.table k)
+  pub holdings : block_at r.address < c.blocks → (k : ℕ)
+      → held_in d.table k ≡ (if k == block_at r.address then capped m.param else held_in c.table k)
+  pub copies : block_at r.address < c.blocks → (k : ℕ) → copy_in d.table k ≡ copy_after m.opcode (Some r) m.payload k
+      (copy_in c.table k) (waiting_in c.table k)
+  pub waiting : block_at r.address < c.blocks → (k : ℕ) → waiting_in d.table k ≡ waiting_after m.opcode (Some r) k
+      (waiting_in c.table k)
   pub requests : d.requests ≡ c.requests
   pub releases : d.releases ≡ c.releases
   pub response : d.responses ≡ c.responses
@@ -87,11 +99,16 @@ GrantsInside c m = is_grant m.opcode ≡ true → IfSome (open_at c.requests m.s
 -- the response is complete: what it answers isn't open any more, and a Grant took effect
 pub record Finishes {w : ℕ} (c d : Caching w) (m : Response) (r : Verdict × Option (Message w)) : Type 0 where
   pub answer : r ≡ (done_with m w (open_at c.requests m.source), ack_after m.opcode m.sink)
-  pub holdings : (k : ℕ) → held_in d.table k ≡ (if is_grant m.opcode && is_for k (open_at c.requests m.source) then capped m.param else held_in c.table k)
-  pub copies : (k : ℕ) → copy_in d.table k ≡ copy_after m.opcode (open_at c.requests m.source) m.payload k (copy_in c.table k) (waiting_in c.table k)
-  pub waiting : (k : ℕ) → waiting_in d.table k ≡ waiting_after m.opcode (open_at c.requests m.source) k (waiting_in c.table k)
-  pub requests : (s : ℕ) → open_at d.requests s ≡ (if not (is_release_ack m.opcode) && (m.source == s) then None else open_at c.requests s)
-  pub releases : (s : ℕ) → open_at d.releases s ≡ (if is_release_ack m.opcode && (m.source == s) then None else open_at c.releases s)
+  pub holdings : (k : ℕ) → held_in d.table k ≡ (if is_grant m.opcode && is_for k (open_at c.requests m.source) then
+      capped m.param else held_in c.table k)
+  pub copies : (k : ℕ) → copy_in d.table k ≡ copy_after m.opcode (open_at c.requests m.source) m.payload k
+      (copy_in c.table k) (waiting_in c.table k)
+  pub waiting : (k : ℕ) → waiting_in d.table k ≡ waiting_after m.opcode (open_at c.requests m.source) k
+      (waiting_in c.table k)
+  pub requests : (s : ℕ) → open_at d.requests s ≡ (if not (is_release_ack m.opcode) && (m.source == s) then None else
+      open_at c.requests s)
+  pub releases : (s : ℕ) → open_at d.releases s ≡ (if is_release_ack m.opcode && (m.source == s) then None else open_at
+      c.releases s)
   pub closed : d.closed ≡ c.closed
   pub terms : terms_of d ≡ terms_of c
 
@@ -136,4 +153,5 @@ Takes c d _ r = ⊤
 abbrev pub IsJudged : {w : ℕ} → EndConfig → Channel → Beat w → Endpoint w → Result Bool Rule → Type 0
 IsJudged terms ch x e (Err rule) = offered terms ch x e ≡ refused rule e
 IsJudged terms ch x e (Ok true) = offered terms ch x e ≡ silent Stalled e
-IsJudged terms ch x e (Ok false) = (broken_before terms ch x e ≡ None) × (waits x e.past ≡ false) × (broken_later terms x e ≡ None)
+IsJudged terms ch x e (Ok false) = (broken_before terms ch x e ≡ None) × (waits x e.past ≡ false)
+    × (broken_later terms x e ≡ None)

@@ -37,7 +37,8 @@ pub record IsAcked {w : ℕ} (t : History w) : Type 0 where
   pub probes : (k : ℕ) → pending (ProbeOf k) t ≡ false
   pub sinks : (s : ℕ) → pending (GrantSink s) t ≡ comes_in_grant s (unfinished channel.D t)
   pub acks : (k : ℕ) → pending (GrantAckOf k) t ≡ comes_granting k (unfinished channel.D t) t
-  pub ack_sinks : (k : ℕ) → comes_granting k (unfinished channel.D t) t ≡ true → grant_sink k t ≡ sink_coming (unfinished channel.D t)
+  pub ack_sinks : (k : ℕ) → comes_granting k (unfinished channel.D t) t ≡ true
+      → grant_sink k t ≡ sink_coming (unfinished channel.D t)
   pub answering : IsAnswering (unfinished channel.D t) t
 
 pub record IsAccounted {w : ℕ} (t : History w) : Type 0 where

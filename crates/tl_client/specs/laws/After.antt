@@ -1,5 +1,6 @@
 -- What a client's end of its link is after a call, by what it was before.
-use Rattle.std.specs.Prelude.{ℕ, Bool, true, false, not, List, ◌∷◌, ◌≡◌, ◌==◌, ◌&&◌, if◌then◌else◌, unwrap_or, Option, Some, None, Result, Ok, Err, ⊤}
+use Rattle.std.specs.Prelude.{ℕ, Bool, true, false, not, List, ◌∷◌, ◌≡◌, ◌==◌, ◌&&◌, if◌then◌else◌, unwrap_or, Option}
+use Rattle.std.specs.Prelude.{Some, None, Result, Ok, Err, ⊤}
 use Rattle.tl_beat.specs.declared.beat.Beat.{Beat}
 use Rattle.tl_beat.specs.declared.beat.Beat.TheVariants as beat
 use Rattle.tl_beat.specs.declared.beat.BeatA.{BeatA}
@@ -55,20 +56,23 @@ is_refused (Ok v) = false
 -- leaves nothing drops it
 abbrev pub copy_left : {w : ℕ} → Option Busy → Op w → ℕ → Perm → Option (List ℕ) → Option (List ℕ)
 copy_left None (Store address size value) k p copy =
-    if (k == block_at address) && same_perm perm.Trunk p then Some (copy_stored address size value (unwrap_or copy zeros)) else copy
+    if (k == block_at address) && same_perm perm.Trunk p then Some
+    (copy_stored address size value (unwrap_or copy zeros)) else copy
 copy_left None (Release block prune) k p copy = if (k == block) && not (holds (prune_right prune)) then None else copy
 copy_left _ _ k p copy = copy
 
 -- after the last beat of a Grant that answers this request: the Grant's data, or the bytes that waited
 abbrev pub copy_granted : {w : ℕ} → OpD → Option (BeatA w) → List ℕ → ℕ → Endpoint w → Option (List ℕ)
 copy_granted d.GrantData (Some r) payload k e = if k == block_at r.address then Some payload else e.copies k
-copy_granted d.Grant (Some r) payload k e = if (k == block_at r.address) && is_acquire_perm r.opcode then e.waiting k else e.copies k
+copy_granted d.Grant (Some r) payload k e = if (k == block_at r.address) && is_acquire_perm r.opcode then e.waiting k
+    else e.copies k
 copy_granted _ _ payload k e = e.copies k
 
 -- after a beat that is taken: a Probe that leaves nothing drops it
 abbrev pub copy_with : {w : ℕ} → Beat w → ℕ → Endpoint w → Option (List ℕ)
 copy_with (beat.B x) k e =
-    if (k == block_at x.address) && not (holds (report_right (report_for x (held (block_at x.address) e.past)))) then None else e.copies k
+    if (k == block_at x.address) && not (holds (report_right (report_for x (held (block_at x.address) e.past)))) then
+    None else e.copies k
 copy_with (beat.D x) k e =
     if ends (beat.D x) e.past
     then copy_granted x.opcode (request_of x.source e.past) (payload_of (beat.D x ∷ unfinished channel.D e.past)) k e
@@ -87,11 +91,13 @@ waiting_left None (AcquireWhole block bytes) k waiting = if k == block then Some
 waiting_left _ _ k waiting = waiting
 
 abbrev pub waiting_granted : {w : ℕ} → OpD → Option (BeatA w) → ℕ → Option (List ℕ) → Option (List ℕ)
-waiting_granted d.Grant (Some r) k waiting = if (k == block_at r.address) && is_acquire_perm r.opcode then None else waiting
+waiting_granted d.Grant (Some r) k waiting = if (k == block_at r.address) && is_acquire_perm r.opcode then None else
+    waiting
 waiting_granted _ _ k waiting = waiting
 
 abbrev pub waiting_with : {w : ℕ} → Beat w → ℕ → Endpoint w → Option (List ℕ)
-waiting_with (beat.D x) k e = if ends (beat.D x) e.past then waiting_granted x.opcode (request_of x.source e.past) k (e.waiting k) else e.waiting k
+waiting_with (beat.D x) k e = if ends (beat.D x) e.past then waiting_granted x.opcode (request_of x.source e.past) k
+    (e.waiting k) else e.waiting k
 waiting_with _ k e = e.waiting k
 
 abbrev pub waiting_by : {w : ℕ} → Result (Verdict × Option (Message w)) Rule → Beat w → ℕ → Endpoint w → Option (List ℕ)
@@ -114,7 +120,8 @@ IsStarted _ (Some m) t = ⊥
 
 -- after a beat that is taken: the last beat of its response closes a request
 abbrev pub open_heard : {w : ℕ} → ℕ → Beat w → History w → Option (BeatA w)
-open_heard s (beat.D x) t = if ends (beat.D x) t && (not (is_release_ack x.opcode) && (x.source == s)) then None else open_beat s t
+open_heard s (beat.D x) t = if ends (beat.D x) t && (not (is_release_ack x.opcode) && (x.source == s)) then None else
+    open_beat s t
 open_heard s _ t = open_beat s t
 
 abbrev pub open_by : {w : ℕ} → ℕ → Result (Verdict × Option (Message w)) Rule → Beat w → History w → Option (BeatA w)
@@ -124,7 +131,8 @@ open_by s (Ok _) x t = open_heard s x t
 
 -- and a ReleaseAck a Release
 abbrev pub release_heard : {w : ℕ} → ℕ → Beat w → History w → Option (BeatC w)
-release_heard s (beat.D x) t = if ends (beat.D x) t && (is_release_ack x.opcode && (x.source == s)) then None else open_release s t
+release_heard s (beat.D x) t = if ends (beat.D x) t && (is_release_ack x.opcode && (x.source == s)) then None else
+    open_release s t
 release_heard s _ t = open_release s t
 
 abbrev pub release_by : {w : ℕ} → ℕ → Result (Verdict × Option (Message w)) Rule → Beat w → History w → Option (BeatC w)

@@ -23,7 +23,8 @@ left_by _ _ k p = p
 -- a beat that is taken: a Probe leaves the right end of its report, the last beat of a Grant gives
 -- what its cap names
 abbrev pub held_with : {w : ℕ} → Beat w → History w → ℕ → Perm
-held_with (beat.B x) t k = if k == block_at x.address then report_right (report_for x (held (block_at x.address) t)) else held k t
+held_with (beat.B x) t k = if k == block_at x.address then report_right (report_for x (held (block_at x.address) t))
+    else held k t
 held_with (beat.D x) t k = if ends (beat.D x) t && grants k x t then capped x.param else held k t
 held_with _ t k = held k t
 

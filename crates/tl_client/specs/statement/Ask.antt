@@ -1,5 +1,6 @@
 -- What a client answers to an operation.
-use Rattle.std.specs.Prelude.{ℕ, zero, suc, Bool, true, false, not, List, [], ◌∷◌, ◌++◌, ◌==◌, ◌&&◌, ◌||◌, ◌+◌, ◌-◌, ◌*◌, ◌%◌, ◌^◌, if◌then◌else◌, nat_le}
+use Rattle.std.specs.Prelude.{ℕ, zero, suc, Bool, true, false, not, List, [], ◌∷◌, ◌++◌, ◌==◌, ◌&&◌, ◌||◌, ◌+◌, ◌-◌}
+use Rattle.std.specs.Prelude.{◌*◌, ◌%◌, ◌^◌, if◌then◌else◌, nat_le}
 use Rattle.std.specs.Prelude.{nat_lt, take, drop, replicate, slice_index, Option, Some, None, is_none, unwrap_or}
 use Rattle.tl_beat.specs.declared.channel.Channel.TheVariants as channel
 use Rattle.tl_beat.specs.declared.opcode.OpA.{OpA}
@@ -27,7 +28,8 @@ use Rattle.tl_client.specs.declared.operation.Op.{Op}
 use Rattle.tl_client.specs.declared.operation.Op.TheVariants.{Load, Store, Acquire, AcquireWhole, Release, Access}
 use Rattle.tl_client.specs.declared.reply.Reply.{Reply}
 use Rattle.tl_client.specs.declared.reply.Reply.TheVariants as reply
-use Rattle.tl_client.specs.statement.Endpoint.{EndConfig, Endpoint, copy_at, held_at, with_copy, with_waiting, kept_for, sending}
+use Rattle.tl_client.specs.statement.Endpoint.{EndConfig, Endpoint, copy_at, held_at, with_copy, with_waiting, kept_for}
+use Rattle.tl_client.specs.statement.Endpoint.{sending}
 use Rattle.tl_client.specs.statement.Send.{access, acquire, release}
 
 -- ---- B4: the operation isn't of the level
@@ -175,7 +177,8 @@ low_bytes value i (suc n) = byte_of value i ∷ low_bytes value (i + 1) n
 
 -- a copy after a Store
 abbrev pub copy_stored : ℕ → ℕ → ℕ → List ℕ → List ℕ
-copy_stored address size value copy = take (address % 64) copy ++ low_bytes value 0 (2 ^ size) ++ drop (address % 64 + 2 ^ size) copy
+copy_stored address size value copy = take (address % 64) copy ++ low_bytes value 0 (2 ^ size) ++ drop
+    (address % 64 + 2 ^ size) copy
 
 -- a Load reads the copy, where there is one
 abbrev pub load : {w : ℕ} → ℕ → ℕ → Perm → Endpoint w → Asked w
@@ -185,7 +188,8 @@ load address size _ e = only (reply.Value (loaded address size (copy_at e (block
 -- a Store writes the copy, where the block is held as Trunk
 abbrev pub store : {w : ℕ} → ℕ → ℕ → ℕ → Perm → Endpoint w → Asked w
 store address size value perm.Trunk e =
-    only reply.Stored (with_copy (block_at address) (Some (copy_stored address size value (copy_at e (block_at address)))) e)
+    only reply.Stored (with_copy (block_at address)
+    (Some (copy_stored address size value (copy_at e (block_at address)))) e)
 store address size value _ e = only reply.Miss e
 
 -- a whole block is written from Branch or from None
@@ -199,11 +203,13 @@ source_or_0 source = unwrap_or source 0
 
 -- a request is started with the least free source
 abbrev pub start_request : {w : ℕ} → EndConfig → (ℕ → Message w) → Endpoint w → Asked w
-start_request terms m e = started (source_or_0 (free_request terms e.past)) (m (source_or_0 (free_request terms e.past))) e
+start_request terms m e =
+    started (source_or_0 (free_request terms e.past)) (m (source_or_0 (free_request terms e.past))) e
 
 -- a Release is started with the least free source
 abbrev pub start_release : {w : ℕ} → EndConfig → (ℕ → Message w) → Endpoint w → Asked w
-start_release terms m e = started (source_or_0 (free_release terms e.past)) (m (source_or_0 (free_release terms e.past))) e
+start_release terms m e =
+    started (source_or_0 (free_release terms e.past)) (m (source_or_0 (free_release terms e.past))) e
 
 -- the answer to an operation that isn't busy
 abbrev pub done : {w : ℕ} → EndConfig → Op w → Endpoint w → Asked w

@@ -44,7 +44,8 @@ is_acquire_beat (Some r) = is_acquire r.opcode
 -- that is pending
 abbrev pub IsGranting : {w : ℕ} → List (Beat w) → History w → Type 0
 IsGranting (beat.D x ∷ burst) t =
-    is_grant x.opcode ≡ true → (is_grant_without_data x.opcode ≡ false) × (holds (capped x.param) ≡ true) × (is_acquire_beat (open_beat x.source t) ≡ true)
+    is_grant x.opcode ≡ true → (is_grant_without_data x.opcode ≡ false) × (holds (capped x.param) ≡ true)
+    × (is_acquire_beat (open_beat x.source t) ≡ true)
 IsGranting _ t = ⊤
 
 -- what holds of each endpoint that a client can reach

@@ -1,5 +1,6 @@
 -- What a client answers to a beat.
-use Rattle.std.specs.Prelude.{ℕ, Bool, true, false, List, ◌∷◌, ◌++◌, ◌&&◌, ◌-◌, ◌%◌, ◌^◌, if◌then◌else◌, length, take, drop, replicate, Option, Some, None, is_none, unwrap_or, Result, Ok, Err}
+use Rattle.std.specs.Prelude.{ℕ, Bool, true, false, List, ◌∷◌, ◌++◌, ◌&&◌, ◌-◌, ◌%◌, ◌^◌, if◌then◌else◌, length, take}
+use Rattle.std.specs.Prelude.{drop, replicate, Option, Some, None, is_none, unwrap_or, Result, Ok, Err}
 use Rattle.std.specs.Option.{option_or}
 use Rattle.tl_beat.specs.declared.beat.Beat.{Beat}
 use Rattle.tl_beat.specs.declared.beat.Beat.TheVariants as beat
@@ -30,7 +31,8 @@ use Rattle.tl_client.specs.declared.verdict.Finish.{Finish}
 use Rattle.tl_client.specs.declared.verdict.Finish.TheVariants as finish
 use Rattle.tl_client.specs.declared.verdict.Verdict.{Verdict}
 use Rattle.tl_client.specs.declared.verdict.Verdict.TheVariants as verdict
-use Rattle.tl_client.specs.statement.Endpoint.{EndConfig, Endpoint, copy_at, held_at, with_past, with_copy, with_waiting, kept_for, sending, shut}
+use Rattle.tl_client.specs.statement.Endpoint.{EndConfig, Endpoint, copy_at, held_at, with_past, with_copy}
+use Rattle.tl_client.specs.statement.Endpoint.{with_waiting, kept_for, sending, shut}
 use Rattle.tl_client.specs.statement.Send.{probe_ack, grant_ack}
 
 -- ---- the rules in the order in which a client judges them
@@ -90,7 +92,8 @@ report_for x p = report_at (unwrap_or (cap_of x.param) cap.ToN) p
 -- the Probe of a block of which this is held
 abbrev pub probed : {w : ℕ} → BeatB w → ℕ → Perm → Endpoint w → Offered w
 probed x block p e =
-    let told = answered verdict.Taken (probe_ack x.opcode p (report_for x p) block (copy_at e block)) (with_past (beat.B x ∷ e.past) e) in
+    let told = answered verdict.Taken (probe_ack x.opcode p (report_for x p) block (copy_at e block))
+    (with_past (beat.B x ∷ e.past) e) in
     record told { after = kept_for block (report_right (report_for x p)) told.after }
 
 -- ---- responses
@@ -138,7 +141,8 @@ ended _ x f e = silent (verdict.Done x.source f) e
 -- the last beat of a response, to this request
 abbrev pub responded : {w : ℕ} → BeatD w → Option (BeatA w) → List ℕ → Endpoint w → Offered w
 responded {w} x r payload e =
-    ended x.opcode x (finish_of w x.opcode x.param x.size (address_asked r) payload) (granted x.opcode r payload (with_past (beat.D x ∷ e.past) e))
+    ended x.opcode x (finish_of w x.opcode x.param x.size (address_asked r) payload)
+    (granted x.opcode r payload (with_past (beat.D x ∷ e.past) e))
 
 -- ---- what is taken
 

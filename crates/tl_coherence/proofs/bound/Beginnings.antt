@@ -1,22 +1,24 @@
 -- What is owed falls as a beat is taken that isn't the last of its message.
+use Rattle.tl_coherence.proofs.bound.Imports.{Beat, Channel, beats_of, Config, IsInvariant, channel_for, ClientBlock}
+use Rattle.tl_coherence.proofs.bound.Imports.{Own, Granting, ProbePhase, NoProbe, ProbeSent, ProbeAnswered, NoRelease}
+use Rattle.tl_coherence.proofs.bound.Imports.{ReleaseSent, ReleaseAcked, is_unprobed, Left, probing_weight, pair_weight}
+use Rattle.tl_coherence.proofs.bound.Imports.{probes_weight, acquire_weight, letting_weight, rank, Waits, State}
+use Rattle.tl_coherence.proofs.bound.Imports.{SourceFree, Asked, InService, Replied, Acquires, packet, view}
+use Rattle.tl_coherence.proofs.bound.Imports.{is_unserved, is_wanting, is_answered, packets_on, AccessMessages}
+use Rattle.tl_coherence.proofs.bound.Imports.{message_of_kind, System, Kind, Request, Acquire, Probe, ProbeAck, Release}
+use Rattle.tl_coherence.proofs.bound.Imports.{Answer, Grant, ReleaseAck, GrantAck}
 use Rattle.std.proofs.Common.{◌≡◌, ℕ, ◌+◌, ◌<◌, ◌≤◌, Bool, true, false, List, ◌∷◌, refl, sym, ◌∙◌, arith, ◌⊎◌, inl, inr}
 use Rattle.std.specs.Prelude.{if◌then◌else◌, Option, Some, None, length}
 use Rattle.std.proofs.lemmas.Bool.{cases_eq}
-use Rattle.tl_beat.specs.declared.beat.Beat.{Beat}
-use Rattle.tl_beat.specs.declared.channel.Channel.{Channel}
-use Rattle.tl_burst.specs.statement.Burst.{beats_of}
-use Rattle.tl_params.specs.declared.config.Config.{Config}
-use Rattle.tl_coherence.specs.protocol.Invariant.{IsInvariant, is_asked, is_replied}
-use Rattle.tl_coherence.specs.refinement.Move.{channel_for}
-use Rattle.tl_coherence.specs.protocol.Phase.{ClientBlock, View, Idle, Own, Other, Granting, Acknowledging, GrantedOther, ProbePhase, NoProbe, ProbeSent, ProbeAnswered, ReleasePhase, NoRelease, ReleaseSent, ReleaseAcked, is_unprobed}
-use Rattle.tl_coherence.specs.bound.Rank.{Left, probing_weight, pair_weight, probes_weight, acquire_weight, letting_weight, let_weight, rank}
-use Rattle.tl_coherence.specs.protocol.Protocol.{Waits, State, SourceFree, Asked, InService, Replied, Acquires, packet, view, is_unserved, is_wanting, is_granting, is_answered, is_releasing, packets_on, shown}
-use Rattle.tl_coherence.specs.refinement.PacketMessages.{AccessMessages, message_of_kind}
-use Rattle.tl_coherence.specs.statement.System.{System}
-use Rattle.tl_coherence.specs.protocol.Packet.{Kind, Request, Acquire, Probe, ProbeAck, Release, Answer, Grant, ReleaseAck, GrantAck}
-use Rattle.tl_coherence.proofs.protocol.Capacities.{shown_there, shows_it, request_named, answer_named, acquire_named, grant_named, release_named}
+use Rattle.tl_coherence.specs.protocol.Invariant.{is_asked, is_replied}
+use Rattle.tl_coherence.specs.protocol.Phase.{View, Idle, Other, Acknowledging, GrantedOther, ReleasePhase}
+use Rattle.tl_coherence.specs.bound.Rank.{let_weight}
+use Rattle.tl_coherence.specs.protocol.Protocol.{is_granting, is_releasing, shown}
+use Rattle.tl_coherence.proofs.protocol.Capacities.{shown_there, shows_it, request_named, answer_named, acquire_named}
+use Rattle.tl_coherence.proofs.protocol.Capacities.{grant_named, release_named}
 use Rattle.tl_coherence.proofs.queues.Distinct.{first-there}
-use Rattle.tl_coherence.proofs.rank.RankDecreases.{IsNoMore, owed_use, owed_use', use-falls, let-falls, use-no-more, probes-no-more, acquire-no-more, total-falls}
+use Rattle.tl_coherence.proofs.rank.RankDecreases.{IsNoMore, owed_use, owed_use', use-falls, let-falls, use-no-more}
+use Rattle.tl_coherence.proofs.rank.RankDecreases.{probes-no-more, acquire-no-more, total-falls}
 use Rattle.tl_coherence.proofs.queues.FirstToken.{IsFirst}
 use Rattle.tl_coherence.proofs.rank.Frames.{unserved-weight}
 use Rattle.tl_coherence.proofs.protocol.BeatsRemaining.{beats_left, taken_of, is_front, same_channels}
@@ -35,11 +37,13 @@ pub record IsBegun {w : ℕ} (c : ℕ) (ch : Channel) (x : Beat w) (rest rest' :
 
 -- ---- where of no message more is left, nothing more is owed
 
-module _ {X : Type 0} (config : Config) (size : ℕ) (left left' : Left) (answer : ℕ → ℕ → ℕ) (s : State X) (le : (c : ℕ) (k : Kind) (m : ℕ) → left' c k m ≤ left c k m) where
+module _ {X : Type 0} (config : Config) (size : ℕ) (left left' : Left) (answer : ℕ → ℕ → ℕ) (s : State X)
+    (le : (c : ℕ) (k : Kind) (m : ℕ) → left' c k m ≤ left c k m) where
   abbrev number : ℕ
   number = length config.clients.items
 
-  probing_less : (l l' : ℕ) (p : ClientBlock) → l' ≤ l → probing_weight size l' p.recorded p.probing ≤ probing_weight size l p.recorded p.probing
+  probing_less : (l l' : ℕ) (p : ClientBlock) → l' ≤ l → probing_weight size l' p.recorded p.probing ≤ probing_weight
+      size l p.recorded p.probing
   probing_less l l' p less = go p.probing
     where
       go : (x : ProbePhase) → probing_weight size l' p.recorded x ≤ probing_weight size l p.recorded x
@@ -47,7 +51,8 @@ module _ {X : Type 0} (config : Config) (size : ℕ) (left left' : Left) (answer
       go (ProbeSent k) = omega arith
       go (ProbeAnswered r) = less
 
-  pair_less : (m d : ℕ) → pair_weight size left' m d ((s.block m).pair d) ≤ pair_weight size left m d ((s.block m).pair d)
+  pair_less : (m d : ℕ) → pair_weight size left' m d ((s.block m).pair d) ≤ pair_weight size left m d
+      ((s.block m).pair d)
   pair_less m d = probing_less (left d ProbeAck m) (left' d ProbeAck m) ((s.block m).pair d) (le d ProbeAck m)
 
   probes_less : (m : ℕ) → probes_weight number size left' m (s.block m) ≤ probes_weight number size left m (s.block m)
@@ -61,162 +66,204 @@ module _ {X : Type 0} (config : Config) (size : ℕ) (left left' : Left) (answer
   pub none-more : IsNoMore config size left left' answer answer s s
   none-more = record {
     uses = λ c i.
-        use-no-more config size left left' answer answer s s c i (s.uses c i) refl refl (omega arith) (λ u. le c Request i) (λ u. le c Answer i) (λ m u. probes_less m)
-        (λ m u. acquire-no-more size (left c Acquire m) (left' c Acquire m) (left c Grant m) (left' c Grant m) (probes_weight number size left m (s.block m))
-        (probes_weight number size left' m (s.block m)) (view (s.block m).service c) (λ v. le c Acquire m) (le c Grant m) (probes_less m));
+        use-no-more config size left left' answer answer s s c i (s.uses c i) refl refl (omega arith)
+        (λ u. le c Request i) (λ u. le c Answer i) (λ m u. probes_less m)
+        (λ m u. acquire-no-more size (left c Acquire m) (left' c Acquire m) (left c Grant m) (left' c Grant m)
+        (probes_weight number size left m (s.block m))
+        (probes_weight number size left' m (s.block m)) (view (s.block m).service c) (λ v. le c Acquire m)
+        (le c Grant m) (probes_less m));
     lets = λ c i. lets_less c (s.lets c i);
     acks = λ c. omega arith;
   }
     where
       lets_less : (c : ℕ) (o : Option ℕ) → let_weight left' s c o ≤ let_weight left s c o
       lets_less c None = omega arith
-      lets_less c (Some m) = letting_less (left c Release m) (left' c Release m) ((s.block m).pair c).letting (le c Release m)
+      lets_less c (Some m) = letting_less (left c Release m) (left' c Release m) ((s.block m).pair c).letting
+          (le c Release m)
 
   -- ---- and where less is left of one message, less is owed
 
-  module _ (caching : ℕ → Bool) (inv : IsInvariant caching s) (all : AreClients config s) (c : ℕ) (lt : c < number) where
-    abbrev Falls : Type 0
-    Falls = rank config size left' answer s + 1 ≤ rank config size left answer s
+  module _ (caching : ℕ → Bool) (inv : IsInvariant caching s) (all : AreClients config s) (c : ℕ) (lt : c < number)
+    where
+      abbrev Falls : Type 0
+      Falls = rank config size left' answer s + 1 ≤ rank config size left answer s
 
-    use_owes : (d i : ℕ) → (s.uses d i ≡ SourceFree → ⊥) → owed_use' config size left left' answer answer s s d i + 1 ≤ owed_use config size left left' answer answer s s d i → Falls
-    use_owes d i used less = use-falls config size left left' answer answer s s d i (all.clients d i used) (all.sources d i used) none-more less
+      use_owes : (d i : ℕ) → (s.uses d i ≡ SourceFree → ⊥) → owed_use' config size left left' answer answer s s d
+          i + 1 ≤ owed_use config size left left' answer answer s s d i → Falls
+      use_owes d i used less = use-falls config size left left' answer answer s s d i (all.clients d i used)
+          (all.sources d i used) none-more less
 
-    request_less : (i : ℕ) → left' c Request i + 1 ≤ left c Request i → is_asked (s.uses c i) ≡ true → Falls
-    request_less i less e =
-        let used = request_named caching s c i inv e in
-        use_owes c i (λ closed. absurd (let both : Asked ≡ SourceFree = sym used ∙ closed in cc)) (rw used (omega (arith, less)))
+      request_less : (i : ℕ) → left' c Request i + 1 ≤ left c Request i → is_asked (s.uses c i) ≡ true → Falls
+      request_less i less e =
+          let used = request_named caching s c i inv e in
+          use_owes c i (λ closed. absurd (let both : Asked ≡ SourceFree = sym used ∙ closed in cc))
+          (rw used (omega (arith, less)))
 
-    answer_less : (i : ℕ) → left' c Answer i + 1 ≤ left c Answer i → is_replied (s.uses c i) ≡ true → Falls
-    answer_less i less e =
-        let used = answer_named caching s c i inv e in
-        use_owes c i (λ closed. absurd (let both : Replied ≡ SourceFree = sym used ∙ closed in cc)) (rw used less)
+      answer_less : (i : ℕ) → left' c Answer i + 1 ≤ left c Answer i → is_replied (s.uses c i) ≡ true → Falls
+      answer_less i less e =
+          let used = answer_named caching s c i inv e in
+          use_owes c i (λ closed. absurd (let both : Replied ≡ SourceFree = sym used ∙ closed in cc)) (rw used less)
 
-    acquire_owes : (m : ℕ) → s.uses c ((s.block m).source c) ≡ Acquires m
-        → acquire_weight size (left' c Acquire m) (left' c Grant m) (probes_weight number size left' m (s.block m)) (view (s.block m).service c) + 1
-        ≤ acquire_weight size (left c Acquire m) (left c Grant m) (probes_weight number size left m (s.block m)) (view (s.block m).service c)
-        → Falls
-    acquire_owes m used less = use_owes c ((s.block m).source c) (λ closed. absurd (let both : Acquires m ≡ SourceFree = sym used ∙ closed in cc)) (rw used less)
+      acquire_owes : (m : ℕ) → s.uses c ((s.block m).source c) ≡ Acquires m
+          → acquire_weight size (left' c Acquire m) (left' c Grant m) (probes_weight number size left' m (s.block m))
+          (view (s.block m).service c) + 1
+          ≤ acquire_weight size (left c Acquire m) (left c Grant m) (probes_weight number size left m (s.block m))
+          (view (s.block m).service c)
+          → Falls
+      acquire_owes m used less =
+          use_owes c ((s.block m).source c) (λ closed. absurd (let both : Acquires m ≡ SourceFree = sym used ∙ closed in
+          cc)) (rw used less)
 
-    acquire_less : (m : ℕ) → left' c Acquire m + 1 ≤ left c Acquire m → shown Acquire c (s.block m) ≡ true → Falls
-    acquire_less m less e =
-        let waits = and_right (is_wanting ((s.block m).pair c).acquiring) (is_unserved (view (s.block m).service c)) e in
-        acquire_owes m (acquire_named caching s c m inv e)
-        (rw (
-          unserved-weight size (left' c Acquire m) (left' c Grant m) (probes_weight number size left' m (s.block m)) (view (s.block m).service c) waits,
-          unserved-weight size (left c Acquire m) (left c Grant m) (probes_weight number size left m (s.block m)) (view (s.block m).service c) waits,
-        ) (omega (arith, less)))
+      acquire_less : (m : ℕ) → left' c Acquire m + 1 ≤ left c Acquire m → shown Acquire c (s.block m) ≡ true → Falls
+      acquire_less m less e =
+          let waits = and_right (is_wanting ((s.block m).pair c).acquiring) (is_unserved (view (s.block m).service c)) e
+          in
+          acquire_owes m (acquire_named caching s c m inv e)
+          (rw (
+            unserved-weight size (left' c Acquire m) (left' c Grant m) (probes_weight number size left' m (s.block m))
+                (view (s.block m).service c) waits,
+            unserved-weight size (left c Acquire m) (left c Grant m) (probes_weight number size left m (s.block m))
+                (view (s.block m).service c) waits,
+          ) (omega (arith, less)))
 
-    grant_less : (m : ℕ) → left' c Grant m + 1 ≤ left c Grant m → shown Grant c (s.block m) ≡ true → Falls
-    grant_less m less e = acquire_owes m (grant_named caching s c m inv e) (go (view (s.block m).service c) e)
-      where
-        go : (v : View) → is_granting v ≡ true
-            → acquire_weight size (left' c Acquire m) (left' c Grant m) (probes_weight number size left' m (s.block m)) v + 1 ≤ acquire_weight size
-            (left c Acquire m) (left c Grant m) (probes_weight number size left m (s.block m)) v
-        go (Granting d k) f = omega (arith, less)
-        go Idle f = absurd cc
-        go Own f = absurd cc
-        go (Other k) f = absurd cc
-        go Acknowledging f = absurd cc
-        go GrantedOther f = absurd cc
+      grant_less : (m : ℕ) → left' c Grant m + 1 ≤ left c Grant m → shown Grant c (s.block m) ≡ true → Falls
+      grant_less m less e = acquire_owes m (grant_named caching s c m inv e) (go (view (s.block m).service c) e)
+        where
+          go : (v : View) → is_granting v ≡ true
+              → acquire_weight size (left' c Acquire m) (left' c Grant m) (probes_weight number size left' m (s.block m))
+              v + 1 ≤ acquire_weight size
+              (left c Acquire m) (left c Grant m) (probes_weight number size left m (s.block m)) v
+          go (Granting d k) f = omega (arith, less)
+          go Idle f = absurd cc
+          go Own f = absurd cc
+          go (Other k) f = absurd cc
+          go Acknowledging f = absurd cc
+          go GrantedOther f = absurd cc
 
-    release_less : (m : ℕ) → left' c Release m + 1 ≤ left c Release m → shown Release c (s.block m) ≡ true → Falls
-    release_less m less e =
-        let named = release_named caching s c m inv e in
-        let source = (s.block m).release_source c in
-        let-falls config size left left' answer answer s s c source (all.letters c source m named) (all.releases c source m named) none-more (rw named (go ((s.block m).pair c).letting e))
-      where
-        go : (x : ReleasePhase) → is_releasing x ≡ true → letting_weight (left' c Release m) x + 1 ≤ letting_weight (left c Release m) x
-        go (ReleaseSent r) f = omega (arith, less)
-        go NoRelease f = absurd cc
-        go ReleaseAcked f = absurd cc
+      release_less : (m : ℕ) → left' c Release m + 1 ≤ left c Release m → shown Release c (s.block m) ≡ true → Falls
+      release_less m less e =
+          let named = release_named caching s c m inv e in
+          let source = (s.block m).release_source c in
+          let-falls config size left left' answer answer s s c source (all.letters c source m named)
+          (all.releases c source m named) none-more (rw named (go ((s.block m).pair c).letting e))
+        where
+          go : (x : ReleasePhase) → is_releasing x ≡ true → letting_weight (left' c Release m) x + 1 ≤ letting_weight
+              (left c Release m) x
+          go (ReleaseSent r) f = omega (arith, less)
+          go NoRelease f = absurd cc
+          go ReleaseAcked f = absurd cc
 
-    report_less : (m : ℕ) → left' c ProbeAck m + 1 ≤ left c ProbeAck m → shown ProbeAck c (s.block m) ≡ true → Falls
-    report_less m less e = falls who.own who.is asker.used
-      where
-        probed : is_unprobed ((s.block m).pair c).probing ≡ false
-        probed = not-answered ((s.block m).pair c).probing e
+      report_less : (m : ℕ) → left' c ProbeAck m + 1 ≤ left c ProbeAck m → shown ProbeAck c (s.block m) ≡ true → Falls
+      report_less m less e = falls who.own who.is asker.used
+        where
+          probed : is_unprobed ((s.block m).pair c).probing ≡ false
+          probed = not-answered ((s.block m).pair c).probing e
 
-        who : IsWaited (s.block m).service
-        who = waited-probing caching s c m inv probed
+          who : IsWaited (s.block m).service
+          who = waited-probing caching s c m inv probed
 
-        asker : IsAsking m who.client who.own who.source s
-        asker = asking caching s m who.client who.own who.source who.cap inv who.is
+          asker : IsAsking m who.client who.own who.source s
+          asker = asking caching s m who.client who.own who.source who.cap inv who.is
 
-        here : pair_weight size left' m c ((s.block m).pair c) + 1 ≤ pair_weight size left m c ((s.block m).pair c)
-        here = go ((s.block m).pair c).probing e
-          where
-            go : (x : ProbePhase) → is_answered x ≡ true → probing_weight size (left' c ProbeAck m) ((s.block m).pair c).recorded x + 1 ≤ probing_weight size
-                (left c ProbeAck m) ((s.block m).pair c).recorded x
-            go (ProbeAnswered r) f = less
-            go (ProbeSent k) f = absurd cc
-            go NoProbe f = absurd cc
+          here : pair_weight size left' m c ((s.block m).pair c) + 1 ≤ pair_weight size left m c ((s.block m).pair c)
+          here = go ((s.block m).pair c).probing e
+            where
+              go : (x : ProbePhase) → is_answered x ≡ true
+                  → probing_weight size (left' c ProbeAck m) ((s.block m).pair c).recorded x + 1 ≤ probing_weight size
+                  (left c ProbeAck m) ((s.block m).pair c).recorded x
+              go (ProbeAnswered r) f = less
+              go (ProbeSent k) f = absurd cc
+              go NoProbe f = absurd cc
 
-        probes : probes_weight number size left' m (s.block m) + 1 ≤ probes_weight number size left m (s.block m)
-        probes = total-falls number c 1 (λ d. pair_weight size left m d ((s.block m).pair d)) (λ d. pair_weight size left' m d ((s.block m).pair d)) lt (λ d h. pair_less m d) here
+          probes : probes_weight number size left' m (s.block m) + 1 ≤ probes_weight number size left m (s.block m)
+          probes = total-falls number c 1 (λ d. pair_weight size left m d ((s.block m).pair d))
+              (λ d. pair_weight size left' m d ((s.block m).pair d)) lt (λ d h. pair_less m d) here
 
-        falls : (own : Bool) → (s.block m).service ≡ Waits who.client own who.source who.cap → s.uses who.client asker.at ≡ (if own then Acquires m else InService m) → Falls
-        falls true waits used =
-            let viewed : view (s.block m).service who.client ≡ Own = rw (waits, same_number who.client) refl in
-            use_owes who.client asker.at (open_use true m _ used) (rw (used, viewed) (omega (arith, probes)))
-        falls false waits used = use_owes who.client asker.at (open_use false m _ used) (rw used (omega (arith, probes)))
+          falls : (own : Bool) → (s.block m).service ≡ Waits who.client own who.source who.cap
+              → s.uses who.client asker.at ≡ (if own then Acquires m else InService m) → Falls
+          falls true waits used =
+              let viewed : view (s.block m).service who.client ≡ Own = rw (waits, same_number who.client) refl in
+              use_owes who.client asker.at (open_use true m _ used) (rw (used, viewed) (omega (arith, probes)))
+          falls false waits used = use_owes who.client asker.at (open_use false m _ used)
+              (rw used (omega (arith, probes)))
 
-    -- whichever message it is, of those that have more than one beat
-    pub message-less : (k : Kind) (m : ℕ) → shows_it s c k m ≡ true → left' c k m + 1 ≤ left c k m → is_light k ≡ false → Falls
-    message-less Request m e less heavy = request_less m less e
-    message-less Answer m e less heavy = answer_less m less e
-    message-less Acquire m e less heavy = acquire_less m less e
-    message-less Grant m e less heavy = grant_less m less e
-    message-less Release m e less heavy = release_less m less e
-    message-less ProbeAck m e less heavy = report_less m less e
-    message-less Probe m e less heavy = absurd cc
-    message-less ReleaseAck m e less heavy = absurd cc
-    message-less GrantAck m e less heavy = absurd cc
+      -- whichever message it is, of those that have more than one beat
+      pub message-less : (k : Kind) (m : ℕ) → shows_it s c k m ≡ true → left' c k m + 1 ≤ left c k m → is_light k ≡ false
+          → Falls
+      message-less Request m e less heavy = request_less m less e
+      message-less Answer m e less heavy = answer_less m less e
+      message-less Acquire m e less heavy = acquire_less m less e
+      message-less Grant m e less heavy = grant_less m less e
+      message-less Release m e less heavy = release_less m less e
+      message-less ProbeAck m e less heavy = report_less m less e
+      message-less Probe m e less heavy = absurd cc
+      message-less ReleaseAck m e less heavy = absurd cc
+      message-less GrantAck m e less heavy = absurd cc
 
 -- ---- a beat that isn't the last of its message
 
-taken_more : {w : ℕ} (b : Bool) (rest rest' : List (Beat w)) → length rest ≤ length rest' → taken_of rest b ≤ taken_of rest' b
+taken_more : {w : ℕ} (b : Bool) (rest rest' : List (Beat w)) → length rest ≤ length rest'
+    → taken_of rest b ≤ taken_of rest' b
 taken_more true rest rest' le = le
 taken_more false rest rest' le = omega arith
 
-pub beat-falls : {w : ℕ} (config : Config) (caching : ℕ → Bool) (ch : Channel) (c : ℕ) (mail : AccessMessages w) (s : State (List ℕ)) (sys sys' : System w) (x : Beat w)
+pub beat-falls : {w : ℕ} (config : Config) (caching : ℕ → Bool) (ch : Channel) (c : ℕ) (mail : AccessMessages w)
+    (s : State (List ℕ)) (sys sys' : System w) (x : Beat w)
     (queue : List (Beat w)) (size : ℕ) (answer : ℕ → ℕ → ℕ)
-    → (first : IsFirst ch c mail s sys x queue) → first.next.k + 1 < beats_of (message_of_kind first.kind mail s c first.number) → IsBegun c ch x (unfinished_at sys) (unfinished_at sys')
+    → (first : IsFirst ch c mail s sys x queue)
+    → first.next.k + 1 < beats_of (message_of_kind first.kind mail s c first.number)
+    → IsBegun c ch x (unfinished_at sys) (unfinished_at sys')
     → IsInvariant caching s → AreClients config s → c < length config.clients.items
-    → rank config size (beats_left mail s (unfinished_at sys')) answer s + 1 ≤ rank config size (beats_left mail s (unfinished_at sys)) answer s
+    → rank config size (beats_left mail s (unfinished_at sys')) answer s + 1 ≤ rank config size
+    (beats_left mail s (unfinished_at sys)) answer s
 beat-falls {w} config caching ch c mail s sys sys' x queue size answer first more begun inv all lt =
     message-less config size (beats_left mail s (unfinished_at sys))
-    (beats_left mail s (unfinished_at sys')) answer s less caching inv all c lt first.kind first.number shown_it one_less (heavy (is_light first.kind) refl)
+    (beats_left mail s (unfinished_at sys')) answer s less caching inv all c lt first.kind first.number shown_it
+    one_less (heavy (is_light first.kind) refl)
   where
-    longer : (d : ℕ) (at : Channel) → (d ≡ c) ⊎ (d ≡ c → ⊥) → (at ≡ ch) ⊎ (at ≡ ch → ⊥) → length (unfinished_at sys d at) ≤ length (unfinished_at sys' d at)
+    longer : (d : ℕ) (at : Channel) → (d ≡ c) ⊎ (d ≡ c → ⊥) → (at ≡ ch) ⊎ (at ≡ ch → ⊥)
+        → length (unfinished_at sys d at) ≤ length (unfinished_at sys' d at)
     longer d at (inl e) (inl f) = rw (e, f, begun.here) (omega arith)
     longer d at (inr ne) f = rw (begun.others d at (λ e g. ne e)) (omega arith)
     longer d at (inl e) (inr ne) = rw (begun.others d at (λ g h. ne h)) (omega arith)
 
-    less : (d : ℕ) (k : Kind) (m : ℕ) → beats_left mail s (unfinished_at sys') d k m ≤ beats_left mail s (unfinished_at sys) d k m
+    less : (d : ℕ) (k : Kind) (m : ℕ) → beats_left mail s (unfinished_at sys') d k m ≤ beats_left mail s
+        (unfinished_at sys) d k m
     less d k m =
-        let more = taken_more (is_front k m (packets_on (channel_for k) (s.link d))) (unfinished_at sys d (channel_for k)) (unfinished_at sys' d (channel_for k))
+        let more = taken_more (is_front k m (packets_on (channel_for k) (s.link d)))
+        (unfinished_at sys d (channel_for k)) (unfinished_at sys' d (channel_for k))
         (longer d (channel_for k) (cases_eq d c) (same_channels (channel_for k) ch)) in
         omega (arith, more)
 
     shown_it : shows_it s c first.kind first.number ≡ true
-    shown_it = shown_there caching s c ch first.kind first.number inv first.own (rw first.tokens (first-there (packet first.kind first.number) first.rest))
+    shown_it = shown_there caching s c ch first.kind first.number inv first.own
+        (rw first.tokens (first-there (packet first.kind first.number) first.rest))
 
     heavy : (b : Bool) → is_light first.kind ≡ b → b ≡ false
     heavy false e = refl
     heavy true e = absurd (let one = light-one mail s c first.kind first.number e in omega (arith, one, more))
 
     front : is_front first.kind first.number (packets_on (channel_for first.kind) (s.link c)) ≡ true
-    front = rw (kind_channel ch first.kind first.own, first.tokens, same_kind_again first.kind, same_number first.number) refl
+    front = rw (
+      kind_channel ch first.kind first.own,
+      first.tokens,
+      same_kind_again first.kind,
+      same_number
+          first.number,
+    ) refl
 
-    one_more : length (unfinished_at sys' c (channel_for first.kind)) ≡ length (unfinished_at sys c (channel_for first.kind)) + 1
+    one_more : length (unfinished_at sys' c (channel_for first.kind)) ≡ length
+        (unfinished_at sys c (channel_for first.kind)) + 1
     one_more = rw (kind_channel ch first.kind first.own, begun.here) (omega arith)
 
     -- of the first message one beat more was taken
-    taken : (b : Bool) → b ≡ true → taken_of (unfinished_at sys' c (channel_for first.kind)) b ≡ taken_of (unfinished_at sys c (channel_for first.kind)) b + 1
+    taken : (b : Bool) → b ≡ true → taken_of (unfinished_at sys' c (channel_for first.kind)) b ≡ taken_of
+        (unfinished_at sys c (channel_for first.kind)) b + 1
     taken true e = one_more
     taken false e = absurd cc
 
-    one_less : beats_left mail s (unfinished_at sys') c first.kind first.number + 1 ≤ beats_left mail s (unfinished_at sys) c first.kind first.number
+    one_less : beats_left mail s (unfinished_at sys') c first.kind first.number + 1 ≤ beats_left mail s
+        (unfinished_at sys) c first.kind first.number
     one_less =
         let all = first-left ch c mail s sys x queue first in
         let t = taken (is_front first.kind first.number (packets_on (channel_for first.kind) (s.link c))) front in

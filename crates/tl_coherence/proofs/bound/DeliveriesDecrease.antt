@@ -1,25 +1,15 @@
 -- What is owed in a world falls at every delivery that moves a beat, and rises at none.
-use Rattle.std.proofs.Common.{◌≡◌, ℕ, ◌+◌, ◌-◌, ◌<◌, ◌≤◌, Bool, true, false, List, ◌∷◌, refl, sym, ◌∙◌, ap, subst, arith}
+use Rattle.tl_coherence.proofs.bound.Imports.{IsWidth, Beat, Link, Channel, beats_of, completes, Config, Deliver}
+use Rattle.tl_coherence.proofs.bound.Imports.{is_moving, AbstractState, kind_taken, Log, system_after, channel_for}
+use Rattle.tl_coherence.proofs.bound.Imports.{packet, packets_on, message_of_kind, stepped, System, Kind, Request}
+use Rattle.tl_coherence.proofs.bound.Imports.{Acquire, Probe, ProbeAck, Release, Answer, Grant, ReleaseAck, GrantAck}
+use Rattle.tl_coherence.proofs.bound.Imports.{Packet, SimulationRelation, is_caching}
+use Rattle.std.proofs.Common.{◌≡◌, ℕ, ◌+◌, ◌-◌, ◌<◌, ◌≤◌, Bool, true, false, List, ◌∷◌, refl, sym, ◌∙◌, ap, subst}
+use Rattle.std.proofs.Common.{arith}
 use Rattle.std.specs.Prelude.{◌/◌, if◌then◌else◌, length, Some}
-use Rattle.tl_beat.specs.statement.Width.{IsWidth}
-use Rattle.tl_beat.specs.declared.beat.Beat.{Beat}
-use Rattle.tl_beat.specs.declared.beat.Link.{Link}
-use Rattle.tl_beat.specs.declared.channel.Channel.{Channel}
-use Rattle.tl_burst.specs.statement.Burst.{beats_of}
-use Rattle.tl_burst.specs.statement.Part.{completes}
-use Rattle.tl_params.specs.declared.config.Config.{Config}
 use Rattle.tl_client.specs.statement.Endpoint.{EndConfig}
-use Rattle.tl_coherence.specs.declared.event.Event.TheVariants.{Deliver}
-use Rattle.tl_coherence.specs.statement.Draining.{is_moving}
-use Rattle.tl_coherence.specs.refinement.AbstractStep.{AbstractState, abstract_step, kind_taken, packet_taken}
-use Rattle.tl_coherence.specs.statement.Log.{Log, system_after}
-use Rattle.tl_coherence.specs.refinement.Move.{channel_for}
-use Rattle.tl_coherence.specs.protocol.Protocol.{packet, packets_on}
-use Rattle.tl_coherence.specs.refinement.PacketMessages.{message_of_kind}
-use Rattle.tl_coherence.specs.statement.Step.{stepped}
-use Rattle.tl_coherence.specs.statement.System.{System, terms_at}
-use Rattle.tl_coherence.specs.protocol.Packet.{Kind, Request, Acquire, Probe, ProbeAck, Release, Answer, Grant, ReleaseAck, GrantAck, Packet}
-use Rattle.tl_coherence.specs.refinement.SimulationRelation.{SimulationRelation, is_caching}
+use Rattle.tl_coherence.specs.refinement.AbstractStep.{abstract_step, packet_taken}
+use Rattle.tl_coherence.specs.statement.System.{terms_at}
 use Rattle.tl_coherence.proofs.bound.Beginnings.{none-more}
 use Rattle.tl_coherence.proofs.rank.RankDecreases.{stays}
 use Rattle.tl_coherence.proofs.simulation.FollowCases.{IsDelivery}
@@ -34,7 +24,8 @@ use Rattle.tl_coherence.proofs.deliveries.Matching.{matched-event}
 use Rattle.tl_coherence.proofs.outstanding.Outstanding.{first-moved}
 use Rattle.tl_coherence.proofs.bound.RankOfLog.{owed, owed-begun}
 use Rattle.tl_coherence.proofs.bound.RankAfter.{IsKeptAfter, kept-matched}
-use Rattle.tl_coherence.proofs.bound.RankByKind.{probe-owed, release-owed, answer-owed, release_ack-owed, grant_ack-owed, grant-owed, acquire-owed}
+use Rattle.tl_coherence.proofs.bound.RankByKind.{probe-owed, release-owed, answer-owed, release_ack-owed}
+use Rattle.tl_coherence.proofs.bound.RankByKind.{grant_ack-owed, grant-owed, acquire-owed}
 use Rattle.tl_coherence.proofs.bound.RankOfReports.{report-owed}
 use Rattle.tl_coherence.proofs.bound.RankOfRequests.{request-owed}
 use Rattle.tl_coherence.proofs.simulation.Popped.{unfinished_at, IsReceived, kind_channel}
@@ -42,7 +33,8 @@ use Rattle.tl_coherence.proofs.rank.BeatsRemainingSums.{answer_to}
 use Rattle.tl_coherence.proofs.manager.RequestsTaken.{next_tracker}
 use Rattle.tl_coherence.proofs.queues.QuiescentQueues.{client_below}
 
-module _ {w : ℕ} (config : Config) (log : Log w) (h : AbstractState w) (width : IsWidth w) (matched : SimulationRelation config log h.mail h.request h.state (system_after config log)) where
+module _ {w : ℕ} (config : Config) (log : Log w) (h : AbstractState w) (width : IsWidth w)
+    (matched : SimulationRelation config log h.mail h.request h.state (system_after config log)) where
   -- less is owed than before
   abbrev IsLess : AbstractState w → System w → Type 0
   IsLess h' sys' = owed config h'.mail h'.state sys' + 1 ≤ owed config h.mail h.state (system_after config log)
@@ -52,37 +44,56 @@ module _ {w : ℕ} (config : Config) (log : Log w) (h : AbstractState w) (width 
 
   -- ---- the last beat of a message
 
-  by-kind : (tracker c : ℕ) (k : Kind) (i : ℕ) (rest : List Packet) (sys' : System w) → c < length config.clients.items → length config.clients.items ≤ 16
+  by-kind : (tracker c : ℕ) (k : Kind) (i : ℕ) (rest : List Packet) (sys' : System w) → c < length config.clients.items
+      → length config.clients.items ≤ 16
       → packets_on (channel_for k) (h.state.link c) ≡ packet k i ∷ rest
-      → IsReceived c (channel_for k) (system_after config log) sys' → IsReady tracker c k i h → Kept (kind_taken config tracker c k i rest h) → IsLess (kind_taken config tracker c k i rest h) sys'
+      → IsReceived c (channel_for k) (system_after config log) sys' → IsReady tracker c k i h
+      → Kept (kind_taken config tracker c k i rest h) → IsLess (kind_taken config tracker c k i rest h) sys'
   by-kind tracker c Request i rest sys' lt sixteen first received ready kept =
-      request-owed config log h sys' tracker c i rest ready.0 width matched lt sixteen first ready.1 ready.2 ready.3 received kept
-  by-kind tracker c Acquire i rest sys' lt sixteen first received ready kept = acquire-owed config log h sys' width matched tracker c i rest lt sixteen first ready.0 received kept
-  by-kind tracker c Probe i rest sys' lt sixteen first received ready kept = probe-owed config log h sys' width matched tracker c i rest lt first received kept
-  by-kind tracker c ProbeAck i rest sys' lt sixteen first received ready kept = report-owed config log h sys' tracker c i rest width matched lt first received kept
-  by-kind tracker c Release i rest sys' lt sixteen first received ready kept = release-owed config log h sys' width matched tracker c i rest lt first received kept
-  by-kind tracker c Answer i rest sys' lt sixteen first received ready kept = answer-owed config log h sys' width matched tracker c i rest lt first received kept
-  by-kind tracker c Grant i rest sys' lt sixteen first received ready kept = grant-owed config log h sys' width matched tracker c i rest lt first received kept
-  by-kind tracker c ReleaseAck i rest sys' lt sixteen first received ready kept = release_ack-owed config log h sys' width matched tracker c i rest lt first received kept
-  by-kind tracker c GrantAck i rest sys' lt sixteen first received ready kept = grant_ack-owed config log h sys' width matched tracker c i rest lt first received kept
+      request-owed config log h sys' tracker c i rest ready.0 width matched lt sixteen first ready.1 ready.2 ready.3
+      received kept
+  by-kind tracker c Acquire i rest sys' lt sixteen first received ready kept =
+      acquire-owed config log h sys' width matched tracker c i rest lt sixteen first ready.0 received kept
+  by-kind tracker c Probe i rest sys' lt sixteen first received ready kept =
+      probe-owed config log h sys' width matched tracker c i rest lt first received kept
+  by-kind tracker c ProbeAck i rest sys' lt sixteen first received ready kept =
+      report-owed config log h sys' tracker c i rest width matched lt first received kept
+  by-kind tracker c Release i rest sys' lt sixteen first received ready kept =
+      release-owed config log h sys' width matched tracker c i rest lt first received kept
+  by-kind tracker c Answer i rest sys' lt sixteen first received ready kept =
+      answer-owed config log h sys' width matched tracker c i rest lt first received kept
+  by-kind tracker c Grant i rest sys' lt sixteen first received ready kept =
+      grant-owed config log h sys' width matched tracker c i rest lt first received kept
+  by-kind tracker c ReleaseAck i rest sys' lt sixteen first received ready kept =
+      release_ack-owed config log h sys' width matched tracker c i rest lt first received kept
+  by-kind tracker c GrantAck i rest sys' lt sixteen first received ready kept =
+      grant_ack-owed config log h sys' width matched tracker c i rest lt first received kept
 
   by-first : (link : Link) (ch : Channel) (x : Beat w) (queue : List (Beat w)) (sys' : System w)
-      (d : IsDelivery config h.mail h.state (system_after config log) link ch x queue) → link.0 < length config.clients.items → length config.clients.items ≤ 16
-      → IsReceived link.0 ch (system_after config log) sys' → Kept (kind_taken config (next_tracker (system_after config log)) link.0 d.first.kind d.first.number d.first.rest h)
-      → IsLess (kind_taken config (next_tracker (system_after config log)) link.0 d.first.kind d.first.number d.first.rest h) sys'
+      (d : IsDelivery config h.mail h.state (system_after config log) link ch x queue)
+      → link.0 < length config.clients.items → length config.clients.items ≤ 16
+      → IsReceived link.0 ch (system_after config log) sys'
+      → Kept (kind_taken config (next_tracker (system_after config log)) link.0 d.first.kind d.first.number d.first.rest
+      h)
+      → IsLess (kind_taken config (next_tracker (system_after config log)) link.0 d.first.kind d.first.number
+      d.first.rest h) sys'
   by-first link ch x queue sys' d lt sixteen received kept =
       by-kind (next_tracker (system_after config log)) link.0 d.first.kind d.first.number d.first.rest sys' lt sixteen
-      (subst (λ (i : Channel). packets_on i (h.state.link link.0) ≡ packet d.first.kind d.first.number ∷ d.first.rest) (sym on) d.first.tokens)
+      (subst (λ (i : Channel). packets_on i (h.state.link link.0) ≡ packet d.first.kind d.first.number ∷ d.first.rest)
+      (sym on) d.first.tokens)
       (subst (λ (i : Channel). IsReceived link.0 i (system_after config log) sys') (sym on) received)
-      (ready-delivered config log h.mail h.request h.state (system_after config log) link ch x queue width matched d) kept
+      (ready-delivered config log h.mail h.request h.state (system_after config log) link ch x queue width matched d)
+      kept
     where
       on : channel_for d.first.kind ≡ ch
       on = kind_channel ch d.first.kind d.first.own
 
   -- ---- a delivery
 
-  pub moving-owed : (link : Link) (ch : Channel) → length config.clients.items ≤ 16 → is_moving (stepped config (Deliver link ch) (system_after config log)).outcome ≡ true
-      → IsLess (abstract_step config (Deliver link ch) (system_after config log) h) (stepped config (Deliver link ch) (system_after config log)).after
+  pub moving-owed : (link : Link) (ch : Channel) → length config.clients.items ≤ 16
+      → is_moving (stepped config (Deliver link ch) (system_after config log)).outcome ≡ true
+      → IsLess (abstract_step config (Deliver link ch) (system_after config log) h)
+      (stepped config (Deliver link ch) (system_after config log)).after
   moving-owed link ch sixteen moving = go (first-moved config link ch (system_after config log) moving)
     where
       sys : System w
@@ -94,46 +105,62 @@ module _ {w : ℕ} (config : Config) (log : Log w) (h : AbstractState w) (width 
       kept : Kept (abstract_step config (Deliver link ch) sys h)
       kept =
           let h' : AbstractState w = abstract_step config (Deliver link ch) sys h in
-          kept-matched config ((Deliver link ch, (stepped config (Deliver link ch) sys).outcome) ∷ log) h'.mail h'.request h'.state sys' (matched-event config log h (Deliver link ch) width tt matched)
+          kept-matched config ((Deliver link ch, (stepped config (Deliver link ch) sys).outcome) ∷ log) h'.mail
+          h'.request h'.state sys' (matched-event config log h (Deliver link ch) width tt matched)
 
-      taken : (x : Beat w) (queue : List (Beat w)) (terms : EndConfig) → terms_at config link.0 ≡ Some terms → sys.channels link.0 ch ≡ x ∷ queue → (b : Bool)
+      taken : (x : Beat w) (queue : List (Beat w)) (terms : EndConfig) → terms_at config link.0 ≡ Some terms
+          → sys.channels link.0 ch ≡ x ∷ queue → (b : Bool)
           → completes x (unfinished_at sys link.0 ch) ≡ b → IsLess (abstract_step config (Deliver link ch) sys h) sys'
       taken x queue terms known beats true last =
           subst (λ (z : AbstractState w). IsLess z sys') (sym follows)
           (by-first link ch x queue sys' d (client_below config link.0 terms known) sixteen
-          (grown-received link.0 ch x sys sys' (grown-moved config log h link ch terms x queue width matched known beats moving) last)
+          (grown-received link.0 ch x sys sys' (grown-moved config log h link ch terms x queue width matched known beats
+          moving) last)
           (subst Kept follows kept))
         where
           first : IsFirst ch link.0 h.mail h.state sys x queue
-          first = first-token (is_caching config) ch link.0 h.mail h.state sys x queue width matched.invariant matched.carried beats
+          first = first-token (is_caching config) ch link.0 h.mail h.state sys x queue width matched.invariant
+              matched.carried beats
 
           d : IsDelivery config h.mail h.state sys link ch x queue
           d = record { moves = moving; beats = beats; whole = last; first = first }
 
-          follows : abstract_step config (Deliver link ch) sys h ≡ kind_taken config (next_tracker sys) link.0 first.kind first.number first.rest h
+          follows : abstract_step config (Deliver link ch) sys h ≡ kind_taken config (next_tracker sys) link.0
+              first.kind first.number first.rest h
           follows =
-              followed-moving config link ch sys h x queue moving beats ∙ ap (λ (b : Bool). if b then packet_taken config (next_tracker sys) link.0 (packets_on ch (h.state.link link.0)) h else h) last
+              followed-moving config link ch sys h x queue moving beats ∙ ap
+              (λ (b : Bool). if b then packet_taken config (next_tracker sys) link.0
+              (packets_on ch (h.state.link link.0)) h else h) last
               ∙ ap (λ (l : List Packet). packet_taken config (next_tracker sys) link.0 l h) first.tokens
       taken x queue terms known beats false part =
           subst (λ (z : AbstractState w). IsLess z sys') (sym follows)
-          (owed-begun config log h.mail h.request h.state sys' ch link.0 x queue width matched (client_below config link.0 terms known) beats part
-          (grown-begun link.0 ch x sys sys' (grown-moved config log h link ch terms x queue width matched known beats moving) part))
+          (owed-begun config log h.mail h.request h.state sys' ch link.0 x queue width matched
+          (client_below config link.0 terms known) beats part
+          (grown-begun link.0 ch x sys sys' (grown-moved config log h link ch terms x queue width matched known beats
+          moving) part))
         where
           follows : abstract_step config (Deliver link ch) sys h ≡ h
           follows = followed-moving config link ch sys h x queue moving beats
-              ∙ ap (λ (b : Bool). if b then packet_taken config (next_tracker sys) link.0 (packets_on ch (h.state.link link.0)) h else h) part
+              ∙ ap (λ (b : Bool). if b then packet_taken config (next_tracker sys) link.0
+              (packets_on ch (h.state.link link.0)) h else h) part
 
-      go : ((x : Beat w) × (queue : List (Beat w)) × (terms : EndConfig) × ((sys.channels link.0 ch ≡ x ∷ queue) × (terms_at config link.0 ≡ Some terms)))
+      go : ((x : Beat w) × (queue : List (Beat w)) × (terms : EndConfig)
+          × ((sys.channels link.0 ch ≡ x ∷ queue) × (terms_at config link.0 ≡ Some terms)))
           → IsLess (abstract_step config (Deliver link ch) sys h) sys'
       go p = taken p.0 p.1 p.2 p.3.1 p.3.0 (completes p.0 (unfinished_at sys link.0 ch)) refl
 
   -- where no beat is moved, nothing more is owed
-  pub still-owed : (link : Link) (ch : Channel) → is_moving (stepped config (Deliver link ch) (system_after config log)).outcome ≡ false
-      → owed config (abstract_step config (Deliver link ch) (system_after config log) h).mail (abstract_step config (Deliver link ch) (system_after config log) h).state
-      (stepped config (Deliver link ch) (system_after config log)).after ≤ owed config h.mail h.state (system_after config log)
+  pub still-owed : (link : Link) (ch : Channel)
+      → is_moving (stepped config (Deliver link ch) (system_after config log)).outcome ≡ false
+      → owed config (abstract_step config (Deliver link ch) (system_after config log) h).mail
+      (abstract_step config (Deliver link ch) (system_after config log) h).state
+      (stepped config (Deliver link ch) (system_after config log)).after ≤ owed config h.mail h.state
+      (system_after config log)
   still-owed link ch still =
-      subst (λ (z : AbstractState w). owed config z.mail z.state sys' ≤ owed config h.mail h.state sys) (sym (followed-still config link ch sys h still))
-      (stays config (64 / w) (left sys) (left sys') (answer_to h.mail) (answer_to h.mail) h.state h.state (none-more config (64 / w) (left sys) (left sys') (answer_to h.mail) h.state less))
+      subst (λ (z : AbstractState w). owed config z.mail z.state sys' ≤ owed config h.mail h.state sys)
+      (sym (followed-still config link ch sys h still))
+      (stays config (64 / w) (left sys) (left sys') (answer_to h.mail) (answer_to h.mail) h.state h.state
+      (none-more config (64 / w) (left sys) (left sys') (answer_to h.mail) h.state less))
     where
       sys : System w
       sys = system_after config log

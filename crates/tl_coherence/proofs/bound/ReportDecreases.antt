@@ -1,25 +1,22 @@
 -- What is owed falls as a Probe is taken, and as a report is taken: with others missing, or the last one.
-use Rattle.std.proofs.Common.{◌≡◌, ℕ, zero, suc, ◌+◌, ◌<◌, ◌≤◌, Bool, true, false, List, refl, sym, ◌∙◌, ap, arith, ◌⊎◌, inl, inr}
+use Rattle.tl_coherence.proofs.bound.Imports.{Beat, Channel, Config, Cap, Report, Perm, IsInvariant, Move, ClientBlock}
+use Rattle.tl_coherence.proofs.bound.Imports.{Own, Granting, ProbePhase, NoProbe, ProbeSent, ProbeAnswered, is_unprobed}
+use Rattle.tl_coherence.proofs.bound.Imports.{Left, probing_weight, pair_weight, probes_weight, acquire_weight}
+use Rattle.tl_coherence.proofs.bound.Imports.{letting_weight, rank, Service, Free, Waits, GrantSent, GrantTaken, Block}
+use Rattle.tl_coherence.proofs.bound.Imports.{State, SourceFree, InService, Replied, Acquires, view, is_unserved}
+use Rattle.tl_coherence.proofs.bound.Imports.{probed_block, ended_block, granted_block, AccessMessages, ProbeAck}
+use Rattle.tl_coherence.proofs.bound.Imports.{Acquire, Grant, Release, Answer, set}
+use Rattle.std.proofs.Common.{◌≡◌, ℕ, zero, suc, ◌+◌, ◌<◌, ◌≤◌, Bool, true, false, List, refl, sym, ◌∙◌, ap, arith, ◌⊎◌}
+use Rattle.std.proofs.Common.{inl, inr}
 use Rattle.std.specs.Prelude.{if◌then◌else◌, length}
 use Rattle.std.proofs.lemmas.Bool.{cases_eq, ne_eqb}
-use Rattle.tl_beat.specs.declared.beat.Beat.{Beat}
-use Rattle.tl_beat.specs.declared.channel.Channel.{Channel}
-use Rattle.tl_params.specs.declared.config.Config.{Config}
-use Rattle.tl_params.specs.declared.param.Cap.{Cap}
-use Rattle.tl_params.specs.declared.param.Report.{Report}
-use Rattle.tl_params.specs.declared.perm.Perm.{Perm}
 use Rattle.tl_params.specs.declared.perm.Perm.TheVariants as perm
 use Rattle.tl_params.specs.statement.Param.{report_at}
 use Rattle.tl_rules.specs.statement.Conformance.{same_perm}
-use Rattle.tl_coherence.specs.protocol.Invariant.{IsInvariant, serves_of, is_serving}
-use Rattle.tl_coherence.specs.refinement.Move.{Move}
-use Rattle.tl_coherence.specs.protocol.Phase.{ClientBlock, Own, Granting, ProbePhase, NoProbe, ProbeSent, ProbeAnswered, is_unprobed}
+use Rattle.tl_coherence.specs.protocol.Invariant.{serves_of, is_serving}
 use Rattle.tl_coherence.specs.protocol.PhaseSteps.{after_probe, after_report, after_grant_sent}
-use Rattle.tl_coherence.specs.bound.Rank.{total, Left, probing_weight, pair_weight, probes_weight, acquire_weight, letting_weight, rank}
-use Rattle.tl_coherence.specs.protocol.Protocol.{Service, Free, Waits, GrantSent, GrantTaken, Block, State, SourceFree, InService, Replied, Acquires, view, is_unserved}
-use Rattle.tl_coherence.specs.protocol.Protocol.{probed_block, reported_block, ended_block, granted_block}
-use Rattle.tl_coherence.specs.refinement.PacketMessages.{AccessMessages}
-use Rattle.tl_coherence.specs.protocol.Packet.{ProbeAck, Acquire, Grant, Release, Answer, set}
+use Rattle.tl_coherence.specs.bound.Rank.{total}
+use Rattle.tl_coherence.specs.protocol.Protocol.{reported_block}
 use Rattle.tl_coherence.proofs.queues.Channels.{IsShowing}
 use Rattle.tl_coherence.proofs.rank.Frames.{IsBlockNoMore, let-stays, unserved-stays}
 use Rattle.tl_coherence.proofs.protocol.BeatsRemaining.{IsPopped, beats_left}
@@ -29,7 +26,8 @@ use Rattle.tl_coherence.proofs.rank.Weights.{IsLeft}
 
 -- ---- one client's pair
 
-probed-less : (size l l' : ℕ) (recorded : Perm) (k : Cap) (r : Report) → (same_perm recorded perm.Trunk ≡ false → l' ≤ 1) → l' ≤ size
+probed-less : (size l l' : ℕ) (recorded : Perm) (k : Cap) (r : Report)
+    → (same_perm recorded perm.Trunk ≡ false → l' ≤ 1) → l' ≤ size
     → probing_weight size l' recorded (ProbeAnswered r) + 1 ≤ probing_weight size l recorded (ProbeSent k)
 probed-less size l l' recorded k r one few = go (same_perm recorded perm.Trunk) one
   where
@@ -37,7 +35,8 @@ probed-less size l l' recorded k r one few = go (same_perm recorded perm.Trunk) 
     go true h = omega (arith, few)
     go false h = let le = h refl in omega (arith, le)
 
-answered_weight : (size l : ℕ) (recorded : Perm) (x : ProbePhase) (r : Report) → x ≡ ProbeAnswered r → probing_weight size l recorded x ≡ l
+answered_weight : (size l : ℕ) (recorded : Perm) (x : ProbePhase) (r : Report) → x ≡ ProbeAnswered r
+    → probing_weight size l recorded x ≡ l
 answered_weight size l recorded x r e = rw e refl
 
 quiet_weight : (size l : ℕ) (recorded : Perm) (x : ProbePhase) → x ≡ NoProbe → probing_weight size l recorded x ≡ 0
@@ -55,7 +54,8 @@ summand-few (suc bound) m f lt = go (cases_eq m bound) (λ below. summand-few bo
 
 -- ---- who has the block in service
 
-pub serving : {X : Type 0} (caching : ℕ → Bool) (s : State X) (n d i : ℕ) → IsInvariant caching s → s.uses d i ≡ InService n → is_serving d i (s.block n).service ≡ true
+pub serving : {X : Type 0} (caching : ℕ → Bool) (s : State X) (n d i : ℕ) → IsInvariant caching s
+    → s.uses d i ≡ InService n → is_serving d i (s.block n).service ≡ true
 serving caching s n d i inv e = sym (inv.named.serves d i n) ∙ (ap (serves_of n) e ∙ same_number n)
 
 -- nobody, where it isn't in service for an access
@@ -63,7 +63,8 @@ abbrev pub is_for_access : Service → Bool
 is_for_access (Waits q false source k) = true
 is_for_access _ = false
 
-pub nobody-serving : {X : Type 0} (caching : ℕ → Bool) (s : State X) (n d i : ℕ) → IsInvariant caching s → is_for_access (s.block n).service ≡ false → s.uses d i ≡ InService n → ⊥
+pub nobody-serving : {X : Type 0} (caching : ℕ → Bool) (s : State X) (n d i : ℕ) → IsInvariant caching s
+    → is_for_access (s.block n).service ≡ false → s.uses d i ≡ InService n → ⊥
 nobody-serving caching s n d i inv none e = go (s.block n).service none (serving caching s n d i inv e)
   where
     go : (u : Service) → is_for_access u ≡ false → is_serving d i u ≡ true → ⊥
@@ -73,8 +74,10 @@ nobody-serving caching s n d i inv none e = go (s.block n).service none (serving
     go (GrantSent q b k) f h = cc
     go (GrantTaken q) f h = cc
 
-module _ {w : ℕ} (config : Config) (caching : ℕ → Bool) (n : ℕ) (moves : ℕ → Channel → Move) (mail mail' : AccessMessages w) (s s' : State (List ℕ)) (showing : IsShowing caching n moves mail mail' s s')
-    (c : ℕ) (ch : Channel) (rest rest' : ℕ → Channel → List (Beat w)) (popped : IsPopped c ch moves rest rest' s s') (size : ℕ) (answer : ℕ → ℕ → ℕ) (all : AreClients config s) where
+module _ {w : ℕ} (config : Config) (caching : ℕ → Bool) (n : ℕ) (moves : ℕ → Channel → Move)
+    (mail mail' : AccessMessages w) (s s' : State (List ℕ)) (showing : IsShowing caching n moves mail mail' s s')
+    (c : ℕ) (ch : Channel) (rest rest' : ℕ → Channel → List (Beat w)) (popped : IsPopped c ch moves rest rest' s s')
+    (size : ℕ) (answer : ℕ → ℕ → ℕ) (all : AreClients config s) where
   abbrev left : Left
   left = beats_left mail s rest
 
@@ -85,22 +88,28 @@ module _ {w : ℕ} (config : Config) (caching : ℕ → Bool) (n : ℕ) (moves :
   number = length config.clients.items
 
   -- a part of pairs that an event leaves alone
-  kept_at : {A : Type 0} (part : ClientBlock → A) (p : ClientBlock) → part p ≡ part ((s.block n).pair c) → (s'.block n).pair ≡ set c p (s.block n).pair → (d : ℕ)
+  kept_at : {A : Type 0} (part : ClientBlock → A) (p : ClientBlock) → part p ≡ part ((s.block n).pair c)
+      → (s'.block n).pair ≡ set c p (s.block n).pair → (d : ℕ)
       → part ((s'.block n).pair d) ≡ part ((s.block n).pair d)
   kept_at part p e new d = ap (λ (f : ℕ → ClientBlock). part (f d)) new ∙ set-part part c p (s.block n).pair e d
 
-  other_at : (p : ClientBlock) → (s'.block n).pair ≡ set c p (s.block n).pair → (d : ℕ) → (d ≡ c → ⊥) → (s'.block n).pair d ≡ (s.block n).pair d
+  other_at : (p : ClientBlock) → (s'.block n).pair ≡ set c p (s.block n).pair → (d : ℕ) → (d ≡ c → ⊥)
+      → (s'.block n).pair d ≡ (s.block n).pair d
   other_at p new d ne = ap (λ (f : ℕ → ClientBlock). f d) new ∙ set-other c d p (s.block n).pair ne
 
   own_at : (p : ClientBlock) → (s'.block n).pair ≡ set c p (s.block n).pair → (s'.block n).pair c ≡ p
   own_at p new = ap (λ (f : ℕ → ClientBlock). f c) new ∙ set-same c p (s.block n).pair
 
-  pub probe-falls : (k : Cap) → c < number → ((s.block n).pair c).probing ≡ ProbeSent k → s'.block n ≡ probed_block c k (s.block n) → IsLeft size left' answer s'
-      → ((d i : ℕ) → s'.uses d i ≡ s.uses d i) → ((d i : ℕ) → s'.lets d i ≡ s.lets d i) → ((d : ℕ) → length (s'.link d).e ≤ length (s.link d).e)
+  pub probe-falls : (k : Cap) → c < number → ((s.block n).pair c).probing ≡ ProbeSent k
+      → s'.block n ≡ probed_block c k (s.block n) → IsLeft size left' answer s'
+      → ((d i : ℕ) → s'.uses d i ≡ s.uses d i) → ((d i : ℕ) → s'.lets d i ≡ s.lets d i)
+      → ((d : ℕ) → length (s'.link d).e ≤ length (s.link d).e)
       → rank config size left' answer s' + 1 ≤ rank config size left answer s
   probe-falls k lt sent new is uses lets acks =
-      pair-falls config caching n moves mail mail' s s' showing c ch rest rest' popped size answer all lt (rw sent refl) (ap (λ (b : Block (List ℕ)). b.service) new)
-      (other_at (after_probe k was) pairs) (kept_at (λ p. p.acquiring) (after_probe k was) refl pairs c) (kept_at (λ p. p.letting) (after_probe k was) refl pairs c)
+      pair-falls config caching n moves mail mail' s s' showing c ch rest rest' popped size answer all lt (rw sent refl)
+      (ap (λ (b : Block (List ℕ)). b.service) new)
+      (other_at (after_probe k was) pairs) (kept_at (λ p. p.acquiring) (after_probe k was) refl pairs c)
+      (kept_at (λ p. p.letting) (after_probe k was) refl pairs c)
       uses lets acks (less ((s'.block n).pair c) is_pair (is.reports c n))
     where
       was : ClientBlock
@@ -112,20 +121,26 @@ module _ {w : ℕ} (config : Config) (caching : ℕ → Bool) (n : ℕ) (moves :
       is_pair : (s'.block n).pair c ≡ after_probe k was
       is_pair = own_at (after_probe k was) pairs
 
-      less : (p : ClientBlock) → p ≡ after_probe k was → (is_unprobed p.probing ≡ false → same_perm p.recorded perm.Trunk ≡ false → left' c ProbeAck n ≤ 1)
+      less : (p : ClientBlock) → p ≡ after_probe k was
+          → (is_unprobed p.probing ≡ false → same_perm p.recorded perm.Trunk ≡ false → left' c ProbeAck n ≤ 1)
           → pair_weight size left' n c p + 1 ≤ pair_weight size left n c ((s.block n).pair c)
       less p e reports =
-          rw (e, sent) (probed-less size (left c ProbeAck n) (left' c ProbeAck n) was.recorded k (after_probe_report was) (λ none. reports (rw e refl) (rw e none)) (is.few c ProbeAck n))
+          rw (e, sent) (probed-less size (left c ProbeAck n) (left' c ProbeAck n) was.recorded k
+          (after_probe_report was) (λ none. reports (rw e refl) (rw e none)) (is.few c ProbeAck n))
         where
           after_probe_report : ClientBlock → Report
           after_probe_report q = report_at k q.held
 
-  pub report-falls : (told r : Report) → c < number → ((s.block n).pair c).probing ≡ ProbeAnswered told → 1 ≤ left c ProbeAck n → s'.block n ≡ reported_block c r (s.block n)
-      → ((d i : ℕ) → s'.uses d i ≡ s.uses d i) → ((d i : ℕ) → s'.lets d i ≡ s.lets d i) → ((d : ℕ) → length (s'.link d).e ≤ length (s.link d).e)
+  pub report-falls : (told r : Report) → c < number → ((s.block n).pair c).probing ≡ ProbeAnswered told
+      → 1 ≤ left c ProbeAck n → s'.block n ≡ reported_block c r (s.block n)
+      → ((d i : ℕ) → s'.uses d i ≡ s.uses d i) → ((d i : ℕ) → s'.lets d i ≡ s.lets d i)
+      → ((d : ℕ) → length (s'.link d).e ≤ length (s.link d).e)
       → rank config size left' answer s' + 1 ≤ rank config size left answer s
   report-falls told r lt answered some new uses lets acks =
-      pair-falls config caching n moves mail mail' s s' showing c ch rest rest' popped size answer all lt (rw answered refl) (ap (λ (b : Block (List ℕ)). b.service) new)
-      (other_at (after_report r was) pairs) (kept_at (λ p. p.acquiring) (after_report r was) refl pairs c) (kept_at (λ p. p.letting) (after_report r was) refl pairs c)
+      pair-falls config caching n moves mail mail' s s' showing c ch rest rest' popped size answer all lt
+      (rw answered refl) (ap (λ (b : Block (List ℕ)). b.service) new)
+      (other_at (after_report r was) pairs) (kept_at (λ p. p.acquiring) (after_report r was) refl pairs c)
+      (kept_at (λ p. p.letting) (after_report r was) refl pairs c)
       uses lets acks less
     where
       was : ClientBlock
@@ -136,35 +151,47 @@ module _ {w : ℕ} (config : Config) (caching : ℕ → Bool) (n : ℕ) (moves :
 
       less : pair_weight size left' n c ((s'.block n).pair c) + 1 ≤ pair_weight size left n c ((s.block n).pair c)
       less =
-          let after = quiet_weight size (left' c ProbeAck n) ((s'.block n).pair c).recorded ((s'.block n).pair c).probing (ap (λ (p : ClientBlock). p.probing) (own_at (after_report r was) pairs)) in
+          let after = quiet_weight size (left' c ProbeAck n) ((s'.block n).pair c).recorded
+          ((s'.block n).pair c).probing (ap (λ (p : ClientBlock). p.probing) (own_at (after_report r was) pairs)) in
           let before = answered_weight size (left c ProbeAck n) was.recorded was.probing told answered in
           omega (arith, after, before, some)
 
   -- ---- the last report
 
   -- what one report owes is owed by its block
-  report-owed : (told : Report) → c < number → ((s.block n).pair c).probing ≡ ProbeAnswered told → 1 ≤ left c ProbeAck n → 1 ≤ probes_weight number size left n (s.block n)
+  report-owed : (told : Report) → c < number → ((s.block n).pair c).probing ≡ ProbeAnswered told → 1 ≤ left c ProbeAck n
+      → 1 ≤ probes_weight number size left n (s.block n)
   report-owed told lt answered some =
-      let one = answered_weight size (left c ProbeAck n) ((s.block n).pair c).recorded ((s.block n).pair c).probing told answered in
+      let one = answered_weight size (left c ProbeAck n) ((s.block n).pair c).recorded ((s.block n).pair c).probing told
+      answered in
       let all = summand-few number c (λ d. pair_weight size left n d ((s.block n).pair d)) lt in
       omega (arith, one, all, some)
 
-  unserved : (d i : ℕ) → s.uses d i ≡ Acquires n → s'.uses d i ≡ Acquires n → is_unserved (view (s.block n).service d) ≡ true → is_unserved (view (s'.block n).service d) ≡ true
-      → acquire_weight size (left' d Acquire n) (left' d Grant n) (probes_weight number size left' n (s'.block n)) (view (s'.block n).service d)
-      ≤ acquire_weight size (left d Acquire n) (left d Grant n) (probes_weight number size left n (s.block n)) (view (s.block n).service d)
-  unserved d i e f before after = unserved-stays config caching n moves mail mail' s s' showing c ch rest rest' popped size answer d i n e f before after
+  unserved : (d i : ℕ) → s.uses d i ≡ Acquires n → s'.uses d i ≡ Acquires n
+      → is_unserved (view (s.block n).service d) ≡ true → is_unserved (view (s'.block n).service d) ≡ true
+      → acquire_weight size (left' d Acquire n) (left' d Grant n) (probes_weight number size left' n (s'.block n))
+      (view (s'.block n).service d)
+      ≤ acquire_weight size (left d Acquire n) (left d Grant n) (probes_weight number size left n (s.block n))
+      (view (s.block n).service d)
+  unserved d i e f before after = unserved-stays config caching n moves mail mail' s s' showing c ch rest rest' popped
+      size answer d i n e f before after
 
   lets-kept : (d : ℕ) → ((s'.block n).pair d).letting ≡ ((s.block n).pair d).letting
-      → letting_weight (left' d Release n) ((s'.block n).pair d).letting ≤ letting_weight (left d Release n) ((s.block n).pair d).letting
+      → letting_weight (left' d Release n) ((s'.block n).pair d).letting ≤ letting_weight (left d Release n)
+      ((s.block n).pair d).letting
   lets-kept d e = let-stays config caching n moves mail mail' s s' showing c ch rest rest' popped size answer d n e
 
-  pub answering-falls : (q source : ℕ) (k : Cap) (told r : Report) (f : List ℕ → List ℕ) → c < number → ((s.block n).pair c).probing ≡ ProbeAnswered told
+  pub answering-falls : (q source : ℕ) (k : Cap) (told r : Report) (f : List ℕ → List ℕ) → c < number
+      → ((s.block n).pair c).probing ≡ ProbeAnswered told
       → 1 ≤ left c ProbeAck n → (s.block n).service ≡ Waits q false source k
-      → s.uses q source ≡ InService n → left' q Answer source ≤ answer q source → s'.block n ≡ ended_block c r f (s.block n) → s'.uses q source ≡ Replied
-      → ((d i : ℕ) → (d ≡ q → i ≡ source → ⊥) → s'.uses d i ≡ s.uses d i) → ((d i : ℕ) → s'.lets d i ≡ s.lets d i) → ((d : ℕ) → length (s'.link d).e ≤ length (s.link d).e)
+      → s.uses q source ≡ InService n → left' q Answer source ≤ answer q source
+      → s'.block n ≡ ended_block c r f (s.block n) → s'.uses q source ≡ Replied
+      → ((d i : ℕ) → (d ≡ q → i ≡ source → ⊥) → s'.uses d i ≡ s.uses d i) → ((d i : ℕ) → s'.lets d i ≡ s.lets d i)
+      → ((d : ℕ) → length (s'.link d).e ≤ length (s.link d).e)
       → rank config size left' answer s' + 1 ≤ rank config size left answer s
   answering-falls q source k told r f lt answered some waits used few new replied unlike lets acks =
-      request-falls config caching n moves mail mail' s s' showing c ch rest rest' popped size answer all block q source opened unlike lets acks
+      request-falls config caching n moves mail mail' s s' showing c ch rest rest' popped size answer all block q source
+      opened unlike lets acks
       (rw (used, replied) (let owed = report-owed told lt answered some in omega (arith, few, owed)))
     where
       was : ClientBlock
@@ -185,17 +212,22 @@ module _ {w : ℕ} (config : Config) (caching : ℕ → Bool) (n : ℕ) (moves :
       block : IsBlockNoMore config caching n moves mail mail' s s' showing c ch rest rest' popped size answer
       block = record {
         serves = λ d i e g. absurd (nobody-serving caching s' n d i showing.after gone g);
-        acquires = λ d i e g. unserved d i e g (ap (λ (u : Service). is_unserved (view u d)) waits) (ap (λ (u : Service). is_unserved (view u d)) free);
+        acquires = λ d i e g. unserved d i e g (ap (λ (u : Service). is_unserved (view u d)) waits)
+            (ap (λ (u : Service). is_unserved (view u d)) free);
         lets = λ d i e g. lets-kept d (kept_at (λ p. p.letting) (after_report r was) refl pairs d);
       }
 
-  pub granting-falls : (q source at : ℕ) (k gift : Cap) (told r : Report) (data_too : Bool) → c < number → ((s.block n).pair c).probing ≡ ProbeAnswered told
+  pub granting-falls : (q source at : ℕ) (k gift : Cap) (told r : Report) (data_too : Bool) → c < number
+      → ((s.block n).pair c).probing ≡ ProbeAnswered told
       → 1 ≤ left c ProbeAck n → (s.block n).service ≡ Waits q true at k
-      → s.uses q source ≡ Acquires n → IsLeft size left' answer s' → s'.block n ≡ granted_block c q r data_too gift (s.block n)
-      → ((d i : ℕ) → s'.uses d i ≡ s.uses d i) → ((d i : ℕ) → s'.lets d i ≡ s.lets d i) → ((d : ℕ) → length (s'.link d).e ≤ length (s.link d).e)
+      → s.uses q source ≡ Acquires n → IsLeft size left' answer s'
+      → s'.block n ≡ granted_block c q r data_too gift (s.block n)
+      → ((d i : ℕ) → s'.uses d i ≡ s.uses d i) → ((d i : ℕ) → s'.lets d i ≡ s.lets d i)
+      → ((d : ℕ) → length (s'.link d).e ≤ length (s.link d).e)
       → rank config size left' answer s' + 1 ≤ rank config size left answer s
   granting-falls q source at k gift told r data_too lt answered some waits used is new uses lets acks =
-      request-falls config caching n moves mail mail' s s' showing c ch rest rest' popped size answer all block q source opened (λ d i ne. uses d i) lets acks
+      request-falls config caching n moves mail mail' s s' showing c ch rest rest' popped size answer all block q source
+      opened (λ d i ne. uses d i) lets acks
       (rw (uses q source, used) (falls-at q refl))
     where
       was : ClientBlock
@@ -211,8 +243,10 @@ module _ {w : ℕ} (config : Config) (caching : ℕ → Bool) (n : ℕ) (moves :
       gone = ap is_for_access given
 
       falls-at : (d : ℕ) → d ≡ q
-          → acquire_weight size (left' d Acquire n) (left' d Grant n) (probes_weight number size left' n (s'.block n)) (view (s'.block n).service d) + 1
-          ≤ acquire_weight size (left d Acquire n) (left d Grant n) (probes_weight number size left n (s.block n)) (view (s.block n).service d)
+          → acquire_weight size (left' d Acquire n) (left' d Grant n) (probes_weight number size left' n (s'.block n))
+          (view (s'.block n).service d) + 1
+          ≤ acquire_weight size (left d Acquire n) (left d Grant n) (probes_weight number size left n (s.block n))
+          (view (s.block n).service d)
       falls-at d e =
           let after : view (s'.block n).service d ≡ Granting data_too gift = rw (given, e, same_number q) refl in
           let before : view (s.block n).service d ≡ Own = rw (waits, e, same_number q) refl in
@@ -227,15 +261,18 @@ module _ {w : ℕ} (config : Config) (caching : ℕ → Bool) (n : ℕ) (moves :
       given_else d ne = rw (given, ne_eqb d q ne) refl
 
       acquire : (d i : ℕ) → s.uses d i ≡ Acquires n → s'.uses d i ≡ Acquires n → (d ≡ q) ⊎ (d ≡ q → ⊥)
-          → acquire_weight size (left' d Acquire n) (left' d Grant n) (probes_weight number size left' n (s'.block n)) (view (s'.block n).service d)
-          ≤ acquire_weight size (left d Acquire n) (left d Grant n) (probes_weight number size left n (s.block n)) (view (s.block n).service d)
+          → acquire_weight size (left' d Acquire n) (left' d Grant n) (probes_weight number size left' n (s'.block n))
+          (view (s'.block n).service d)
+          ≤ acquire_weight size (left d Acquire n) (left d Grant n) (probes_weight number size left n (s.block n))
+          (view (s.block n).service d)
       acquire d i e g (inl same) = let less = falls-at d same in omega (arith, less)
       acquire d i e g (inr other) = unserved d i e g (waiting_else d other) (given_else d other)
 
       letting : (d : ℕ) → ((s'.block n).pair d).letting ≡ ((s.block n).pair d).letting
       letting d =
           ap (λ (b : Block (List ℕ)). (b.pair d).letting) new
-          ∙ (set-part (λ p. p.letting) q (after_grant_sent gift ((s.block n).pair q)) (set c (after_report r was) (s.block n).pair)
+          ∙ (set-part (λ p. p.letting) q (after_grant_sent gift ((s.block n).pair q))
+          (set c (after_report r was) (s.block n).pair)
           (sym (set-part (λ p. p.letting) c (after_report r was) (s.block n).pair refl q)) d
           ∙ set-part (λ p. p.letting) c (after_report r was) (s.block n).pair refl d)
 

@@ -1,31 +1,29 @@
 -- What is owed falls as a response is taken, a Release, and a GrantAck.
+use Rattle.tl_coherence.proofs.bound.Imports.{Beat, Channel, Config, Cap, Prune, Perm, IsInvariant, Move, ClientBlock}
+use Rattle.tl_coherence.proofs.bound.Imports.{Granting, ProbePhase, NoProbe, ProbeSent, ProbeAnswered, NoRelease}
+use Rattle.tl_coherence.proofs.bound.Imports.{ReleaseSent, ReleaseAcked, Left, probing_weight, pair_weight}
+use Rattle.tl_coherence.proofs.bound.Imports.{probes_weight, acquire_weight, letting_weight, rank, Service, Free}
+use Rattle.tl_coherence.proofs.bound.Imports.{GrantSent, GrantTaken, Block, State, SourceFree, Replied, Acquires, view}
+use Rattle.tl_coherence.proofs.bound.Imports.{is_unserved, is_wanting, is_answered, taken_block, let_block}
+use Rattle.tl_coherence.proofs.bound.Imports.{AccessMessages, Acquire, Grant, ProbeAck, Release, Answer, set}
 use Rattle.std.proofs.Common.{◌≡◌, ℕ, ◌+◌, ◌<◌, ◌≤◌, Bool, true, false, List, refl, sym, ◌∙◌, ap, arith, ◌⊎◌, inl, inr}
 use Rattle.std.specs.Prelude.{◌==◌, if◌then◌else◌, Some, None, length}
 use Rattle.std.proofs.lemmas.Bool.{cases_eq, ne_eqb, eqb-true}
-use Rattle.tl_beat.specs.declared.beat.Beat.{Beat}
-use Rattle.tl_beat.specs.declared.channel.Channel.{Channel}
-use Rattle.tl_params.specs.declared.config.Config.{Config}
-use Rattle.tl_params.specs.declared.param.Cap.{Cap}
-use Rattle.tl_params.specs.declared.param.Prune.{Prune}
 use Rattle.tl_params.specs.declared.param.Prune.TheVariants as prune
-use Rattle.tl_params.specs.declared.perm.Perm.{Perm}
 use Rattle.tl_params.specs.declared.perm.Perm.TheVariants as perm
 use Rattle.tl_params.specs.statement.Param.{prune_right}
 use Rattle.tl_rules.specs.statement.Conformance.{same_perm}
-use Rattle.tl_coherence.specs.protocol.Invariant.{IsInvariant, acquires_of, acquires_with}
-use Rattle.tl_coherence.specs.refinement.Move.{Move}
-use Rattle.tl_coherence.specs.protocol.Phase.{ClientBlock, Granting, Acknowledging, GrantedOther, ProbePhase, NoProbe, ProbeSent, ProbeAnswered, NoRelease, ReleaseSent, ReleaseAcked}
+use Rattle.tl_coherence.specs.protocol.Invariant.{acquires_of, acquires_with}
+use Rattle.tl_coherence.specs.protocol.Phase.{Acknowledging, GrantedOther}
 use Rattle.tl_coherence.specs.protocol.PhaseSteps.{after_release_taken, after_release_ack, after_grant}
-use Rattle.tl_coherence.specs.bound.Rank.{Left, probing_weight, pair_weight, probes_weight, acquire_weight, letting_weight, rank}
-use Rattle.tl_coherence.specs.protocol.Protocol.{Service, Free, GrantSent, GrantTaken, Block, State, SourceFree, Replied, Acquires, view, is_unserved, is_wanting, is_answered}
-use Rattle.tl_coherence.specs.protocol.Protocol.{taken_block, let_block, let_go_block, freed_block}
-use Rattle.tl_coherence.specs.refinement.PacketMessages.{AccessMessages}
-use Rattle.tl_coherence.specs.protocol.Packet.{Acquire, Grant, ProbeAck, Release, Answer, set}
+use Rattle.tl_coherence.specs.protocol.Protocol.{let_go_block, freed_block}
 use Rattle.tl_coherence.proofs.queues.Channels.{IsShowing}
 use Rattle.tl_coherence.proofs.rank.RankDecreases.{owed_use, owed_use'}
-use Rattle.tl_coherence.proofs.rank.Frames.{IsBlockNoMore, acquire-stays, let-stays, pair-stays, unserved-stays, wants-used, report-here}
+use Rattle.tl_coherence.proofs.rank.Frames.{IsBlockNoMore, acquire-stays, let-stays, pair-stays, unserved-stays}
+use Rattle.tl_coherence.proofs.rank.Frames.{wants-used, report-here}
 use Rattle.tl_coherence.proofs.protocol.BeatsRemaining.{IsPopped, beats_left, left-same}
-use Rattle.tl_coherence.proofs.rank.RankParts.{AreClients, request-falls, release-falls, acknowledged-falls, granted-falls, block-same}
+use Rattle.tl_coherence.proofs.rank.RankParts.{AreClients, request-falls, release-falls, acknowledged-falls}
+use Rattle.tl_coherence.proofs.rank.RankParts.{granted-falls, block-same}
 use Rattle.tl_coherence.proofs.queues.Phases.{and_right}
 use Rattle.tl_coherence.proofs.bound.ReportDecreases.{nobody-serving, is_for_access}
 use Rattle.tl_coherence.proofs.queues.Sums.{total-le}
@@ -37,7 +35,8 @@ pruned prune.TtoB = refl
 pruned prune.TtoN = refl
 pruned prune.BtoN = refl
 
-pruned-weight : (size l l' : ℕ) (recorded : Perm) (r : Prune) (x : ProbePhase) → 1 ≤ size → ((a : ℕ) → l' ≤ l) → probing_weight size l' (prune_right r) x ≤ probing_weight size l recorded x
+pruned-weight : (size l l' : ℕ) (recorded : Perm) (r : Prune) (x : ProbePhase) → 1 ≤ size → ((a : ℕ) → l' ≤ l)
+    → probing_weight size l' (prune_right r) x ≤ probing_weight size l recorded x
 pruned-weight size l l' recorded r NoProbe some le = omega arith
 pruned-weight size l l' recorded r (ProbeSent k) some le = rw (pruned r) (go (same_perm recorded perm.Trunk))
   where
@@ -54,13 +53,18 @@ granted_unserved q d = go (d == q)
     go false = refl
 
 -- an Acquire has one source
-acquired_with : (caching : ℕ → Bool) (s : State (List ℕ)) (n c i : ℕ) → IsInvariant caching s → s.uses c i ≡ Acquires n → i ≡ (s.block n).source c
+acquired_with : (caching : ℕ → Bool) (s : State (List ℕ)) (n c i : ℕ) → IsInvariant caching s → s.uses c i ≡ Acquires n
+    → i ≡ (s.block n).source c
 acquired_with caching s n c i inv e =
-    let named : acquires_with c i (s.block n) ≡ true = sym (inv.named.acquires c i n) ∙ (ap (acquires_of n) e ∙ same_number n) in
-    eqb-true i ((s.block n).source c) (and_right (is_wanting ((s.block n).pair c).acquiring) (i == (s.block n).source c) named)
+    let named : acquires_with c i (s.block n) ≡ true =
+    sym (inv.named.acquires c i n) ∙ (ap (acquires_of n) e ∙ same_number n) in
+    eqb-true i ((s.block n).source c) (and_right (is_wanting ((s.block n).pair c).acquiring) (i == (s.block n).source c)
+    named)
 
-module _ {w : ℕ} (config : Config) (caching : ℕ → Bool) (n : ℕ) (moves : ℕ → Channel → Move) (mail mail' : AccessMessages w) (s s' : State (List ℕ)) (showing : IsShowing caching n moves mail mail' s s')
-    (c : ℕ) (ch : Channel) (rest rest' : ℕ → Channel → List (Beat w)) (popped : IsPopped c ch moves rest rest' s s') (size : ℕ) (answer : ℕ → ℕ → ℕ) (all : AreClients config s) where
+module _ {w : ℕ} (config : Config) (caching : ℕ → Bool) (n : ℕ) (moves : ℕ → Channel → Move)
+    (mail mail' : AccessMessages w) (s s' : State (List ℕ)) (showing : IsShowing caching n moves mail mail' s s')
+    (c : ℕ) (ch : Channel) (rest rest' : ℕ → Channel → List (Beat w)) (popped : IsPopped c ch moves rest rest' s s')
+    (size : ℕ) (answer : ℕ → ℕ → ℕ) (all : AreClients config s) where
   abbrev left : Left
   left = beats_left mail s rest
 
@@ -71,16 +75,20 @@ module _ {w : ℕ} (config : Config) (caching : ℕ → Bool) (n : ℕ) (moves :
   number = length config.clients.items
 
   -- a part of pairs that an event leaves alone
-  kept_at : {A : Type 0} (part : ClientBlock → A) (p : ClientBlock) → part p ≡ part ((s.block n).pair c) → (s'.block n).pair ≡ set c p (s.block n).pair → (d : ℕ)
+  kept_at : {A : Type 0} (part : ClientBlock → A) (p : ClientBlock) → part p ≡ part ((s.block n).pair c)
+      → (s'.block n).pair ≡ set c p (s.block n).pair → (d : ℕ)
       → part ((s'.block n).pair d) ≡ part ((s.block n).pair d)
   kept_at part p e new d = ap (λ (f : ℕ → ClientBlock). part (f d)) new ∙ set-part part c p (s.block n).pair e d
 
   letting_stays : (d : ℕ) → ((s'.block n).pair d).letting ≡ ((s.block n).pair d).letting
-      → letting_weight (left' d Release n) ((s'.block n).pair d).letting ≤ letting_weight (left d Release n) ((s.block n).pair d).letting
+      → letting_weight (left' d Release n) ((s'.block n).pair d).letting ≤ letting_weight (left d Release n)
+      ((s.block n).pair d).letting
   letting_stays d e = let-stays config caching n moves mail mail' s s' showing c ch rest rest' popped size answer d n e
 
-  pub answer-falls : (source : ℕ) → s.uses c source ≡ Replied → s'.uses c source ≡ SourceFree → 1 ≤ left c Answer source → s'.block n ≡ s.block n
-      → ((d i : ℕ) → (d ≡ c → i ≡ source → ⊥) → s'.uses d i ≡ s.uses d i) → ((d i : ℕ) → s'.lets d i ≡ s.lets d i) → ((d : ℕ) → length (s'.link d).e ≤ length (s.link d).e)
+  pub answer-falls : (source : ℕ) → s.uses c source ≡ Replied → s'.uses c source ≡ SourceFree → 1 ≤ left c Answer source
+      → s'.block n ≡ s.block n
+      → ((d i : ℕ) → (d ≡ c → i ≡ source → ⊥) → s'.uses d i ≡ s.uses d i) → ((d i : ℕ) → s'.lets d i ≡ s.lets d i)
+      → ((d : ℕ) → length (s'.link d).e ≤ length (s.link d).e)
       → rank config size left' answer s' + 1 ≤ rank config size left answer s
   answer-falls source replied closed some same unlike lets acks =
       request-falls config caching n moves mail mail' s s' showing c ch rest rest' popped size answer all
@@ -90,14 +98,18 @@ module _ {w : ℕ} (config : Config) (caching : ℕ → Bool) (n : ℕ) (moves :
       opened : s.uses c source ≡ SourceFree → ⊥
       opened e = absurd (let both : Replied ≡ SourceFree = sym replied ∙ e in cc)
 
-  pub grant-taken-falls : (data_too was_data whole : Bool) (k cap : Cap) → (s.block n).service ≡ GrantSent c was_data cap
+  pub grant-taken-falls : (data_too was_data whole : Bool) (k cap : Cap)
+      → (s.block n).service ≡ GrantSent c was_data cap
       → s.uses c ((s.block n).source c) ≡ Acquires n → s'.uses c ((s.block n).source c) ≡ SourceFree
       → 1 ≤ left c Grant n → s'.block n ≡ taken_block c whole data_too k (s.block n)
-      → ((d i : ℕ) → (d ≡ c → i ≡ (s.block n).source c → ⊥) → s'.uses d i ≡ s.uses d i) → ((d i : ℕ) → s'.lets d i ≡ s.lets d i)
-      → ((d : ℕ) → (d ≡ c → ⊥) → length (s'.link d).e ≤ length (s.link d).e) → length (s'.link c).e ≡ length (s.link c).e + 1
+      → ((d i : ℕ) → (d ≡ c → i ≡ (s.block n).source c → ⊥) → s'.uses d i ≡ s.uses d i)
+      → ((d i : ℕ) → s'.lets d i ≡ s.lets d i)
+      → ((d : ℕ) → (d ≡ c → ⊥) → length (s'.link d).e ≤ length (s.link d).e)
+      → length (s'.link c).e ≡ length (s.link c).e + 1
       → rank config size left' answer s' + 1 ≤ rank config size left answer s
   grant-taken-falls data_too was_data whole k cap given used closed some new unlike lets acks more =
-      granted-falls config caching n moves mail mail' s s' showing c ch rest rest' popped size answer all block c ((s.block n).source c) opened unlike lets acks more less
+      granted-falls config caching n moves mail mail' s s' showing c ch rest rest' popped size answer all block c
+      ((s.block n).source c) opened unlike lets acks more less
     where
       opened : s.uses c ((s.block n).source c) ≡ SourceFree → ⊥
       opened e = absurd (let both : Acquires n ≡ SourceFree = sym used ∙ e in cc)
@@ -108,15 +120,18 @@ module _ {w : ℕ} (config : Config) (caching : ℕ → Bool) (n : ℕ) (moves :
       before : view (s.block n).service c ≡ Granting was_data cap
       before = rw (given, same_number c) refl
 
-      less : owed_use' config size left left' answer answer s s' c ((s.block n).source c) + 2 ≤ owed_use config size left left' answer answer s s' c ((s.block n).source c)
+      less : owed_use' config size left left' answer answer s s' c ((s.block n).source c) + 2 ≤ owed_use config size
+          left left' answer answer s s' c ((s.block n).source c)
       less = rw (used, closed, before) (omega (arith, some))
 
       waiting : (d : ℕ) → (d ≡ c → ⊥) → is_unserved (view (s.block n).service d) ≡ true
       waiting d ne = rw (given, ne_eqb d c ne) refl
 
       acquire : (d i : ℕ) → s.uses d i ≡ Acquires n → s'.uses d i ≡ Acquires n → (d ≡ c) ⊎ (d ≡ c → ⊥)
-          → acquire_weight size (left' d Acquire n) (left' d Grant n) (probes_weight number size left' n (s'.block n)) (view (s'.block n).service d)
-          ≤ acquire_weight size (left d Acquire n) (left d Grant n) (probes_weight number size left n (s.block n)) (view (s.block n).service d)
+          → acquire_weight size (left' d Acquire n) (left' d Grant n) (probes_weight number size left' n (s'.block n))
+          (view (s'.block n).service d)
+          ≤ acquire_weight size (left d Acquire n) (left d Grant n) (probes_weight number size left n (s.block n))
+          (view (s.block n).service d)
       acquire d i e f (inl same) =
           let own : s.uses c i ≡ Acquires n = rw same at e in
           let at = acquired_with caching s n c i showing.before own in
@@ -124,22 +139,27 @@ module _ {w : ℕ} (config : Config) (caching : ℕ → Bool) (n : ℕ) (moves :
           let still : s'.uses c i ≡ Acquires n = rw same at f in
           absurd (let both : Acquires n ≡ SourceFree = sym still ∙ end in cc)
       acquire d i e f (inr other) =
-          unserved-stays config caching n moves mail mail' s s' showing c ch rest rest' popped size answer d i n e f (waiting d other)
+          unserved-stays config caching n moves mail mail' s s' showing c ch rest rest' popped size answer d i n e f
+          (waiting d other)
           (ap (λ (u : Service). is_unserved (view u d)) taken ∙ granted_unserved c d)
 
       block : IsBlockNoMore config caching n moves mail mail' s s' showing c ch rest rest' popped size answer
       block = record {
         serves = λ d i e f. absurd (nobody-serving caching s n d i showing.before (ap is_for_access given) e);
         acquires = λ d i e f. acquire d i e f (cases_eq d c);
-        lets = λ d i e f. letting_stays d (kept_at (λ p. p.letting) (after_grant k ((s.block n).pair c)) refl (ap (λ (b : Block (List ℕ)). b.pair) new) d);
+        lets = λ d i e f. letting_stays d (kept_at (λ p. p.letting) (after_grant k ((s.block n).pair c)) refl
+            (ap (λ (b : Block (List ℕ)). b.pair) new) d);
       }
 
-  pub release-taken-falls : (source : ℕ) (told r : Prune) → 1 ≤ size → s.lets c source ≡ Some n → ((s.block n).pair c).letting ≡ ReleaseSent told
+  pub release-taken-falls : (source : ℕ) (told r : Prune) → 1 ≤ size → s.lets c source ≡ Some n
+      → ((s.block n).pair c).letting ≡ ReleaseSent told
       → 1 ≤ left c Release n → s'.block n ≡ let_block c r (s.block n)
-      → ((d i : ℕ) → s'.uses d i ≡ s.uses d i) → ((d i : ℕ) → s'.lets d i ≡ s.lets d i) → ((d : ℕ) → length (s'.link d).e ≤ length (s.link d).e)
+      → ((d i : ℕ) → s'.uses d i ≡ s.uses d i) → ((d i : ℕ) → s'.lets d i ≡ s.lets d i)
+      → ((d : ℕ) → length (s'.link d).e ≤ length (s.link d).e)
       → rank config size left' answer s' + 1 ≤ rank config size left answer s
   release-taken-falls source told r wide used releasing some new uses lets acks =
-      release-falls config caching n moves mail mail' s s' showing c ch rest rest' popped size answer all block c source n used uses (λ d i ne. lets d i) acks
+      release-falls config caching n moves mail mail' s s' showing c ch rest rest' popped size answer all block c source
+      n used uses (λ d i ne. lets d i) acks
       (rw (lets c source, used, releasing, acked) (omega (arith, some)))
     where
       was : ClientBlock
@@ -152,32 +172,42 @@ module _ {w : ℕ} (config : Config) (caching : ℕ → Bool) (n : ℕ) (moves :
       own = ap (λ (f : ℕ → ClientBlock). f c) pairs ∙ set-same c (after_release_taken r was) (s.block n).pair
 
       other : (d : ℕ) → (d ≡ c → ⊥) → (s'.block n).pair d ≡ (s.block n).pair d
-      other d ne = ap (λ (f : ℕ → ClientBlock). f d) pairs ∙ set-other c d (after_release_taken r was) (s.block n).pair ne
+      other d ne = ap (λ (f : ℕ → ClientBlock). f d) pairs ∙ set-other c d (after_release_taken r was) (s.block n).pair
+          ne
 
       acked : ((s'.block n).pair c).letting ≡ ReleaseAcked
       acked = ap (λ (p : ClientBlock). p.letting) own
 
-      told_as : (x : ProbePhase) → was.probing ≡ x → probing_weight size (left' c ProbeAck n) (prune_right r) x ≤ probing_weight size (left c ProbeAck n) was.recorded x
+      told_as : (x : ProbePhase) → was.probing ≡ x → probing_weight size (left' c ProbeAck n) (prune_right r)
+          x ≤ probing_weight size (left c ProbeAck n) was.recorded x
       told_as NoProbe e = omega arith
-      told_as (ProbeSent k) e = pruned-weight size (left c ProbeAck n) 0 was.recorded r (ProbeSent k) wide (λ a. omega arith)
+      told_as (ProbeSent k) e = pruned-weight size (left c ProbeAck n) 0 was.recorded r (ProbeSent k) wide
+          (λ a. omega arith)
       told_as (ProbeAnswered t) e =
           let before = report-here caching s showing.before c n (rw e refl) in
-          let after = report-here caching s' showing.after c n (ap (λ (p : ClientBlock). is_answered p.probing) own ∙ ap is_answered e) in
-          let same = left-same caching n moves mail mail' s s' showing c ch rest rest' popped c ProbeAck n before after in
+          let after = report-here caching s' showing.after c n (ap (λ (p : ClientBlock). is_answered p.probing) own ∙ ap
+          is_answered e) in
+          let same = left-same caching n moves mail mail' s s' showing c ch rest rest' popped c ProbeAck n before after
+          in
           omega (arith, same)
 
       here : pair_weight size left' n c ((s'.block n).pair c) ≤ pair_weight size left n c ((s.block n).pair c)
       here = rw own (told_as was.probing refl)
 
-      each : (d : ℕ) → (d ≡ c) ⊎ (d ≡ c → ⊥) → pair_weight size left' n d ((s'.block n).pair d) ≤ pair_weight size left n d ((s.block n).pair d)
+      each : (d : ℕ) → (d ≡ c) ⊎ (d ≡ c → ⊥) → pair_weight size left' n d ((s'.block n).pair d) ≤ pair_weight size left
+          n d ((s.block n).pair d)
       each d (inl same) = rw same here
       each d (inr ne) =
-          pair-stays config caching n moves mail mail' s s' showing c ch rest rest' popped size answer d n (ap (λ (p : ClientBlock). p.probing) (other d ne)) (ap (λ (p : ClientBlock). p.recorded) (other d ne))
+          pair-stays config caching n moves mail mail' s s' showing c ch rest rest' popped size answer d n
+          (ap (λ (p : ClientBlock). p.probing) (other d ne)) (ap (λ (p : ClientBlock). p.recorded) (other d ne))
 
       probes : probes_weight number size left' n (s'.block n) ≤ probes_weight number size left n (s.block n)
-      probes = total-le number (λ d. pair_weight size left' n d ((s'.block n).pair d)) (λ d. pair_weight size left n d ((s.block n).pair d)) (λ d lt. each d (cases_eq d c))
+      probes = total-le number (λ d. pair_weight size left' n d ((s'.block n).pair d))
+          (λ d. pair_weight size left n d ((s.block n).pair d)) (λ d lt. each d (cases_eq d c))
 
-      letting : (d : ℕ) → (d ≡ c) ⊎ (d ≡ c → ⊥) → letting_weight (left' d Release n) ((s'.block n).pair d).letting ≤ letting_weight (left d Release n) ((s.block n).pair d).letting
+      letting : (d : ℕ) → (d ≡ c) ⊎ (d ≡ c → ⊥)
+          → letting_weight (left' d Release n) ((s'.block n).pair d).letting ≤ letting_weight (left d Release n)
+          ((s.block n).pair d).letting
       letting d (inl same) = rw (same, acked, releasing) (omega arith)
       letting d (inr ne) = letting_stays d (ap (λ (p : ClientBlock). p.letting) (other d ne))
 
@@ -185,16 +215,21 @@ module _ {w : ℕ} (config : Config) (caching : ℕ → Bool) (n : ℕ) (moves :
       block = record {
         serves = λ d i e f. probes;
         acquires = λ d i e f.
-            acquire-stays config caching n moves mail mail' s s' showing c ch rest rest' popped size answer d n (wants-used caching s showing.before d i n e)
-            (kept_at (λ p. p.acquiring) (after_release_taken r was) refl pairs d) (ap (λ (b : Block (List ℕ)). view b.service d) new) probes;
+            acquire-stays config caching n moves mail mail' s s' showing c ch rest rest' popped size answer d n
+            (wants-used caching s showing.before d i n e)
+            (kept_at (λ p. p.acquiring) (after_release_taken r was) refl pairs d)
+            (ap (λ (b : Block (List ℕ)). view b.service d) new) probes;
         lets = λ d i e f. letting d (cases_eq d c);
       }
 
-  pub release-ack-falls : (source : ℕ) → s.lets c source ≡ Some n → s'.lets c source ≡ None → ((s.block n).pair c).letting ≡ ReleaseAcked → s'.block n ≡ let_go_block c (s.block n)
-      → ((d i : ℕ) → s'.uses d i ≡ s.uses d i) → ((d i : ℕ) → (d ≡ c → i ≡ source → ⊥) → s'.lets d i ≡ s.lets d i) → ((d : ℕ) → length (s'.link d).e ≤ length (s.link d).e)
+  pub release-ack-falls : (source : ℕ) → s.lets c source ≡ Some n → s'.lets c source ≡ None
+      → ((s.block n).pair c).letting ≡ ReleaseAcked → s'.block n ≡ let_go_block c (s.block n)
+      → ((d i : ℕ) → s'.uses d i ≡ s.uses d i) → ((d i : ℕ) → (d ≡ c → i ≡ source → ⊥) → s'.lets d i ≡ s.lets d i)
+      → ((d : ℕ) → length (s'.link d).e ≤ length (s.link d).e)
       → rank config size left' answer s' + 1 ≤ rank config size left answer s
   release-ack-falls source used gone acked new uses unlike acks =
-      release-falls config caching n moves mail mail' s s' showing c ch rest rest' popped size answer all block c source n used uses unlike acks (rw (gone, used, acked) (omega arith))
+      release-falls config caching n moves mail mail' s s' showing c ch rest rest' popped size answer all block c source
+      n used uses unlike acks (rw (gone, used, acked) (omega arith))
     where
       was : ClientBlock
       was = (s.block n).pair c
@@ -203,17 +238,22 @@ module _ {w : ℕ} (config : Config) (caching : ℕ → Bool) (n : ℕ) (moves :
       pairs = ap (λ (b : Block (List ℕ)). b.pair) new
 
       kept : ((s'.block n).pair c).letting ≡ NoRelease
-      kept = ap (λ (f : ℕ → ClientBlock). (f c).letting) pairs ∙ ap (λ (p : ClientBlock). p.letting) (set-same c (after_release_ack was) (s.block n).pair)
+      kept = ap (λ (f : ℕ → ClientBlock). (f c).letting) pairs ∙ ap (λ (p : ClientBlock). p.letting)
+          (set-same c (after_release_ack was) (s.block n).pair)
 
       other : (d : ℕ) → (d ≡ c → ⊥) → (s'.block n).pair d ≡ (s.block n).pair d
       other d ne = ap (λ (f : ℕ → ClientBlock). f d) pairs ∙ set-other c d (after_release_ack was) (s.block n).pair ne
 
       probes : probes_weight number size left' n (s'.block n) ≤ probes_weight number size left n (s.block n)
-      probes = total-le number (λ d. pair_weight size left' n d ((s'.block n).pair d)) (λ d. pair_weight size left n d ((s.block n).pair d))
+      probes = total-le number (λ d. pair_weight size left' n d ((s'.block n).pair d))
+          (λ d. pair_weight size left n d ((s.block n).pair d))
           (λ d lt. pair-stays config caching n moves mail mail' s s' showing c ch rest rest' popped size answer d n
-          (kept_at (λ p. p.probing) (after_release_ack was) refl pairs d) (kept_at (λ p. p.recorded) (after_release_ack was) refl pairs d))
+          (kept_at (λ p. p.probing) (after_release_ack was) refl pairs d)
+          (kept_at (λ p. p.recorded) (after_release_ack was) refl pairs d))
 
-      letting : (d : ℕ) → (d ≡ c) ⊎ (d ≡ c → ⊥) → letting_weight (left' d Release n) ((s'.block n).pair d).letting ≤ letting_weight (left d Release n) ((s.block n).pair d).letting
+      letting : (d : ℕ) → (d ≡ c) ⊎ (d ≡ c → ⊥)
+          → letting_weight (left' d Release n) ((s'.block n).pair d).letting ≤ letting_weight (left d Release n)
+          ((s.block n).pair d).letting
       letting d (inl same) = rw (same, kept) (omega arith)
       letting d (inr ne) = letting_stays d (ap (λ (p : ClientBlock). p.letting) (other d ne))
 
@@ -221,16 +261,20 @@ module _ {w : ℕ} (config : Config) (caching : ℕ → Bool) (n : ℕ) (moves :
       block = record {
         serves = λ d i e f. probes;
         acquires = λ d i e f.
-            acquire-stays config caching n moves mail mail' s s' showing c ch rest rest' popped size answer d n (wants-used caching s showing.before d i n e)
-            (kept_at (λ p. p.acquiring) (after_release_ack was) refl pairs d) (ap (λ (b : Block (List ℕ)). view b.service d) new) probes;
+            acquire-stays config caching n moves mail mail' s s' showing c ch rest rest' popped size answer d n
+            (wants-used caching s showing.before d i n e)
+            (kept_at (λ p. p.acquiring) (after_release_ack was) refl pairs d)
+            (ap (λ (b : Block (List ℕ)). view b.service d) new) probes;
         lets = λ d i e f. letting d (cases_eq d c);
       }
 
   pub grant-ack-falls : (q : ℕ) → c < number → (s.block n).service ≡ GrantTaken q → s'.block n ≡ freed_block (s.block n)
-      → ((d i : ℕ) → s'.uses d i ≡ s.uses d i) → ((d i : ℕ) → s'.lets d i ≡ s.lets d i) → ((d : ℕ) → length (s'.link d).e ≤ length (s.link d).e) → length (s'.link c).e + 1 ≤ length (s.link c).e
+      → ((d i : ℕ) → s'.uses d i ≡ s.uses d i) → ((d i : ℕ) → s'.lets d i ≡ s.lets d i)
+      → ((d : ℕ) → length (s'.link d).e ≤ length (s.link d).e) → length (s'.link c).e + 1 ≤ length (s.link c).e
       → rank config size left' answer s' + 1 ≤ rank config size left answer s
   grant-ack-falls q lt taken new uses lets acks less =
-      acknowledged-falls config caching n moves mail mail' s s' showing c ch rest rest' popped size answer all block c lt uses lets acks less
+      acknowledged-falls config caching n moves mail mail' s s' showing c ch rest rest' popped size answer all block c
+      lt uses lets acks less
     where
       free : (s'.block n).service ≡ Free
       free = ap (λ (b : Block (List ℕ)). b.service) new
@@ -240,6 +284,7 @@ module _ {w : ℕ} (config : Config) (caching : ℕ → Bool) (n : ℕ) (moves :
         serves = λ d i e f. absurd (nobody-serving caching s n d i showing.before (ap is_for_access taken) e);
         acquires = λ d i e f.
             unserved-stays config caching n moves mail mail' s s' showing c ch rest rest' popped size answer d i n e f
-            (ap (λ (u : Service). is_unserved (view u d)) taken ∙ granted_unserved q d) (ap (λ (u : Service). is_unserved (view u d)) free);
+            (ap (λ (u : Service). is_unserved (view u d)) taken ∙ granted_unserved q d)
+            (ap (λ (u : Service). is_unserved (view u d)) free);
         lets = λ d i e f. letting_stays d (ap (λ (b : Block (List ℕ)). (b.pair d).letting) new);
       }

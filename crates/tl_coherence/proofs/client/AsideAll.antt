@@ -1,34 +1,32 @@
--- Which clients' ends are left alone as a message is taken, and as a client is asked: all of that is what `followed` does.
+-- Which clients' ends are left alone as a message is taken, and as a client is asked: all of that is what `followed`
+-- does.
+use Rattle.tl_coherence.proofs.client.Imports.{Message, Config, Cap, Report, Profile, block_at, Op, Reply, copy_stored}
+use Rattle.tl_coherence.proofs.client.Imports.{whole_grow, cap_probed, AbstractState, with_state, asked, performs}
+use Rattle.tl_coherence.proofs.client.Imports.{probes_some, some_below, access_taken, request_taken, is_unheld, gift}
+use Rattle.tl_coherence.proofs.client.Imports.{acquire_taken, granted_after, last_taken, ack_taken, is_whole}
+use Rattle.tl_coherence.proofs.client.Imports.{taken_by_client, kind_taken, cap_asked, IsInvariant, AcquirePhase}
+use Rattle.tl_coherence.proofs.client.Imports.{NoAcquire, AcquireOpen, is_unprobed, is_granted_data, after_report}
+use Rattle.tl_coherence.proofs.client.Imports.{Service, Free, Waits, GrantSent, GrantTaken, Block, SourceState}
+use Rattle.tl_coherence.proofs.client.Imports.{SourceFree, Asked, InService, Replied, Acquires, packet, on, is_probed}
+use Rattle.tl_coherence.proofs.client.Imports.{acquire_served, acquire_granted, report_taken, cap_sent, report_told}
+use Rattle.tl_coherence.proofs.client.Imports.{prune_told, Kind, Request, Acquire, Probe, ProbeAck, Release, Answer}
+use Rattle.tl_coherence.proofs.client.Imports.{Grant, ReleaseAck, GrantAck, Packet, set, set_at}
 use Rattle.std.proofs.Common.{◌≡◌, ℕ, Bool, true, false, not, List, ◌∷◌, Option, Some, None, length, refl, ◌∙◌, ap, inl}
 use Rattle.std.proofs.lemmas.Bool.{and_from}
 use Rattle.std.specs.Prelude.{◌==◌, ◌&&◌, if◌then◌else◌}
-use Rattle.tl_burst.specs.declared.message.Message.{Message}
 use Rattle.tl_burst.specs.declared.message.Message.TheVariants as message
-use Rattle.tl_params.specs.declared.config.Config.{Config}
-use Rattle.tl_params.specs.declared.param.Cap.{Cap}
-use Rattle.tl_params.specs.declared.param.Report.{Report}
-use Rattle.tl_params.specs.declared.profile.Profile.{Profile}
-use Rattle.tl_rules.specs.statement.History.{block_at}
-use Rattle.tl_client.specs.declared.operation.Op.{Op}
 use Rattle.tl_client.specs.declared.operation.Op.TheVariants as op
-use Rattle.tl_client.specs.declared.reply.Reply.{Reply}
 use Rattle.tl_client.specs.declared.reply.Reply.TheVariants as reply
-use Rattle.tl_client.specs.statement.Ask.{copy_stored, whole_grow}
 use Rattle.tl_client.specs.statement.Send.{access}
-use Rattle.tl_manager.specs.statement.Holders.{cap_probed}
-use Rattle.tl_coherence.specs.refinement.AbstractStep.{AbstractState, with_state, asked, answers, performs, probes_some, some_below, access_taken, request_taken, is_unheld, gift}
-use Rattle.tl_coherence.specs.refinement.AbstractStep.{acquire_taken, granted_after, last_taken, ack_taken, is_whole, taken_by_client, kind_taken}
-use Rattle.tl_coherence.specs.protocol.Invariant.{cap_asked, is_asked, serves_of, is_serving, IsInvariant}
-use Rattle.tl_coherence.specs.protocol.Phase.{AcquirePhase, NoAcquire, AcquireOpen, is_unprobed}
-use Rattle.tl_coherence.specs.protocol.PhaseSteps.{is_granted_data, after_report}
-use Rattle.tl_coherence.specs.protocol.Protocol.{Service, Free, Waits, GrantSent, GrantTaken, Block, SourceState, SourceFree, Asked, InService, Replied, Acquires, packet, on, shown}
-use Rattle.tl_coherence.specs.protocol.Protocol.{is_probed, written, acquire_served, acquire_granted, report_taken}
-use Rattle.tl_coherence.specs.refinement.PacketMessages.{cap_sent, report_told, prune_told}
-use Rattle.tl_coherence.specs.protocol.Packet.{Kind, Request, Acquire, Probe, ProbeAck, Release, Answer, Grant, ReleaseAck, GrantAck, Packet, set, set_at}
-use Rattle.tl_coherence.proofs.client.Aside.{aside-access_asked, aside-acquire_asked, aside-release_asked, aside-block_stored, aside-access_answered}
-use Rattle.tl_coherence.proofs.client.Aside.{aside-acquire_granted, aside-acquire_served, aside-access_served, aside-probe_taken, aside-report_taken, aside-report_answers}
-use Rattle.tl_coherence.proofs.client.Aside.{aside-report_grants, aside-release_taken, aside-answer_taken, aside-grant_taken, aside-release_ack_taken}
-use Rattle.tl_coherence.proofs.client.Aside.{aside-grant_ack_taken}
+use Rattle.tl_coherence.specs.refinement.AbstractStep.{answers}
+use Rattle.tl_coherence.specs.protocol.Invariant.{is_asked, serves_of, is_serving}
+use Rattle.tl_coherence.specs.protocol.Protocol.{shown, written}
+use Rattle.tl_coherence.proofs.client.Aside.{aside-access_asked, aside-acquire_asked, aside-release_asked}
+use Rattle.tl_coherence.proofs.client.Aside.{aside-block_stored, aside-access_answered, aside-acquire_granted}
+use Rattle.tl_coherence.proofs.client.Aside.{aside-acquire_served, aside-access_served, aside-probe_taken}
+use Rattle.tl_coherence.proofs.client.Aside.{aside-report_taken, aside-report_answers, aside-report_grants}
+use Rattle.tl_coherence.proofs.client.Aside.{aside-release_taken, aside-answer_taken, aside-grant_taken}
+use Rattle.tl_coherence.proofs.client.Aside.{aside-release_ack_taken, aside-grant_ack_taken}
 use Rattle.tl_coherence.proofs.client.ClientEnd.{is_access, IsAside}
 use Rattle.tl_coherence.proofs.queues.Tokens.{same_number, holds-first}
 use Rattle.tl_coherence.proofs.protocol.BothParts.{releasing-open}
@@ -59,10 +57,12 @@ asked_access (InService n) e = absurd cc
 asked_access Replied e = absurd cc
 asked_access (Acquires n) e = absurd cc
 
-leaves-request : {w : ℕ} (clients c source tracker : ℕ) (m : Message w) (rest : List Packet) (h : AbstractState w) (d : ℕ) → is_access (h.state.uses c source) ≡ true
+leaves-request : {w : ℕ} (clients c source tracker : ℕ) (m : Message w) (rest : List Packet) (h : AbstractState w)
+    (d : ℕ) → is_access (h.state.uses c source) ≡ true
     → Leaves d h (request_taken clients c source m tracker rest h)
 leaves-request {w} clients c source tracker (message.A m) rest h d access =
-    go (probes_some clients c false (cap_probed m.opcode m.param) (h.state.block (block_at m.address)).pair) (cap_probed m.opcode m.param)
+    go (probes_some clients c false (cap_probed m.opcode m.param) (h.state.block (block_at m.address)).pair)
+    (cap_probed m.opcode m.param)
   where
     n : ℕ
     n = block_at m.address
@@ -80,19 +80,23 @@ leaves-request clients c source tracker (message.C m) rest h d access = leaves-n
 leaves-request clients c source tracker (message.D m) rest h d access = leaves-none d h
 leaves-request clients c source tracker (message.E m) rest h d access = leaves-none d h
 
-leaves-acquire : {w : ℕ} (clients : ℕ) (p : Profile) (c n tracker : ℕ) (a : AcquirePhase) (rest : List Packet) (h : AbstractState w) (d : ℕ) → Leaves d h (acquire_taken clients p c n a tracker rest h)
+leaves-acquire : {w : ℕ} (clients : ℕ) (p : Profile) (c n tracker : ℕ) (a : AcquirePhase) (rest : List Packet)
+    (h : AbstractState w) (d : ℕ) → Leaves d h (acquire_taken clients p c n a tracker rest h)
 leaves-acquire clients p c n tracker NoAcquire rest h d = leaves-none d h
-leaves-acquire {w} clients p c n tracker (AcquireOpen whole g) rest h d = go (some_below clients (λ i. is_probed c true (cap_asked (AcquireOpen whole g)) (b.pair i).recorded i))
+leaves-acquire {w} clients p c n tracker (AcquireOpen whole g) rest h d =
+    go (some_below clients (λ i. is_probed c true (cap_asked (AcquireOpen whole g)) (b.pair i).recorded i))
   where
     b : Block (List ℕ)
     b = h.state.block n
 
     go : (x : Bool)
         → IsAside d h.mail h.mail h.state (if x then acquire_served c n (b.source c) tracker
-        (cap_asked (AcquireOpen whole g)) rest h.state else acquire_granted c n tracker (is_granted_data whole g (b.pair c).recorded)
+        (cap_asked (AcquireOpen whole g)) rest h.state else acquire_granted c n tracker
+        (is_granted_data whole g (b.pair c).recorded)
         (gift p whole g (is_unheld clients b.pair)) rest h.state)
     go true = aside-acquire_served c n (b.source c) tracker d (cap_asked (AcquireOpen whole g)) rest h.mail h.state
-    go false = aside-acquire_granted c n tracker d (is_granted_data whole g (b.pair c).recorded) (gift p whole g (is_unheld clients b.pair)) rest h.mail h.state
+    go false = aside-acquire_granted c n tracker d (is_granted_data whole g (b.pair c).recorded)
+        (gift p whole g (is_unheld clients b.pair)) rest h.mail h.state
 
 -- ---- reports
 
@@ -103,33 +107,42 @@ served_access n Asked e = absurd cc
 served_access n Replied e = absurd cc
 served_access n (Acquires m) e = absurd cc
 
-leaves-granted : {w : ℕ} (clients : ℕ) (p : Profile) (c q n : ℕ) (r : Report) (a : AcquirePhase) (rest : List Packet) (h : AbstractState w) (d : ℕ) → Leaves d h (granted_after clients p c q n r a rest h)
+leaves-granted : {w : ℕ} (clients : ℕ) (p : Profile) (c q n : ℕ) (r : Report) (a : AcquirePhase) (rest : List Packet)
+    (h : AbstractState w) (d : ℕ) → Leaves d h (granted_after clients p c q n r a rest h)
 leaves-granted clients p c q n r NoAcquire rest h d = leaves-none d h
 leaves-granted clients p c q n r (AcquireOpen whole g) rest h d =
     let b : Block (List ℕ) = h.state.block n in
-    aside-report_grants c q n d r (is_granted_data whole g (b.pair q).recorded) (gift p whole g (is_unheld clients (set c (after_report r (b.pair c)) b.pair))) rest h.mail h.state
+    aside-report_grants c q n d r (is_granted_data whole g (b.pair q).recorded)
+    (gift p whole g (is_unheld clients (set c (after_report r (b.pair c)) b.pair))) rest h.mail h.state
 
-leaves-last : {w : ℕ} (clients : ℕ) (p : Profile) (c n : ℕ) (r : Report) (service : Service) (rest : List Packet) (h : AbstractState w) (d : ℕ)
+leaves-last : {w : ℕ} (clients : ℕ) (p : Profile) (c n : ℕ) (r : Report) (service : Service) (rest : List Packet)
+    (h : AbstractState w) (d : ℕ)
     → ((q source : ℕ) (k : Cap) → service ≡ Waits q false source k → is_access (h.state.uses q source) ≡ true)
     → Leaves d h (last_taken clients p c n r service rest h)
 leaves-last clients p c n r Free rest h d access = leaves-none d h
 leaves-last clients p c n r (GrantSent q x k) rest h d access = leaves-none d h
 leaves-last clients p c n r (GrantTaken q) rest h d access = leaves-none d h
-leaves-last clients p c n r (Waits q true source k) rest h d access = leaves-granted clients p c q n r ((h.state.block n).pair q).acquiring rest h d
+leaves-last clients p c n r (Waits q true source k) rest h d access =
+    leaves-granted clients p c q n r ((h.state.block n).pair q).acquiring rest h d
 leaves-last clients p c n r (Waits q false source k) rest h d access =
     aside-report_answers c q n source d r (performs (h.request n)) rest h.mail
-    (set_at q source (answers (h.request n) (written r (h.state.block n).truth (h.state.block n).memory)) h.mail.answer) h.state (access q source k refl)
+    (set_at q source (answers (h.request n) (written r (h.state.block n).truth (h.state.block n).memory)) h.mail.answer)
+    h.state (access q source k refl)
 
-leaves-ack : {w : ℕ} (caching : ℕ → Bool) (clients : ℕ) (p : Profile) (c n : ℕ) (r : Report) (rest : List Packet) (h : AbstractState w) (d : ℕ)
+leaves-ack : {w : ℕ} (caching : ℕ → Bool) (clients : ℕ) (p : Profile) (c n : ℕ) (r : Report) (rest : List Packet)
+    (h : AbstractState w) (d : ℕ)
     → IsInvariant caching h.state → Leaves d h (ack_taken clients p c n r rest h)
-leaves-ack {w} caching clients p c n r rest h d inv = go (some_below clients (λ i. not (i == c) && not (is_unprobed ((h.state.block n).pair i).probing)))
+leaves-ack {w} caching clients p c n r rest h d inv =
+    go (some_below clients (λ i. not (i == c) && not (is_unprobed ((h.state.block n).pair i).probing)))
   where
-    served : (q source : ℕ) (k : Cap) → (h.state.block n).service ≡ Waits q false source k → is_access (h.state.uses q source) ≡ true
+    served : (q source : ℕ) (k : Cap) → (h.state.block n).service ≡ Waits q false source k
+        → is_access (h.state.uses q source) ≡ true
     served q source k e = served_access n (h.state.uses q source)
         (inv.named.serves q source n ∙ ap (λ (x : Service). is_serving q source x) e
         ∙ and_from (q == q) (source == source) (same_number q) (same_number source))
 
-    go : (x : Bool) → Leaves d h (if x then with_state (report_taken c n r rest h.state) h else last_taken clients p c n r (h.state.block n).service rest h)
+    go : (x : Bool) → Leaves d h (if x then with_state (report_taken c n r rest h.state) h else last_taken clients p c n
+        r (h.state.block n).service rest h)
     go true = aside-report_taken c n d r rest h.mail h.state
     go false = leaves-last clients p c n r (h.state.block n).service rest h d served
 
@@ -143,21 +156,28 @@ is_for_manager Release = true
 is_for_manager GrantAck = true
 is_for_manager _ = false
 
-pub leaves-at_manager : {w : ℕ} (caching : ℕ → Bool) (config : Config) (tracker c : ℕ) (k : Kind) (i : ℕ) (rest : List Packet) (h : AbstractState w) (d : ℕ)
+pub leaves-at_manager : {w : ℕ} (caching : ℕ → Bool) (config : Config) (tracker c : ℕ) (k : Kind) (i : ℕ)
+    (rest : List Packet) (h : AbstractState w) (d : ℕ)
     → is_for_manager k ≡ true → IsInvariant caching h.state
     → on k (h.state.link c) ≡ packet k i ∷ rest
     → Leaves d h (kind_taken config tracker c k i rest h)
 leaves-at_manager caching config tracker c Request i rest h d for inv first =
     leaves-request (length config.clients.items) c i tracker (h.mail.request c i) rest h d
-    (asked_access (h.state.uses c i) (holds-first Request (h.state.link c).a rest (packet Request i) (λ j. is_asked (h.state.uses c j)) first refl (inv.requests c)))
-leaves-at_manager caching config tracker c Acquire n rest h d for inv first = leaves-acquire (length config.clients.items) config.profile c n tracker ((h.state.block n).pair c).acquiring rest h d
+    (asked_access (h.state.uses c i) (holds-first Request (h.state.link c).a rest (packet Request i)
+    (λ j. is_asked (h.state.uses c j)) first refl (inv.requests c)))
+leaves-at_manager caching config tracker c Acquire n rest h d for inv first =
+    leaves-acquire (length config.clients.items) config.profile c n tracker ((h.state.block n).pair c).acquiring rest h
+    d
 leaves-at_manager caching config tracker c ProbeAck n rest h d for inv first =
-    leaves-ack caching (length config.clients.items) config.profile c n (report_told ((h.state.block n).pair c).probing) rest h d inv
+    leaves-ack caching (length config.clients.items) config.profile c n (report_told ((h.state.block n).pair c).probing)
+    rest h d inv
 leaves-at_manager caching config tracker c Release n rest h d for inv first =
     aside-release_taken c n d (prune_told ((h.state.block n).pair c).letting) rest h.mail h.state
     (releasing-open ((h.state.block n).pair c).letting
-    (holds-first Release (h.state.link c).c rest (packet Release n) (λ j. shown Release c (h.state.block j)) first refl (inv.transfers c Release refl)))
-leaves-at_manager caching config tracker c GrantAck n rest h d for inv first = aside-grant_ack_taken c n d rest h.mail h.state
+    (holds-first Release (h.state.link c).c rest (packet Release n) (λ j. shown Release c (h.state.block j)) first refl
+    (inv.transfers c Release refl)))
+leaves-at_manager caching config tracker c GrantAck n rest h d for inv first =
+    aside-grant_ack_taken c n d rest h.mail h.state
 leaves-at_manager caching config tracker c Probe n rest h d for inv first = absurd cc
 leaves-at_manager caching config tracker c Answer n rest h d for inv first = absurd cc
 leaves-at_manager caching config tracker c Grant n rest h d for inv first = absurd cc
@@ -165,15 +185,19 @@ leaves-at_manager caching config tracker c ReleaseAck n rest h d for inv first =
 
 -- ---- messages that a client takes, as another sees it
 
-leaves-grant : {w : ℕ} (c n : ℕ) (service : Service) (rest : List Packet) (h : AbstractState w) (d : ℕ) → (d ≡ c → ⊥) → Leaves d h (taken_by_client c n service rest h)
+leaves-grant : {w : ℕ} (c n : ℕ) (service : Service) (rest : List Packet) (h : AbstractState w) (d : ℕ) → (d ≡ c → ⊥)
+    → Leaves d h (taken_by_client c n service rest h)
 leaves-grant c n Free rest h d ne = leaves-none d h
 leaves-grant c n (Waits q own source k) rest h d ne = leaves-none d h
 leaves-grant c n (GrantTaken q) rest h d ne = leaves-none d h
-leaves-grant c n (GrantSent q x k) rest h d ne = aside-grant_taken c n d (is_whole ((h.state.block n).pair c).acquiring) x k rest h.mail h.state ne
+leaves-grant c n (GrantSent q x k) rest h d ne = aside-grant_taken c n d (is_whole ((h.state.block n).pair c).acquiring)
+    x k rest h.mail h.state ne
 
-pub leaves-at_client : {w : ℕ} (config : Config) (tracker c : ℕ) (k : Kind) (i : ℕ) (rest : List Packet) (h : AbstractState w) (d : ℕ) → is_for_manager k ≡ false
+pub leaves-at_client : {w : ℕ} (config : Config) (tracker c : ℕ) (k : Kind) (i : ℕ) (rest : List Packet)
+    (h : AbstractState w) (d : ℕ) → is_for_manager k ≡ false
     → (d ≡ c → ⊥) → Leaves d h (kind_taken config tracker c k i rest h)
-leaves-at_client config tracker c Probe n rest h d for ne = aside-probe_taken c n d (cap_sent ((h.state.block n).pair c).probing) rest h.mail h.state ne
+leaves-at_client config tracker c Probe n rest h d for ne =
+    aside-probe_taken c n d (cap_sent ((h.state.block n).pair c).probing) rest h.mail h.state ne
 leaves-at_client config tracker c Answer i rest h d for ne = aside-answer_taken c i d rest h.mail h.state ne
 leaves-at_client config tracker c Grant n rest h d for ne = leaves-grant c n (h.state.block n).service rest h d ne
 leaves-at_client config tracker c ReleaseAck n rest h d for ne = aside-release_ack_taken c n d rest h.mail h.state ne
@@ -185,20 +209,24 @@ leaves-at_client config tracker c GrantAck n rest h d for ne = absurd cc
 
 -- ---- operations that a client is asked for, as another sees it
 
-pub leaves-asked : {w : ℕ} (c : ℕ) (o : Op w) (r : Reply) (h : AbstractState w) (d : ℕ) → (d ≡ c → ⊥) → Leaves d h (asked c o r h)
+pub leaves-asked : {w : ℕ} (c : ℕ) (o : Op w) (r : Reply) (h : AbstractState w) (d : ℕ) → (d ≡ c → ⊥)
+    → Leaves d h (asked c o r h)
 leaves-asked c (op.Load address size) r h d ne = leaves-none d h
 leaves-asked c (op.Store address size value) reply.Stored h d ne =
-    aside-block_stored c (block_at address) d (copy_stored address size value ((h.state.block (block_at address)).copy c)) h.mail h.state ne
+    aside-block_stored c (block_at address) d
+    (copy_stored address size value ((h.state.block (block_at address)).copy c)) h.mail h.state ne
 leaves-asked c (op.Store address size value) (reply.Value v) h d ne = leaves-none d h
 leaves-asked c (op.Store address size value) reply.Miss h d ne = leaves-none d h
 leaves-asked c (op.Store address size value) (reply.Started source) h d ne = leaves-none d h
 leaves-asked c (op.Store address size value) (reply.Busy why) h d ne = leaves-none d h
-leaves-asked c (op.Acquire n g) (reply.Started source) h d ne = aside-acquire_asked c n source d false g ((h.state.block n).waiting c) h.mail h.state ne
+leaves-asked c (op.Acquire n g) (reply.Started source) h d ne =
+    aside-acquire_asked c n source d false g ((h.state.block n).waiting c) h.mail h.state ne
 leaves-asked c (op.Acquire n g) (reply.Value v) h d ne = leaves-none d h
 leaves-asked c (op.Acquire n g) reply.Stored h d ne = leaves-none d h
 leaves-asked c (op.Acquire n g) reply.Miss h d ne = leaves-none d h
 leaves-asked c (op.Acquire n g) (reply.Busy why) h d ne = leaves-none d h
-leaves-asked c (op.AcquireWhole n bytes) (reply.Started source) h d ne = aside-acquire_asked c n source d true (whole_grow ((h.state.block n).pair c).held) bytes h.mail h.state ne
+leaves-asked c (op.AcquireWhole n bytes) (reply.Started source) h d ne =
+    aside-acquire_asked c n source d true (whole_grow ((h.state.block n).pair c).held) bytes h.mail h.state ne
 leaves-asked c (op.AcquireWhole n bytes) (reply.Value v) h d ne = leaves-none d h
 leaves-asked c (op.AcquireWhole n bytes) reply.Stored h d ne = leaves-none d h
 leaves-asked c (op.AcquireWhole n bytes) reply.Miss h d ne = leaves-none d h
@@ -208,7 +236,8 @@ leaves-asked c (op.Release n p) (reply.Value v) h d ne = leaves-none d h
 leaves-asked c (op.Release n p) reply.Stored h d ne = leaves-none d h
 leaves-asked c (op.Release n p) reply.Miss h d ne = leaves-none d h
 leaves-asked c (op.Release n p) (reply.Busy why) h d ne = leaves-none d h
-leaves-asked c (op.Access (message.A m)) (reply.Started source) h d ne = aside-access_asked c source d (access source m) h.mail h.state ne
+leaves-asked c (op.Access (message.A m)) (reply.Started source) h d ne =
+    aside-access_asked c source d (access source m) h.mail h.state ne
 leaves-asked c (op.Access (message.A m)) (reply.Value v) h d ne = leaves-none d h
 leaves-asked c (op.Access (message.A m)) reply.Stored h d ne = leaves-none d h
 leaves-asked c (op.Access (message.A m)) reply.Miss h d ne = leaves-none d h

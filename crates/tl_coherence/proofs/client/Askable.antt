@@ -1,38 +1,27 @@
 -- What a client is asked for and starts, the protocol allows: its sources are free, and nothing of the block is open.
+use Rattle.tl_coherence.proofs.client.Imports.{Message, MessageA, Config, RequestSource, ReleaseSource, AcquireOf}
+use Rattle.tl_coherence.proofs.client.Imports.{ReleaseOf, Level, Perm, block_at, pending, same_perm, Op, EndConfig}
+use Rattle.tl_coherence.proofs.client.Imports.{Endpoint, held_at, level_of, AbstractState, Log, AcquirePhase, NoAcquire}
+use Rattle.tl_coherence.proofs.client.Imports.{AcquireOpen, State, SourceState, SourceFree, Asked, InService, Replied}
+use Rattle.tl_coherence.proofs.client.Imports.{Acquires, AccessMessages, acquire_of, block_message, System, terms_at}
+use Rattle.tl_coherence.proofs.client.Imports.{Acquire, SimulationRelation, is_caching, asked_by}
 use Rattle.std.proofs.Common.{◌≡◌, ℕ, Bool, true, false, List, Option, Some, None, refl, sym, ◌∙◌, ap}
 use Rattle.std.specs.Prelude.{is_some}
 use Rattle.std.proofs.lemmas.Bool.{or_parts, not-false}
-use Rattle.tl_burst.specs.declared.message.Message.{Message}
 use Rattle.tl_burst.specs.declared.message.Message.TheVariants as message
-use Rattle.tl_burst.specs.declared.message.MessageA.{MessageA}
-use Rattle.tl_params.specs.declared.config.Config.{Config}
-use Rattle.tl_params.specs.declared.key.Key.TheVariants.{RequestSource, ReleaseSource, AcquireOf, ReleaseOf}
-use Rattle.tl_params.specs.declared.level.Level.{Level}
 use Rattle.tl_params.specs.declared.level.Level.TheVariants as level
-use Rattle.tl_params.specs.declared.perm.Perm.{Perm}
 use Rattle.tl_params.specs.declared.perm.Perm.TheVariants as perm
 use Rattle.tl_params.specs.statement.Param.{grow_left, prune_left}
-use Rattle.tl_rules.specs.statement.History.{block_at, pending}
 use Rattle.tl_rules.specs.statement.Legality.{has_transfers}
-use Rattle.tl_rules.specs.statement.Conformance.{same_perm}
 use Rattle.tl_client.specs.declared.busy.Busy.{Busy}
-use Rattle.tl_client.specs.declared.operation.Op.{Op}
 use Rattle.tl_client.specs.declared.operation.Op.TheVariants as op
 use Rattle.tl_client.specs.declared.reply.Reply.TheVariants as reply
 use Rattle.tl_client.specs.statement.Ask as ask
 use Rattle.tl_client.specs.statement.Ask.{done, load, store, free_request, free_release, source_or_0}
-use Rattle.tl_client.specs.statement.Endpoint.{EndConfig, Endpoint, held_at}
 use Rattle.tl_client.proofs.Cases.{NotBusy, asked-cases}
 use Rattle.tl_client.proofs.Free.{least_free-some}
-use Rattle.tl_manager.specs.statement.Offer.{level_of}
-use Rattle.tl_coherence.specs.refinement.AbstractStep.{AbstractState}
-use Rattle.tl_coherence.specs.statement.Log.{Log}
-use Rattle.tl_coherence.specs.protocol.Phase.{AcquirePhase, NoAcquire, AcquireOpen}
-use Rattle.tl_coherence.specs.protocol.Protocol.{State, SourceState, SourceFree, Asked, InService, Replied, Acquires}
-use Rattle.tl_coherence.specs.refinement.PacketMessages.{AccessMessages, acquire_of, block_message}
-use Rattle.tl_coherence.specs.statement.System.{System, terms_at}
-use Rattle.tl_coherence.specs.protocol.Packet.{Acquire}
-use Rattle.tl_coherence.specs.refinement.SimulationRelation.{SimulationRelation, IsSourced, IsAnswered, IsAnswer, is_c, is_caching, asked_by, asked_for, block_used, first_of, request_source}
+use Rattle.tl_coherence.specs.refinement.SimulationRelation.{IsSourced, IsAnswered, IsAnswer, is_c, asked_for}
+use Rattle.tl_coherence.specs.refinement.SimulationRelation.{block_used, first_of, request_source}
 use Rattle.tl_coherence.proofs.client.ClientDelivered.{shadow_of}
 use Rattle.tl_coherence.proofs.client.ClientEnd.{IsEnd, end-matched}
 use Rattle.tl_coherence.proofs.client.ClientTakes.{terms-are}
@@ -73,24 +62,36 @@ asks_something (message.C m) e = absurd cc
 asks_something (message.D m) e = absurd cc
 asks_something (message.E m) e = absurd cc
 
-pub acquires_something : (w : ℕ) (a : AcquirePhase) (source n : ℕ) → is_some (first_of (acquire_of {w = w} a source n)) ≡ true
+pub acquires_something : (w : ℕ) (a : AcquirePhase) (source n : ℕ)
+    → is_some (first_of (acquire_of {w = w} a source n)) ≡ true
 acquires_something w NoAcquire source n = refl
 acquires_something w (AcquireOpen true g) source n = refl
 acquires_something w (AcquireOpen false g) source n = refl
 
 -- a source that asks for nothing is closed
-pub closed-source : {w : ℕ} (config : Config) (c source : ℕ) (mail : AccessMessages w) (s : State (List ℕ)) → IsSourced config c source (mail.request c source) (s.uses c source)
-    → IsAnswered source (mail.request c source) (mail.answer c source) (s.uses c source) → is_some (asked_by mail s c source) ≡ false → s.uses c source ≡ SourceFree
+pub closed-source : {w : ℕ} (config : Config) (c source : ℕ) (mail : AccessMessages w) (s : State (List ℕ))
+    → IsSourced config c source (mail.request c source) (s.uses c source)
+    → IsAnswered source (mail.request c source) (mail.answer c source) (s.uses c source)
+    → is_some (asked_by mail s c source) ≡ false → s.uses c source ≡ SourceFree
 unfolding block_message
 closed-source {w} config c source mail s sourced answered none = go (s.uses c source) refl sourced answered none
   where
-    go : (u : SourceState) → s.uses c source ≡ u → IsSourced config c source (mail.request c source) u → IsAnswered source (mail.request c source) (mail.answer c source) u
-        → is_some (asked_for u (mail.request c source) (block_message Acquire c (block_used u) (s.block (block_used u)))) ≡ false → u ≡ SourceFree
+    go : (u : SourceState) → s.uses c source ≡ u → IsSourced config c source (mail.request c source) u
+        → IsAnswered source (mail.request c source) (mail.answer c source) u
+        → is_some (asked_for u (mail.request c source)
+        (block_message Acquire c (block_used u) (s.block (block_used u)))) ≡ false → u ≡ SourceFree
     go SourceFree e a b f = refl
-    go Asked e a b f = absurd (let no : true ≡ false = sym (asks_something (mail.request c source) (sourced_request (mail.request c source) source a.0)) ∙ f in cc)
-    go (InService n) e a b f = absurd (let no : true ≡ false = sym (asks_something (mail.request c source) (sourced_request (mail.request c source) source a.0)) ∙ f in cc)
-    go Replied e a b f = absurd (let no : true ≡ false = sym (asks_something (mail.request c source) (answered_request source (mail.request c source) (mail.answer c source) b)) ∙ f in cc)
-    go (Acquires n) e a b f = absurd (let no : true ≡ false = sym (acquires_something w ((s.block n).pair c).acquiring ((s.block n).source c) n) ∙ f in cc)
+    go Asked e a b f = absurd (let no : true ≡ false =
+        sym (asks_something (mail.request c source) (sourced_request (mail.request c source) source a.0)) ∙ f in cc)
+    go (InService n) e a b f =
+        absurd (let no : true ≡ false =
+        sym (asks_something (mail.request c source) (sourced_request (mail.request c source) source a.0)) ∙ f in cc)
+    go Replied e a b f = absurd (let no : true ≡ false =
+        sym (asks_something (mail.request c source)
+        (answered_request source (mail.request c source) (mail.answer c source) b)) ∙ f in cc)
+    go (Acquires n) e a b f =
+        absurd (let no : true ≡ false =
+        sym (acquires_something w ((s.block n).pair c).acquiring ((s.block n).source c) n) ∙ f in cc)
 
 pub no_let : (o : Option ℕ) → is_some o ≡ false → o ≡ None
 no_let None e = refl
@@ -98,7 +99,8 @@ no_let (Some n) e = absurd cc
 
 -- ---- a client with transfers caches
 
-pub caches : (config : Config) (c : ℕ) (l : Level) → level_of config c ≡ Some l → has_transfers l ≡ true → is_caching config c ≡ true
+pub caches : (config : Config) (c : ℕ) (l : Level) → level_of config c ≡ Some l → has_transfers l ≡ true
+    → is_caching config c ≡ true
 caches config c level.C at transfers = ap is_c at
 caches config c level.UL at transfers = absurd cc
 caches config c level.UH at transfers = absurd cc
@@ -116,7 +118,8 @@ swap_perms perm.Trunk perm.Trunk = refl
 
 -- ---- what is started
 
-busy_may : {w : ℕ} (caching : ℕ → Bool) (c : ℕ) (o : Op w) (b : Busy) (h : AbstractState w) → IsAskable caching c o (reply.Busy b) h
+busy_may : {w : ℕ} (caching : ℕ → Bool) (c : ℕ) (o : Op w) (b : Busy) (h : AbstractState w)
+    → IsAskable caching c o (reply.Busy b) h
 busy_may caching c (op.Load address size) b h = tt
 busy_may caching c (op.Store address size value) b h = tt
 busy_may caching c (op.Acquire n g) b h = tt
@@ -124,7 +127,8 @@ busy_may caching c (op.AcquireWhole n bytes) b h = tt
 busy_may caching c (op.Release n r) b h = tt
 busy_may caching c (op.Access m) b h = tt
 
-store_may : {w : ℕ} (caching : ℕ → Bool) (c address size value : ℕ) (p : Perm) (e : Endpoint w) (h : AbstractState w) → p ≡ ((h.state.block (block_at address)).pair c).held
+store_may : {w : ℕ} (caching : ℕ → Bool) (c address size value : ℕ) (p : Perm) (e : Endpoint w) (h : AbstractState w)
+    → p ≡ ((h.state.block (block_at address)).pair c).held
     → IsAskable caching c (op.Store address size value) (store address size value p e).reply h
 store_may caching c address size value perm.None e h is = tt
 store_may caching c address size value perm.Branch e h is = tt
@@ -136,26 +140,32 @@ record IsAt {w : ℕ} (config : Config) (c : ℕ) (terms : EndConfig) (h : Abstr
   level_is : level_of config c ≡ Some terms.level
   closes : (source : ℕ) → is_some (asked_by h.mail h.state c source) ≡ false → h.state.uses c source ≡ SourceFree
 
-free_use : {w : ℕ} (config : Config) (c source : ℕ) (terms : EndConfig) (h : AbstractState w) (e : Endpoint w) → IsAt config c terms h e
+free_use : {w : ℕ} (config : Config) (c source : ℕ) (terms : EndConfig) (h : AbstractState w) (e : Endpoint w)
+    → IsAt config c terms h e
     → pending (RequestSource source) e.past ≡ false → h.state.uses c source ≡ SourceFree
 free_use config c source terms h e at free = at.closes source (sym (at.end.opened.requests source) ∙ free)
 
-done_may : {w : ℕ} (config : Config) (c : ℕ) (terms : EndConfig) (o : Op w) (h : AbstractState w) (e : Endpoint w) → IsAt config c terms h e → NotBusy terms o e
+done_may : {w : ℕ} (config : Config) (c : ℕ) (terms : EndConfig) (o : Op w) (h : AbstractState w) (e : Endpoint w)
+    → IsAt config c terms h e → NotBusy terms o e
     → IsAskable (is_caching config) c o (done terms o e).reply h
 done_may config c terms (op.Load address size) h e at free = tt
-done_may config c terms (op.Store address size value) h e at free = store_may (is_caching config) c address size value (held_at e (block_at address)) e h (at.end.known.held_is (block_at address))
+done_may config c terms (op.Store address size value) h e at free = store_may (is_caching config) c address size value
+    (held_at e (block_at address)) e h (at.end.known.held_is (block_at address))
 done_may config c terms (op.Acquire n g) h e at free =
     let idle = or_parts (pending (AcquireOf n) e.past) (pending (ReleaseOf n) e.past) free.b2 in (
       caches config c terms.level at.level_is (not-false (has_transfers terms.level) free.b4),
-      free_use config c (source_or_0 (free_request terms e.past)) terms h e at (least_free-some (λ s. pending (RequestSource s) e.past) 0 terms.sources free.b1).0,
+      free_use config c (source_or_0 (free_request terms e.past)) terms h e at
+          (least_free-some (λ s. pending (RequestSource s) e.past) 0 terms.sources free.b1).0,
       calm-is ((h.state.block n).pair c).acquiring (sym (at.end.known.acquires n) ∙ idle.0),
       kept-letting ((h.state.block n).pair c).letting (sym (at.end.known.releases n) ∙ idle.1),
-      ap (same_perm (grow_left g)) (sym (at.end.known.held_is n)) ∙ not-false (same_perm (grow_left g) (held_at e n)) free.b3,
+      ap (same_perm (grow_left g)) (sym (at.end.known.held_is n)) ∙ not-false (same_perm (grow_left g) (held_at e n))
+          free.b3,
     )
 done_may config c terms (op.AcquireWhole n bytes) h e at free =
     let idle = or_parts (pending (AcquireOf n) e.past) (pending (ReleaseOf n) e.past) free.b2 in (
       caches config c terms.level at.level_is (not-false (has_transfers terms.level) free.b4),
-      free_use config c (source_or_0 (free_request terms e.past)) terms h e at (least_free-some (λ s. pending (RequestSource s) e.past) 0 terms.sources free.b1).0,
+      free_use config c (source_or_0 (free_request terms e.past)) terms h e at
+          (least_free-some (λ s. pending (RequestSource s) e.past) 0 terms.sources free.b1).0,
       calm-is ((h.state.block n).pair c).acquiring (sym (at.end.known.acquires n) ∙ idle.0),
       kept-letting ((h.state.block n).pair c).letting (sym (at.end.known.releases n) ∙ idle.1),
       ap (same_perm perm.Trunk) (sym (at.end.known.held_is n)) ∙ free.b3,
@@ -164,26 +174,32 @@ done_may config c terms (op.Release n r) h e at free =
     let idle = or_parts (pending (AcquireOf n) e.past) (pending (ReleaseOf n) e.past) free.b2 in
     let source = source_or_0 (free_release terms e.past) in (
       caches config c terms.level at.level_is (not-false (has_transfers terms.level) free.b4),
-      no_let (h.state.lets c source) (sym (at.end.opened.releases source) ∙ (least_free-some (λ s. pending (ReleaseSource s) e.past) 0 terms.sources free.b1).0),
+      no_let (h.state.lets c source)
+          (sym (at.end.opened.releases source) ∙ (least_free-some (λ s. pending (ReleaseSource s) e.past) 0
+          terms.sources free.b1).0),
       calm-is ((h.state.block n).pair c).acquiring (sym (at.end.known.acquires n) ∙ idle.0),
       kept-letting ((h.state.block n).pair c).letting (sym (at.end.known.releases n) ∙ idle.1),
-      swap_perms ((h.state.block n).pair c).held (prune_left r) ∙ ap (same_perm (prune_left r)) (sym (at.end.known.held_is n))
+      swap_perms ((h.state.block n).pair c).held (prune_left r) ∙ ap (same_perm (prune_left r))
+          (sym (at.end.known.held_is n))
           ∙ not-false (same_perm (prune_left r) (held_at e n)) free.b3,
     )
 done_may config c terms (op.Access (message.A m)) h e at free =
-    free_use config c (source_or_0 (free_request terms e.past)) terms h e at (least_free-some (λ s. pending (RequestSource s) e.past) 0 terms.sources free.b1).0
+    free_use config c (source_or_0 (free_request terms e.past)) terms h e at
+    (least_free-some (λ s. pending (RequestSource s) e.past) 0 terms.sources free.b1).0
 done_may config c terms (op.Access (message.B m)) h e at free = tt
 done_may config c terms (op.Access (message.C m)) h e at free = tt
 done_may config c terms (op.Access (message.D m)) h e at free = tt
 done_may config c terms (op.Access (message.E m)) h e at free = tt
 
 -- What a client answers to an operation, the protocol allows.
-pub askable : {w : ℕ} (config : Config) (log : Log w) (mail : AccessMessages w) (request : ℕ → MessageA w) (s : State (List ℕ)) (sys : System w) (terms : EndConfig) (c : ℕ)
+pub askable : {w : ℕ} (config : Config) (log : Log w) (mail : AccessMessages w) (request : ℕ → MessageA w)
+    (s : State (List ℕ)) (sys : System w) (terms : EndConfig) (c : ℕ)
     (o : Op w) → SimulationRelation config log mail request s sys
     → terms_at config c ≡ Some terms
     → IsAskable (is_caching config) c o (ask.asked terms o (sys.clients c)).reply (shadow_of mail request s)
 askable {w} config log mail request s sys terms c o h at =
-    asked-cases terms o (sys.clients c) (λ (x : ask.Asked w). IsAskable (is_caching config) c o x.reply (shadow_of mail request s)) (λ b. busy_may (is_caching config) c o b (shadow_of mail request s))
+    asked-cases terms o (sys.clients c) (λ (x : ask.Asked w). IsAskable (is_caching config) c o x.reply
+    (shadow_of mail request s)) (λ b. busy_may (is_caching config) c o b (shadow_of mail request s))
     (done_may config c terms o (shadow_of mail request s) (sys.clients c) (record {
       end = end-matched config log mail request s sys h c;
       level_is = (terms-are config c terms at).level;

@@ -1,54 +1,46 @@
 -- A client's end after it was asked for an operation: what it does is what the protocol does.
-use Rattle.std.proofs.Common.{◌≡◌, subst, ℕ, Bool, true, false, not, ◌&&◌, cond, List, Option, Some, None, refl, sym, ◌∙◌, ap, ◌⊎◌, inl, inr}
+use Rattle.tl_coherence.proofs.client.Imports.{IsWidth, BeatA, Message, MessageA, MessageC, a_beat_of, unfinished}
+use Rattle.tl_coherence.proofs.client.Imports.{AcquireOf, ReleaseOf, Grow, Perm, sent, block_at, is_acquire, is_release}
+use Rattle.tl_coherence.proofs.client.Imports.{held, pending, same_perm, Op, copy_stored, whole_grow, EndConfig}
+use Rattle.tl_coherence.proofs.client.Imports.{Endpoint, copy_at, held_at, sending, acquisition, same_block}
+use Rattle.tl_coherence.proofs.client.Imports.{AbstractState, acquire_opcode, ClientBlock, AcquireOpen, is_unreleased}
+use Rattle.tl_coherence.proofs.client.Imports.{after_acquire, after_release, Block, State, Asked, Acquires, is_wanting}
+use Rattle.tl_coherence.proofs.client.Imports.{acquiring_block, releasing_block, stored_block, AccessMessages, set_at}
+use Rattle.tl_coherence.proofs.client.Imports.{asked_by, is_storing}
+use Rattle.std.proofs.Common.{◌≡◌, subst, ℕ, Bool, true, false, not, ◌&&◌, cond, List, Option, Some, None, refl, sym}
+use Rattle.std.proofs.Common.{◌∙◌, ap, ◌⊎◌, inl, inr}
 use Rattle.std.specs.Prelude.{◌==◌, ◌*◌, unwrap_or}
 use Rattle.std.proofs.lemmas.Bool.{cases_eq, eqb-true, ne_eqb, or_parts, not-false}
-use Rattle.tl_beat.specs.statement.Width.{IsWidth}
-use Rattle.tl_beat.specs.declared.beat.BeatA.{BeatA}
 use Rattle.tl_beat.specs.declared.channel.Channel.TheVariants as channel
 use Rattle.tl_beat.specs.declared.opcode.OpA.TheVariants as a
 use Rattle.tl_beat.specs.declared.opcode.OpC.TheVariants as opc
-use Rattle.tl_burst.specs.declared.message.Message.{Message}
 use Rattle.tl_burst.specs.declared.message.Message.TheVariants as message
-use Rattle.tl_burst.specs.declared.message.MessageA.{MessageA}
-use Rattle.tl_burst.specs.declared.message.MessageC.{MessageC}
-use Rattle.tl_burst.specs.statement.Burst.{a_beat_of}
-use Rattle.tl_burst.specs.statement.Messages.{unfinished}
-use Rattle.tl_params.specs.declared.key.Key.TheVariants.{AcquireOf, ReleaseOf}
-use Rattle.tl_params.specs.declared.param.Grow.{Grow}
 use Rattle.tl_params.specs.declared.param.Prune.{Prune}
 use Rattle.tl_params.specs.declared.param.Prune.TheVariants as prune
-use Rattle.tl_params.specs.declared.perm.Perm.{Perm}
 use Rattle.tl_params.specs.declared.perm.Perm.TheVariants as perm
 use Rattle.tl_params.specs.statement.Param.{prune_code, prune_left, prune_right}
-use Rattle.tl_rules.specs.statement.Admission.{sent}
-use Rattle.tl_rules.specs.statement.History.{block_at, is_acquire, is_release, held, pending}
-use Rattle.tl_rules.specs.statement.Conformance.{same_perm}
 use Rattle.tl_client.specs.declared.busy.Busy.{Busy}
-use Rattle.tl_client.specs.declared.operation.Op.{Op}
 use Rattle.tl_client.specs.declared.operation.Op.TheVariants as op
 use Rattle.tl_client.specs.declared.reply.Reply.TheVariants as reply
 use Rattle.tl_client.specs.statement.Ask as ask
-use Rattle.tl_client.specs.statement.Ask.{done, only, load, store, copy_stored, whole_grow, free_request, free_release, source_or_0, is_access_of}
-use Rattle.tl_client.specs.statement.Endpoint.{EndConfig, Endpoint, zeros, copy_at, held_at, with_copy, with_waiting, sending, kept_for}
+use Rattle.tl_client.specs.statement.Ask.{done, only, load, store, free_request, free_release, source_or_0}
+use Rattle.tl_client.specs.statement.Ask.{is_access_of}
+use Rattle.tl_client.specs.statement.Endpoint.{zeros, with_copy, with_waiting, kept_for}
 use Rattle.tl_client.specs.statement.EndpointInvariant.{holds}
-use Rattle.tl_client.specs.statement.Send.{sourced, acquisition, about, release}
+use Rattle.tl_client.specs.statement.Send.{sourced, about, release}
 use Rattle.tl_client.proofs.Accounted.{accounted-asked}
 use Rattle.tl_client.proofs.AfterAsked.{kept_copies, kept_closed}
 use Rattle.tl_client.proofs.KeptAsked.{kept_waiting, no_acquire, falls_to, kept-asked}
 use Rattle.tl_client.proofs.Cases.{NotBusy, asked-cases}
-use Rattle.tl_client.proofs.HeldAfter.{same_block, swapped, held-release, kept_past}
+use Rattle.tl_client.proofs.HeldAfter.{swapped, held-release, kept_past}
 use Rattle.tl_coherence.specs.refinement.AbstractStep as world
-use Rattle.tl_coherence.specs.refinement.AbstractStep.{AbstractState, acquire_opcode}
 use Rattle.tl_coherence.specs.protocol.Invariant.{acquires_of, AreNamed}
-use Rattle.tl_coherence.specs.protocol.Phase.{ClientBlock, AcquireOpen, is_unreleased}
-use Rattle.tl_coherence.specs.protocol.PhaseSteps.{after_acquire, after_release}
-use Rattle.tl_coherence.specs.protocol.Protocol.{Block, State, Asked, Acquires, is_wanting, access_asked, acquiring_block, acquire_asked, releasing_block, release_asked, stored_block, block_stored}
-use Rattle.tl_coherence.specs.refinement.PacketMessages.{AccessMessages}
-use Rattle.tl_coherence.specs.protocol.Packet.{set_at}
-use Rattle.tl_coherence.specs.refinement.SimulationRelation.{asked_by, is_storing}
+use Rattle.tl_coherence.specs.protocol.Protocol.{access_asked, acquire_asked, release_asked, block_stored}
 use Rattle.tl_coherence.proofs.client.Aside.{set_at-else}
-use Rattle.tl_coherence.proofs.client.ClientEnd.{is_access, IsWellKept, IsEnd, IsSame, known-same, opened-same, asks-same, asks-access, asks-acquire, column}
-use Rattle.tl_coherence.proofs.client.ClientSent.{IsRequested, known-requested, opened-requested, IsReleased, known-released, opened-released}
+use Rattle.tl_coherence.proofs.client.ClientEnd.{is_access, IsWellKept, IsEnd, IsSame, known-same, opened-same}
+use Rattle.tl_coherence.proofs.client.ClientEnd.{asks-same, asks-access, asks-acquire, column}
+use Rattle.tl_coherence.proofs.client.ClientSent.{IsRequested, known-requested, opened-requested, IsReleased}
+use Rattle.tl_coherence.proofs.client.ClientSent.{known-released, opened-released}
 use Rattle.tl_coherence.proofs.queues.Tokens.{same_number, set-same, set-other, set-part, set_at-same}
 use Rattle.tl_coherence.proofs.queues.Codes.{acquires-so}
 use Rattle.tl_coherence.proofs.queues.Perms.{held-some}
@@ -64,13 +56,17 @@ passed b x y e = rw e refl
 
 -- what each source asks for after an access is asked for
 asks_access : {w : ℕ} (c i : ℕ) (m : MessageA w) (mail : AccessMessages w) (s : State (List ℕ))
-    → asked_by (record { request = set_at c m.source (message.A m) mail.request; answer = mail.answer }) (access_asked c m.source s) c i ≡ cond (m.source == i)
+    → asked_by (record { request = set_at c m.source (message.A m) mail.request; answer = mail.answer })
+    (access_asked c m.source s) c i ≡ cond (m.source == i)
     (Some (a_beat_of m 0)) (asked_by mail s c i)
 asks_access {w} c i m mail s = elim (cases_eq i m.source) [
-  | inl same ↦ ap (asked_by mail' s' c) same ∙ asks-access c m.source m mail' s' (ap is_access (set_at-same c m.source Asked s.uses)) (set_at-same c m.source (message.A m) mail.request)
+  | inl same ↦ ap (asked_by mail' s' c) same ∙ asks-access c m.source m mail' s'
+      (ap is_access (set_at-same c m.source Asked s.uses)) (set_at-same c m.source (message.A m) mail.request)
       ∙ sym (chosen (m.source == i) (Some (a_beat_of m 0)) (asked_by mail s c i) (rw same (same_number m.source)))
-  | inr other ↦ asks-same c i mail mail' s s' (set_at-else c m.source i (message.A m) mail.request other c) (inl (set_at-else c m.source i Asked s.uses other c)) (λ n used. refl) (λ n used. refl)
-      ∙ sym (passed (m.source == i) (Some (a_beat_of m 0)) (asked_by mail s c i) (ne_eqb m.source i (λ e. other (sym e))))
+  | inr other ↦ asks-same c i mail mail' s s' (set_at-else c m.source i (message.A m) mail.request other c)
+      (inl (set_at-else c m.source i Asked s.uses other c)) (λ n used. refl) (λ n used. refl)
+      ∙ sym (passed (m.source == i) (Some (a_beat_of m 0)) (asked_by mail s c i)
+      (ne_eqb m.source i (λ e. other (sym e))))
 ]
   where
     mail' : AccessMessages w
@@ -79,14 +75,24 @@ asks_access {w} c i m mail s = elim (cases_eq i m.source) [
     s' : State (List ℕ)
     s' = access_asked c m.source s
 
-pub end-access_asked : {w : ℕ} (c : ℕ) (m : MessageA w) (mail : AccessMessages w) (s : State (List ℕ)) (e : Endpoint w) → IsWidth w → is_acquire m.opcode ≡ false
+pub end-access_asked : {w : ℕ} (c : ℕ) (m : MessageA w) (mail : AccessMessages w) (s : State (List ℕ)) (e : Endpoint w)
+    → IsWidth w → is_acquire m.opcode ≡ false
     → IsWellKept (sending (message.A m) e) → IsEnd (asked_by mail s c) c s e
-    → IsEnd (asked_by (record { request = set_at c m.source (message.A m) mail.request; answer = mail.answer }) (access_asked c m.source s) c) c (access_asked c m.source s) (sending (message.A m) e)
+    → IsEnd (asked_by (record { request = set_at c m.source (message.A m) mail.request; answer = mail.answer })
+    (access_asked c m.source s) c) c (access_asked c m.source s) (sending (message.A m) e)
 end-access_asked {w} c m mail s e width plain kept end =
     let event : IsRequested c m (asked_by mail s c) asked' s s' =
-    record { held = λ n. refl; letting = λ n. refl; lets = λ source. refl; acquiring = λ n. same n; asks = λ source. asks_access c source m mail s } in
     record {
-      known = known-requested c m (asked_by mail s c) asked' s s' e.past (sending (message.A m) e) width refl end.kept.a_whole kept event end.known;
+      held = λ n. refl;
+      letting = λ n. refl;
+      lets = λ source. refl;
+      acquiring = λ n. same n;
+      asks =
+          λ source. asks_access c source m mail s;
+    } in
+    record {
+      known = known-requested c m (asked_by mail s c) asked' s s' e.past (sending (message.A m) e) width refl
+          end.kept.a_whole kept event end.known;
       opened = opened-requested c m (asked_by mail s c) asked' s s' e.past width end.kept.a_whole event end.opened;
       kept = kept.kept;
       accounted = kept.accounted;
@@ -101,32 +107,40 @@ end-access_asked {w} c m mail s e width plain kept end =
     asked' : ℕ → Option (BeatA w)
     asked' = asked_by (record { request = set_at c m.source (message.A m) mail.request; answer = mail.answer }) s' c
 
-    same : (n : ℕ) → is_wanting ((s.block n).pair c).acquiring ≡ cond (is_acquire m.opcode && (block_at m.address == n)) true (is_wanting ((s.block n).pair c).acquiring)
+    same : (n : ℕ) → is_wanting ((s.block n).pair c).acquiring ≡ cond (is_acquire m.opcode && (block_at m.address == n))
+        true (is_wanting ((s.block n).pair c).acquiring)
     same n = rw plain refl
 
 -- ---- an Acquire
 
 -- no source is of a block whose Acquire isn't open
-pub unused : (c n i : ℕ) (s : State (List ℕ)) → AreNamed s → is_wanting ((s.block n).pair c).acquiring ≡ false → s.uses c i ≡ Acquires n → ⊥
+pub unused : (c n i : ℕ) (s : State (List ℕ)) → AreNamed s → is_wanting ((s.block n).pair c).acquiring ≡ false
+    → s.uses c i ≡ Acquires n → ⊥
 unused c n i s named calm used =
     let one : acquires_of n (s.uses c i) ≡ true = ap (acquires_of n) used ∙ same_number n in
-    let both : (is_wanting ((s.block n).pair c).acquiring && (i == (s.block n).source c)) ≡ true = sym (named.acquires c i n) ∙ one in
+    let both : (is_wanting ((s.block n).pair c).acquiring && (i == (s.block n).source c)) ≡ true =
+    sym (named.acquires c i n) ∙ one in
     let no : false ≡ true = rw calm at both in
     cc
 
-pub asks_acquire : {w : ℕ} (c n source i : ℕ) (whole : Bool) (g : Grow) (bytes : List ℕ) (mail : AccessMessages w) (s : State (List ℕ)) → AreNamed s → is_wanting ((s.block n).pair c).acquiring ≡ false
-    → asked_by mail (acquire_asked c n source whole g bytes s) c i ≡ cond (source == i) (Some (a_beat_of (acquisition (acquire_opcode whole) g source n) 0)) (asked_by mail s c i)
+pub asks_acquire : {w : ℕ} (c n source i : ℕ) (whole : Bool) (g : Grow) (bytes : List ℕ) (mail : AccessMessages w)
+    (s : State (List ℕ)) → AreNamed s → is_wanting ((s.block n).pair c).acquiring ≡ false
+    → asked_by mail (acquire_asked c n source whole g bytes s) c i ≡ cond (source == i)
+    (Some (a_beat_of (acquisition (acquire_opcode whole) g source n) 0)) (asked_by mail s c i)
 asks_acquire {w} c n source i whole g bytes mail s named calm = elim (cases_eq i source) [
   | inl same ↦ ap (asked_by mail s' c) same
       ∙ asks-acquire c source n source whole g mail s' (set_at-same c source (Acquires n) s.uses)
       (ap (λ (b : Block (List ℕ)). (b.pair c).acquiring) (set-same n new s.block)
-      ∙ ap (λ (p : ClientBlock). p.acquiring) (set-same c (after_acquire whole g ((s.block n).pair c)) (s.block n).pair))
+      ∙ ap (λ (p : ClientBlock). p.acquiring) (set-same c (after_acquire whole g ((s.block n).pair c))
+      (s.block n).pair))
       (ap (λ (b : Block (List ℕ)). b.source c) (set-same n new s.block) ∙ set-same c source (s.block n).source)
-      ∙ sym (chosen (source == i) (Some (a_beat_of (acquisition (acquire_opcode whole) g source n) 0)) (asked_by mail s c i) (rw same (same_number source)))
+      ∙ sym (chosen (source == i) (Some (a_beat_of (acquisition (acquire_opcode whole) g source n) 0))
+      (asked_by mail s c i) (rw same (same_number source)))
   | inr other ↦ asks-same c i mail mail s s' refl (inl (set_at-else c source i (Acquires n) s.uses other c))
       (λ j used. ap (λ (b : Block (List ℕ)). (b.pair c).acquiring) (set-other n j new s.block (apart j used)))
       (λ j used. ap (λ (b : Block (List ℕ)). b.source c) (set-other n j new s.block (apart j used)))
-      ∙ sym (passed (source == i) (Some (a_beat_of (acquisition (acquire_opcode whole) g source n) 0)) (asked_by mail s c i) (ne_eqb source i (λ e. other (sym e))))
+      ∙ sym (passed (source == i) (Some (a_beat_of (acquisition (acquire_opcode whole) g source n) 0))
+      (asked_by mail s c i) (ne_eqb source i (λ e. other (sym e))))
 ]
   where
     new : Block (List ℕ)
@@ -138,27 +152,36 @@ asks_acquire {w} c n source i whole g bytes mail s named calm = elim (cases_eq i
     apart : (j : ℕ) → s.uses c i ≡ Acquires j → j ≡ n → ⊥
     apart j used same = unused c n i s named calm (used ∙ ap Acquires same)
 
-pub end-acquire_asked : {w : ℕ} (c n source : ℕ) (whole : Bool) (g : Grow) (bytes : List ℕ) (mail : AccessMessages w) (s : State (List ℕ)) (e f : Endpoint w) → IsWidth w → AreNamed s
+pub end-acquire_asked : {w : ℕ} (c n source : ℕ) (whole : Bool) (g : Grow) (bytes : List ℕ) (mail : AccessMessages w)
+    (s : State (List ℕ)) (e f : Endpoint w) → IsWidth w → AreNamed s
     → pending (AcquireOf n) e.past ≡ false
-    → f.past ≡ (sending (message.A (acquisition (acquire_opcode whole) g source n)) e).past → f.copies ≡ e.copies → f.closed ≡ e.closed
-    → ((i : ℕ) → (i ≡ n → ⊥) → f.waiting i ≡ e.waiting i) → (whole ≡ true → f.waiting n ≡ Some bytes) → IsWellKept f → IsEnd (asked_by mail s c) c s e
+    → f.past ≡ (sending (message.A (acquisition (acquire_opcode whole) g source n)) e).past → f.copies ≡ e.copies
+    → f.closed ≡ e.closed
+    → ((i : ℕ) → (i ≡ n → ⊥) → f.waiting i ≡ e.waiting i) → (whole ≡ true → f.waiting n ≡ Some bytes) → IsWellKept f
+    → IsEnd (asked_by mail s c) c s e
     → IsEnd (asked_by mail (acquire_asked c n source whole g bytes s) c) c (acquire_asked c n source whole g bytes s) f
 end-acquire_asked {w} c n source whole g bytes mail s e f width named idle past copies closed others here kept end =
     let event : IsRequested c m (asked_by mail s c) asked' s s' = record {
-      held = λ i. set-part (λ (b : Block (List ℕ)). (b.pair c).held) n new s.block (ap (λ (p : ClientBlock). p.held) pair_is) i;
-      letting = λ i. set-part (λ (b : Block (List ℕ)). is_unreleased (b.pair c).letting) n new s.block (ap (λ (p : ClientBlock). is_unreleased p.letting) pair_is) i;
+      held = λ i. set-part (λ (b : Block (List ℕ)). (b.pair c).held) n new s.block
+          (ap (λ (p : ClientBlock). p.held) pair_is) i;
+      letting = λ i. set-part (λ (b : Block (List ℕ)). is_unreleased (b.pair c).letting) n new s.block
+          (ap (λ (p : ClientBlock). is_unreleased p.letting) pair_is) i;
       lets = λ i. refl;
       acquiring = λ i. column (λ (b : Block (List ℕ)). is_wanting (b.pair c).acquiring) n new s.block i
-          ∙ ap (λ (x : Bool). cond (i == n) x (is_wanting ((s.block i).pair c).acquiring)) (ap (λ (p : ClientBlock). is_wanting p.acquiring) pair_is)
+          ∙ ap (λ (x : Bool). cond (i == n) x (is_wanting ((s.block i).pair c).acquiring))
+          (ap (λ (p : ClientBlock). is_wanting p.acquiring) pair_is)
           ∙ ap (λ (b : Bool). cond b true (is_wanting ((s.block i).pair c).acquiring)) (sym (of_block i));
       asks = λ i. asks_acquire c n source i whole g bytes mail s named calm;
     } in
     record {
-      known = known-requested c m (asked_by mail s c) asked' s s' e.past f width past end.kept.a_whole kept event end.known;
-      opened = rw past (opened-requested c m (asked_by mail s c) asked' s s' e.past width end.kept.a_whole event end.opened);
+      known = known-requested c m (asked_by mail s c) asked' s s' e.past f width past end.kept.a_whole kept event
+          end.known;
+      opened = rw past (opened-requested c m (asked_by mail s c) asked' s s' e.past width end.kept.a_whole event
+          end.opened);
       kept = kept.kept;
       accounted = kept.accounted;
-      copies = λ i some. ap (λ (h : ℕ → Option (List ℕ)). h i) copies ∙ end.copies i (sym (ap (λ (p : Perm). same_perm p perm.None) (event.held i)) ∙ some)
+      copies = λ i some. ap (λ (h : ℕ → Option (List ℕ)). h i) copies ∙ end.copies i
+          (sym (ap (λ (p : Perm). same_perm p perm.None) (event.held i)) ∙ some)
           ∙ ap Some (sym (set-part (λ (b : Block (List ℕ)). b.copy c) n new s.block refl i));
       waiting = λ i storing. go i storing (cases_eq i n);
       live = closed ∙ end.live;
@@ -185,14 +208,20 @@ end-acquire_asked {w} c n source whole g bytes mail s e f width named idle past 
     of_block : (i : ℕ) → (is_acquire (acquire_opcode whole) && (block_at (64 * n) == i)) ≡ (i == n)
     of_block i = rw (acquires-so whole, same_block n) (swapped n i)
 
-    go : (i : ℕ) → is_storing (((s'.block i).pair c).acquiring) ≡ true → (i ≡ n) ⊎ (i ≡ n → ⊥) → f.waiting i ≡ Some ((s'.block i).waiting c)
+    go : (i : ℕ) → is_storing (((s'.block i).pair c).acquiring) ≡ true → (i ≡ n) ⊎ (i ≡ n → ⊥)
+        → f.waiting i ≡ Some ((s'.block i).waiting c)
     go i storing (inl same) =
-        let now : is_storing (AcquireOpen whole g) ≡ true = sym (ap (λ (b : Block (List ℕ)). is_storing (b.pair c).acquiring)
-        (ap s'.block same ∙ set-same n new s.block) ∙ ap (λ (p : ClientBlock). is_storing p.acquiring) pair_is) ∙ storing in
-        ap f.waiting same ∙ here now ∙ ap Some (sym (ap (λ (b : Block (List ℕ)). b.waiting c) (ap s'.block same ∙ set-same n new s.block) ∙ set-same c bytes (s.block n).waiting))
+        let now : is_storing (AcquireOpen whole g) ≡ true =
+        sym (ap (λ (b : Block (List ℕ)). is_storing (b.pair c).acquiring)
+        (ap s'.block same ∙ set-same n new s.block) ∙ ap (λ (p : ClientBlock). is_storing p.acquiring) pair_is)
+        ∙ storing in
+        ap f.waiting same ∙ here now ∙ ap Some
+        (sym (ap (λ (b : Block (List ℕ)). b.waiting c) (ap s'.block same ∙ set-same n new s.block) ∙ set-same c
+        bytes (s.block n).waiting))
     go i storing (inr other) =
         let old : s'.block i ≡ s.block i = set-other n i new s.block other in
-        others i other ∙ end.waiting i (sym (ap (λ (b : Block (List ℕ)). is_storing (b.pair c).acquiring) old) ∙ storing) ∙ ap Some (sym (ap (λ (b : Block (List ℕ)). b.waiting c) old))
+        others i other ∙ end.waiting i (sym (ap (λ (b : Block (List ℕ)). is_storing (b.pair c).acquiring) old)
+        ∙ storing) ∙ ap Some (sym (ap (λ (b : Block (List ℕ)). b.waiting c) old))
 
 -- ---- a Release
 
@@ -203,29 +232,69 @@ record IsRelease {w : ℕ} (source n : ℕ) (m : MessageC w) : Type 0 where
   whole : m.size ≡ 6
   from : m.source ≡ source
 
-release_message : {w : ℕ} (r : Prune) (source n : ℕ) (copy : List ℕ) → (m : MessageC w) × (release r source n copy ≡ message.C m) × IsRelease source n m
-release_message prune.TtoB source n copy = (about opc.ReleaseData (prune_code prune.TtoB) source n copy, refl, record { releases = refl; of_block = same_block n; whole = refl; from = refl })
-release_message prune.TtoN source n copy = (about opc.ReleaseData (prune_code prune.TtoN) source n copy, refl, record { releases = refl; of_block = same_block n; whole = refl; from = refl })
-release_message prune.BtoN source n copy = (about opc.Release (prune_code prune.BtoN) source n zeros, refl, record { releases = refl; of_block = same_block n; whole = refl; from = refl })
+release_message : {w : ℕ} (r : Prune) (source n : ℕ) (copy : List ℕ)
+    → (m : MessageC w) × (release r source n copy ≡ message.C m) × IsRelease source n m
+release_message prune.TtoB source n copy = (
+  about opc.ReleaseData (prune_code prune.TtoB) source n copy,
+  refl,
+  record {
+    releases = refl;
+    of_block =
+        same_block n;
+    whole = refl;
+    from = refl;
+  },
+)
+release_message prune.TtoN source n copy = (
+  about opc.ReleaseData (prune_code prune.TtoN) source n copy,
+  refl,
+  record {
+    releases = refl;
+    of_block =
+        same_block n;
+    whole = refl;
+    from = refl;
+  },
+)
+release_message prune.BtoN source n copy = (
+  about opc.Release (prune_code prune.BtoN) source n zeros,
+  refl,
+  record {
+    releases = refl;
+    of_block =
+        same_block n;
+    whole = refl;
+    from = refl;
+  },
+)
 
-pub end-release_asked : {w : ℕ} (c n source : ℕ) (r : Prune) (copy : List ℕ) (mail : AccessMessages w) (s : State (List ℕ)) (e : Endpoint w) → IsWidth w
-    → same_perm (prune_left r) (held n e.past) ≡ true → IsWellKept (kept_for n (prune_right r) (sending (release r source n copy) e)) → IsEnd (asked_by mail s c) c s e
-    → IsEnd (asked_by mail (release_asked c n source r s) c) c (release_asked c n source r s) (kept_for n (prune_right r) (sending (release r source n copy) e))
+pub end-release_asked : {w : ℕ} (c n source : ℕ) (r : Prune) (copy : List ℕ) (mail : AccessMessages w)
+    (s : State (List ℕ)) (e : Endpoint w) → IsWidth w
+    → same_perm (prune_left r) (held n e.past) ≡ true
+    → IsWellKept (kept_for n (prune_right r) (sending (release r source n copy) e)) → IsEnd (asked_by mail s c) c s e
+    → IsEnd (asked_by mail (release_asked c n source r s) c) c (release_asked c n source r s)
+    (kept_for n (prune_right r) (sending (release r source n copy) e))
 end-release_asked {w} c n source r copy mail s e width begins kept end =
     let p = release_message {w = w} r source n copy in
     let event = event_of p.0 p.2 in
-    let past : f.past ≡ sent (message.C p.0) e.past = kept_past n (prune_right r) (sending (release r source n copy) e) ∙ ap (λ (x : Message w). sent x e.past) p.1 in
+    let past : f.past ≡ sent (message.C p.0) e.past = kept_past n (prune_right r) (sending (release r source n copy) e)
+    ∙ ap (λ (x : Message w). sent x e.past) p.1 in
     let left : (i : ℕ) → held i (sent (message.C p.0) e.past) ≡ cond (i == n) (prune_right r) (held i e.past) =
-    λ i. ap (λ (x : Message w). held i (sent x e.past)) (sym p.1) ∙ held-release i r source n copy e.past width end.kept.c_whole in
+    λ i. ap (λ (x : Message w). held i (sent x e.past)) (sym p.1) ∙ held-release i r source n copy e.past width
+    end.kept.c_whole in
     record {
-      known = known-released c n p.0 (prune_right r) (asked_by mail s c) asked' s s' e.past f width past end.kept.c_whole left kept event end.known;
-      opened = rw past (opened-released c n p.0 (prune_right r) (asked_by mail s c) asked' s s' e.past width end.kept.c_whole event end.opened);
+      known = known-released c n p.0 (prune_right r) (asked_by mail s c) asked' s s' e.past f width past
+          end.kept.c_whole left kept event end.known;
+      opened = rw past (opened-released c n p.0 (prune_right r) (asked_by mail s c) asked' s s' e.past width
+          end.kept.c_whole event end.opened);
       kept = kept.kept;
       accounted = kept.accounted;
       copies = λ i some. kept_copies n (prune_right r) (sending (release r source n copy) e) i
-          ∙ copy_of i (i == n) refl (sym (ap (λ (q : Perm). same_perm q perm.None) (event.held i)) ∙ some) ∙ ap Some (sym (set-part (λ (b : Block (List ℕ)). b.copy c) n new s.block refl i));
+          ∙ copy_of i (i == n) refl (sym (ap (λ (q : Perm). same_perm q perm.None) (event.held i)) ∙ some) ∙ ap Some
+          (sym (set-part (λ (b : Block (List ℕ)). b.copy c) n new s.block refl i));
       waiting = λ i storing. kept_waiting n (prune_right r) (sending (release r source n copy) e) i
-          ∙ end.waiting i (sym (set-part (λ (b : Block (List ℕ)). is_storing (b.pair c).acquiring) n new s.block (ap (λ (q : ClientBlock). is_storing q.acquiring) pair_is) i) ∙ storing)
+          ∙ end.waiting i (sym (set-part (λ (b : Block (List ℕ)). is_storing (b.pair c).acquiring) n new s.block
+          (ap (λ (q : ClientBlock). is_storing q.acquiring) pair_is) i) ∙ storing)
           ∙ ap Some (sym (set-part (λ (b : Block (List ℕ)). b.waiting c) n new s.block refl i));
       live = kept_closed n (prune_right r) (sending (release r source n copy) e) ∙ end.live;
     }
@@ -245,50 +314,64 @@ end-release_asked {w} c n source r copy mail s e width begins kept end =
     pair_is : new.pair c ≡ after_release r ((s.block n).pair c)
     pair_is = set-same c (after_release r ((s.block n).pair c)) (s.block n).pair
 
-    event_of : (m : MessageC w) → IsRelease source n m → IsReleased c n m (prune_right r) (asked_by mail s c) asked' s s'
+    event_of : (m : MessageC w) → IsRelease source n m → IsReleased c n m (prune_right r) (asked_by mail s c) asked' s
+        s'
     event_of m is = record {
       releases = is.releases;
       of_block = is.of_block;
       whole = is.whole;
-      held = λ i. column (λ (b : Block (List ℕ)). (b.pair c).held) n new s.block i ∙ ap (λ (q : Perm). cond (i == n) q ((s.block i).pair c).held) (ap (λ (q : ClientBlock). q.held) pair_is);
+      held = λ i. column (λ (b : Block (List ℕ)). (b.pair c).held) n new s.block i ∙ ap
+          (λ (q : Perm). cond (i == n) q ((s.block i).pair c).held) (ap (λ (q : ClientBlock). q.held) pair_is);
       letting = λ i. column (λ (b : Block (List ℕ)). not (is_unreleased (b.pair c).letting)) n new s.block i
-          ∙ ap (λ (x : Bool). cond (i == n) x (not (is_unreleased ((s.block i).pair c).letting))) (ap (λ (q : ClientBlock). not (is_unreleased q.letting)) pair_is)
+          ∙ ap (λ (x : Bool). cond (i == n) x (not (is_unreleased ((s.block i).pair c).letting)))
+          (ap (λ (q : ClientBlock). not (is_unreleased q.letting)) pair_is)
           ∙ ap (λ (b : Bool). cond b true (not (is_unreleased ((s.block i).pair c).letting))) (swapped i n);
       lets = λ i. lets_now i is.from (cases_eq i source);
-      acquiring = λ i. set-part (λ (b : Block (List ℕ)). is_wanting (b.pair c).acquiring) n new s.block (ap (λ (q : ClientBlock). is_wanting q.acquiring) pair_is) i;
+      acquiring = λ i. set-part (λ (b : Block (List ℕ)). is_wanting (b.pair c).acquiring) n new s.block
+          (ap (λ (q : ClientBlock). is_wanting q.acquiring) pair_is) i;
       asks = λ i. asks-same c i mail mail s s' refl (inl refl)
-          (λ j used. set-part (λ (b : Block (List ℕ)). (b.pair c).acquiring) n new s.block (ap (λ (q : ClientBlock). q.acquiring) pair_is) j)
+          (λ j used. set-part (λ (b : Block (List ℕ)). (b.pair c).acquiring) n new s.block
+          (ap (λ (q : ClientBlock). q.acquiring) pair_is) j)
           (λ j used. set-part (λ (b : Block (List ℕ)). b.source c) n new s.block refl j);
     }
       where
-        lets_now : (i : ℕ) → m.source ≡ source → (i ≡ source) ⊎ (i ≡ source → ⊥) → s'.lets c i ≡ cond (m.source == i) (Some n) (s.lets c i)
-        lets_now i from (inl same) = ap (s'.lets c) same ∙ set_at-same c source (Some n) s.lets ∙ sym (chosen (m.source == i) (Some n) (s.lets c i) (rw (from, same) (same_number source)))
-        lets_now i from (inr other) = set_at-else c source i (Some n) s.lets other c ∙ sym (passed (m.source == i) (Some n) (s.lets c i) (rw from (ne_eqb source i (λ e. other (sym e)))))
+        lets_now : (i : ℕ) → m.source ≡ source → (i ≡ source) ⊎ (i ≡ source → ⊥)
+            → s'.lets c i ≡ cond (m.source == i) (Some n) (s.lets c i)
+        lets_now i from (inl same) = ap (s'.lets c) same ∙ set_at-same c source (Some n) s.lets ∙ sym
+            (chosen (m.source == i) (Some n) (s.lets c i) (rw (from, same) (same_number source)))
+        lets_now i from (inr other) = set_at-else c source i (Some n) s.lets other c ∙ sym
+            (passed (m.source == i) (Some n) (s.lets c i) (rw from (ne_eqb source i (λ e. other (sym e)))))
 
     kept_some : (q : Perm) (x y : Option (List ℕ)) → same_perm q perm.None ≡ false → cond (not (holds q)) x y ≡ y
     kept_some perm.None x y some = absurd cc
     kept_some perm.Branch x y some = refl
     kept_some perm.Trunk x y some = refl
 
-    copy_of : (i : ℕ) (b : Bool) → (i == n) ≡ b → same_perm (cond b (prune_right r) ((s.block i).pair c).held) perm.None ≡ false
+    copy_of : (i : ℕ) (b : Bool) → (i == n) ≡ b → same_perm (cond b (prune_right r) ((s.block i).pair c).held)
+        perm.None ≡ false
         → cond (b && not (holds (prune_right r))) None (e.copies i) ≡ Some ((s.block i).copy c)
     copy_of i true same some =
-        let before : holds ((s.block n).pair c).held ≡ true = ap holds (sym (end.known.held_is n)) ∙ falls_to r (held n e.past) begins in
+        let before : holds ((s.block n).pair c).held ≡ true =
+        ap holds (sym (end.known.held_is n)) ∙ falls_to r (held n e.past) begins in
         let here : i ≡ n = eqb-true i n same in
-        kept_some (prune_right r) None (e.copies i) some ∙ end.copies i (held-some ((s.block i).pair c).held (ap (λ (j : ℕ). holds ((s.block j).pair c).held) here ∙ before))
+        kept_some (prune_right r) None (e.copies i) some ∙ end.copies i
+        (held-some ((s.block i).pair c).held (ap (λ (j : ℕ). holds ((s.block j).pair c).held) here ∙ before))
     copy_of i false same some = end.copies i some
 
 -- ---- a store
 
-pub end-stored : {w : ℕ} (c n : ℕ) (bytes : List ℕ) (mail : AccessMessages w) (s : State (List ℕ)) (e : Endpoint w) → IsWellKept (with_copy n (Some bytes) e) → IsEnd (asked_by mail s c) c s e
+pub end-stored : {w : ℕ} (c n : ℕ) (bytes : List ℕ) (mail : AccessMessages w) (s : State (List ℕ)) (e : Endpoint w)
+    → IsWellKept (with_copy n (Some bytes) e) → IsEnd (asked_by mail s c) c s e
     → IsEnd (asked_by mail (block_stored c n bytes s) c) c (block_stored c n bytes s) (with_copy n (Some bytes) e)
 end-stored {w} c n bytes mail s e kept end = record {
-  known = known-same c (asked_by mail s c) (asked_by mail s' c) (unfinished channel.D e.past) s s' e.past same end.known;
+  known = known-same c (asked_by mail s c) (asked_by mail s' c) (unfinished channel.D e.past) s s' e.past same
+      end.known;
   opened = opened-same c (asked_by mail s c) (asked_by mail s' c) s s' e.past same end.opened;
   kept = kept.kept;
   accounted = kept.accounted;
   copies = λ i some. copy_of i (cases_eq i n) (sym (ap (λ (p : Perm). same_perm p perm.None) (same.held i)) ∙ some);
-  waiting = λ i storing. end.waiting i (sym (ap is_storing (same.acquiring i)) ∙ storing) ∙ ap Some (sym (set-part (λ (b : Block (List ℕ)). b.waiting c) n new s.block refl i));
+  waiting = λ i storing. end.waiting i (sym (ap is_storing (same.acquiring i)) ∙ storing) ∙ ap Some
+      (sym (set-part (λ (b : Block (List ℕ)). b.waiting c) n new s.block refl i));
   live = end.live;
 }
   where
@@ -304,13 +387,16 @@ end-stored {w} c n bytes mail s e kept end = record {
       acquiring = λ i. set-part (λ (b : Block (List ℕ)). (b.pair c).acquiring) n new s.block refl i;
       letting = λ i. set-part (λ (b : Block (List ℕ)). is_unreleased (b.pair c).letting) n new s.block refl i;
       lets = λ i. refl;
-      asks = λ i. asks-same c i mail mail s s' refl (inl refl) (λ j used. set-part (λ (b : Block (List ℕ)). (b.pair c).acquiring) n new s.block refl j)
+      asks = λ i. asks-same c i mail mail s s' refl (inl refl)
+          (λ j used. set-part (λ (b : Block (List ℕ)). (b.pair c).acquiring) n new s.block refl j)
           (λ j used. set-part (λ (b : Block (List ℕ)). b.source c) n new s.block refl j);
     }
 
-    copy_of : (i : ℕ) → (i ≡ n) ⊎ (i ≡ n → ⊥) → same_perm ((s.block i).pair c).held perm.None ≡ false → cond (i == n) (Some bytes) (e.copies i) ≡ Some ((s'.block i).copy c)
+    copy_of : (i : ℕ) → (i ≡ n) ⊎ (i ≡ n → ⊥) → same_perm ((s.block i).pair c).held perm.None ≡ false
+        → cond (i == n) (Some bytes) (e.copies i) ≡ Some ((s'.block i).copy c)
     copy_of i (inl here) some = chosen (i == n) (Some bytes) (e.copies i) (rw here (same_number n))
-        ∙ ap Some (sym (ap (λ (b : Block (List ℕ)). b.copy c) (ap s'.block here ∙ set-same n new s.block) ∙ set-same c bytes (s.block n).copy))
+        ∙ ap Some (sym (ap (λ (b : Block (List ℕ)). b.copy c) (ap s'.block here ∙ set-same n new s.block) ∙ set-same c
+        bytes (s.block n).copy))
     copy_of i (inr other) some = passed (i == n) (Some bytes) (e.copies i) (ne_eqb i n other) ∙ end.copies i some
         ∙ ap Some (sym (ap (λ (b : Block (List ℕ)). b.copy c) (set-other n i new s.block other)))
 
@@ -323,7 +409,8 @@ IsEndOf c h e = IsEnd (asked_by h.mail h.state c) c h.state e
 abbrev IsAfter : {w : ℕ} → ℕ → Op w → AbstractState w → ask.Asked w → Type 0
 IsAfter c o h x = IsWellKept x.after → IsEndOf c (world.asked c o x.reply h) x.after
 
-end_busy : {w : ℕ} (c : ℕ) (o : Op w) (b : Busy) (h : AbstractState w) (e : Endpoint w) → IsEndOf c h e → IsEndOf c (world.asked c o (reply.Busy b) h) e
+end_busy : {w : ℕ} (c : ℕ) (o : Op w) (b : Busy) (h : AbstractState w) (e : Endpoint w) → IsEndOf c h e
+    → IsEndOf c (world.asked c o (reply.Busy b) h) e
 end_busy c (op.Load address size) b h e end = end
 end_busy c (op.Store address size value) b h e end = end
 end_busy c (op.Acquire n g) b h e end = end
@@ -335,31 +422,41 @@ end_busy c (op.Access (message.C m)) b h e end = end
 end_busy c (op.Access (message.D m)) b h e end = end
 end_busy c (op.Access (message.E m)) b h e end = end
 
-end_load : {w : ℕ} (c address size : ℕ) (p : Perm) (h : AbstractState w) (e : Endpoint w) → IsEndOf c h e → IsAfter c (op.Load address size) h (load address size p e)
+end_load : {w : ℕ} (c address size : ℕ) (p : Perm) (h : AbstractState w) (e : Endpoint w) → IsEndOf c h e
+    → IsAfter c (op.Load address size) h (load address size p e)
 end_load c address size perm.None h e end kept = end
 end_load c address size perm.Branch h e end kept = end
 end_load c address size perm.Trunk h e end kept = end
 
-end_store : {w : ℕ} (c address size value : ℕ) (p : Perm) (h : AbstractState w) (e : Endpoint w) → ((h.state.block (block_at address)).pair c).held ≡ p → IsEndOf c h e
+end_store : {w : ℕ} (c address size value : ℕ) (p : Perm) (h : AbstractState w) (e : Endpoint w)
+    → ((h.state.block (block_at address)).pair c).held ≡ p → IsEndOf c h e
     → IsAfter c (op.Store address size value) h (store address size value p e)
 end_store c address size value perm.None h e is end kept = end
 end_store c address size value perm.Branch h e is end kept = end
 end_store {w} c address size value perm.Trunk h e is end kept =
     let n = block_at address in
-    let same : copy_at e n ≡ (h.state.block n).copy c = ap (λ (o : Option (List ℕ)). unwrap_or o zeros) (end.copies n (rw is refl)) in
-    let bytes : copy_stored address size value (copy_at e n) ≡ copy_stored address size value ((h.state.block n).copy c) = ap (copy_stored address size value) same in
+    let same : copy_at e n ≡ (h.state.block n).copy c =
+    ap (λ (o : Option (List ℕ)). unwrap_or o zeros) (end.copies n (rw is refl)) in
+    let bytes : copy_stored address size value (copy_at e n) ≡ copy_stored address size value
+    ((h.state.block n).copy c) = ap (copy_stored address size value) same in
     subst (λ (x : List ℕ). IsWellKept (with_copy n (Some x) e)
     → IsEnd (asked_by h.mail (block_stored c n (copy_stored address size value ((h.state.block n).copy c)) h.state) c) c
     (block_stored c n (copy_stored address size value ((h.state.block n).copy c)) h.state) (with_copy n (Some x) e))
-    (sym bytes) (λ k. end-stored c n (copy_stored address size value ((h.state.block n).copy c)) h.mail h.state e k end) kept
+    (sym bytes) (λ k. end-stored c n (copy_stored address size value ((h.state.block n).copy c)) h.mail h.state e k end)
+    kept
 
-end_done : {w : ℕ} (terms : EndConfig) (c : ℕ) (o : Op w) (h : AbstractState w) (e : Endpoint w) → IsWidth w → AreNamed h.state → IsEndOf c h e → NotBusy terms o e → IsAfter c o h (done terms o e)
-end_done terms c (op.Load address size) h e width named end free kept = end_load c address size (held_at e (block_at address)) h e end kept
-end_done terms c (op.Store address size value) h e width named end free kept = end_store c address size value (held_at e (block_at address)) h e (sym (end.known.held_is (block_at address))) end kept
+end_done : {w : ℕ} (terms : EndConfig) (c : ℕ) (o : Op w) (h : AbstractState w) (e : Endpoint w) → IsWidth w
+    → AreNamed h.state → IsEndOf c h e → NotBusy terms o e → IsAfter c o h (done terms o e)
+end_done terms c (op.Load address size) h e width named end free kept =
+    end_load c address size (held_at e (block_at address)) h e end kept
+end_done terms c (op.Store address size value) h e width named end free kept =
+    end_store c address size value (held_at e (block_at address)) h e (sym (end.known.held_is (block_at address))) end
+    kept
 end_done terms c (op.Acquire n g) h e width named end free kept =
     let idle = or_parts (pending (AcquireOf n) e.past) (pending (ReleaseOf n) e.past) free.b2 in
     let source = source_or_0 (free_request terms e.past) in
-    end-acquire_asked c n source false g ((h.state.block n).waiting c) h.mail h.state e (sending (message.A (acquisition a.AcquireBlock g source n)) e) width named
+    end-acquire_asked c n source false g ((h.state.block n).waiting c) h.mail h.state e
+    (sending (message.A (acquisition a.AcquireBlock g source n)) e) width named
     idle.0 refl refl refl (λ i other. refl) (λ whole. absurd cc) kept end
 end_done {w} terms c (op.AcquireWhole n bytes) h e width named end free kept =
     let idle = or_parts (pending (AcquireOf n) e.past) (pending (ReleaseOf n) e.past) free.b2 in
@@ -368,9 +465,11 @@ end_done {w} terms c (op.AcquireWhole n bytes) h e width named end free kept =
     let f : Endpoint w = with_waiting n (Some bytes) (sending (m (held_at e n)) e) in
     end-acquire_asked c n source true (whole_grow ((h.state.block n).pair c).held) bytes h.mail h.state e f width named
     idle.0 (ap (λ (p : Perm). sent (m p) e.past) (end.known.held_is n)) refl refl
-    (λ i other. passed (i == n) (Some bytes) (e.waiting i) (ne_eqb i n other)) (λ whole. chosen (n == n) (Some bytes) (e.waiting n) (same_number n)) kept end
+    (λ i other. passed (i == n) (Some bytes) (e.waiting i) (ne_eqb i n other))
+    (λ whole. chosen (n == n) (Some bytes) (e.waiting n) (same_number n)) kept end
 end_done terms c (op.Release n r) h e width named end free kept =
-    end-release_asked c n (source_or_0 (free_release terms e.past)) r (copy_at e n) h.mail h.state e width (not-false (same_perm (prune_left r) (held_at e n)) free.b3) kept end
+    end-release_asked c n (source_or_0 (free_release terms e.past)) r (copy_at e n) h.mail h.state e width
+    (not-false (same_perm (prune_left r) (held_at e n)) free.b3) kept end
 end_done terms c (op.Access (message.A m)) h e width named end free kept =
     let source = source_or_0 (free_request terms e.past) in
     let plain = no_acquire terms.level m.opcode (not-false (is_access_of terms.level m.opcode) free.b4) in
@@ -381,8 +480,13 @@ end_done terms c (op.Access (message.D m)) h e width named end free kept = end
 end_done terms c (op.Access (message.E m)) h e width named end free kept = end
 
 -- a client's end is that of the protocol after it was asked, whatever it answers
-pub end-asked : {w : ℕ} (terms : EndConfig) (c : ℕ) (o : Op w) (h : AbstractState w) (e : Endpoint w) → IsWidth w → AreNamed h.state → IsEndOf c h e
+pub end-asked : {w : ℕ} (terms : EndConfig) (c : ℕ) (o : Op w) (h : AbstractState w) (e : Endpoint w) → IsWidth w
+    → AreNamed h.state → IsEndOf c h e
     → IsEndOf c (world.asked c o (ask.asked terms o e).reply h) (ask.asked terms o e).after
 end-asked terms c o h e width named end =
     asked-cases terms o e (IsAfter c o h) (λ b kept. end_busy c o b h e end) (end_done terms c o h e width named end)
-    (record { kept = kept-asked terms o e width end.kept; accounted = accounted-asked terms o e width end.kept end.accounted })
+    (record {
+      kept = kept-asked terms o e width end.kept;
+      accounted =
+          accounted-asked terms o e width end.kept end.accounted;
+    })

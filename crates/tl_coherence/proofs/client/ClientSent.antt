@@ -1,123 +1,141 @@
 -- A client's end after it has handed a request or a Release out: what it knows is what the protocol says then.
+use Rattle.tl_coherence.proofs.client.Imports.{IsWidth, BeatA, BeatC, MessageA, MessageC, a_beat_of, History}
+use Rattle.tl_coherence.proofs.client.Imports.{unfinished, beats-positive, RequestSource, ReleaseSource, AcquireOf}
+use Rattle.tl_coherence.proofs.client.Imports.{ReleaseOf, Perm, sent, block_at, is_acquire, is_release, held, pending}
+use Rattle.tl_coherence.proofs.client.Imports.{release_of, pending-whole, release_of-whole, Endpoint, open_beat}
+use Rattle.tl_coherence.proofs.client.Imports.{ClientRelation, is_unreleased, State, is_wanting, OpenSourceRelation}
 use Rattle.std.proofs.Common.{◌≡◌, ℕ, Bool, true, false, not, cond, List, [], Option, Some, refl, sym, ◌∙◌, ap}
 use Rattle.std.specs.Prelude.{◌==◌, ◌&&◌, is_some, option_map}
-use Rattle.tl_beat.specs.statement.Width.{IsWidth}
-use Rattle.tl_beat.specs.declared.beat.BeatA.{BeatA}
-use Rattle.tl_beat.specs.declared.beat.BeatC.{BeatC}
 use Rattle.tl_beat.specs.declared.channel.Channel.TheVariants as channel
 use Rattle.tl_burst.specs.declared.message.Message.TheVariants.{A, C}
-use Rattle.tl_burst.specs.declared.message.MessageA.{MessageA}
-use Rattle.tl_burst.specs.declared.message.MessageC.{MessageC}
-use Rattle.tl_burst.specs.statement.Burst.{a_beat_of, c_beat_of}
-use Rattle.tl_burst.specs.statement.Messages.{History, unfinished}
-use Rattle.tl_burst.proofs.Splitting.{beats-positive}
-use Rattle.tl_params.specs.declared.key.Key.TheVariants.{RequestSource, ReleaseSource, AcquireOf, ReleaseOf}
-use Rattle.tl_params.specs.declared.perm.Perm.{Perm}
-use Rattle.tl_rules.specs.statement.Admission.{sent}
-use Rattle.tl_rules.specs.statement.History.{block_at, is_acquire, is_release, held, pending, release_of}
-use Rattle.tl_rules.proofs.Handed.{held-whole, pending-whole, release_of-whole}
-use Rattle.tl_client.specs.statement.Endpoint.{Endpoint}
-use Rattle.tl_client.specs.statement.Requests.{open_beat}
+use Rattle.tl_burst.specs.statement.Burst.{c_beat_of}
+use Rattle.tl_rules.proofs.Handed.{held-whole}
 use Rattle.tl_client.proofs.Opens.{open_beat-a, open_beat-c}
-use Rattle.tl_coherence.specs.refinement.ClientRelation.{ClientRelation}
-use Rattle.tl_coherence.specs.protocol.Phase.{is_unreleased}
-use Rattle.tl_coherence.specs.protocol.Protocol.{State, is_wanting}
-use Rattle.tl_coherence.specs.refinement.SourceRelation.{OpenSourceRelation}
 use Rattle.tl_coherence.proofs.client.ClientEnd.{IsWellKept, known-kept}
 
 -- ---- a request
 
 -- what the protocol says of client c's end after this request was handed out
-pub record IsRequested {w : ℕ} (c : ℕ) (m : MessageA w) (asked asked' : ℕ → Option (BeatA w)) (s s' : State (List ℕ)) : Type 0 where
+pub record IsRequested {w : ℕ} (c : ℕ) (m : MessageA w) (asked asked' : ℕ → Option (BeatA w))
+    (s s' : State (List ℕ)) : Type 0 where
   pub held : (n : ℕ) → ((s'.block n).pair c).held ≡ ((s.block n).pair c).held
   pub letting : (n : ℕ) → is_unreleased ((s'.block n).pair c).letting ≡ is_unreleased ((s.block n).pair c).letting
   pub lets : (source : ℕ) → s'.lets c source ≡ s.lets c source
-  pub acquiring : (n : ℕ) → is_wanting ((s'.block n).pair c).acquiring ≡ cond (is_acquire m.opcode && (block_at m.address == n)) true (is_wanting ((s.block n).pair c).acquiring)
+  pub acquiring : (n : ℕ) → is_wanting ((s'.block n).pair c).acquiring ≡ cond
+      (is_acquire m.opcode && (block_at m.address == n)) true (is_wanting ((s.block n).pair c).acquiring)
   pub asks : (source : ℕ) → asked' source ≡ cond (m.source == source) (Some (a_beat_of m 0)) (asked source)
 
-pub known-requested : {w : ℕ} (c : ℕ) (m : MessageA w) (asked asked' : ℕ → Option (BeatA w)) (s s' : State (List ℕ)) (t : History w) (f : Endpoint w) → IsWidth w
+pub known-requested : {w : ℕ} (c : ℕ) (m : MessageA w) (asked asked' : ℕ → Option (BeatA w)) (s s' : State (List ℕ))
+    (t : History w) (f : Endpoint w) → IsWidth w
     → f.past ≡ sent (A m) t → unfinished channel.A t ≡ []
-    → IsWellKept f → IsRequested c m asked asked' s s' → ClientRelation asked (unfinished channel.D t) c s t → ClientRelation asked' (unfinished channel.D f.past) c s' f.past
+    → IsWellKept f → IsRequested c m asked asked' s s' → ClientRelation asked (unfinished channel.D t) c s t
+    → ClientRelation asked' (unfinished channel.D f.past) c s' f.past
 known-requested {w} c m asked asked' s s' t f width past none well event known =
     let some = beats-positive (A m) width in
     known-kept asked' c s' f well
     (λ n. ap (held n) past ∙ held-whole n (A m) t none some ∙ known.held_is n ∙ sym (event.held n))
     (λ n. ap (pending (AcquireOf n)) past ∙ pending-whole (AcquireOf n) (A m) t none some
-    ∙ ap (λ (b : Bool). cond (is_acquire m.opcode && (block_at m.address == n)) true b) (known.acquires n) ∙ sym (event.acquiring n))
-    (λ n. ap (pending (ReleaseOf n)) past ∙ pending-whole (ReleaseOf n) (A m) t none some ∙ known.releases n ∙ ap not (sym (event.letting n)))
+    ∙ ap (λ (b : Bool). cond (is_acquire m.opcode && (block_at m.address == n)) true b) (known.acquires n) ∙ sym
+    (event.acquiring n))
+    (λ n. ap (pending (ReleaseOf n)) past ∙ pending-whole (ReleaseOf n) (A m) t none some ∙ known.releases n ∙ ap not
+    (sym (event.letting n)))
     (λ source. ap (open_beat source) past ∙ open_beat-a source m t width none
-    ∙ ap (λ (o : Option (BeatA w)). cond (m.source == source) (Some (a_beat_of m 0)) o) (known.opens source) ∙ sym (event.asks source))
+    ∙ ap (λ (o : Option (BeatA w)). cond (m.source == source) (Some (a_beat_of m 0)) o) (known.opens source) ∙ sym
+    (event.asks source))
 
 some_cond : {X : Type 0} (b : Bool) (x : X) (o : Option X) → is_some (cond b (Some x) o) ≡ cond b true (is_some o)
 some_cond true x o = refl
 some_cond false x o = refl
 
-pub opened-requested : {w : ℕ} (c : ℕ) (m : MessageA w) (asked asked' : ℕ → Option (BeatA w)) (s s' : State (List ℕ)) (t : History w) → IsWidth w → unfinished channel.A t ≡ []
+pub opened-requested : {w : ℕ} (c : ℕ) (m : MessageA w) (asked asked' : ℕ → Option (BeatA w)) (s s' : State (List ℕ))
+    (t : History w) → IsWidth w → unfinished channel.A t ≡ []
     → IsRequested c m asked asked' s s' → OpenSourceRelation asked c s t → OpenSourceRelation asked' c s' (sent (A m) t)
 opened-requested {w} c m asked asked' s s' t width none event open_ =
     let some = beats-positive (A m) width in
     record {
-      requests = λ source. pending-whole (RequestSource source) (A m) t none some ∙ ap (λ (b : Bool). cond (m.source == source) true b) (open_.requests source)
+      requests = λ source. pending-whole (RequestSource source) (A m) t none some ∙ ap
+          (λ (b : Bool). cond (m.source == source) true b) (open_.requests source)
           ∙ sym (some_cond (m.source == source) (a_beat_of m 0) (asked source)) ∙ sym (ap is_some (event.asks source));
-      releases = λ source. pending-whole (ReleaseSource source) (A m) t none some ∙ open_.releases source ∙ sym (ap is_some (event.lets source));
-      released = λ source n is. ap (option_map (λ x. block_at x.address)) (release_of-whole source (A m) t none some) ∙ open_.released source n (sym (event.lets source) ∙ is);
-      sizes = λ source n is. ap (option_map (λ x. x.size)) (release_of-whole source (A m) t none some) ∙ open_.sizes source n (sym (event.lets source) ∙ is);
+      releases = λ source. pending-whole (ReleaseSource source) (A m) t none some ∙ open_.releases source ∙ sym
+          (ap is_some (event.lets source));
+      released = λ source n is. ap (option_map (λ x. block_at x.address)) (release_of-whole source (A m) t none some)
+          ∙ open_.released source n (sym (event.lets source) ∙ is);
+      sizes = λ source n is. ap (option_map (λ x. x.size)) (release_of-whole source (A m) t none some) ∙ open_.sizes
+          source n (sym (event.lets source) ∙ is);
     }
 
 -- ---- a Release
 
 -- what the protocol says of client c's end after this Release of block i was handed out, which leaves p of it
-pub record IsReleased {w : ℕ} (c i : ℕ) (m : MessageC w) (p : Perm) (asked asked' : ℕ → Option (BeatA w)) (s s' : State (List ℕ)) : Type 0 where
+pub record IsReleased {w : ℕ} (c i : ℕ) (m : MessageC w) (p : Perm) (asked asked' : ℕ → Option (BeatA w))
+    (s s' : State (List ℕ)) : Type 0 where
   pub releases : is_release m.opcode ≡ true
   pub of_block : block_at m.address ≡ i
   pub whole : m.size ≡ 6
   pub held : (n : ℕ) → ((s'.block n).pair c).held ≡ cond (n == i) p ((s.block n).pair c).held
-  pub letting : (n : ℕ) → not (is_unreleased ((s'.block n).pair c).letting) ≡ cond (i == n) true (not (is_unreleased ((s.block n).pair c).letting))
+  pub letting : (n : ℕ) → not (is_unreleased ((s'.block n).pair c).letting) ≡ cond (i == n) true
+      (not (is_unreleased ((s.block n).pair c).letting))
   pub lets : (source : ℕ) → s'.lets c source ≡ cond (m.source == source) (Some i) (s.lets c source)
   pub acquiring : (n : ℕ) → is_wanting ((s'.block n).pair c).acquiring ≡ is_wanting ((s.block n).pair c).acquiring
   pub asks : (source : ℕ) → asked' source ≡ asked source
 
-pub known-released : {w : ℕ} (c i : ℕ) (m : MessageC w) (p : Perm) (asked asked' : ℕ → Option (BeatA w)) (s s' : State (List ℕ)) (t : History w) (f : Endpoint w) → IsWidth w → f.past ≡ sent (C m) t
+pub known-released : {w : ℕ} (c i : ℕ) (m : MessageC w) (p : Perm) (asked asked' : ℕ → Option (BeatA w))
+    (s s' : State (List ℕ)) (t : History w) (f : Endpoint w) → IsWidth w → f.past ≡ sent (C m) t
     → unfinished channel.C t ≡ [] → ((n : ℕ) → held n (sent (C m) t) ≡ cond (n == i) p (held n t))
-    → IsWellKept f → IsReleased c i m p asked asked' s s' → ClientRelation asked (unfinished channel.D t) c s t → ClientRelation asked' (unfinished channel.D f.past) c s' f.past
+    → IsWellKept f → IsReleased c i m p asked asked' s s' → ClientRelation asked (unfinished channel.D t) c s t
+    → ClientRelation asked' (unfinished channel.D f.past) c s' f.past
 known-released {w} c i m p asked asked' s s' t f width past none left well event known =
     let some = beats-positive (C m) width in
     known-kept asked' c s' f well
     (λ n. ap (held n) past ∙ left n ∙ ap (λ (q : Perm). cond (n == i) p q) (known.held_is n) ∙ sym (event.held n))
-    (λ n. ap (pending (AcquireOf n)) past ∙ pending-whole (AcquireOf n) (C m) t none some ∙ known.acquires n ∙ sym (event.acquiring n))
-    (λ n. ap (pending (ReleaseOf n)) past ∙ pending-whole (ReleaseOf n) (C m) t none some ∙ opens n ∙ ap (λ (b : Bool). cond (i == n) true b) (known.releases n) ∙ sym (event.letting n))
-    (λ source. ap (open_beat source) past ∙ open_beat-c source m t width none ∙ known.opens source ∙ sym (event.asks source))
+    (λ n. ap (pending (AcquireOf n)) past ∙ pending-whole (AcquireOf n) (C m) t none some ∙ known.acquires n ∙ sym
+    (event.acquiring n))
+    (λ n. ap (pending (ReleaseOf n)) past ∙ pending-whole (ReleaseOf n) (C m) t none some ∙ opens n ∙ ap
+    (λ (b : Bool). cond (i == n) true b) (known.releases n) ∙ sym (event.letting n))
+    (λ source. ap (open_beat source) past ∙ open_beat-c source m t width none ∙ known.opens source ∙ sym
+    (event.asks source))
   where
-    opens : (n : ℕ) → cond (is_release m.opcode && (block_at m.address == n)) true (pending (ReleaseOf n) t) ≡ cond (i == n) true (pending (ReleaseOf n) t)
+    opens : (n : ℕ) → cond (is_release m.opcode && (block_at m.address == n)) true (pending (ReleaseOf n) t) ≡ cond
+        (i == n) true (pending (ReleaseOf n) t)
     opens n = rw (event.releases, event.of_block) refl
 
-pub opened-released : {w : ℕ} (c i : ℕ) (m : MessageC w) (p : Perm) (asked asked' : ℕ → Option (BeatA w)) (s s' : State (List ℕ)) (t : History w) → IsWidth w → unfinished channel.C t ≡ []
-    → IsReleased c i m p asked asked' s s' → OpenSourceRelation asked c s t → OpenSourceRelation asked' c s' (sent (C m) t)
+pub opened-released : {w : ℕ} (c i : ℕ) (m : MessageC w) (p : Perm) (asked asked' : ℕ → Option (BeatA w))
+    (s s' : State (List ℕ)) (t : History w) → IsWidth w → unfinished channel.C t ≡ []
+    → IsReleased c i m p asked asked' s s' → OpenSourceRelation asked c s t
+    → OpenSourceRelation asked' c s' (sent (C m) t)
 opened-released {w} c i m p asked asked' s s' t width none event open_ =
     let some = beats-positive (C m) width in
     record {
-      requests = λ source. pending-whole (RequestSource source) (C m) t none some ∙ open_.requests source ∙ sym (ap is_some (event.asks source));
-      releases = λ source. pending-whole (ReleaseSource source) (C m) t none some ∙ opens source ∙ ap (λ (b : Bool). cond (m.source == source) true b) (open_.releases source)
+      requests = λ source. pending-whole (RequestSource source) (C m) t none some ∙ open_.requests source ∙ sym
+          (ap is_some (event.asks source));
+      releases = λ source. pending-whole (ReleaseSource source) (C m) t none some ∙ opens source ∙ ap
+          (λ (b : Bool). cond (m.source == source) true b) (open_.releases source)
           ∙ sym (some_cond (m.source == source) i (s.lets c source)) ∙ sym (ap is_some (event.lets source));
-      released = λ source n is. ap (option_map (λ x. block_at x.address)) (release_of-whole source (C m) t none some ∙ names source)
-          ∙ last (m.source == source) n (λ x. block_at x.address) source (sym (event.lets source) ∙ is) (λ e. event.of_block ∙ e) (open_.released source n);
+      released = λ source n is. ap (option_map (λ x. block_at x.address))
+          (release_of-whole source (C m) t none some ∙ names source)
+          ∙ last (m.source == source) n (λ x. block_at x.address) source (sym (event.lets source) ∙ is)
+          (λ e. event.of_block ∙ e) (open_.released source n);
       sizes = λ source n is. ap (option_map (λ x. x.size)) (release_of-whole source (C m) t none some ∙ names source)
           ∙ size (m.source == source) n source (sym (event.lets source) ∙ is) (open_.sizes source n);
     }
   where
-    opens : (source : ℕ) → cond (is_release m.opcode && (m.source == source)) true (pending (ReleaseSource source) t) ≡ cond (m.source == source) true (pending (ReleaseSource source) t)
+    opens : (source : ℕ) → cond (is_release m.opcode && (m.source == source)) true (pending (ReleaseSource source) t)
+        ≡ cond (m.source == source) true (pending (ReleaseSource source) t)
     opens source = rw event.releases refl
 
-    names : (source : ℕ) → cond (is_release m.opcode && (m.source == source)) (Some (c_beat_of m 0)) (release_of source t) ≡ cond (m.source == source) (Some (c_beat_of m 0)) (release_of source t)
+    names : (source : ℕ) → cond (is_release m.opcode && (m.source == source)) (Some (c_beat_of m 0))
+        (release_of source t) ≡ cond (m.source == source) (Some (c_beat_of m 0)) (release_of source t)
     names source = rw event.releases refl
 
-    last : (b : Bool) (n : ℕ) (value : BeatC w → ℕ) (source : ℕ) → cond b (Some i) (s.lets c source) ≡ Some n → (i ≡ n → value (c_beat_of m 0) ≡ n)
+    last : (b : Bool) (n : ℕ) (value : BeatC w → ℕ) (source : ℕ) → cond b (Some i) (s.lets c source) ≡ Some n
+        → (i ≡ n → value (c_beat_of m 0) ≡ n)
         → (s.lets c source ≡ Some n → option_map value (release_of source t) ≡ Some n)
         → option_map value (cond b (Some (c_beat_of m 0)) (release_of source t)) ≡ Some n
     last true n value source is here before = ap Some (here cc)
     last false n value source is here before = before is
 
-    size : (b : Bool) (n source : ℕ) → cond b (Some i) (s.lets c source) ≡ Some n → (s.lets c source ≡ Some n → option_map (λ (x : BeatC w). x.size) (release_of source t) ≡ Some 6)
+    size : (b : Bool) (n source : ℕ) → cond b (Some i) (s.lets c source) ≡ Some n
+        → (s.lets c source ≡ Some n → option_map (λ (x : BeatC w). x.size) (release_of source t) ≡ Some 6)
         → option_map (λ (x : BeatC w). x.size) (cond b (Some (c_beat_of m 0)) (release_of source t)) ≡ Some 6
     size true n source is before = ap Some event.whole
     size false n source is before = before is

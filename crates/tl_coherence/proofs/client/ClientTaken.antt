@@ -1,47 +1,37 @@
 -- A client's end after it has taken a beat of channel D, beside the event of the protocol.
-use Rattle.std.proofs.Common.{◌≡◌, subst, ℕ, Bool, true, false, not, ◌&&◌, cond, List, ◌∷◌, Option, Some, None, refl, sym, ◌∙◌, ap, ◌⊎◌, inl, inr}
+use Rattle.tl_coherence.proofs.client.Imports.{IsWidth, BeatA, BeatD, OpD, a_beat_of, History, Cap, Grow, Perm, sent}
+use Rattle.tl_coherence.proofs.client.Imports.{block_at, ends, is_grant, is_release_ack, request_of, same_perm, Finish}
+use Rattle.tl_coherence.proofs.client.Imports.{Endpoint, with_past, sending, ended, responded, open_beat, acquisition}
+use Rattle.tl_coherence.proofs.client.Imports.{same_block, grant_opcode, acquire_opcode, ClientBlock, AcquireOpen}
+use Rattle.tl_coherence.proofs.client.Imports.{is_unreleased, after_release_ack, Block, State, SourceFree, Acquires}
+use Rattle.tl_coherence.proofs.client.Imports.{is_wanting, taken_block, grant_taken, let_go_block, AccessMessages}
+use Rattle.tl_coherence.proofs.client.Imports.{Packet, asked_by, is_storing}
+use Rattle.std.proofs.Common.{◌≡◌, subst, ℕ, Bool, true, false, not, ◌&&◌, cond, List, ◌∷◌, Option, Some, None, refl}
+use Rattle.std.proofs.Common.{sym, ◌∙◌, ap, ◌⊎◌, inl, inr}
 use Rattle.std.specs.Prelude.{◌==◌, ◌*◌}
 use Rattle.std.proofs.lemmas.Bool.{cases_eq, eqb-true, ne_eqb}
 use Rattle.std.proofs.Math.Bool.{and-false}
-use Rattle.tl_beat.specs.statement.Width.{IsWidth}
 use Rattle.tl_beat.specs.declared.beat.Beat.TheVariants as beat
-use Rattle.tl_beat.specs.declared.beat.BeatA.{BeatA}
-use Rattle.tl_beat.specs.declared.beat.BeatD.{BeatD}
-use Rattle.tl_beat.specs.declared.opcode.OpD.{OpD}
 use Rattle.tl_burst.specs.declared.message.Message.TheVariants.{E}
-use Rattle.tl_burst.specs.statement.Burst.{a_beat_of}
-use Rattle.tl_burst.specs.statement.Messages.{History}
-use Rattle.tl_params.specs.declared.param.Cap.{Cap}
-use Rattle.tl_params.specs.declared.param.Grow.{Grow}
-use Rattle.tl_params.specs.declared.perm.Perm.{Perm}
 use Rattle.tl_params.specs.declared.perm.Perm.TheVariants as perm
 use Rattle.tl_params.specs.statement.Param.{cap_code, cap_right}
-use Rattle.tl_rules.specs.statement.Admission.{sent}
-use Rattle.tl_rules.specs.statement.History.{block_at, ends, capped, is_grant, is_release_ack, request_of}
-use Rattle.tl_rules.specs.statement.Conformance.{same_perm}
+use Rattle.tl_rules.specs.statement.History.{capped}
 use Rattle.tl_client.specs.laws.After.{copy_granted, waiting_granted}
-use Rattle.tl_client.specs.declared.verdict.Finish.{Finish}
-use Rattle.tl_client.specs.statement.Endpoint.{Endpoint, with_past, sending}
 use Rattle.tl_client.specs.statement.EndpointInvariant.{is_acquire_beat, is_acquire_perm}
-use Rattle.tl_client.specs.statement.Offer.{address_asked, finish_of, granted, ended, responded}
-use Rattle.tl_client.specs.statement.Requests.{open_beat}
-use Rattle.tl_client.specs.statement.Send.{acquisition, grant_ack}
+use Rattle.tl_client.specs.statement.Offer.{address_asked, finish_of, granted}
+use Rattle.tl_client.specs.statement.Send.{grant_ack}
 use Rattle.tl_client.proofs.AfterOffered.{granted_is}
-use Rattle.tl_client.proofs.HeldAfter.{same_block, swapped}
-use Rattle.tl_manager.specs.statement.Handing.{grant_opcode}
+use Rattle.tl_client.proofs.HeldAfter.{swapped}
 use Rattle.tl_manager.proofs.Recording.{cap-gives}
-use Rattle.tl_coherence.specs.refinement.AbstractStep.{acquire_opcode}
-use Rattle.tl_coherence.specs.protocol.Phase.{ClientBlock, AcquireOpen, is_unreleased}
-use Rattle.tl_coherence.specs.protocol.PhaseSteps.{after_grant, after_release_ack}
-use Rattle.tl_coherence.specs.protocol.Protocol.{Block, State, SourceFree, Acquires, is_wanting, answer_taken, granted_copy, taken_block, grant_taken, let_go_block, release_ack_taken}
-use Rattle.tl_coherence.specs.refinement.PacketMessages.{AccessMessages}
-use Rattle.tl_coherence.specs.protocol.Packet.{Packet}
-use Rattle.tl_coherence.specs.refinement.SimulationRelation.{asked_by, is_storing}
+use Rattle.tl_coherence.specs.protocol.PhaseSteps.{after_grant}
+use Rattle.tl_coherence.specs.protocol.Protocol.{answer_taken, granted_copy, release_ack_taken}
 use Rattle.tl_coherence.specs.protocol.Invariant.{acquires_of, AreNamed}
 use Rattle.tl_coherence.proofs.client.Aside.{set_at-else}
 use Rattle.tl_coherence.proofs.client.ClientAsked.{chosen, passed}
-use Rattle.tl_coherence.proofs.client.ClientEnd.{IsWellKept, IsEnd, asks-same, asks-closed, asks-acquire, open-is, column}
-use Rattle.tl_coherence.proofs.client.ClientDeliverD.{IsHeard, IsEcho, echo-none, echo-e, known-heard, opened-heard, heard-part, answer_closes, ack_closes, grant_closes}
+use Rattle.tl_coherence.proofs.client.ClientEnd.{IsWellKept, IsEnd, asks-same, asks-closed, asks-acquire, open-is}
+use Rattle.tl_coherence.proofs.client.ClientEnd.{column}
+use Rattle.tl_coherence.proofs.client.ClientDeliverD.{IsHeard, IsEcho, echo-none, echo-e, known-heard, opened-heard}
+use Rattle.tl_coherence.proofs.client.ClientDeliverD.{heard-part, answer_closes, ack_closes, grant_closes}
 use Rattle.tl_coherence.proofs.queues.Phases.{and_right}
 use Rattle.tl_coherence.proofs.queues.Tokens.{same_number, set-same, set-other, set-part, set_at-same}
 use Rattle.tl_coherence.proofs.queues.Codes.{acquires-so}
@@ -49,14 +39,18 @@ use Rattle.tl_manager.proofs.Performed.{grants_by_opcode}
 
 -- ---- a beat that isn't the last of its message
 
-pub end-part : {w : ℕ} (asked : ℕ → Option (BeatA w)) (c : ℕ) (x : BeatD w) (s : State (List ℕ)) (e f : Endpoint w) → f ≡ with_past (beat.D x ∷ e.past) e → ends (beat.D x) e.past ≡ false → IsWellKept f
+pub end-part : {w : ℕ} (asked : ℕ → Option (BeatA w)) (c : ℕ) (x : BeatD w) (s : State (List ℕ)) (e f : Endpoint w)
+    → f ≡ with_past (beat.D x ∷ e.past) e → ends (beat.D x) e.past ≡ false → IsWellKept f
     → IsEnd asked c s e → IsEnd asked c s f
 end-part {w} asked c x s e f is more well end =
     let event = heard-part c x e.past perm.None asked s more in
-    let echo : IsEcho x e.past f.past = subst (IsEcho x e.past) (sym (ap (λ (g : Endpoint w). g.past) is)) (echo-none x e.past) in
+    let echo : IsEcho x e.past f.past = subst (IsEcho x e.past) (sym (ap (λ (g : Endpoint w). g.past) is))
+    (echo-none x e.past) in
     record {
-      known = known-heard c x e.past perm.None (λ k. false) (λ k. false) (λ k. false) (λ k. false) asked asked s s f echo well event end.known;
-      opened = opened-heard c x e.past f.past perm.None (λ k. false) (λ k. false) (λ k. false) (λ k. false) asked asked s s echo event end.opened;
+      known = known-heard c x e.past perm.None (λ k. false) (λ k. false) (λ k. false) (λ k. false) asked asked s s f
+          echo well event end.known;
+      opened = opened-heard c x e.past f.past perm.None (λ k. false) (λ k. false) (λ k. false) (λ k. false) asked asked
+          s s echo event end.opened;
       kept = well.kept;
       accounted = well.accounted;
       copies = λ n some. ap (λ (g : Endpoint w). g.copies n) is ∙ end.copies n some;
@@ -66,12 +60,15 @@ end-part {w} asked c x s e f is more well end =
 
 -- ---- the answer to an access
 
-pub end-answer_taken : {w : ℕ} (c source : ℕ) (x : BeatD w) (rest : List Packet) (mail : AccessMessages w) (s : State (List ℕ)) (e f : Endpoint w) → f ≡ with_past (beat.D x ∷ e.past) e → ends (beat.D x) e.past ≡ true
-    → is_grant x.opcode ≡ false → is_release_ack x.opcode ≡ false → x.source ≡ source → IsWellKept f → IsEnd (asked_by mail s c) c s e
+pub end-answer_taken : {w : ℕ} (c source : ℕ) (x : BeatD w) (rest : List Packet) (mail : AccessMessages w)
+    (s : State (List ℕ)) (e f : Endpoint w) → f ≡ with_past (beat.D x ∷ e.past) e → ends (beat.D x) e.past ≡ true
+    → is_grant x.opcode ≡ false → is_release_ack x.opcode ≡ false → x.source ≡ source → IsWellKept f
+    → IsEnd (asked_by mail s c) c s e
     → IsEnd (asked_by mail (answer_taken c source rest s) c) c (answer_taken c source rest s) f
 end-answer_taken {w} c source x rest mail s e f is last plain other from well end =
     let closes = answer_closes x e.past last plain other in
-    let event : IsHeard c x e.past perm.None (λ k. false) (λ k. false) (λ i. x.source == i) (λ k. false) (asked_by mail s c) (asked_by mail s' c) s s' = record {
+    let event : IsHeard c x e.past perm.None (λ k. false) (λ k. false) (λ i. x.source == i) (λ k. false)
+    (asked_by mail s c) (asked_by mail s' c) s s' = record {
       grants_is = closes.0;
       gives = λ k g. absurd cc;
       releases_is = closes.1;
@@ -83,10 +80,13 @@ end-answer_taken {w} c source x rest mail s e f is last plain other from well en
       lets = λ i. refl;
       asks = λ i. asks_now i (cases_eq i source);
     } in
-    let echo : IsEcho x e.past f.past = subst (IsEcho x e.past) (sym (ap (λ (g : Endpoint w). g.past) is)) (echo-none x e.past) in
+    let echo : IsEcho x e.past f.past = subst (IsEcho x e.past) (sym (ap (λ (g : Endpoint w). g.past) is))
+    (echo-none x e.past) in
     record {
-      known = known-heard c x e.past perm.None (λ k. false) (λ k. false) (λ i. x.source == i) (λ k. false) (asked_by mail s c) (asked_by mail s' c) s s' f echo well event end.known;
-      opened = opened-heard c x e.past f.past perm.None (λ k. false) (λ k. false) (λ i. x.source == i) (λ k. false) (asked_by mail s c) (asked_by mail s' c) s s' echo event end.opened;
+      known = known-heard c x e.past perm.None (λ k. false) (λ k. false) (λ i. x.source == i) (λ k. false)
+          (asked_by mail s c) (asked_by mail s' c) s s' f echo well event end.known;
+      opened = opened-heard c x e.past f.past perm.None (λ k. false) (λ k. false) (λ i. x.source == i) (λ k. false)
+          (asked_by mail s c) (asked_by mail s' c) s s' echo event end.opened;
       kept = well.kept;
       accounted = well.accounted;
       copies = λ n some. ap (λ (g : Endpoint w). g.copies n) is ∙ end.copies n some;
@@ -97,46 +97,61 @@ end-answer_taken {w} c source x rest mail s e f is last plain other from well en
     s' : State (List ℕ)
     s' = answer_taken c source rest s
 
-    asks_now : (i : ℕ) → (i ≡ source) ⊎ (i ≡ source → ⊥) → asked_by mail s' c i ≡ cond (x.source == i) None (asked_by mail s c i)
+    asks_now : (i : ℕ) → (i ≡ source) ⊎ (i ≡ source → ⊥) → asked_by mail s' c i ≡ cond (x.source == i) None
+        (asked_by mail s c i)
     asks_now i (inl same) = asks-closed c i mail s' (ap (s'.uses c) same ∙ set_at-same c source SourceFree s.uses)
         ∙ sym (chosen (x.source == i) None (asked_by mail s c i) (rw (from, same) (same_number source)))
-    asks_now i (inr ne) = asks-same c i mail mail s s' refl (inl (set_at-else c source i SourceFree s.uses ne c)) (λ n used. refl) (λ n used. refl)
+    asks_now i (inr ne) = asks-same c i mail mail s s' refl (inl (set_at-else c source i SourceFree s.uses ne c))
+        (λ n used. refl) (λ n used. refl)
         ∙ sym (passed (x.source == i) None (asked_by mail s c i) (rw from (ne_eqb source i (λ g. ne (sym g)))))
 
 -- ---- a ReleaseAck
 
-pub end-release_ack_taken : {w : ℕ} (c n : ℕ) (x : BeatD w) (rest : List Packet) (mail : AccessMessages w) (s : State (List ℕ)) (e f : Endpoint w) → f ≡ with_past (beat.D x ∷ e.past) e → ends (beat.D x) e.past ≡ true
-    → is_grant x.opcode ≡ false → is_release_ack x.opcode ≡ true → x.source ≡ (s.block n).release_source c → s.lets c x.source ≡ Some n → IsWellKept f → IsEnd (asked_by mail s c) c s e
+pub end-release_ack_taken : {w : ℕ} (c n : ℕ) (x : BeatD w) (rest : List Packet) (mail : AccessMessages w)
+    (s : State (List ℕ)) (e f : Endpoint w) → f ≡ with_past (beat.D x ∷ e.past) e → ends (beat.D x) e.past ≡ true
+    → is_grant x.opcode ≡ false → is_release_ack x.opcode ≡ true → x.source ≡ (s.block n).release_source c
+    → s.lets c x.source ≡ Some n → IsWellKept f → IsEnd (asked_by mail s c) c s e
     → IsEnd (asked_by mail (release_ack_taken c n rest s) c) c (release_ack_taken c n rest s) f
 end-release_ack_taken {w} c n x rest mail s e f is last plain acks from let_ well end =
     let closes = ack_closes n x e.past last plain acks (end.opened.released x.source n let_) in
-    let event : IsHeard c x e.past perm.None (λ k. false) (λ k. n == k) (λ i. false) (λ i. x.source == i) (asked_by mail s c) (asked_by mail s' c) s s' = record {
+    let event : IsHeard c x e.past perm.None (λ k. false) (λ k. n == k) (λ i. false) (λ i. x.source == i)
+    (asked_by mail s c) (asked_by mail s' c) s s' = record {
       grants_is = closes.0;
       gives = λ k g. absurd cc;
       releases_is = closes.1;
       source_is = closes.2;
       let_is = closes.3;
-      held = λ k. set-part (λ (b : Block (List ℕ)). (b.pair c).held) n new s.block (ap (λ (q : ClientBlock). q.held) pair_is) k;
-      acquiring = λ k. set-part (λ (b : Block (List ℕ)). is_wanting (b.pair c).acquiring) n new s.block (ap (λ (q : ClientBlock). is_wanting q.acquiring) pair_is) k;
+      held = λ k. set-part (λ (b : Block (List ℕ)). (b.pair c).held) n new s.block
+          (ap (λ (q : ClientBlock). q.held) pair_is) k;
+      acquiring = λ k. set-part (λ (b : Block (List ℕ)). is_wanting (b.pair c).acquiring) n new s.block
+          (ap (λ (q : ClientBlock). is_wanting q.acquiring) pair_is) k;
       letting = λ k. column (λ (b : Block (List ℕ)). not (is_unreleased (b.pair c).letting)) n new s.block k
-          ∙ ap (λ (z : Bool). cond (k == n) z (not (is_unreleased ((s.block k).pair c).letting))) (ap (λ (q : ClientBlock). not (is_unreleased q.letting)) pair_is)
+          ∙ ap (λ (z : Bool). cond (k == n) z (not (is_unreleased ((s.block k).pair c).letting)))
+          (ap (λ (q : ClientBlock). not (is_unreleased q.letting)) pair_is)
           ∙ ap (λ (z : Bool). cond z false (not (is_unreleased ((s.block k).pair c).letting))) (swapped k n);
       lets = λ i. lets_now i (cases_eq i ((s.block n).release_source c));
       asks = λ i. asks-same c i mail mail s s' refl (inl refl)
-          (λ j used. set-part (λ (b : Block (List ℕ)). (b.pair c).acquiring) n new s.block (ap (λ (q : ClientBlock). q.acquiring) pair_is) j)
+          (λ j used. set-part (λ (b : Block (List ℕ)). (b.pair c).acquiring) n new s.block
+          (ap (λ (q : ClientBlock). q.acquiring) pair_is) j)
           (λ j used. set-part (λ (b : Block (List ℕ)). b.source c) n new s.block refl j);
     } in
-    let echo : IsEcho x e.past f.past = subst (IsEcho x e.past) (sym (ap (λ (g : Endpoint w). g.past) is)) (echo-none x e.past) in
+    let echo : IsEcho x e.past f.past = subst (IsEcho x e.past) (sym (ap (λ (g : Endpoint w). g.past) is))
+    (echo-none x e.past) in
     record {
-      known = known-heard c x e.past perm.None (λ k. false) (λ k. n == k) (λ i. false) (λ i. x.source == i) (asked_by mail s c) (asked_by mail s' c) s s' f echo well event end.known;
-      opened = opened-heard c x e.past f.past perm.None (λ k. false) (λ k. n == k) (λ i. false) (λ i. x.source == i) (asked_by mail s c) (asked_by mail s' c) s s' echo event end.opened;
+      known = known-heard c x e.past perm.None (λ k. false) (λ k. n == k) (λ i. false) (λ i. x.source == i)
+          (asked_by mail s c) (asked_by mail s' c) s s' f echo well event end.known;
+      opened = opened-heard c x e.past f.past perm.None (λ k. false) (λ k. n == k) (λ i. false) (λ i. x.source == i)
+          (asked_by mail s c) (asked_by mail s' c) s s' echo event end.opened;
       kept = well.kept;
       accounted = well.accounted;
       copies = λ k some. ap (λ (g : Endpoint w). g.copies k) is
-          ∙ end.copies k (sym (ap (λ (q : Perm). same_perm q perm.None) (set-part (λ (b : Block (List ℕ)). (b.pair c).held) n new s.block (ap (λ (q : ClientBlock). q.held) pair_is) k)) ∙ some)
+          ∙ end.copies k (sym (ap (λ (q : Perm). same_perm q perm.None)
+          (set-part (λ (b : Block (List ℕ)). (b.pair c).held) n new s.block
+          (ap (λ (q : ClientBlock). q.held) pair_is) k)) ∙ some)
           ∙ ap Some (sym (set-part (λ (b : Block (List ℕ)). b.copy c) n new s.block refl k));
       waiting = λ k storing. ap (λ (g : Endpoint w). g.waiting k) is
-          ∙ end.waiting k (sym (set-part (λ (b : Block (List ℕ)). is_storing (b.pair c).acquiring) n new s.block (ap (λ (q : ClientBlock). is_storing q.acquiring) pair_is) k) ∙ storing)
+          ∙ end.waiting k (sym (set-part (λ (b : Block (List ℕ)). is_storing (b.pair c).acquiring) n new s.block
+          (ap (λ (q : ClientBlock). is_storing q.acquiring) pair_is) k) ∙ storing)
           ∙ ap Some (sym (set-part (λ (b : Block (List ℕ)). b.waiting c) n new s.block refl k));
       live = ap (λ (g : Endpoint w). g.closed) is ∙ end.live;
     }
@@ -150,16 +165,19 @@ end-release_ack_taken {w} c n x rest mail s e f is last plain acks from let_ wel
     pair_is : new.pair c ≡ after_release_ack ((s.block n).pair c)
     pair_is = set-same c (after_release_ack ((s.block n).pair c)) (s.block n).pair
 
-    lets_now : (i : ℕ) → (i ≡ (s.block n).release_source c) ⊎ (i ≡ (s.block n).release_source c → ⊥) → s'.lets c i ≡ cond (x.source == i) None (s.lets c i)
+    lets_now : (i : ℕ) → (i ≡ (s.block n).release_source c) ⊎ (i ≡ (s.block n).release_source c → ⊥)
+        → s'.lets c i ≡ cond (x.source == i) None (s.lets c i)
     lets_now i (inl same) = ap (s'.lets c) same ∙ set_at-same c ((s.block n).release_source c) None s.lets
         ∙ sym (chosen (x.source == i) None (s.lets c i) (rw (from, same) (same_number ((s.block n).release_source c))))
     lets_now i (inr ne) = set_at-else c ((s.block n).release_source c) i None s.lets ne c
-        ∙ sym (passed (x.source == i) None (s.lets c i) (rw from (ne_eqb ((s.block n).release_source c) i (λ g. ne (sym g)))))
+        ∙ sym (passed (x.source == i) None (s.lets c i)
+        (rw from (ne_eqb ((s.block n).release_source c) i (λ g. ne (sym g)))))
 
 -- ---- a Grant
 
 -- the beat is the last of the Grant of the block that the protocol has under way, with these bytes
-pub record IsGrantOf {w : ℕ} (c n : ℕ) (whole data_too : Bool) (g : Grow) (k : Cap) (x : BeatD w) (payload : List ℕ) (s : State (List ℕ)) : Type 0 where
+pub record IsGrantOf {w : ℕ} (c n : ℕ) (whole data_too : Bool) (g : Grow) (k : Cap) (x : BeatD w) (payload : List ℕ)
+    (s : State (List ℕ)) : Type 0 where
   pub opcode : x.opcode ≡ grant_opcode data_too
   pub from : x.source ≡ (s.block n).source c
   pub param : x.param ≡ cap_code k
@@ -170,66 +188,89 @@ pub record IsGrantOf {w : ℕ} (c n : ℕ) (whole data_too : Bool) (g : Grow) (k
   pub bytes : data_too ≡ true → payload ≡ (s.block n).truth
 
 -- what the client does at the last beat of a Grant
-record IsGrantTaken {w : ℕ} (data_too : Bool) (x : BeatD w) (r : BeatA w) (payload : List ℕ) (e f : Endpoint w) : Type 0 where
-  past_is : f.past ≡ sent (E (record { sink = x.sink })) (beat.D x ∷ e.past)
-  same_closed : f.closed ≡ e.closed
-  new_copies : (k : ℕ) → f.copies k ≡ copy_granted (grant_opcode data_too) (Some r) payload k e
-  new_waiting : (k : ℕ) → f.waiting k ≡ waiting_granted (grant_opcode data_too) (Some r) k (e.waiting k)
+record IsGrantTaken {w : ℕ} (data_too : Bool) (x : BeatD w) (r : BeatA w) (payload : List ℕ) (e f : Endpoint w) : Type 0
+  where
+    past_is : f.past ≡ sent (E (record { sink = x.sink })) (beat.D x ∷ e.past)
+    same_closed : f.closed ≡ e.closed
+    new_copies : (k : ℕ) → f.copies k ≡ copy_granted (grant_opcode data_too) (Some r) payload k e
+    new_waiting : (k : ℕ) → f.waiting k ≡ waiting_granted (grant_opcode data_too) (Some r) k (e.waiting k)
 
-ended_end : {w : ℕ} (o : OpD) (data_too : Bool) (x : BeatD w) (finish : Finish) (g : Endpoint w) → o ≡ grant_opcode data_too → (ended o x finish g).after ≡ sending (grant_ack x.sink) g
+ended_end : {w : ℕ} (o : OpD) (data_too : Bool) (x : BeatD w) (finish : Finish) (g : Endpoint w)
+    → o ≡ grant_opcode data_too → (ended o x finish g).after ≡ sending (grant_ack x.sink) g
 ended_end o true x finish g e = rw e refl
 ended_end o false x finish g e = rw e refl
 
 same_copy : {w : ℕ} (data_too : Bool) (r : BeatA w) (payload : List ℕ) (k : ℕ) (t : History w) (e : Endpoint w)
-    → copy_granted (grant_opcode data_too) (Some r) payload k (with_past t e) ≡ copy_granted (grant_opcode data_too) (Some r) payload k e
+    → copy_granted (grant_opcode data_too) (Some r) payload k (with_past t e) ≡ copy_granted (grant_opcode data_too)
+    (Some r) payload k e
 same_copy true r payload k t e = refl
 same_copy false r payload k t e = refl
 
-grant_end : {w : ℕ} (data_too : Bool) (x : BeatD w) (r : BeatA w) (payload : List ℕ) (e f : Endpoint w) → x.opcode ≡ grant_opcode data_too
+grant_end : {w : ℕ} (data_too : Bool) (x : BeatD w) (r : BeatA w) (payload : List ℕ) (e f : Endpoint w)
+    → x.opcode ≡ grant_opcode data_too
     → f ≡ (responded x (Some r) payload e).after → IsGrantTaken data_too x r payload e f
 grant_end {w} data_too x r payload e f opcode is =
     let before : Endpoint w = with_past (beat.D x ∷ e.past) e in
     let g : Endpoint w = granted x.opcode (Some r) payload before in
     let does = granted_is x.opcode (Some r) payload before in
-    let sends : f ≡ sending (grant_ack x.sink) g = is ∙ ended_end x.opcode data_too x (finish_of w x.opcode x.param x.size (address_asked (Some r)) payload) g opcode in
+    let sends : f ≡ sending (grant_ack x.sink) g =
+    is ∙ ended_end x.opcode data_too x (finish_of w x.opcode x.param x.size (address_asked (Some r)) payload) g
+    opcode in
     record {
-      past_is = ap (λ (h : Endpoint w). h.past) sends ∙ ap (λ (t : History w). sent (E (record { sink = x.sink })) t) does.same_past;
+      past_is = ap (λ (h : Endpoint w). h.past) sends ∙ ap (λ (t : History w). sent (E (record { sink = x.sink })) t)
+          does.same_past;
       same_closed = ap (λ (h : Endpoint w). h.closed) sends ∙ does.same_closed;
-      new_copies = λ k. ap (λ (h : Endpoint w). h.copies k) sends ∙ does.new_copies k ∙ ap (λ (o : OpD). copy_granted o (Some r) payload k before) opcode
+      new_copies = λ k. ap (λ (h : Endpoint w). h.copies k) sends ∙ does.new_copies k ∙ ap
+          (λ (o : OpD). copy_granted o (Some r) payload k before) opcode
           ∙ same_copy data_too r payload k (beat.D x ∷ e.past) e;
-      new_waiting = λ k. ap (λ (h : Endpoint w). h.waiting k) sends ∙ does.new_waiting k ∙ ap (λ (o : OpD). waiting_granted o (Some r) k (e.waiting k)) opcode;
+      new_waiting = λ k. ap (λ (h : Endpoint w). h.waiting k) sends ∙ does.new_waiting k ∙ ap
+          (λ (o : OpD). waiting_granted o (Some r) k (e.waiting k)) opcode;
     }
 
-pub end-grant_taken : {w : ℕ} (c n : ℕ) (whole data_too : Bool) (g : Grow) (k : Cap) (x : BeatD w) (payload : List ℕ) (rest : List Packet) (mail : AccessMessages w)
+pub end-grant_taken : {w : ℕ} (c n : ℕ) (whole data_too : Bool) (g : Grow) (k : Cap) (x : BeatD w) (payload : List ℕ)
+    (rest : List Packet) (mail : AccessMessages w)
     (s : State (List ℕ)) (e f : Endpoint w) → IsWidth w → AreNamed s
-    → IsGrantOf c n whole data_too g k x payload s → f ≡ (responded x (request_of x.source e.past) payload e).after → ends (beat.D x) e.past ≡ true → IsWellKept f → IsEnd (asked_by mail s c) c s e
+    → IsGrantOf c n whole data_too g k x payload s → f ≡ (responded x (request_of x.source e.past) payload e).after
+    → ends (beat.D x) e.past ≡ true → IsWellKept f → IsEnd (asked_by mail s c) c s e
     → IsEnd (asked_by mail (grant_taken c n whole data_too k rest s) c) c (grant_taken c n whole data_too k rest s) f
 end-grant_taken {w} c n whole data_too g k x payload rest mail s e f width named is taken last well end =
-    let asks : asked_by mail s c x.source ≡ Some r = ap (asked_by mail s c) is.from ∙ asks-acquire c source n source whole g mail s is.used is.wants refl in
+    let asks : asked_by mail s c x.source ≡ Some r = ap (asked_by mail s c) is.from ∙ asks-acquire c source n source
+    whole g mail s is.used is.wants refl in
     let open_ : open_beat x.source e.past ≡ Some r = end.known.opens x.source ∙ asks in
-    let request : request_of x.source e.past ≡ Some r = open-is x.source e.past (ap is_acquire_beat open_ ∙ acquires-so whole) ∙ open_ in
-    let does = grant_end data_too x r payload e f is.opcode (taken ∙ ap (λ (o : Option (BeatA w)). (responded x o payload e).after) request) in
+    let request : request_of x.source e.past ≡ Some r =
+    open-is x.source e.past (ap is_acquire_beat open_ ∙ acquires-so whole) ∙ open_ in
+    let does = grant_end data_too x r payload e f is.opcode
+    (taken ∙ ap (λ (o : Option (BeatA w)). (responded x o payload e).after) request) in
     let kind = grants_by_opcode data_too in
-    let closes = grant_closes n x r e.past last (ap is_grant is.opcode ∙ kind.0) (ap is_release_ack is.opcode ∙ kind.1) request (same_block n) in
-    let event : IsHeard c x e.past (cap_right k) (λ i. n == i) (λ i. false) (λ i. x.source == i) (λ i. false) (asked_by mail s c) (asked_by mail s' c) s s' = record {
+    let closes = grant_closes n x r e.past last (ap is_grant is.opcode ∙ kind.0) (ap is_release_ack is.opcode ∙ kind.1)
+    request (same_block n) in
+    let event : IsHeard c x e.past (cap_right k) (λ i. n == i) (λ i. false) (λ i. x.source == i) (λ i. false)
+    (asked_by mail s c) (asked_by mail s' c) s s' = record {
       grants_is = closes.0;
       gives = λ i here. ap capped is.param ∙ cap-gives k;
       releases_is = closes.1;
       source_is = closes.2;
       let_is = closes.3;
-      held = λ i. column (λ (b : Block (List ℕ)). (b.pair c).held) n new s.block i ∙ ap (λ (q : Perm). cond (i == n) q ((s.block i).pair c).held) (ap (λ (q : ClientBlock). q.held) pair_is)
+      held = λ i. column (λ (b : Block (List ℕ)). (b.pair c).held) n new s.block i ∙ ap
+          (λ (q : Perm). cond (i == n) q ((s.block i).pair c).held) (ap (λ (q : ClientBlock). q.held) pair_is)
           ∙ ap (λ (z : Bool). cond z (cap_right k) ((s.block i).pair c).held) (swapped i n);
       acquiring = λ i. column (λ (b : Block (List ℕ)). is_wanting (b.pair c).acquiring) n new s.block i
-          ∙ ap (λ (z : Bool). cond (i == n) z (is_wanting ((s.block i).pair c).acquiring)) (ap (λ (q : ClientBlock). is_wanting q.acquiring) pair_is)
+          ∙ ap (λ (z : Bool). cond (i == n) z (is_wanting ((s.block i).pair c).acquiring))
+          (ap (λ (q : ClientBlock). is_wanting q.acquiring) pair_is)
           ∙ ap (λ (z : Bool). cond z false (is_wanting ((s.block i).pair c).acquiring)) (swapped i n);
-      letting = λ i. ap not (set-part (λ (b : Block (List ℕ)). is_unreleased (b.pair c).letting) n new s.block (ap (λ (q : ClientBlock). is_unreleased q.letting) pair_is) i);
+      letting = λ i. ap not (set-part (λ (b : Block (List ℕ)). is_unreleased (b.pair c).letting) n new s.block
+          (ap (λ (q : ClientBlock). is_unreleased q.letting) pair_is) i);
       lets = λ i. refl;
       asks = λ i. asks_now i (cases_eq i source);
     } in
-    let echo : IsEcho x e.past f.past = subst (IsEcho x e.past) (sym does.past_is) (echo-e x (record { sink = x.sink }) e.past width end.kept.e_whole) in
+    let echo : IsEcho x e.past f.past =
+    subst (IsEcho x e.past) (sym does.past_is) (echo-e x (record { sink = x.sink }) e.past width end.kept.e_whole)
+    in
     record {
-      known = known-heard c x e.past (cap_right k) (λ i. n == i) (λ i. false) (λ i. x.source == i) (λ i. false) (asked_by mail s c) (asked_by mail s' c) s s' f echo well event end.known;
-      opened = opened-heard c x e.past f.past (cap_right k) (λ i. n == i) (λ i. false) (λ i. x.source == i) (λ i. false) (asked_by mail s c) (asked_by mail s' c) s s' echo event end.opened;
+      known = known-heard c x e.past (cap_right k) (λ i. n == i) (λ i. false) (λ i. x.source == i) (λ i. false)
+          (asked_by mail s c) (asked_by mail s' c) s s' f echo well event end.known;
+      opened = opened-heard c x e.past f.past (cap_right k) (λ i. n == i) (λ i. false) (λ i. x.source == i) (λ i. false)
+          (asked_by mail s c) (asked_by mail s' c) s s' echo event end.opened;
       kept = well.kept;
       accounted = well.accounted;
       copies = λ i some. does.new_copies i ∙ copy_now i (cases_eq i n) some;
@@ -256,10 +297,12 @@ end-grant_taken {w} c n whole data_too g k x payload rest mail s e f width named
     apart : (i j : ℕ) → (i ≡ source → ⊥) → s.uses c i ≡ Acquires j → j ≡ n → ⊥
     apart i j ne used same =
         let one : acquires_of n (s.uses c i) ≡ true = ap (acquires_of n) (used ∙ ap Acquires same) ∙ same_number n in
-        let both : (is_wanting ((s.block n).pair c).acquiring && (i == source)) ≡ true = sym (named.acquires c i n) ∙ one in
+        let both : (is_wanting ((s.block n).pair c).acquiring && (i == source)) ≡ true =
+        sym (named.acquires c i n) ∙ one in
         ne (eqb-true i source (and_right (is_wanting ((s.block n).pair c).acquiring) (i == source) both))
 
-    asks_now : (i : ℕ) → (i ≡ source) ⊎ (i ≡ source → ⊥) → asked_by mail s' c i ≡ cond (x.source == i) None (asked_by mail s c i)
+    asks_now : (i : ℕ) → (i ≡ source) ⊎ (i ≡ source → ⊥) → asked_by mail s' c i ≡ cond (x.source == i) None
+        (asked_by mail s c i)
     asks_now i (inl same) = asks-closed c i mail s' (ap (s'.uses c) same ∙ set_at-same c source SourceFree s.uses)
         ∙ sym (chosen (x.source == i) None (asked_by mail s c i) (rw (is.from, same) (same_number source)))
     asks_now i (inr ne) = asks-same c i mail mail s s' refl (inl (set_at-else c source i SourceFree s.uses ne c))
@@ -278,40 +321,55 @@ end-grant_taken {w} c n whole data_too g k x payload rest mail s e f width named
     elsewhere i ne = rw (same_block n) (ne_eqb i n ne)
 
     copy_here : (i : ℕ) (y z : Bool) → whole ≡ y → data_too ≡ z → i ≡ n
-        → copy_granted (grant_opcode z) (Some (a_beat_of {w = w} (acquisition (acquire_opcode y) g source n) 0)) payload i e ≡ Some
+        → copy_granted (grant_opcode z) (Some (a_beat_of {w = w} (acquisition (acquire_opcode y) g source n) 0)) payload
+        i e ≡ Some
         (granted_copy y z ((s.block n).waiting c) (s.block n).truth ((s.block n).copy c))
     copy_here i true true a b same = absurd (let no : true ≡ false = sym (ap₂_and a b) ∙ is.bare in cc)
       where
         ap₂_and : {u v : Bool} → whole ≡ u → data_too ≡ v → (whole && data_too) ≡ (u && v)
         ap₂_and p q = rw (p, q) refl
     copy_here i true false a b same =
-        chosen ((i == block_at (64 * n)) && true) (e.waiting i) (e.copies i) (and_true (i == block_at (64 * n)) (here i same)) ∙ ap e.waiting same ∙ end.waiting n (ap is_storing is.wants ∙ a)
+        chosen ((i == block_at (64 * n)) && true) (e.waiting i) (e.copies i)
+        (and_true (i == block_at (64 * n)) (here i same)) ∙ ap e.waiting same ∙ end.waiting n
+        (ap is_storing is.wants ∙ a)
       where
         and_true : (u : Bool) → u ≡ true → (u && true) ≡ true
         and_true u p = rw p refl
-    copy_here i false true a b same = chosen (i == block_at (64 * n)) (Some payload) (e.copies i) (here i same) ∙ ap Some (is.bytes b)
-    copy_here i false false a b same = passed ((i == block_at (64 * n)) && false) (e.waiting i) (e.copies i) (and-false (i == block_at (64 * n))) ∙ ap e.copies same ∙ end.copies n (is.has_copy a b)
+    copy_here i false true a b same = chosen (i == block_at (64 * n)) (Some payload) (e.copies i) (here i same) ∙ ap
+        Some (is.bytes b)
+    copy_here i false false a b same = passed ((i == block_at (64 * n)) && false) (e.waiting i) (e.copies i)
+        (and-false (i == block_at (64 * n))) ∙ ap e.copies same ∙ end.copies n (is.has_copy a b)
 
     copy_else : (i : ℕ) (z : Bool) → (i ≡ n → ⊥) → copy_granted (grant_opcode z) (Some r) payload i e ≡ e.copies i
     copy_else i true ne = passed (i == block_at r.address) (Some payload) (e.copies i) (elsewhere i ne)
-    copy_else i false ne = passed ((i == block_at r.address) && is_acquire_perm r.opcode) (e.waiting i) (e.copies i) (ap (λ (u : Bool). u && is_acquire_perm r.opcode) (elsewhere i ne))
+    copy_else i false ne = passed ((i == block_at r.address) && is_acquire_perm r.opcode) (e.waiting i) (e.copies i)
+        (ap (λ (u : Bool). u && is_acquire_perm r.opcode) (elsewhere i ne))
 
-    copy_now : (i : ℕ) → (i ≡ n) ⊎ (i ≡ n → ⊥) → same_perm ((s'.block i).pair c).held perm.None ≡ false → copy_granted (grant_opcode data_too) (Some r) payload i e ≡ Some ((s'.block i).copy c)
+    copy_now : (i : ℕ) → (i ≡ n) ⊎ (i ≡ n → ⊥) → same_perm ((s'.block i).pair c).held perm.None ≡ false
+        → copy_granted (grant_opcode data_too) (Some r) payload i e ≡ Some ((s'.block i).copy c)
     copy_now i (inl same) some = copy_here i whole data_too refl refl same
         ∙ ap Some (sym (ap (λ (b : Block (List ℕ)). b.copy c) (block_now i same)
-        ∙ set-same c (granted_copy whole data_too ((s.block n).waiting c) (s.block n).truth ((s.block n).copy c)) (s.block n).copy))
+        ∙ set-same c (granted_copy whole data_too ((s.block n).waiting c) (s.block n).truth ((s.block n).copy c))
+        (s.block n).copy))
     copy_now i (inr ne) some =
         let old : s'.block i ≡ s.block i = set-other n i new s.block ne in
-        copy_else i data_too ne ∙ end.copies i (sym (ap (λ (b : Block (List ℕ)). same_perm (b.pair c).held perm.None) old) ∙ some) ∙ ap Some (sym (ap (λ (b : Block (List ℕ)). b.copy c) old))
+        copy_else i data_too ne ∙ end.copies i
+        (sym (ap (λ (b : Block (List ℕ)). same_perm (b.pair c).held perm.None) old) ∙ some) ∙ ap Some
+        (sym (ap (λ (b : Block (List ℕ)). b.copy c) old))
 
-    waiting_else : (i : ℕ) (z : Bool) → (i ≡ n → ⊥) → waiting_granted (grant_opcode z) (Some r) i (e.waiting i) ≡ e.waiting i
+    waiting_else : (i : ℕ) (z : Bool) → (i ≡ n → ⊥)
+        → waiting_granted (grant_opcode z) (Some r) i (e.waiting i) ≡ e.waiting i
     waiting_else i true ne = refl
-    waiting_else i false ne = passed ((i == block_at r.address) && is_acquire_perm r.opcode) None (e.waiting i) (ap (λ (u : Bool). u && is_acquire_perm r.opcode) (elsewhere i ne))
+    waiting_else i false ne = passed ((i == block_at r.address) && is_acquire_perm r.opcode) None (e.waiting i)
+        (ap (λ (u : Bool). u && is_acquire_perm r.opcode) (elsewhere i ne))
 
-    waiting_now : (i : ℕ) → (i ≡ n) ⊎ (i ≡ n → ⊥) → is_storing ((s'.block i).pair c).acquiring ≡ true → waiting_granted (grant_opcode data_too) (Some r) i (e.waiting i) ≡ Some ((s'.block i).waiting c)
+    waiting_now : (i : ℕ) → (i ≡ n) ⊎ (i ≡ n → ⊥) → is_storing ((s'.block i).pair c).acquiring ≡ true
+        → waiting_granted (grant_opcode data_too) (Some r) i (e.waiting i) ≡ Some ((s'.block i).waiting c)
     waiting_now i (inl same) storing = absurd (let no : false ≡ true =
         sym (ap (λ (b : Block (List ℕ)). is_storing (b.pair c).acquiring) (block_now i same)
         ∙ ap (λ (q : ClientBlock). is_storing q.acquiring) pair_is) ∙ storing in cc)
     waiting_now i (inr ne) storing =
         let old : s'.block i ≡ s.block i = set-other n i new s.block ne in
-        waiting_else i data_too ne ∙ end.waiting i (sym (ap (λ (b : Block (List ℕ)). is_storing (b.pair c).acquiring) old) ∙ storing) ∙ ap Some (sym (ap (λ (b : Block (List ℕ)). b.waiting c) old))
+        waiting_else i data_too ne ∙ end.waiting i
+        (sym (ap (λ (b : Block (List ℕ)). is_storing (b.pair c).acquiring) old) ∙ storing) ∙ ap Some
+        (sym (ap (λ (b : Block (List ℕ)). b.waiting c) old))

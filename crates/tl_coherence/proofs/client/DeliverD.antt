@@ -1,32 +1,28 @@
 -- What a client answers to the last beat of a response.
+use Rattle.tl_coherence.proofs.client.Imports.{BeatD, OpD, Message, unfinished, Rule, ends, is_grant, is_release_ack}
+use Rattle.tl_coherence.proofs.client.Imports.{request_of, Finish, Endpoint, with_past, taken, ended, responded, silent}
 use Rattle.std.proofs.Common.{◌≡◌, ℕ, Bool, true, false, cond, List, ◌∷◌, Option, Some, None, refl, sym, ◌∙◌, ap}
 use Rattle.std.specs.Prelude.{if◌then◌else◌, Result, Ok}
 use Rattle.tl_beat.specs.declared.beat.Beat.TheVariants as beat
-use Rattle.tl_beat.specs.declared.beat.BeatD.{BeatD}
 use Rattle.tl_beat.specs.declared.channel.Channel.TheVariants as channel
-use Rattle.tl_beat.specs.declared.opcode.OpD.{OpD}
 use Rattle.tl_beat.specs.declared.opcode.OpD.TheVariants as d
-use Rattle.tl_burst.specs.declared.message.Message.{Message}
-use Rattle.tl_burst.specs.statement.Messages.{unfinished}
-use Rattle.tl_params.specs.declared.rule.Rule.{Rule}
 use Rattle.tl_rules.specs.statement.Admission.{payload_of}
-use Rattle.tl_rules.specs.statement.History.{ends, is_grant, is_release_ack, request_of}
-use Rattle.tl_client.specs.declared.verdict.Finish.{Finish}
 use Rattle.tl_client.specs.declared.verdict.Verdict.{Verdict}
 use Rattle.tl_client.specs.declared.verdict.Verdict.TheVariants as verdict
-use Rattle.tl_client.specs.statement.Endpoint.{Endpoint, with_past}
-use Rattle.tl_client.specs.statement.Offer.{taken, ended, responded, silent, finish_of, address_asked}
+use Rattle.tl_client.specs.statement.Offer.{finish_of, address_asked}
 use Rattle.tl_client.specs.statement.Send.{grant_ack}
 use Rattle.tl_coherence.specs.statement.Machine.{Requests, Releases, pool_of}
 
 -- how the operation ends, and the message that is handed out
 abbrev pub finish_at : {w : ℕ} → BeatD w → Endpoint w → Finish
-finish_at {w} y e = finish_of w y.opcode y.param y.size (address_asked (request_of y.source e.past)) (payload_of (beat.D y ∷ unfinished channel.D e.past))
+finish_at {w} y e = finish_of w y.opcode y.param y.size (address_asked (request_of y.source e.past))
+    (payload_of (beat.D y ∷ unfinished channel.D e.past))
 
 abbrev pub acked : {w : ℕ} → OpD → ℕ → Option (Message w)
 acked opcode sink = if is_grant opcode then Some (grant_ack sink) else None
 
-ended_answer : {w : ℕ} (o : OpD) (y : BeatD w) (f : Finish) (e : Endpoint w) → (ended o y f e).answer ≡ Ok (verdict.Done y.source f, acked o y.sink)
+ended_answer : {w : ℕ} (o : OpD) (y : BeatD w) (f : Finish) (e : Endpoint w)
+    → (ended o y f e).answer ≡ Ok (verdict.Done y.source f, acked o y.sink)
 ended_answer d.AccessAck y f e = refl
 ended_answer d.AccessAckData y f e = refl
 ended_answer d.HintAck y f e = refl
@@ -34,14 +30,20 @@ ended_answer d.Grant y f e = refl
 ended_answer d.GrantData y f e = refl
 ended_answer d.ReleaseAck y f e = refl
 
-pub answer-last : {w : ℕ} (y : BeatD w) (e : Endpoint w) → ends (beat.D y) e.past ≡ true → (taken (beat.D y) e).answer ≡ Ok (verdict.Done y.source (finish_at y e), acked y.opcode y.sink)
+pub answer-last : {w : ℕ} (y : BeatD w) (e : Endpoint w) → ends (beat.D y) e.past ≡ true
+    → (taken (beat.D y) e).answer ≡ Ok (verdict.Done y.source (finish_at y e), acked y.opcode y.sink)
 answer-last {w} y e last =
-    ap (λ (b : Bool). (cond b (responded y (request_of y.source e.past) (payload_of (beat.D y ∷ unfinished channel.D e.past)) e) (silent verdict.Taken (with_past (beat.D y ∷ e.past) e))).answer) last
+    ap (λ (b : Bool). (cond b
+    (responded y (request_of y.source e.past) (payload_of (beat.D y ∷ unfinished channel.D e.past)) e)
+    (silent verdict.Taken (with_past (beat.D y ∷ e.past) e))).answer) last
     ∙ ended_answer y.opcode y (finish_at y e) _
 
-pub answer-part : {w : ℕ} (y : BeatD w) (e : Endpoint w) → ends (beat.D y) e.past ≡ false → (taken (beat.D y) e).answer ≡ Ok (verdict.Taken, None)
+pub answer-part : {w : ℕ} (y : BeatD w) (e : Endpoint w) → ends (beat.D y) e.past ≡ false
+    → (taken (beat.D y) e).answer ≡ Ok (verdict.Taken, None)
 answer-part {w} y e part =
-    ap (λ (b : Bool). (cond b (responded y (request_of y.source e.past) (payload_of (beat.D y ∷ unfinished channel.D e.past)) e) (silent verdict.Taken (with_past (beat.D y ∷ e.past) e))).answer) part
+    ap (λ (b : Bool). (cond b
+    (responded y (request_of y.source e.past) (payload_of (beat.D y ∷ unfinished channel.D e.past)) e)
+    (silent verdict.Taken (with_past (beat.D y ∷ e.past) e))).answer) part
 
 abbrev made : {w : ℕ} → Verdict × Option (Message w) → Result (Verdict × Option (Message w)) Rule
 made p = Ok p
@@ -49,11 +51,14 @@ made p = Ok p
 made_same : {w : ℕ} (p q : Verdict × Option (Message w)) → made p ≡ made q → p ≡ q
 made_same p q e = cc
 
-pub same_answers : {w : ℕ} (v u : Verdict) (m n : Option (Message w)) (a : Result (Verdict × Option (Message w)) Rule) → a ≡ Ok (v, m) → a ≡ Ok (u, n) → (v ≡ u) × (m ≡ n)
-same_answers {w} v u m n a e f = let same = made_same (v, m) (u, n) (sym e ∙ f) in (ap (λ (p : Verdict × Option (Message w)). p.0) same, ap (λ (p : Verdict × Option (Message w)). p.1) same)
+pub same_answers : {w : ℕ} (v u : Verdict) (m n : Option (Message w)) (a : Result (Verdict × Option (Message w)) Rule)
+    → a ≡ Ok (v, m) → a ≡ Ok (u, n) → (v ≡ u) × (m ≡ n)
+same_answers {w} v u m n a e f = let same = made_same (v, m) (u, n) (sym e ∙ f) in
+    (ap (λ (p : Verdict × Option (Message w)). p.0) same, ap (λ (p : Verdict × Option (Message w)). p.1) same)
 
 -- a response to an access or an Acquire ends a request, and a ReleaseAck a Release
-pub finish-pool : (w : ℕ) (o : OpD) (param size address : ℕ) (payload : List ℕ) → pool_of (finish_of w o param size address payload) ≡ (if is_release_ack o then Releases else Requests)
+pub finish-pool : (w : ℕ) (o : OpD) (param size address : ℕ) (payload : List ℕ)
+    → pool_of (finish_of w o param size address payload) ≡ (if is_release_ack o then Releases else Requests)
 finish-pool w d.AccessAck param size address payload = refl
 finish-pool w d.AccessAckData param size address payload = refl
 finish-pool w d.HintAck param size address payload = refl

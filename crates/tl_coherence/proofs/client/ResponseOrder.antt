@@ -1,37 +1,36 @@
 -- A response that the values of a history allow breaks no rule of order after it: at a client's end and in what is
 -- delivered alike.
+use Rattle.tl_coherence.proofs.client.Imports.{BeatA, BeatC, BeatD, OpD, History, unfinished, RequestSource}
+use Rattle.tl_coherence.proofs.client.Imports.{ReleaseSource, Profile, answers, same_perm, broken_in_order, block_at}
+use Rattle.tl_coherence.proofs.client.Imports.{held, is_grant, is_release_ack, pending, request_of, release_of}
 use Rattle.std.proofs.Common.{◌≡◌, ℕ, Bool, true, false, not, ◌&&◌, [], Option, Some, None, refl, ap}
 use Rattle.std.proofs.lemmas.Option.{same_Some}
 use Rattle.std.specs.Prelude.{◌==◌, option_map}
 use Rattle.tl_beat.specs.declared.beat.Beat.TheVariants as beat
-use Rattle.tl_beat.specs.declared.beat.BeatA.{BeatA}
-use Rattle.tl_beat.specs.declared.beat.BeatC.{BeatC}
-use Rattle.tl_beat.specs.declared.beat.BeatD.{BeatD}
 use Rattle.tl_beat.specs.declared.channel.Channel.TheVariants as channel
-use Rattle.tl_beat.specs.declared.opcode.OpD.{OpD}
 use Rattle.tl_beat.specs.declared.opcode.OpD.TheVariants as opd
 use Rattle.tl_beat.specs.statement.First.{first_if}
-use Rattle.tl_burst.specs.statement.Messages.{History, unfinished}
-use Rattle.tl_params.specs.declared.key.Key.TheVariants.{RequestSource, ReleaseSource, GrantSink, ProbeOf}
+use Rattle.tl_params.specs.declared.key.Key.TheVariants.{GrantSink, ProbeOf}
 use Rattle.tl_params.specs.declared.perm.Perm.TheVariants as perm
-use Rattle.tl_params.specs.declared.profile.Profile.{Profile}
 use Rattle.tl_params.specs.declared.rule.Rule.TheVariants.{H2, H3, H6, H7}
-use Rattle.tl_rules.specs.statement.Conformance.{answers, comes_in_request, comes_in_release, fits_grow, has_request, misgrants, same_perm, is_acquire_block}
-use Rattle.tl_rules.specs.statement.Conformance.{is_grant_without_data, size_asked, size_of_release, broken_order, broken_in_order}
-use Rattle.tl_rules.specs.statement.History.{block_at, held, is_grant, is_release_ack, pending, request_of, release_of}
+use Rattle.tl_rules.specs.statement.Conformance.{comes_in_request, comes_in_release, fits_grow, has_request, misgrants}
+use Rattle.tl_rules.specs.statement.Conformance.{is_acquire_block, is_grant_without_data, size_asked, size_of_release}
+use Rattle.tl_rules.specs.statement.Conformance.{broken_order}
 use Rattle.tl_coherence.proofs.queues.Tokens.{same_number}
 
 rules : (asked sized amiss twice : Bool) → asked ≡ true → sized ≡ true → amiss ≡ false → twice ≡ false
     → first_if (not asked) H2 (first_if (not sized) H3 (first_if amiss H6 (first_if twice H7 None))) ≡ None
 rules asked sized amiss twice e f g h = rw (e, f, g, h) refl
 
-begun : {w : ℕ} (p : Profile) (x : BeatD w) (t : History w) → unfinished channel.D t ≡ [] → has_request x t ≡ true → (x.size == size_asked x t) ≡ true
+begun : {w : ℕ} (p : Profile) (x : BeatD w) (t : History w) → unfinished channel.D t ≡ [] → has_request x t ≡ true
+    → (x.size == size_asked x t) ≡ true
     → (is_grant x.opcode && misgrants p x (request_of x.source t) t) ≡ false
     → (is_grant x.opcode && pending (GrantSink x.sink) t) ≡ false
     → broken_in_order p (beat.D x) t ≡ None
 unfolding broken_order
 begun p x t none asked sized fits once = rw none (rules (has_request x t) (x.size == size_asked x t)
-    (is_grant x.opcode && misgrants p x (request_of x.source t) t) (is_grant x.opcode && pending (GrantSink x.sink) t) asked sized fits once)
+    (is_grant x.opcode && misgrants p x (request_of x.source t) t) (is_grant x.opcode && pending (GrantSink x.sink) t)
+    asked sized fits once)
 
 -- ---- requests
 
@@ -51,15 +50,21 @@ asked_for x r t is = rw (is.other, is.live, is.complete, is.request) is.admits
 size_for : {w : ℕ} (x : BeatD w) (r : BeatA w) (t : History w) → IsResponse x r t → (x.size == size_asked x t) ≡ true
 size_for x r t is = rw (is.other, is.request, is.size) (same_number r.size)
 
-pub answer-legal : {w : ℕ} (p : Profile) (x : BeatD w) (r : BeatA w) (t : History w) → IsResponse x r t → is_grant x.opcode ≡ false → broken_in_order p (beat.D x) t ≡ None
-answer-legal p x r t is plain = begun p x t is.whole (asked_for x r t is) (size_for x r t is) (rw plain refl) (rw plain refl)
+pub answer-legal : {w : ℕ} (p : Profile) (x : BeatD w) (r : BeatA w) (t : History w) → IsResponse x r t
+    → is_grant x.opcode ≡ false → broken_in_order p (beat.D x) t ≡ None
+answer-legal p x r t is plain = begun p x t is.whole (asked_for x r t is) (size_for x r t is) (rw plain refl)
+    (rw plain refl)
 
--- a Grant of block n gives what was asked for, to a client that gets data or has a copy, and nothing of the block is probed
-pub grant-legal : {w : ℕ} (p : Profile) (n : ℕ) (x : BeatD w) (r : BeatA w) (t : History w) → IsResponse x r t → block_at r.address ≡ n → fits_grow p r.opcode r.param x.param ≡ true
+-- a Grant of block n gives what was asked for, to a client that gets data or has a copy, and nothing of the block is
+-- probed
+pub grant-legal : {w : ℕ} (p : Profile) (n : ℕ) (x : BeatD w) (r : BeatA w) (t : History w) → IsResponse x r t
+    → block_at r.address ≡ n → fits_grow p r.opcode r.param x.param ≡ true
     → (is_grant_without_data x.opcode && (is_acquire_block r.opcode && not (same_perm (held n t) perm.Branch))) ≡ false
     → pending (ProbeOf n) t ≡ false → pending (GrantSink x.sink) t ≡ false
     → broken_in_order p (beat.D x) t ≡ None
-grant-legal {w} p n x r t is block fits carried unprobed once = begun p x t is.whole (asked_for x r t is) (size_for x r t is) (never (is_grant x.opcode) grants) (never (is_grant x.opcode) once)
+grant-legal {w} p n x r t is block fits carried unprobed once =
+    begun p x t is.whole (asked_for x r t is) (size_for x r t is) (never (is_grant x.opcode) grants)
+    (never (is_grant x.opcode) once)
   where
     never : (a : Bool) {b : Bool} → b ≡ false → (a && b) ≡ false
     never true e = e
@@ -70,11 +75,13 @@ grant-legal {w} p n x r t is block fits carried unprobed once = begun p x t is.w
 
 -- ---- Releases
 
-release_size : {w : ℕ} (n : ℕ) (o : Option (BeatC w)) → option_map (λ (y : BeatC w). y.size) o ≡ Some n → size_of_release o ≡ n
+release_size : {w : ℕ} (n : ℕ) (o : Option (BeatC w)) → option_map (λ (y : BeatC w). y.size) o ≡ Some n
+    → size_of_release o ≡ n
 release_size n None e = absurd cc
 release_size n (Some y) e = same_Some y.size n e
 
-pub ack-legal : {w : ℕ} (p : Profile) (x : BeatD w) (t : History w) → unfinished channel.D t ≡ [] → comes_in_release x.source (unfinished channel.C t) ≡ false
+pub ack-legal : {w : ℕ} (p : Profile) (x : BeatD w) (t : History w) → unfinished channel.D t ≡ []
+    → comes_in_release x.source (unfinished channel.C t) ≡ false
     → x.opcode ≡ opd.ReleaseAck → pending (ReleaseSource x.source) t ≡ true
     → option_map (λ (y : BeatC w). y.size) (release_of x.source t) ≡ Some x.size
     → broken_in_order p (beat.D x) t ≡ None

@@ -1,36 +1,23 @@
 -- A GrantAck that is delivered to the manager: the channels and the one memory afterwards.
+use Rattle.tl_coherence.proofs.deliveries.Imports.{IsWidth, Beat, Link, Channel, beat_of, unfinished, completes, Config}
+use Rattle.tl_coherence.proofs.deliveries.Imports.{on_link, reaction, Deliver, is_moving, AbstractState, kind_taken}
+use Rattle.tl_coherence.proofs.deliveries.Imports.{Log, system_after, ChannelRelation, MemoryRelation, GrantTaken}
+use Rattle.tl_coherence.proofs.deliveries.Imports.{packet, is_on, shown, one_memory_after, performing}
+use Rattle.tl_coherence.proofs.deliveries.Imports.{accesses_answered, block_message, message_of_kind, stepped, System}
+use Rattle.tl_coherence.proofs.deliveries.Imports.{terms_at, with_channel, with_messages, Kind, Request, Acquire, Probe}
+use Rattle.tl_coherence.proofs.deliveries.Imports.{ProbeAck, Release, Answer, Grant, ReleaseAck, GrantAck}
+use Rattle.tl_coherence.proofs.deliveries.Imports.{SimulationRelation, is_caching}
 use Rattle.std.proofs.Common.{◌≡◌, ℕ, Bool, true, false, List, [], ◌∷◌, Some, None, refl, sym, ◌∙◌, ap, subst}
-use Rattle.tl_beat.specs.statement.Width.{IsWidth}
-use Rattle.tl_beat.specs.declared.beat.Beat.{Beat}
 use Rattle.tl_beat.specs.declared.beat.BeatE.{BeatE}
-use Rattle.tl_beat.specs.declared.beat.Link.{Link}
-use Rattle.tl_beat.specs.declared.channel.Channel.{Channel}
 use Rattle.tl_beat.specs.declared.channel.Channel.TheVariants as channel
-use Rattle.tl_burst.specs.statement.Burst.{beat_of}
-use Rattle.tl_burst.specs.statement.Messages.{unfinished}
-use Rattle.tl_burst.specs.statement.Part.{completes}
-use Rattle.tl_params.specs.declared.config.Config.{Config}
-use Rattle.tl_rules.specs.statement.Conformance.{on_link}
 use Rattle.tl_client.specs.statement.Endpoint as client
-use Rattle.tl_manager.specs.statement.Reaction.{reaction}
 use Rattle.tl_manager.proofs.Events.{reaction-ack}
-use Rattle.tl_coherence.specs.declared.event.Event.TheVariants.{Deliver}
-use Rattle.tl_coherence.specs.statement.Draining.{is_moving}
-use Rattle.tl_coherence.specs.refinement.AbstractStep.{AbstractState, kind_taken}
-use Rattle.tl_coherence.specs.statement.Log.{Log, system_after}
-use Rattle.tl_coherence.specs.refinement.ChannelRelation.{ChannelRelation}
-use Rattle.tl_coherence.specs.refinement.MemoryRelation.{MemoryRelation}
-use Rattle.tl_coherence.specs.protocol.Protocol.{GrantTaken, packet, is_on, shown, freed_block, grant_ack_taken}
-use Rattle.tl_coherence.specs.statement.OneMemory.{one_memory_after, performing, accesses_answered}
-use Rattle.tl_coherence.specs.refinement.PacketMessages.{block_message, message_of_kind}
-use Rattle.tl_coherence.specs.statement.Step.{stepped}
-use Rattle.tl_coherence.specs.statement.System.{System, terms_at, with_channel, with_messages}
-use Rattle.tl_coherence.specs.protocol.Packet.{Kind, Request, Acquire, Probe, ProbeAck, Release, Answer, Grant, ReleaseAck, GrantAck}
-use Rattle.tl_coherence.specs.refinement.SimulationRelation.{SimulationRelation, is_caching}
+use Rattle.tl_coherence.specs.protocol.Protocol.{freed_block, grant_ack_taken}
 use Rattle.tl_coherence.proofs.memory.BesideKinds.{beside_block}
 use Rattle.tl_coherence.proofs.simulation.CarriedEvents.{grant_ack_taken-carried}
 use Rattle.tl_coherence.proofs.deliveries.DeliverDWhole.{IsDelivered}
-use Rattle.tl_coherence.proofs.deliveries.ManagersAfter.{IsAtManager, at-manager, after_taken, delivered-last, delivered-part}
+use Rattle.tl_coherence.proofs.deliveries.ManagersAfter.{IsAtManager, at-manager, after_taken, delivered-last}
+use Rattle.tl_coherence.proofs.deliveries.ManagersAfter.{delivered-part}
 use Rattle.tl_coherence.proofs.manager.RequestsTaken.{next_tracker, invariant-taken}
 use Rattle.tl_coherence.proofs.queues.Tokens.{holds-first}
 use Rattle.tl_coherence.proofs.protocol.BothParts.{acknowledging-is}
@@ -46,12 +33,15 @@ ack_kind Answer e = absurd cc
 ack_kind Grant e = absurd cc
 ack_kind ReleaseAck e = absurd cc
 
-pub delivered-e : {w : ℕ} (config : Config) (log : Log w) (link : Link) (h : AbstractState w) (terms : client.EndConfig) (x : Beat w) (queue : List (Beat w)) → IsWidth w
+pub delivered-e : {w : ℕ} (config : Config) (log : Log w) (link : Link) (h : AbstractState w) (terms : client.EndConfig)
+    (x : Beat w) (queue : List (Beat w)) → IsWidth w
     → SimulationRelation config log h.mail h.request h.state (system_after config log)
     → terms_at config link.0 ≡ Some terms → (system_after config log).channels link.0 channel.E ≡ x ∷ queue
-    → is_moving (stepped config (Deliver link channel.E) (system_after config log)).outcome ≡ true → IsDelivered config log link channel.E h
+    → is_moving (stepped config (Deliver link channel.E) (system_after config log)).outcome ≡ true
+    → IsDelivered config log link channel.E h
 unfolding block_message with_messages performing accesses_answered
-delivered-e {w} config log link h terms x queue width matched known beats moving = go (completes x (unfinished channel.E (on_link link.0 sys.manager.trace))) refl
+delivered-e {w} config log link h terms x queue width matched known beats moving =
+    go (completes x (unfinished channel.E (on_link link.0 sys.manager.trace))) refl
   where
     sys : System w
     sys = system_after config log
@@ -69,33 +59,45 @@ delivered-e {w} config log link h terms x queue width matched known beats moving
     tokens = is.first.tokens ∙ ap (λ (k : Kind). packet k n ∷ is.first.rest) kind
 
     x_is : x ≡ beat_of (block_message GrantAck link.0 n (h.state.block n)) is.first.next.k
-    x_is = is.first.next.beat_is ∙ ap (λ (k : Kind). beat_of (message_of_kind k h.mail h.state link.0 n) is.first.next.k) kind
+    x_is = is.first.next.beat_is ∙ ap (λ (k : Kind). beat_of (message_of_kind k h.mail h.state link.0 n)
+        is.first.next.k) kind
 
     y : BeatE
     y = record { sink = (h.state.block n).tracker }
 
     gives : (reaction config link x sys.manager).handed ≡ []
-    gives = ap (λ (z : Beat w). (reaction config link z sys.manager).handed) x_is ∙ ap (λ d. d.handed) (reaction-ack config link y sys.manager)
+    gives = ap (λ (z : Beat w). (reaction config link z sys.manager).handed) x_is ∙ ap (λ d. d.handed)
+        (reaction-ack config link y sys.manager)
 
     sent : (h.state.block n).service ≡ GrantTaken link.0
     sent = acknowledging-is (h.state.block n).service link.0
-        (holds-first GrantAck (h.state.link link.0).e is.first.rest (packet GrantAck n) (λ i. shown GrantAck link.0 (h.state.block i)) tokens refl
+        (holds-first GrantAck (h.state.link link.0).e is.first.rest (packet GrantAck n)
+        (λ i. shown GrantAck link.0 (h.state.block i)) tokens refl
         (matched.invariant.transfers link.0 GrantAck refl))
 
-    go : (b : Bool) → completes x (unfinished channel.E (on_link link.0 sys.manager.trace)) ≡ b → IsDelivered config log link channel.E h
+    go : (b : Bool) → completes x (unfinished channel.E (on_link link.0 sys.manager.trace)) ≡ b
+        → IsDelivered config log link channel.E h
     go false part = delivered-part config log link channel.E h x queue width matched refl is part
     go true last =
         delivered-last config log link channel.E h x queue [] (λ d at. None) refl is last gives (λ d at. unpushed d at)
-        (λ taken. subst (λ (k : Kind). ChannelRelation (kind_taken config (next_tracker sys) link.0 k n is.first.rest h).mail
-        (kind_taken config (next_tracker sys) link.0 k n is.first.rest h).state (after_taken config link channel.E x queue sys [])) (sym kind)
-        (grant_ack_taken-carried (is_caching config) link.0 n is.first.rest h.mail h.state sys (after_taken config link channel.E x queue sys []) x queue width matched.invariant
-        (invariant-taken config log h sys link.0 GrantAck n is.first.rest matched tokens tt) tokens sent taken matched.carried))
+        (λ taken. subst (λ (k : Kind). ChannelRelation (kind_taken config (next_tracker sys) link.0 k n is.first.rest
+        h).mail
+        (kind_taken config (next_tracker sys) link.0 k n is.first.rest h).state
+        (after_taken config link channel.E x queue sys [])) (sym kind)
+        (grant_ack_taken-carried (is_caching config) link.0 n is.first.rest h.mail h.state sys
+        (after_taken config link channel.E x queue sys []) x queue width matched.invariant
+        (invariant-taken config log h sys link.0 GrantAck n is.first.rest matched tokens tt) tokens sent taken
+        matched.carried))
         (subst (λ (k : Kind). MemoryRelation (kind_taken config (next_tracker sys) link.0 k n is.first.rest h).mail
-        (kind_taken config (next_tracker sys) link.0 k n is.first.rest h).state (performing [] (one_memory_after config log))) (sym kind) quiet)
+        (kind_taken config (next_tracker sys) link.0 k n is.first.rest h).state
+        (performing [] (one_memory_after config log))) (sym kind) quiet)
       where
-        unpushed : (d : ℕ) (at : Channel) → (after_taken config link channel.E x queue sys []).channels d at ≡ (with_channel link.0 channel.E queue sys).channels d at
+        unpushed : (d : ℕ) (at : Channel) → (after_taken config link channel.E x queue sys []).channels d
+            at ≡ (with_channel link.0 channel.E queue sys).channels d at
         unpushed d at = refl
 
-        quiet : MemoryRelation h.mail (grant_ack_taken link.0 n is.first.rest h.state) (performing [] (one_memory_after config log))
-        quiet = beside_block n (freed_block (h.state.block n)) h.mail h.state (grant_ack_taken link.0 n is.first.rest h.state) (one_memory_after config log)
+        quiet : MemoryRelation h.mail (grant_ack_taken link.0 n is.first.rest h.state)
+            (performing [] (one_memory_after config log))
+        quiet = beside_block n (freed_block (h.state.block n)) h.mail h.state
+            (grant_ack_taken link.0 n is.first.rest h.state) (one_memory_after config log)
             (λ i. refl) (λ d i. refl) (λ d i. refl) refl (λ d. refl) (λ d. refl) matched.beside

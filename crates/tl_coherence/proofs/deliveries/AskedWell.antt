@@ -1,38 +1,36 @@
 -- What a client answers to an operation, beside the protocol and the one-memory machine: what it starts it may start,
 -- and its reply is one that the machine allows.
-use Rattle.std.proofs.Common.{◌≡◌, ℕ, ◌+◌, ◌*◌, ◌/◌, ◌%◌, ◌^◌, ◌≤◌, Bool, true, false, not, ◌||◌, List, Option, Some, None, refl, sym, ◌∙◌, ap, subst, arith}
+use Rattle.tl_coherence.proofs.deliveries.Imports.{IsWidth, Message, MessageA, beat_of, Config, Perm, Prune, prune_left}
+use Rattle.tl_coherence.proofs.deliveries.Imports.{block_at, same_perm, Op, EndConfig, release, AbstractState, Log}
+use Rattle.tl_coherence.proofs.deliveries.Imports.{Machine, Requests, AcquirePhase, NoAcquire, AcquireOpen, Block}
+use Rattle.tl_coherence.proofs.deliveries.Imports.{State, SourceState, one_memory_after, AccessMessages, block_message}
+use Rattle.tl_coherence.proofs.deliveries.Imports.{Acquire, System, terms_at, SimulationRelation, is_caching, IsRequest}
+use Rattle.std.proofs.Common.{◌≡◌, ℕ, ◌+◌, ◌*◌, ◌/◌, ◌%◌, ◌^◌, ◌≤◌, Bool, true, false, not, ◌||◌, List, Option, Some}
+use Rattle.std.proofs.Common.{None, refl, sym, ◌∙◌, ap, subst, arith}
 use Rattle.std.specs.Prelude.{◌==◌, is_some, is_none, unwrap_or, slice_index, nat_le}
 use Rattle.std.proofs.lemmas.Bool.{eqb-true, and_parts, not-false, or_parts}
-use Rattle.tl_beat.specs.statement.Width.{IsWidth}
 use Rattle.tl_beat.specs.declared.channel.Channel.TheVariants as channel
 use Rattle.tl_beat.specs.declared.opcode.OpA.TheVariants as a
-use Rattle.tl_burst.specs.declared.message.Message.{Message}
 use Rattle.tl_burst.specs.declared.message.Message.TheVariants as message
-use Rattle.tl_burst.specs.declared.message.MessageA.{MessageA}
-use Rattle.tl_burst.specs.statement.Burst.{beat_of}
-use Rattle.tl_params.specs.declared.config.Config.{Config}
 use Rattle.tl_params.specs.declared.level.Level.{Level}
 use Rattle.tl_params.specs.declared.key.Key.TheVariants.{RequestSource, ReleaseSource, AcquireOf, ReleaseOf}
-use Rattle.tl_params.specs.declared.perm.Perm.{Perm}
 use Rattle.tl_params.specs.declared.perm.Perm.TheVariants as perm
-use Rattle.tl_params.specs.declared.param.Prune.{Prune}
 use Rattle.tl_params.specs.declared.param.Prune.TheVariants as prune
-use Rattle.tl_params.specs.statement.Param.{grow_left, prune_left}
+use Rattle.tl_params.specs.statement.Param.{grow_left}
 use Rattle.tl_rules.specs.statement.Effect.{Memory, IsBlock, number_from}
-use Rattle.tl_rules.specs.statement.History.{block_at, pending}
+use Rattle.tl_rules.specs.statement.History.{pending}
 use Rattle.tl_rules.specs.statement.Legality.{has_transfers, illegal, illegal_message}
 use Rattle.tl_rules.proofs.Legal.{legal_from_beats, legal_beat}
 use Rattle.tl_params.specs.declared.rule.Rule.{Rule}
 use Rattle.tl_rules.proofs.Places.{number_same}
-use Rattle.tl_rules.specs.statement.Conformance.{same_perm}
-use Rattle.tl_client.specs.declared.operation.Op.{Op}
 use Rattle.tl_client.specs.declared.operation.Op.TheVariants as op
 use Rattle.tl_client.specs.declared.busy.Busy.{Busy}
 use Rattle.tl_client.specs.declared.reply.Reply.{Reply}
 use Rattle.tl_client.specs.declared.reply.Reply.TheVariants as reply
-use Rattle.tl_client.specs.statement.Ask.{Asked, asked, done, only, load, store, loaded, is_word, is_clean, is_formed, op_block, free_request, free_release, source_or_0, whole_grow}
-use Rattle.tl_client.specs.statement.Endpoint.{EndConfig, Endpoint, zeros, copy_at, held_at}
-use Rattle.tl_client.specs.statement.Send.{access, acquisition, release}
+use Rattle.tl_client.specs.statement.Ask.{Asked, asked, done, only, load, store, loaded, is_word, is_clean, is_formed}
+use Rattle.tl_client.specs.statement.Ask.{op_block, free_request, free_release, source_or_0, whole_grow}
+use Rattle.tl_client.specs.statement.Endpoint.{Endpoint, zeros, copy_at, held_at}
+use Rattle.tl_client.specs.statement.Send.{access, acquisition}
 use Rattle.tl_client.proofs.Cases.{NotBusy, asked-cases}
 use Rattle.tl_client.proofs.Clean.{to_blank}
 use Rattle.tl_client.proofs.Free.{least_free-some}
@@ -40,16 +38,11 @@ use Rattle.tl_client.proofs.Sound.{formed_access}
 use Rattle.tl_client.proofs.Stores.{word_room}
 use Rattle.tl_manager.specs.statement.Offer.{level_of}
 use Rattle.tl_coherence.specs.refinement.MemoryRelation.{IsOpened, IsLet}
-use Rattle.tl_coherence.specs.refinement.AbstractStep.{AbstractState}
-use Rattle.tl_coherence.specs.statement.Log.{Log}
-use Rattle.tl_coherence.specs.statement.Machine.{Machine, Requests, Releases, Replies}
-use Rattle.tl_coherence.specs.protocol.Phase.{AcquirePhase, NoAcquire, AcquireOpen, NoRelease}
-use Rattle.tl_coherence.specs.protocol.Protocol.{Block, State, SourceState, SourceFree, Asked as AskedUse, InService, Replied, Acquires}
-use Rattle.tl_coherence.specs.statement.OneMemory.{one_memory_after}
-use Rattle.tl_coherence.specs.refinement.PacketMessages.{AccessMessages, acquire_of, block_message}
-use Rattle.tl_coherence.specs.protocol.Packet.{Acquire}
-use Rattle.tl_coherence.specs.statement.System.{System, terms_at}
-use Rattle.tl_coherence.specs.refinement.SimulationRelation.{SimulationRelation, is_caching, first_of, asked_for, block_used, IsRequest, IsSourced, IsAnswered}
+use Rattle.tl_coherence.specs.statement.Machine.{Releases, Replies}
+use Rattle.tl_coherence.specs.protocol.Phase.{NoRelease}
+use Rattle.tl_coherence.specs.protocol.Protocol.{SourceFree, Asked as AskedUse, InService, Replied, Acquires}
+use Rattle.tl_coherence.specs.refinement.PacketMessages.{acquire_of}
+use Rattle.tl_coherence.specs.refinement.SimulationRelation.{first_of, asked_for, block_used, IsSourced, IsAnswered}
 use Rattle.tl_coherence.proofs.client.Askable.{swap_perms, no_let, caches}
 use Rattle.tl_coherence.proofs.memory.BesideAsked.{IsReply}
 use Rattle.tl_coherence.proofs.protocol.FollowKept.{IsAskable}
@@ -60,7 +53,8 @@ use Rattle.tl_coherence.proofs.protocol.BothParts.{calm-is, kept-letting}
 -- ---- what the protocol has, by what the end has
 
 -- who has no request open with a source doesn't use it
-acquire_some : (w c n : ℕ) (b : Block (List ℕ)) → is_some (asked_for {w = w} (Acquires n) (block_message Acquire c n b) (block_message Acquire c n b)) ≡ true
+acquire_some : (w c n : ℕ) (b : Block (List ℕ))
+    → is_some (asked_for {w = w} (Acquires n) (block_message Acquire c n b) (block_message Acquire c n b)) ≡ true
 unfolding block_message
 acquire_some w c n b = go (b.pair c).acquiring
   where
@@ -69,7 +63,8 @@ acquire_some w c n b = go (b.pair c).acquiring
     go (AcquireOpen true g) = refl
     go (AcquireOpen false g) = refl
 
-request_some : {w : ℕ} (config : Config) (c source : ℕ) (m : Message w) → IsRequest config c source m → is_some (first_of m) ≡ true
+request_some : {w : ℕ} (config : Config) (c source : ℕ) (m : Message w) → IsRequest config c source m
+    → is_some (first_of m) ≡ true
 request_some config c source (message.A m) h = refl
 request_some config c source (message.B m) h = absurd (let e = h.0 in cc)
 request_some config c source (message.C m) h = absurd (let e = h.0 in cc)
@@ -83,20 +78,27 @@ answer_some source (message.C m) x h = absurd h
 answer_some source (message.D m) x h = absurd h
 answer_some source (message.E m) x h = absurd h
 
-pub unused : {w : ℕ} (config : Config) (log : Log w) (mail : AccessMessages w) (request : ℕ → MessageA w) (s : State (List ℕ)) (sys : System w) (c source : ℕ)
+pub unused : {w : ℕ} (config : Config) (log : Log w) (mail : AccessMessages w) (request : ℕ → MessageA w)
+    (s : State (List ℕ)) (sys : System w) (c source : ℕ)
     → SimulationRelation config log mail request s sys → pending (RequestSource source) (sys.clients c).past ≡ false
     → s.uses c source ≡ SourceFree
-unused {w} config log mail request s sys c source h free = go (s.uses c source) refl (h.sourced c source) (h.answered c source) (sym ((h.opened c).requests source) ∙ free)
+unused {w} config log mail request s sys c source h free =
+    go (s.uses c source) refl (h.sourced c source) (h.answered c source) (sym ((h.opened c).requests source) ∙ free)
   where
     differ : (b : Bool) → b ≡ true → b ≡ false → ⊥
     differ b e f = let g : true ≡ false = sym e ∙ f in cc
 
-    go : (u : SourceState) → s.uses c source ≡ u → IsSourced config c source (mail.request c source) u → IsAnswered source (mail.request c source) (mail.answer c source) u
-        → is_some (asked_for u (mail.request c source) (block_message Acquire c (block_used u) (s.block (block_used u)))) ≡ false → u ≡ SourceFree
+    go : (u : SourceState) → s.uses c source ≡ u → IsSourced config c source (mail.request c source) u
+        → IsAnswered source (mail.request c source) (mail.answer c source) u
+        → is_some (asked_for u (mail.request c source)
+        (block_message Acquire c (block_used u) (s.block (block_used u)))) ≡ false → u ≡ SourceFree
     go SourceFree e sourced answered none = refl
-    go AskedUse e sourced answered none = absurd (differ _ (request_some config c source (mail.request c source) sourced) none)
-    go (InService n) e sourced answered none = absurd (differ _ (request_some config c source (mail.request c source) sourced) none)
-    go Replied e sourced answered none = absurd (differ _ (answer_some source (mail.request c source) (mail.answer c source) answered) none)
+    go AskedUse e sourced answered none =
+        absurd (differ _ (request_some config c source (mail.request c source) sourced) none)
+    go (InService n) e sourced answered none =
+        absurd (differ _ (request_some config c source (mail.request c source) sourced) none)
+    go Replied e sourced answered none =
+        absurd (differ _ (answer_some source (mail.request c source) (mail.answer c source) answered) none)
     go (Acquires n) e sourced answered none = absurd (differ _ (acquire_some w c n (s.block n)) none)
 
 -- ---- what is answered
@@ -104,12 +106,14 @@ unused {w} config log mail request s sys c source h free = go (s.uses c source) 
 -- the message that is handed out
 abbrev pub IsHandedOut : {w : ℕ} → ℕ → Op w → Reply → AbstractState w → Option (Message w) → Type 0
 IsHandedOut c (op.Acquire n g) (reply.Started source) h m = m ≡ Some (message.A (acquisition a.AcquireBlock g source n))
-IsHandedOut c (op.AcquireWhole n bytes) (reply.Started source) h m = m ≡ Some (message.A (acquisition a.AcquirePerm (whole_grow ((h.state.block n).pair c).held) source n))
+IsHandedOut c (op.AcquireWhole n bytes) (reply.Started source) h m =
+    m ≡ Some (message.A (acquisition a.AcquirePerm (whole_grow ((h.state.block n).pair c).held) source n))
 IsHandedOut {w} c (op.Release n p) (reply.Started source) h m = m ≡ Some (release p source n (h.state.block n).truth)
 IsHandedOut c (op.Access (message.A x)) (reply.Started source) h m = m ≡ Some (access source x)
 IsHandedOut c o r h m = m ≡ None
 
-pub record IsAskedWell {w : ℕ} (config : Config) (c : ℕ) (o : Op w) (h : AbstractState w) (m : Machine w) (x : Asked w) : Type 0 where
+pub record IsAskedWell {w : ℕ} (config : Config) (c : ℕ) (o : Op w) (h : AbstractState w) (m : Machine w)
+    (x : Asked w) : Type 0 where
   pub may : IsAskable (is_caching config) c o x.reply h
   pub word : IsSizedAsk c o x.reply h
   pub source : IsSourcedAsk config c o x.reply
@@ -117,24 +121,107 @@ pub record IsAskedWell {w : ℕ} (config : Config) (c : ℕ) (o : Op w) (h : Abs
   pub replies : Replies c o x.reply m
   pub message : IsHandedOut c o x.reply h x.message
 
-busy_well : {w : ℕ} (config : Config) (c : ℕ) (o : Op w) (why : Busy) (h : AbstractState w) (m : Machine w) (e : Endpoint w) → IsAskedWell config c o h m (only (reply.Busy why) e)
-busy_well config c (op.Load address size) why h m e = record { may = tt; word = tt; source = tt; reply = tt; replies = tt; message = refl }
-busy_well config c (op.Store address size value) why h m e = record { may = tt; word = tt; source = tt; reply = tt; replies = tt; message = refl }
-busy_well config c (op.Acquire n g) why h m e = record { may = tt; word = tt; source = tt; reply = tt; replies = tt; message = refl }
-busy_well config c (op.AcquireWhole n bytes) why h m e = record { may = tt; word = tt; source = tt; reply = tt; replies = tt; message = refl }
-busy_well config c (op.Release n p) why h m e = record { may = tt; word = tt; source = tt; reply = tt; replies = tt; message = refl }
-busy_well config c (op.Access (message.A x)) why h m e = record { may = tt; word = tt; source = tt; reply = tt; replies = tt; message = refl }
-busy_well config c (op.Access (message.B x)) why h m e = record { may = tt; word = tt; source = tt; reply = tt; replies = tt; message = refl }
-busy_well config c (op.Access (message.C x)) why h m e = record { may = tt; word = tt; source = tt; reply = tt; replies = tt; message = refl }
-busy_well config c (op.Access (message.D x)) why h m e = record { may = tt; word = tt; source = tt; reply = tt; replies = tt; message = refl }
-busy_well config c (op.Access (message.E x)) why h m e = record { may = tt; word = tt; source = tt; reply = tt; replies = tt; message = refl }
+busy_well : {w : ℕ} (config : Config) (c : ℕ) (o : Op w) (why : Busy) (h : AbstractState w) (m : Machine w)
+    (e : Endpoint w) → IsAskedWell config c o h m (only (reply.Busy why) e)
+busy_well config c (op.Load address size) why h m e = record {
+  may = tt;
+  word = tt;
+  source = tt;
+  reply = tt;
+  replies =
+      tt;
+  message = refl;
+}
+busy_well config c (op.Store address size value) why h m e = record {
+  may = tt;
+  word = tt;
+  source = tt;
+  reply =
+      tt;
+  replies = tt;
+  message = refl;
+}
+busy_well config c (op.Acquire n g) why h m e = record {
+  may = tt;
+  word = tt;
+  source = tt;
+  reply = tt;
+  replies =
+      tt;
+  message = refl;
+}
+busy_well config c (op.AcquireWhole n bytes) why h m e = record {
+  may = tt;
+  word = tt;
+  source = tt;
+  reply =
+      tt;
+  replies = tt;
+  message = refl;
+}
+busy_well config c (op.Release n p) why h m e = record {
+  may = tt;
+  word = tt;
+  source = tt;
+  reply = tt;
+  replies =
+      tt;
+  message = refl;
+}
+busy_well config c (op.Access (message.A x)) why h m e = record {
+  may = tt;
+  word = tt;
+  source = tt;
+  reply =
+      tt;
+  replies = tt;
+  message = refl;
+}
+busy_well config c (op.Access (message.B x)) why h m e = record {
+  may = tt;
+  word = tt;
+  source = tt;
+  reply =
+      tt;
+  replies = tt;
+  message = refl;
+}
+busy_well config c (op.Access (message.C x)) why h m e = record {
+  may = tt;
+  word = tt;
+  source = tt;
+  reply =
+      tt;
+  replies = tt;
+  message = refl;
+}
+busy_well config c (op.Access (message.D x)) why h m e = record {
+  may = tt;
+  word = tt;
+  source = tt;
+  reply =
+      tt;
+  replies = tt;
+  message = refl;
+}
+busy_well config c (op.Access (message.E x)) why h m e = record {
+  may = tt;
+  word = tt;
+  source = tt;
+  reply =
+      tt;
+  replies = tt;
+  message = refl;
+}
 
 -- the number that a Load reads is the one memory's
-loaded_number : (f : Memory) (address size : ℕ) (bytes : List ℕ) → address % 64 + 2 ^ size ≤ 64 → IsBlock f (block_at address) bytes
+loaded_number : (f : Memory) (address size : ℕ) (bytes : List ℕ) → address % 64 + 2 ^ size ≤ 64
+    → IsBlock f (block_at address) bytes
     → number_from (slice_index bytes) (address % 64) (2 ^ size) ≡ number_from f address (2 ^ size)
 loaded_number f address size bytes room is =
     number_same (slice_index bytes) f (address % 64) address (2 ^ size)
-    (λ i lt. let place : 64 * (address / 64) + (address % 64 + i) ≡ address + i = omega arith in sym (is (address % 64 + i) (omega (arith, room, lt))) ∙ ap f place)
+    (λ i lt. let place : 64 * (address / 64) + (address % 64 + i) ≡ address + i = omega arith in
+    sym (is (address % 64 + i) (omega (arith, room, lt))) ∙ ap f place)
 
 some_held : (p : Prune) (q : Perm) → same_perm (prune_left p) q ≡ true → same_perm q perm.None ≡ false
 some_held prune.TtoB perm.Trunk e = refl
@@ -152,17 +239,23 @@ none_rule None e = refl
 none_rule (Some r) e = absurd cc
 
 -- the source of an access breaks no rule
-sourced_beat : {w : ℕ} (l : Level) (x : MessageA w) (source i : ℕ) → illegal l channel.A (beat_of (access source x) i) ≡ illegal l channel.A (beat_of (message.A x) i)
+sourced_beat : {w : ℕ} (l : Level) (x : MessageA w) (source i : ℕ)
+    → illegal l channel.A (beat_of (access source x) i) ≡ illegal l channel.A (beat_of (message.A x) i)
 unfolding illegal
 sourced_beat l x source i = refl
 
-sourced_legal : {w : ℕ} (l : Level) (x : MessageA w) (source : ℕ) → illegal_message l channel.A (message.A x) ≡ None → illegal_message l channel.A (access source x) ≡ None
-sourced_legal l x source e = legal_from_beats l channel.A (access source x) (λ i lt. sourced_beat l x source i ∙ legal_beat l channel.A (message.A x) i e lt)
+sourced_legal : {w : ℕ} (l : Level) (x : MessageA w) (source : ℕ) → illegal_message l channel.A (message.A x) ≡ None
+    → illegal_message l channel.A (access source x) ≡ None
+sourced_legal l x source e =
+    legal_from_beats l channel.A (access source x) (λ i lt. sourced_beat l x source i ∙ legal_beat l channel.A
+    (message.A x) i e lt)
 
-pub asked-well : {w : ℕ} (config : Config) (log : Log w) (h : AbstractState w) (sys : System w) (c : ℕ) (terms : EndConfig) (o : Op w) → IsWidth w
+pub asked-well : {w : ℕ} (config : Config) (log : Log w) (h : AbstractState w) (sys : System w) (c : ℕ)
+    (terms : EndConfig) (o : Op w) → IsWidth w
     → SimulationRelation config log h.mail h.request h.state sys → terms_at config c ≡ Some terms
     → IsAskedWell config c o h (one_memory_after config log) (asked terms o (sys.clients c))
-asked-well {w} config log h sys c terms o width is known = asked-cases terms o e (IsAskedWell config c o h m) (λ why. busy_well config c o why h m e) (λ free. well o free)
+asked-well {w} config log h sys c terms o width is known = asked-cases terms o e (IsAskedWell config c o h m)
+    (λ why. busy_well config c o why h m e) (λ free. well o free)
   where
     e : Endpoint w
     e = sys.clients c
@@ -181,41 +274,63 @@ asked-well {w} config log h sys c terms o width is known = asked-cases terms o e
 
     -- the copy, where something is held
     copy_is : (n : ℕ) → same_perm ((s.block n).pair c).held perm.None ≡ false → copy_at e n ≡ (s.block n).truth
-    copy_is n some = ap (λ (x : Option (List ℕ)). unwrap_or x zeros) (is.copies c n some) ∙ (is.invariant.blocks n).copies c some
+    copy_is n some = ap (λ (x : Option (List ℕ)). unwrap_or x zeros) (is.copies c n some)
+        ∙ (is.invariant.blocks n).copies c some
 
     formed : (i : Op w) → NotBusy terms i e → is_formed terms.level i ≡ true
-    formed i free = not-false (is_formed terms.level i) (or_parts (nat_le terms.blocks (op_block i)) (not (is_formed terms.level i)) free.b5).1
+    formed i free = not-false (is_formed terms.level i)
+        (or_parts (nat_le terms.blocks (op_block i)) (not (is_formed terms.level i)) free.b5).1
 
-    free_source : is_none (free_request terms e.past) ≡ false → s.uses c (source_or_0 (free_request terms e.past)) ≡ SourceFree
-    free_source one = unused config log h.mail h.request s sys c (source_or_0 (free_request terms e.past)) is (least_free-some (λ i. pending (RequestSource i) e.past) 0 terms.sources one).0
+    free_source : is_none (free_request terms e.past) ≡ false
+        → s.uses c (source_or_0 (free_request terms e.past)) ≡ SourceFree
+    free_source one = unused config log h.mail h.request s sys c (source_or_0 (free_request terms e.past)) is
+        (least_free-some (λ i. pending (RequestSource i) e.past) 0 terms.sources one).0
 
     unopened : (source : ℕ) → s.uses c source ≡ SourceFree → m.opened c Requests source ≡ None
     unopened source used = go (s.uses c source) used (is.beside.requests c source)
       where
-        go : (u : SourceState) → u ≡ SourceFree → IsOpened c source h.mail s u (m.opened c Requests source) → m.opened c Requests source ≡ None
+        go : (u : SourceState) → u ≡ SourceFree → IsOpened c source h.mail s u (m.opened c Requests source)
+            → m.opened c Requests source ≡ None
         go u f i = subst (λ (v : SourceState). IsOpened c source h.mail s v (m.opened c Requests source)) f i
 
-    transfers : (n : ℕ) → (pending (AcquireOf n) e.past || pending (ReleaseOf n) e.past) ≡ false → (((s.block n).pair c).acquiring ≡ NoAcquire) × (((s.block n).pair c).letting ≡ NoRelease)
+    transfers : (n : ℕ) → (pending (AcquireOf n) e.past || pending (ReleaseOf n) e.past) ≡ false
+        → (((s.block n).pair c).acquiring ≡ NoAcquire) × (((s.block n).pair c).letting ≡ NoRelease)
     transfers n none =
-        let parts = or_parts (pending (AcquireOf n) e.past) (pending (ReleaseOf n) e.past) none in
-        (calm-is ((s.block n).pair c).acquiring (sym ((is.known c).acquires n) ∙ parts.0), kept-letting ((s.block n).pair c).letting (sym ((is.known c).releases n) ∙ parts.1))
+        let parts = or_parts (pending (AcquireOf n) e.past) (pending (ReleaseOf n) e.past) none in (
+          calm-is ((s.block n).pair c).acquiring (sym ((is.known c).acquires n) ∙ parts.0),
+          kept-letting
+              ((s.block n).pair c).letting (sym ((is.known c).releases n) ∙ parts.1),
+        )
 
     caching : not (has_transfers terms.level) ≡ false → is_caching config c ≡ true
     caching four = caches config c terms.level level_is (not-false (has_transfers terms.level) four)
 
-    load_well : (address size : ℕ) (p : Perm) → ((s.block (block_at address)).pair c).held ≡ p → is_word address size ≡ true → IsAskedWell config c (op.Load address size) h m (load address size p e)
-    load_well address size perm.None f word = record { may = tt; word = tt; source = tt; reply = tt; replies = refl; message = refl }
+    load_well : (address size : ℕ) (p : Perm) → ((s.block (block_at address)).pair c).held ≡ p
+        → is_word address size ≡ true → IsAskedWell config c (op.Load address size) h m (load address size p e)
+    load_well address size perm.None f word = record {
+      may = tt;
+      word = tt;
+      source = tt;
+      reply = tt;
+      replies =
+          refl;
+      message = refl;
+    }
     load_well address size perm.Branch f word = read address size word (ap (λ p. same_perm p perm.None) f)
       where
-        read : (address size : ℕ) → is_word address size ≡ true → same_perm ((s.block (block_at address)).pair c).held perm.None ≡ false
-            → IsAskedWell config c (op.Load address size) h m (only (reply.Value (loaded address size (copy_at e (block_at address)))) e)
+        read : (address size : ℕ) → is_word address size ≡ true → same_perm ((s.block (block_at address)).pair c).held
+            perm.None ≡ false
+            → IsAskedWell config c (op.Load address size) h m
+            (only (reply.Value (loaded address size (copy_at e (block_at address)))) e)
         read address size word some = record {
           may = tt;
           word = tt;
           source = tt;
           reply = tt;
-          replies = ap (λ (bytes : List ℕ). number_from (slice_index bytes) (address % 64) (2 ^ size)) (copy_is (block_at address) some)
-              ∙ loaded_number m.memory address size (s.block (block_at address)).truth (word_room address size word) (is.beside.memory (block_at address));
+          replies = ap (λ (bytes : List ℕ). number_from (slice_index bytes) (address % 64) (2 ^ size))
+              (copy_is (block_at address) some)
+              ∙ loaded_number m.memory address size (s.block (block_at address)).truth (word_room address size word)
+              (is.beside.memory (block_at address));
           message = refl;
         }
     load_well address size perm.Trunk f word = record {
@@ -225,68 +340,122 @@ asked-well {w} config log h sys c terms o width is known = asked-cases terms o e
       reply = tt;
       replies = ap (λ (bytes : List ℕ). number_from (slice_index bytes) (address % 64) (2 ^ size))
           (copy_is (block_at address) (ap (λ p. same_perm p perm.None) f))
-          ∙ loaded_number m.memory address size (s.block (block_at address)).truth (word_room address size word) (is.beside.memory (block_at address));
+          ∙ loaded_number m.memory address size (s.block (block_at address)).truth (word_room address size word)
+          (is.beside.memory (block_at address));
       message = refl;
     }
 
-    store_well : (address size value : ℕ) (p : Perm) → ((s.block (block_at address)).pair c).held ≡ p → is_word address size ≡ true
+    store_well : (address size value : ℕ) (p : Perm) → ((s.block (block_at address)).pair c).held ≡ p
+        → is_word address size ≡ true
         → IsAskedWell config c (op.Store address size value) h m (store address size value p e)
-    store_well address size value perm.None f word = record { may = tt; word = tt; source = tt; reply = tt; replies = refl; message = refl }
-    store_well address size value perm.Branch f word = record { may = tt; word = tt; source = tt; reply = tt; replies = refl; message = refl }
+    store_well address size value perm.None f word = record {
+      may = tt;
+      word = tt;
+      source = tt;
+      reply = tt;
+      replies =
+          refl;
+      message = refl;
+    }
+    store_well address size value perm.Branch f word = record {
+      may = tt;
+      word = tt;
+      source = tt;
+      reply = tt;
+      replies =
+          refl;
+      message = refl;
+    }
     store_well address size value perm.Trunk f word =
         let trunk = ap (λ p. same_perm p perm.Trunk) f in
         record { may = trunk; word = (word, trunk); source = tt; reply = tt; replies = tt; message = refl }
 
     -- an access that starts breaks no rule
-    access_sent : (x : MessageA w) → NotBusy terms (op.Access (message.A x)) e → IsRequest config c (source_or_0 (free_request terms e.past)) (access (source_or_0 (free_request terms e.past)) x)
+    access_sent : (x : MessageA w) → NotBusy terms (op.Access (message.A x)) e
+        → IsRequest config c (source_or_0 (free_request terms e.past))
+        (access (source_or_0 (free_request terms e.past)) x)
     access_sent x free =
-        let parts = and_parts (is_none (illegal_message terms.level channel.A (message.A x))) (is_clean x) (formed_access terms (message.A x) free.b5) in
-        let none = eqb-true x.corrupt 0 (and_parts (x.corrupt == 0) _ parts.1).0 in
-        (refl, rw level_is (sourced_legal terms.level x (source_or_0 (free_request terms e.past)) (none_rule (illegal_message terms.level channel.A (message.A x)) parts.0)), to_blank x none parts.1)
+        let parts = and_parts (is_none (illegal_message terms.level channel.A (message.A x))) (is_clean x)
+        (formed_access terms (message.A x) free.b5) in
+        let none = eqb-true x.corrupt 0 (and_parts (x.corrupt == 0) _ parts.1).0 in (
+          refl,
+          rw level_is (sourced_legal terms.level x (source_or_0 (free_request terms e.past))
+              (none_rule (illegal_message terms.level channel.A (message.A x)) parts.0)),
+          to_blank x none parts.1,
+        )
 
     well : (i : Op w) → NotBusy terms i e → IsAskedWell config c i h m (done terms i e)
-    well (op.Load address size) free = subst (λ (p : Perm). IsAskedWell config c (op.Load address size) h m (load address size p e))
-        (sym (held_is (block_at address))) (load_well address size ((s.block (block_at address)).pair c).held refl (formed (op.Load address size) free))
+    well (op.Load address size) free =
+        subst (λ (p : Perm). IsAskedWell config c (op.Load address size) h m (load address size p e))
+        (sym (held_is (block_at address))) (load_well address size ((s.block (block_at address)).pair c).held refl
+        (formed (op.Load address size) free))
     well (op.Store address size value) free =
-        subst (λ (p : Perm). IsAskedWell config c (op.Store address size value) h m (store address size value p e)) (sym (held_is (block_at address)))
-        (store_well address size value ((s.block (block_at address)).pair c).held refl (formed (op.Store address size value) free))
+        subst (λ (p : Perm). IsAskedWell config c (op.Store address size value) h m (store address size value p e))
+        (sym (held_is (block_at address)))
+        (store_well address size value ((s.block (block_at address)).pair c).held refl
+        (formed (op.Store address size value) free))
     well (op.Acquire n g) free =
         let closed = free_source free.b1 in
         let still = transfers n free.b2 in
-        let begins : same_perm (grow_left g) ((s.block n).pair c).held ≡ true = ap (same_perm (grow_left g)) (sym (held_is n)) ∙ not-false (same_perm (grow_left g) (held_at e n)) free.b3 in
-        record { may = (caching free.b4, closed, still.0, still.1, begins); word = tt; source = tt; reply = tt; replies = (refl, unopened _ closed); message = refl }
+        let begins : same_perm (grow_left g) ((s.block n).pair c).held ≡ true =
+        ap (same_perm (grow_left g)) (sym (held_is n)) ∙ not-false (same_perm (grow_left g) (held_at e n)) free.b3
+        in
+        record {
+          may = (caching free.b4, closed, still.0, still.1, begins);
+          word = tt;
+          source = tt;
+          reply =
+              tt;
+          replies = (refl, unopened _ closed);
+          message = refl;
+        }
     well (op.AcquireWhole n bytes) free =
         let closed = free_source free.b1 in
         let still = transfers n free.b2 in
-        let begins : same_perm perm.Trunk ((s.block n).pair c).held ≡ false = ap (same_perm perm.Trunk) (sym (held_is n)) ∙ free.b3 in
+        let begins : same_perm perm.Trunk ((s.block n).pair c).held ≡ false =
+        ap (same_perm perm.Trunk) (sym (held_is n)) ∙ free.b3 in
         record {
           may = (caching free.b4, closed, still.0, still.1, begins);
           word = tt;
           source = tt;
           reply = tt;
           replies = (refl, unopened _ closed);
-          message = ap (λ (p : Perm). Some (message.A (acquisition a.AcquirePerm (whole_grow p) (source_or_0 (free_request terms e.past)) n))) (held_is n);
+          message = ap (λ (p : Perm). Some
+              (message.A (acquisition a.AcquirePerm (whole_grow p) (source_or_0 (free_request terms e.past)) n)))
+              (held_is n);
         }
     well (op.Release n p) free =
         let source = source_or_0 (free_release terms e.past) in
         let open_ = (least_free-some (λ i. pending (ReleaseSource i) e.past) 0 terms.sources free.b1).0 in
         let none = no_let (s.lets c source) (sym ((is.opened c).releases source) ∙ open_) in
         let still = transfers n free.b2 in
-        let begins : same_perm (prune_left p) ((s.block n).pair c).held ≡ true = ap (same_perm (prune_left p)) (sym (held_is n)) ∙ not-false (same_perm (prune_left p) (held_at e n)) free.b3 in
+        let begins : same_perm (prune_left p) ((s.block n).pair c).held ≡ true =
+        ap (same_perm (prune_left p)) (sym (held_is n)) ∙ not-false (same_perm (prune_left p) (held_at e n)) free.b3
+        in
         record {
           may = (caching free.b4, none, still.0, still.1, swap_perms ((s.block n).pair c).held (prune_left p) ∙ begins);
           word = tt;
           source = tt;
           reply = tt;
           replies = (refl, unlet source none);
-          message = ap (λ (bytes : List ℕ). Some (release p source n bytes)) (copy_is n (some_held p ((s.block n).pair c).held begins));
+          message = ap (λ (bytes : List ℕ). Some (release p source n bytes))
+              (copy_is n (some_held p ((s.block n).pair c).held begins));
         }
       where
         unlet : (source : ℕ) → s.lets c source ≡ None → m.opened c Releases source ≡ None
-        unlet source none = subst (λ (l : Option ℕ). IsLet l (m.opened c Releases source)) none (is.beside.releases c source)
+        unlet source none = subst (λ (l : Option ℕ). IsLet l (m.opened c Releases source)) none
+            (is.beside.releases c source)
     well (op.Access (message.A x)) free =
         let closed = free_source free.b1 in
-        record { may = closed; word = tt; source = access_sent x free; reply = tt; replies = (refl, unopened _ closed); message = refl }
+        record {
+          may = closed;
+          word = tt;
+          source = access_sent x free;
+          reply = tt;
+          replies =
+              (refl, unopened _ closed);
+          message = refl;
+        }
     well (op.Access (message.B x)) free = busy_well config c (op.Access (message.B x)) _ h m e
     well (op.Access (message.C x)) free = busy_well config c (op.Access (message.C x)) _ h m e
     well (op.Access (message.D x)) free = busy_well config c (op.Access (message.D x)) _ h m e

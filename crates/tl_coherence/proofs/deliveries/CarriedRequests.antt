@@ -1,64 +1,58 @@
 -- The channels after a beat of a request is taken carry the messages of the tokens.
-use Rattle.std.proofs.Common.{◌≡◌, ℕ, suc, ◌≤◌, ◌==◌, Bool, true, false, not, ◌&&◌, ◌||◌, List, [], ◌∷◌, Option, Some, None, length, refl, sym, subst, ◌∙◌, ap, ◌⊎◌, inl, inr, arith}
+use Rattle.tl_coherence.proofs.deliveries.Imports.{Beat, Channel, Message, MessageA, a_beat_of, beats_of, unfinished}
+use Rattle.tl_coherence.proofs.deliveries.Imports.{completes, Config, Cap, on_link, same_perm, Handed, Reaction}
+use Rattle.tl_coherence.proofs.deliveries.Imports.{block_at, same_block, reaction, must_wait, reaction-part, Log}
+use Rattle.tl_coherence.proofs.deliveries.Imports.{ChannelRelation, AbstractState, some_below, answers, kind_taken}
+use Rattle.tl_coherence.proofs.deliveries.Imports.{IsInvariant, IsWell, AcquirePhase, AcquireOpen, is_granted_data}
+use Rattle.tl_coherence.proofs.deliveries.Imports.{Free, Block, State, packet, AccessMessages, block_message, Step}
+use Rattle.tl_coherence.proofs.deliveries.Imports.{handing, System, channel_of_message, with_manager, with_channel}
+use Rattle.tl_coherence.proofs.deliveries.Imports.{with_messages, Kind, Request, Acquire, Grant, Packet}
+use Rattle.tl_coherence.proofs.deliveries.Imports.{SimulationRelation, is_caching}
+use Rattle.std.proofs.Common.{◌≡◌, ℕ, suc, ◌≤◌, ◌==◌, Bool, true, false, not, ◌&&◌, ◌||◌, List, [], ◌∷◌, Option, Some}
+use Rattle.std.proofs.Common.{None, length, refl, sym, subst, ◌∙◌, ap, ◌⊎◌, inl, inr, arith}
 use Rattle.std.specs.Prelude.{if◌then◌else◌}
 use Rattle.std.proofs.lemmas.Bool.{cases_lt}
 use Rattle.std.proofs.Math.Bool.{and_comm}
-use Rattle.tl_beat.specs.declared.beat.Beat.{Beat}
 use Rattle.tl_beat.specs.declared.beat.Beat.TheVariants as beat
 use Rattle.tl_beat.specs.declared.beat.BeatA.{BeatA}
-use Rattle.tl_beat.specs.declared.channel.Channel.{Channel}
 use Rattle.tl_beat.specs.declared.channel.Channel.TheVariants as channel
-use Rattle.tl_burst.specs.declared.message.Message.{Message}
 use Rattle.tl_burst.specs.declared.message.Message.TheVariants as message
-use Rattle.tl_burst.specs.declared.message.MessageA.{MessageA}
-use Rattle.tl_burst.specs.statement.Burst.{a_beat_of, beats_of}
-use Rattle.tl_burst.specs.statement.Messages.{unfinished}
-use Rattle.tl_burst.specs.statement.Part.{completes}
-use Rattle.tl_params.specs.declared.config.Config.{Config}
-use Rattle.tl_params.specs.declared.param.Cap.{Cap}
 use Rattle.tl_params.specs.declared.param.Cap.TheVariants as cap
 use Rattle.tl_params.specs.declared.perm.Perm.TheVariants as perm
-use Rattle.tl_rules.specs.statement.Conformance.{on_link, same_perm}
 use Rattle.tl_rules.specs.declared.answer.Answer.{Answer}
 use Rattle.tl_rules.specs.declared.answer.Answer.TheVariants as answer
 use Rattle.tl_rules.specs.statement.Effect.{effect, answer_of}
-use Rattle.tl_manager.specs.statement.Handing.{Handed, Reaction, access_answer, probes}
+use Rattle.tl_manager.specs.statement.Handing.{access_answer, probes}
 use Rattle.tl_manager.specs.statement.Holders as holders
 use Rattle.tl_manager.specs.statement.Holders.{recorded, probed, cap_probed, is_spared}
-use Rattle.tl_rules.specs.statement.History.{block_at, is_acquire}
+use Rattle.tl_rules.specs.statement.History.{is_acquire}
 use Rattle.tl_rules.proofs.Sent.{is_last}
-use Rattle.tl_client.proofs.HeldAfter.{same_block, swapped}
-use Rattle.tl_manager.specs.statement.Reaction.{reaction}
-use Rattle.tl_manager.specs.statement.Offer.{must_wait}
-use Rattle.tl_manager.proofs.Events.{reaction-part}
+use Rattle.tl_client.proofs.HeldAfter.{swapped}
 use Rattle.tl_coherence.specs.declared.event.Outcome.TheVariants as outcome
-use Rattle.tl_coherence.specs.statement.Log.{Log}
-use Rattle.tl_coherence.specs.refinement.ChannelRelation.{ChannelRelation}
-use Rattle.tl_coherence.specs.refinement.AbstractStep.{AbstractState, bytes_at, some_below, probes_some, access_taken, request_taken, answers, performs, gift, is_unheld, acquire_taken, kind_taken}
-use Rattle.tl_coherence.specs.protocol.Invariant.{IsInvariant, IsWell, cap_asked}
-use Rattle.tl_coherence.specs.protocol.Phase.{AcquirePhase, AcquireOpen}
-use Rattle.tl_coherence.specs.protocol.PhaseSteps.{is_above, is_granted_data}
-use Rattle.tl_coherence.specs.protocol.Protocol.{Free, Block, State, packet, is_probed, granted_at_once, acquire_served, acquire_granted}
-use Rattle.tl_coherence.specs.refinement.PacketMessages.{AccessMessages, block_message}
-use Rattle.tl_coherence.specs.statement.Step.{Step, handing}
-use Rattle.tl_coherence.specs.statement.System.{System, channel_of_message, with_manager, with_channel, with_messages}
-use Rattle.tl_coherence.specs.protocol.Packet.{Kind, Request, Acquire, Grant, Packet}
-use Rattle.tl_coherence.specs.refinement.SimulationRelation.{SimulationRelation, is_caching}
+use Rattle.tl_coherence.specs.refinement.AbstractStep.{bytes_at, probes_some, access_taken, request_taken, performs}
+use Rattle.tl_coherence.specs.refinement.AbstractStep.{gift, is_unheld, acquire_taken}
+use Rattle.tl_coherence.specs.protocol.Invariant.{cap_asked}
+use Rattle.tl_coherence.specs.protocol.PhaseSteps.{is_above}
+use Rattle.tl_coherence.specs.protocol.Protocol.{is_probed, granted_at_once, acquire_served, acquire_granted}
 use Rattle.tl_coherence.proofs.manager.Admitted.{offered-taken}
 use Rattle.tl_coherence.proofs.manager.Arrivals.{link_of, with_beat, IsComing, ends-coming, service_for}
 use Rattle.tl_coherence.proofs.manager.AtRequests.{end_after, reaction-probing}
 use Rattle.tl_coherence.proofs.simulation.CarriedEvents.{access_answered-carried, acquire_granted-carried}
-use Rattle.tl_coherence.proofs.simulation.CarriedProbes.{probe_pushes, channels-probes, access_served-carried, acquire_served-carried}
+use Rattle.tl_coherence.proofs.simulation.CarriedProbes.{probe_pushes, channels-probes, access_served-carried}
+use Rattle.tl_coherence.proofs.simulation.CarriedProbes.{acquire_served-carried}
 use Rattle.tl_coherence.proofs.protocol.FollowKept.{some-none, leaves-bytes, IsReady}
 use Rattle.tl_coherence.proofs.queues.Showing.{carries, none-carried}
 use Rattle.tl_coherence.proofs.protocol.Heads.{IsAsked, IsWanted}
 use Rattle.tl_coherence.proofs.manager.ManagedServed.{same_above}
 use Rattle.tl_coherence.proofs.manager.Requests.{recorded-beat}
 use Rattle.tl_coherence.proofs.manager.RequestsHanded.{handed-answered, handed-granted}
-use Rattle.tl_coherence.proofs.manager.RequestsTaken.{next_tracker, free-last, invariant-taken, probed-some, somebody-probed, beyond-none, caps_asked, acquire_wanted, ready-request, ready-acquire}
+use Rattle.tl_coherence.proofs.manager.RequestsTaken.{next_tracker, free-last, invariant-taken, probed-some}
+use Rattle.tl_coherence.proofs.manager.RequestsTaken.{somebody-probed, beyond-none, caps_asked, acquire_wanted}
+use Rattle.tl_coherence.proofs.manager.RequestsTaken.{ready-request, ready-acquire}
 use Rattle.tl_coherence.proofs.queues.Tokens.{set-same}
 use Rattle.tl_coherence.proofs.queues.Channels.{behind, IsTaken, pushes_at}
-use Rattle.tl_coherence.proofs.queues.Landed.{pushes_of, IsLanded, taken-landed, IsOn, HasTaken, landed-manager, channels-handed}
+use Rattle.tl_coherence.proofs.queues.Landed.{pushes_of, IsLanded, taken-landed, IsOn, HasTaken, landed-manager}
+use Rattle.tl_coherence.proofs.queues.Landed.{channels-handed}
 use Rattle.tl_coherence.proofs.simulation.Moved.{manager-heard, carried-part}
 use Rattle.tl_coherence.proofs.queues.Codes.{acquires-so}
 use Rattle.tl_coherence.proofs.queues.Perms.{none-above}
@@ -69,7 +63,8 @@ use Rattle.tl_coherence.proofs.bound.RankAfter.{once_on_d}
 -- it, where the manager takes the beat
 abbrev pub system_after : {w : ℕ} → Config → ℕ → ℕ → MessageA w → List (Beat w) → System w → System w
 system_after config c k m queue sys =
-    with_messages (reaction config (link_of c) (beat.A (a_beat_of m k)) sys.manager).handed (with_manager (end_after config c k m sys.manager) (with_channel c channel.A queue sys))
+    with_messages (reaction config (link_of c) (beat.A (a_beat_of m k)) sys.manager).handed
+    (with_manager (end_after config c k m sys.manager) (with_channel c channel.A queue sys))
 
 on_a : {w : ℕ} (x : BeatA w) → IsOn channel.A (beat.A x)
 on_a x channel.A = refl
@@ -78,21 +73,28 @@ on_a x channel.C = refl
 on_a x channel.D = refl
 on_a x channel.E = refl
 
-heard-coming : {w : ℕ} (config : Config) (c k : ℕ) (m : MessageA w) (queue : List (Beat w)) (sys : System w) → IsComing config c k m sys.manager
+heard-coming : {w : ℕ} (config : Config) (c k : ℕ) (m : MessageA w) (queue : List (Beat w)) (sys : System w)
+    → IsComing config c k m sys.manager
     → HasTaken c (beat.A (a_beat_of m k)) sys.manager (end_after config c k m sys.manager)
 heard-coming {w} config c k m queue sys is =
     let x : Beat w = beat.A (a_beat_of m k) in
-    let step : Step w = handing (outcome.Moved x) (reaction config (link_of c) x sys.manager).handed (with_manager (end_after config c k m sys.manager) (with_channel c channel.A queue sys)) in
-    manager-heard config (link_of c) channel.A x queue sys step is.width is.typed is.kept (record { takes = offered-taken config (link_of c) channel.A x sys.manager is.passes; step_is = refl })
+    let step : Step w = handing (outcome.Moved x) (reaction config (link_of c) x sys.manager).handed
+    (with_manager (end_after config c k m sys.manager) (with_channel c channel.A queue sys)) in
+    manager-heard config (link_of c) channel.A x queue sys step is.width is.typed is.kept
+    (record { takes = offered-taken config (link_of c) channel.A x sys.manager is.passes; step_is = refl })
 
 -- what is handed out stands behind what was on the channels
-pub landed-coming : {w : ℕ} (config : Config) (c k : ℕ) (m : MessageA w) (queue : List (Beat w)) (sys : System w) (handed : Handed w)
+pub landed-coming : {w : ℕ} (config : Config) (c k : ℕ) (m : MessageA w) (queue : List (Beat w)) (sys : System w)
+    (handed : Handed w)
     (pushes : ℕ → Channel → Option (Message w)) → IsComing config c k m sys.manager
-    → sys.channels c channel.A ≡ beat.A (a_beat_of m k) ∷ queue → (reaction config (link_of c) (beat.A (a_beat_of m k)) sys.manager).handed ≡ handed
-    → ((s : System w) (d : ℕ) (at : Channel) → (with_messages handed s).channels d at ≡ behind (pushes d at) (s.channels d at))
+    → sys.channels c channel.A ≡ beat.A (a_beat_of m k) ∷ queue
+    → (reaction config (link_of c) (beat.A (a_beat_of m k)) sys.manager).handed ≡ handed
+    → ((s : System w) (d : ℕ) (at : Channel) → (with_messages handed s).channels d at ≡ behind (pushes d at)
+    (s.channels d at))
     → IsLanded c channel.A (beat.A (a_beat_of m k)) queue pushes sys (system_after config c k m queue sys)
 landed-coming {w} config c k m queue sys handed pushes is beats done pushed =
-    landed-manager c channel.A (beat.A (a_beat_of m k)) queue pushes (reaction config (link_of c) (beat.A (a_beat_of m k)) sys.manager).handed
+    landed-manager c channel.A (beat.A (a_beat_of m k)) queue pushes
+    (reaction config (link_of c) (beat.A (a_beat_of m k)) sys.manager).handed
     (end_after config c k m sys.manager) sys refl beats (on_a (a_beat_of m k)) (heard-coming config c k m queue sys is)
     (λ d at. ap (λ (i : Handed w). (with_messages i base).channels d at) done ∙ pushed base d at)
   where
@@ -101,19 +103,24 @@ landed-coming {w} config c k m queue sys handed pushes is beats done pushed =
 
 -- ---- a beat that isn't the last
 
-nothing-handed : {w : ℕ} (s : System w) (d : ℕ) (at : Channel) → (with_messages [] s).channels d at ≡ behind None (s.channels d at)
+nothing-handed : {w : ℕ} (s : System w) (d : ℕ) (at : Channel) → (with_messages [] s).channels d at ≡ behind None
+    (s.channels d at)
 unfolding with_messages
 nothing-handed s d at = refl
 
-pub carried-more : {w : ℕ} (config : Config) (log : Log w) (mail : AccessMessages w) (request : ℕ → MessageA w) (s : State (List ℕ)) (sys : System w) (c k : ℕ)
+pub carried-more : {w : ℕ} (config : Config) (log : Log w) (mail : AccessMessages w) (request : ℕ → MessageA w)
+    (s : State (List ℕ)) (sys : System w) (c k : ℕ)
     (m : MessageA w) (queue : List (Beat w)) → SimulationRelation config log mail request s sys
-    → IsComing config c k m sys.manager → sys.channels c channel.A ≡ beat.A (a_beat_of m k) ∷ queue → completes (beat.A (a_beat_of m k)) (unfinished channel.A (on_link c sys.manager.trace)) ≡ false
+    → IsComing config c k m sys.manager → sys.channels c channel.A ≡ beat.A (a_beat_of m k) ∷ queue
+    → completes (beat.A (a_beat_of m k)) (unfinished channel.A (on_link c sys.manager.trace)) ≡ false
     → ChannelRelation mail s (system_after config c k m queue sys)
 carried-more {w} config log mail request s sys c k m queue is comes beats part =
     let x : Beat w = beat.A (a_beat_of m k) in
-    let done : (reaction config (link_of c) x sys.manager).handed ≡ [] = ap (λ (d : Reaction w). d.handed) (reaction-part config (link_of c) x sys.manager part) in
+    let done : (reaction config (link_of c) x sys.manager).handed ≡ [] =
+    ap (λ (d : Reaction w). d.handed) (reaction-part config (link_of c) x sys.manager part) in
     carried-part mail s c channel.A x queue (λ d at. None) sys (system_after config c k m queue sys) comes.width
-    (landed-coming config c k m queue sys [] (λ d at. None) comes beats done nothing-handed) (λ d at. refl) part is.carried
+    (landed-coming config c k m queue sys [] (λ d at. None) comes beats done nothing-handed) (λ d at. refl) part
+    is.carried
 
 -- ---- its last beat: others are probed
 
@@ -125,14 +132,21 @@ nothing_above cap.ToB false = refl
 nothing_above cap.ToN true = refl
 nothing_above cap.ToN false = refl
 
-pub taken-probing : {w : ℕ} (config : Config) (log : Log w) (mail : AccessMessages w) (request : ℕ → MessageA w) (s : State (List ℕ)) (sys : System w) (c k n : ℕ)
+pub taken-probing : {w : ℕ} (config : Config) (log : Log w) (mail : AccessMessages w) (request : ℕ → MessageA w)
+    (s : State (List ℕ)) (sys : System w) (c k n : ℕ)
     (own : Bool) (j : Cap) (m : MessageA w) (queue : List (Beat w)) → SimulationRelation config log mail request s sys
-    → IsComing config c k m sys.manager → sys.channels c channel.A ≡ beat.A (a_beat_of m k) ∷ queue → beats_of (message.A m) ≡ suc k → is_acquire m.opcode ≡ own → block_at m.address ≡ n
-    → (reaction config (link_of c) (beat.A (a_beat_of m k)) sys.manager).handed ≡ probes n j (probed config (service_for c m sys.manager.trace) j (with_beat c m k sys.manager.trace))
-    → IsTaken c channel.A (beat.A (a_beat_of m k)) queue (probe_pushes n j (λ d. is_probed c own j ((s.block n).pair d).recorded d)) sys (system_after config c k m queue sys)
+    → IsComing config c k m sys.manager → sys.channels c channel.A ≡ beat.A (a_beat_of m k) ∷ queue
+    → beats_of (message.A m) ≡ suc k → is_acquire m.opcode ≡ own → block_at m.address ≡ n
+    → (reaction config (link_of c) (beat.A (a_beat_of m k)) sys.manager).handed ≡ probes n j
+    (probed config (service_for c m sys.manager.trace) j (with_beat c m k sys.manager.trace))
+    → IsTaken c channel.A (beat.A (a_beat_of m k)) queue
+    (probe_pushes n j (λ d. is_probed c own j ((s.block n).pair d).recorded d)) sys
+    (system_after config c k m queue sys)
 taken-probing {w} config log mail request s sys c k n own j m queue is comes beats last kind block done =
     taken-landed c channel.A (beat.A (a_beat_of m k)) queue pushes sys (system_after config c k m queue sys)
-    (landed-coming config c k m queue sys (probes n j (probed config (service_for c m sys.manager.trace) j (with_beat c m k sys.manager.trace))) pushes comes beats done
+    (landed-coming config c k m queue sys
+    (probes n j (probed config (service_for c m sys.manager.trace) j (with_beat c m k sys.manager.trace))) pushes
+    comes beats done
     (λ v d at. channels-probes n j (length config.clients.items)
     (λ i. holders.is_above j (recorded i (block_at m.address) (with_beat c m k sys.manager.trace))
     && not (is_spared (service_for c m sys.manager.trace) i)) test v (λ i lt. same i) none d at))
@@ -144,8 +158,17 @@ taken-probing {w} config log mail request s sys c k n own j m queue is comes bea
     pushes : ℕ → Channel → Option (Message w)
     pushes = probe_pushes n j test
 
-    same : (i : ℕ) → (holders.is_above j (recorded i (block_at m.address) (with_beat c m k sys.manager.trace)) && not (is_spared (service_for c m sys.manager.trace) i)) ≡ test i
-    same i = rw (block, recorded-beat c k m sys.manager.trace i n, is.managed.recorded_is i n, kind, same_above j ((s.block n).pair i).recorded, swapped c i)
+    same : (i : ℕ) → (holders.is_above j (recorded i (block_at m.address) (with_beat c m k sys.manager.trace)) && not
+        (is_spared (service_for c m sys.manager.trace) i)) ≡ test i
+    same i = rw (
+      block,
+      recorded-beat c k m sys.manager.trace i n,
+      is.managed.recorded_is i n,
+      kind,
+      same_above j
+          ((s.block n).pair i).recorded,
+      swapped c i,
+    )
         (and_comm (is_above j ((s.block n).pair i).recorded) (not (own && (i == c))))
 
     none : (d : ℕ) → length config.clients.items ≤ d → test d ≡ false
@@ -153,31 +176,40 @@ taken-probing {w} config log mail request s sys c k n own j m queue is comes bea
 
 -- ---- one message is handed out
 
-pub taken-answering : {w : ℕ} (config : Config) (c k : ℕ) (m : MessageA w) (i : Message w) (queue : List (Beat w)) (sys : System w)
-    → IsComing config c k m sys.manager → sys.channels c channel.A ≡ beat.A (a_beat_of m k) ∷ queue → beats_of (message.A m) ≡ suc k
+pub taken-answering : {w : ℕ} (config : Config) (c k : ℕ) (m : MessageA w) (i : Message w) (queue : List (Beat w))
+    (sys : System w)
+    → IsComing config c k m sys.manager → sys.channels c channel.A ≡ beat.A (a_beat_of m k) ∷ queue
+    → beats_of (message.A m) ≡ suc k
     → (reaction config (link_of c) (beat.A (a_beat_of m k)) sys.manager).handed ≡ (link_of c, i) ∷ []
-    → IsTaken c channel.A (beat.A (a_beat_of m k)) queue (pushes_at c (pushes_of (Some i))) sys (system_after config c k m queue sys)
+    → IsTaken c channel.A (beat.A (a_beat_of m k)) queue (pushes_at c (pushes_of (Some i))) sys
+    (system_after config c k m queue sys)
 taken-answering {w} config c k m i queue sys comes beats last done =
-    taken-landed c channel.A (beat.A (a_beat_of m k)) queue (pushes_at c (pushes_of (Some i))) sys (system_after config c k m queue sys)
-    (landed-coming config c k m queue sys ((link_of c, i) ∷ []) (pushes_at c (pushes_of (Some i))) comes beats done (λ v d at. channels-handed c (Some i) v d at))
+    taken-landed c channel.A (beat.A (a_beat_of m k)) queue (pushes_at c (pushes_of (Some i))) sys
+    (system_after config c k m queue sys)
+    (landed-coming config c k m queue sys ((link_of c, i) ∷ []) (pushes_at c (pushes_of (Some i))) comes beats done
+    (λ v d at. channels-handed c (Some i) v d at))
     (ends-coming config c k m sys.manager comes ∙ rw last (is_last k (suc k) (omega arith)))
 
 -- ---- an Acquire
 
 -- after an Acquire that was taken
-pub carried-acquire_taken : {w : ℕ} (config : Config) (log : Log w) (h : AbstractState w) (sys : System w) (c n k : ℕ) (rest : List Packet) (queue : List (Beat w))
+pub carried-acquire_taken : {w : ℕ} (config : Config) (log : Log w) (h : AbstractState w) (sys : System w) (c n k : ℕ)
+    (rest : List Packet) (queue : List (Beat w))
     → SimulationRelation config log h.mail h.request h.state sys
     → (h.state.link c).a ≡ packet Acquire n ∷ rest → (asked : IsWanted w c n h.state)
     → IsComing config c k (acquire_wanted c n h.state asked) sys.manager
     → sys.channels c channel.A ≡ beat.A (a_beat_of (acquire_wanted c n h.state asked) k) ∷ queue
     → beats_of (message.A (acquire_wanted c n h.state asked)) ≡ suc k
     → must_wait config (link_of c) (beat.A (a_beat_of (acquire_wanted c n h.state asked) k)) sys.manager.trace ≡ false
-    → ChannelRelation (kind_taken config (next_tracker sys) c Acquire n rest h).mail (kind_taken config (next_tracker sys) c Acquire n rest h).state
+    → ChannelRelation (kind_taken config (next_tracker sys) c Acquire n rest h).mail
+    (kind_taken config (next_tracker sys) c Acquire n rest h).state
     (system_after config c k (acquire_wanted c n h.state asked) queue sys)
 carried-acquire_taken {w} config log h sys c n k rest queue is first asked comes beats last moves =
-    subst (λ (i : AcquirePhase). ChannelRelation (acquire_taken clients config.profile c n i tracker rest h).mail (acquire_taken clients config.profile c n i tracker rest h).state after) (sym asked.wants)
+    subst (λ (i : AcquirePhase). ChannelRelation (acquire_taken clients config.profile c n i tracker rest h).mail
+    (acquire_taken clients config.profile c n i tracker rest h).state after) (sym asked.wants)
     (go (some_below clients (λ d. is_probed c true j (b.pair d).recorded d)) refl
-    (subst (λ (i : AcquirePhase). IsInvariant (is_caching config) (acquire_taken clients config.profile c n i tracker rest h).state) asked.wants inv))
+    (subst (λ (i : AcquirePhase). IsInvariant (is_caching config) (acquire_taken clients config.profile c n i tracker
+    rest h).state) asked.wants inv))
   where
     b : Block (List ℕ)
     b = h.state.block n
@@ -214,24 +246,33 @@ carried-acquire_taken {w} config log h sys c n k rest queue is first asked comes
 
     -- the state afterwards
     state_of : Bool → State (List ℕ)
-    state_of x = if x then acquire_served c n (b.source c) tracker j rest h.state else acquire_granted c n tracker data_too given rest h.state
+    state_of x = if x then acquire_served c n (b.source c) tracker j rest h.state else acquire_granted c n tracker
+        data_too given rest h.state
 
-    go : (x : Bool) → some_below clients (λ d. is_probed c true j (b.pair d).recorded d) ≡ x → IsInvariant (is_caching config) (state_of x) → ChannelRelation h.mail (state_of x) after
+    go : (x : Bool) → some_below clients (λ d. is_probed c true j (b.pair d).recorded d) ≡ x
+        → IsInvariant (is_caching config) (state_of x) → ChannelRelation h.mail (state_of x) after
     go true f kept =
-        let some = somebody-probed config log h.mail h.request h.state sys c k n true m is (acquires-so asked.whole) (same_block n) (rw caps f) in
-        acquire_served-carried (is_caching config) c n (b.source c) tracker j rest h.mail h.state sys after (beat.A (a_beat_of m k)) queue comes.width is.invariant kept first ready.0
-        (taken-probing config log h.mail h.request h.state sys c k n true j m queue is comes beats last (acquires-so asked.whole) (same_block n)
+        let some = somebody-probed config log h.mail h.request h.state sys c k n true m is (acquires-so asked.whole)
+        (same_block n) (rw caps f) in
+        acquire_served-carried (is_caching config) c n (b.source c) tracker j rest h.mail h.state sys after
+        (beat.A (a_beat_of m k)) queue comes.width is.invariant kept first ready.0
+        (taken-probing config log h.mail h.request h.state sys c k n true j m queue is comes beats last
+        (acquires-so asked.whole) (same_block n)
         (ap (λ (d : Reaction w). d.handed) (reaction-probing config c k n j m sys.manager comes last (same_block n) caps
-        (probed-some config log h.mail h.request h.state sys c k n true j m is (acquires-so asked.whole) (same_block n) ∙ ap not f))))
+        (probed-some config log h.mail h.request h.state sys c k n true j m is (acquires-so asked.whole) (same_block n)
+        ∙ ap not f))))
         is.carried
     go false f kept =
         let new = granted_at_once c tracker data_too given b in
-        let well : IsWell (is_caching config) new = subst (IsWell (is_caching config)) (set-same n new h.state.block) (kept.blocks n) in
-        acquire_granted-carried (is_caching config) c n tracker data_too given rest (block_message Grant c n new) h.mail h.state sys after
+        let well : IsWell (is_caching config) new = subst (IsWell (is_caching config)) (set-same n new h.state.block)
+        (kept.blocks n) in
+        acquire_granted-carried (is_caching config) c n tracker data_too given rest (block_message Grant c n new) h.mail
+        h.state sys after
         (beat.A (a_beat_of m k)) queue comes.width is.invariant kept first ready.0
         (once_on_d w c n tracker data_too given b) refl
         (taken-answering config c k m (block_message Grant c n new) queue sys comes beats last
-        (handed-granted config log h.mail h.request h.state sys (is_caching config) c n k is asked comes last (rw caps f) well)) is.carried
+        (handed-granted config log h.mail h.request h.state sys (is_caching config) c n k is asked comes last
+        (rw caps f) well)) is.carried
 
 -- ---- an access
 
@@ -241,37 +282,47 @@ answer_on_d m answer.Hint = refl
 answer_on_d m (answer.Data payload) = refl
 
 -- an access that is answered at once changes the bytes only where no message carries them
-pub unread-bytes : {w : ℕ} (config : Config) (log : Log w) (mail : AccessMessages w) (request : ℕ → MessageA w) (s : State (List ℕ)) (sys : System w) (c n : ℕ)
+pub unread-bytes : {w : ℕ} (config : Config) (log : Log w) (mail : AccessMessages w) (request : ℕ → MessageA w)
+    (s : State (List ℕ)) (sys : System w) (c n : ℕ)
     (m : MessageA w) → SimulationRelation config log mail request s sys → is_acquire m.opcode ≡ false
     → probes_some (length config.clients.items) c false (cap_probed m.opcode m.param) (s.block n).pair ≡ false
     → (k : Kind) (d : ℕ) → (carries k d (s.block n) ≡ false) ⊎ (performs m (s.block n).truth ≡ (s.block n).truth)
-unread-bytes {w} config log mail request s sys c n m is access none k d = elim (leaves-bytes m (s.block n).truth access (is.sized n).truth) [
-  | inl same ↦ inr same
-  | inr all ↦ inl (none-carried (is_caching config) (s.block n) (is.invariant.blocks n) (λ i. either (same_perm ((s.block n).pair i).held perm.Trunk) (unheld i all)) k d)
-]
+unread-bytes {w} config log mail request s sys c n m is access none k d =
+    elim (leaves-bytes m (s.block n).truth access (is.sized n).truth) [
+      | inl same ↦ inr same
+      | inr all ↦ inl (none-carried (is_caching config) (s.block n) (is.invariant.blocks n)
+          (λ i. either (same_perm ((s.block n).pair i).held perm.Trunk) (unheld i all)) k d)
+    ]
   where
     either : (b : Bool) {x : Bool} → x ≡ true → (b || x) ≡ true
     either true e = refl
     either false e = e
 
-    unheld : (i : ℕ) → cap_probed m.opcode m.param ≡ Some cap.ToN → same_perm ((s.block n).pair i).recorded perm.None ≡ true
+    unheld : (i : ℕ) → cap_probed m.opcode m.param ≡ Some cap.ToN
+        → same_perm ((s.block n).pair i).recorded perm.None ≡ true
     unheld i all = elim (cases_lt i (length config.clients.items)) [
-      | inl lt ↦ none-above ((s.block n).pair i).recorded (some-none (length config.clients.items) (λ j. is_probed c false cap.ToN ((s.block n).pair j).recorded j) (rw all at none) i lt)
+      | inl lt ↦ none-above ((s.block n).pair i).recorded
+          (some-none (length config.clients.items) (λ j. is_probed c false cap.ToN ((s.block n).pair j).recorded j)
+          (rw all at none) i lt)
       | inr past ↦ rw (beyond-none config log mail request s sys n is i past) refl
     ]
 
 -- after the last beat of an access that was taken
-pub carried-request_taken : {w : ℕ} (config : Config) (log : Log w) (h : AbstractState w) (sys : System w) (c source k : ℕ) (rest : List Packet) (queue : List (Beat w))
+pub carried-request_taken : {w : ℕ} (config : Config) (log : Log w) (h : AbstractState w) (sys : System w)
+    (c source k : ℕ) (rest : List Packet) (queue : List (Beat w))
     → SimulationRelation config log h.mail h.request h.state sys
     → (h.state.link c).a ≡ packet Request source ∷ rest → (asked : IsAsked config c source h.mail h.state)
-    → IsComing config c k asked.request sys.manager → sys.channels c channel.A ≡ beat.A (a_beat_of asked.request k) ∷ queue → beats_of (message.A asked.request) ≡ suc k
+    → IsComing config c k asked.request sys.manager
+    → sys.channels c channel.A ≡ beat.A (a_beat_of asked.request k) ∷ queue → beats_of (message.A asked.request) ≡ suc k
     → must_wait config (link_of c) (beat.A (a_beat_of asked.request k)) sys.manager.trace ≡ false
-    → ChannelRelation (kind_taken config (next_tracker sys) c Request source rest h).mail (kind_taken config (next_tracker sys) c Request source rest h).state
+    → ChannelRelation (kind_taken config (next_tracker sys) c Request source rest h).mail
+    (kind_taken config (next_tracker sys) c Request source rest h).state
     (system_after config c k asked.request queue sys)
 carried-request_taken {w} config log h sys c source k rest queue is first asked comes beats last moves =
     subst (λ (i : Message w). Carries (request_taken clients c source i tracker rest h)) (sym asked.is_it)
     (go (probes_some clients c false (cap_probed m.opcode m.param) b.pair) (cap_probed m.opcode m.param) refl refl
-    (subst (λ (i : Message w). IsInvariant (is_caching config) (request_taken clients c source i tracker rest h).state) asked.is_it inv))
+    (subst (λ (i : Message w). IsInvariant (is_caching config) (request_taken clients c source i tracker rest h).state)
+    asked.is_it inv))
   where
     m : MessageA w
     m = asked.request
@@ -298,26 +349,34 @@ carried-request_taken {w} config log h sys c source k rest queue is first asked 
     free = free-last config log h.mail h.request h.state sys c k m is comes last moves
 
     inv : IsInvariant (is_caching config) (kind_taken config tracker c Request source rest h).state
-    inv = invariant-taken config log h sys c Request source rest is first (ready-request config log h sys c source k is asked comes last moves)
+    inv = invariant-taken config log h sys c Request source rest is first
+        (ready-request config log h sys c source k is asked comes last moves)
 
     answered : probes_some clients c false (cap_probed m.opcode m.param) b.pair ≡ false
         → IsInvariant (is_caching config) (access_taken c source m tracker false None rest h).state
         → Carries (access_taken c source m tracker false None rest h)
     answered none kept =
-        access_answered-carried (is_caching config) c n source (performs m) rest (answers m b.memory) h.mail h.state sys after
+        access_answered-carried (is_caching config) c n source (performs m) rest (answers m b.memory) h.mail h.state sys
+        after
         (beat.A (a_beat_of m k)) queue comes.width is.invariant kept first asked.used
-        (unread-bytes config log h.mail h.request h.state sys c n m is asked.access none) (answer_on_d m (answer_of (message.A m) (effect (message.A m) (bytes_at n b.memory)).1))
-        (taken-answering config c k m (answers m b.memory) queue sys comes beats last (handed-answered config log h.mail h.request h.state sys c source k is asked comes last none)) is.carried
+        (unread-bytes config log h.mail h.request h.state sys c n m is asked.access none)
+        (answer_on_d m (answer_of (message.A m) (effect (message.A m) (bytes_at n b.memory)).1))
+        (taken-answering config c k m (answers m b.memory) queue sys comes beats last
+        (handed-answered config log h.mail h.request h.state sys c source k is asked comes last none)) is.carried
 
-    go : (p : Bool) (o : Option Cap) → probes_some clients c false (cap_probed m.opcode m.param) b.pair ≡ p → cap_probed m.opcode m.param ≡ o
-        → IsInvariant (is_caching config) (access_taken c source m tracker p o rest h).state → Carries (access_taken c source m tracker p o rest h)
+    go : (p : Bool) (o : Option Cap) → probes_some clients c false (cap_probed m.opcode m.param) b.pair ≡ p
+        → cap_probed m.opcode m.param ≡ o
+        → IsInvariant (is_caching config) (access_taken c source m tracker p o rest h).state
+        → Carries (access_taken c source m tracker p o rest h)
     go true None f g kept = absurd (let no : false ≡ true = rw g at f in cc)
     go false None f g kept = answered f kept
     go false (Some j) f g kept = answered f kept
     go true (Some j) f g kept =
         let some : some_below clients (λ d. is_probed c false j (b.pair d).recorded d) ≡ true = rw g at f in
-        access_served-carried (is_caching config) c n source tracker j rest h.mail h.state sys after (beat.A (a_beat_of m k)) queue comes.width is.invariant kept first free
-        (taken-probing config log h.mail h.request h.state sys c k n false j m queue is comes beats last asked.access refl
+        access_served-carried (is_caching config) c n source tracker j rest h.mail h.state sys after
+        (beat.A (a_beat_of m k)) queue comes.width is.invariant kept first free
+        (taken-probing config log h.mail h.request h.state sys c k n false j m queue is comes beats last asked.access
+        refl
         (ap (λ (d : Reaction w). d.handed) (reaction-probing config c k n j m sys.manager comes last refl g
         (probed-some config log h.mail h.request h.state sys c k n false j m is asked.access refl ∙ ap not some))))
         is.carried

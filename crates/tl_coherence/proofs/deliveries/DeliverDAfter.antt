@@ -1,43 +1,32 @@
 -- A beat that is delivered to a client: the channels and the one memory afterwards.
-use Rattle.std.proofs.Common.{◌≡◌, ℕ, Bool, true, false, ◌&&◌, List, [], ◌∷◌, Option, Some, None, refl, sym, ◌∙◌, ap, subst, ◌⊎◌}
+use Rattle.tl_coherence.proofs.deliveries.Imports.{IsWidth, Beat, Link, Channel, Message, unfinished, completes, Config}
+use Rattle.tl_coherence.proofs.deliveries.Imports.{Cap, Deliver, MemoryRelation, is_moving, AbstractState}
+use Rattle.tl_coherence.proofs.deliveries.Imports.{abstract_step, packet_taken, kind_taken, IsInvariant, Log, Machine}
+use Rattle.tl_coherence.proofs.deliveries.Imports.{Requests, ChannelRelation, receiver, AcquirePhase, Service, Block}
+use Rattle.tl_coherence.proofs.deliveries.Imports.{packet, packets_on, shown, one_memory_after, accesses_answered}
+use Rattle.tl_coherence.proofs.deliveries.Imports.{block_message, stepped, handed_by, System, with_client, with_channel}
+use Rattle.tl_coherence.proofs.deliveries.Imports.{with_messages, Kind, Answer, Grant, ReleaseAck, GrantAck, Packet}
+use Rattle.tl_coherence.proofs.deliveries.Imports.{SimulationRelation, is_caching}
+use Rattle.std.proofs.Common.{◌≡◌, ℕ, Bool, true, false, ◌&&◌, List, [], ◌∷◌, Option, Some, None, refl, sym, ◌∙◌, ap}
+use Rattle.std.proofs.Common.{subst, ◌⊎◌}
 use Rattle.std.specs.Prelude.{if◌then◌else◌}
-use Rattle.tl_beat.specs.statement.Width.{IsWidth}
-use Rattle.tl_beat.specs.declared.beat.Beat.{Beat}
 use Rattle.tl_beat.specs.declared.beat.Beat.TheVariants as beat
 use Rattle.tl_beat.specs.declared.beat.BeatD.{BeatD}
-use Rattle.tl_beat.specs.declared.beat.Link.{Link}
-use Rattle.tl_beat.specs.declared.channel.Channel.{Channel}
 use Rattle.tl_beat.specs.declared.channel.Channel.TheVariants as channel
 use Rattle.tl_beat.specs.declared.opcode.OpD.{OpD}
-use Rattle.tl_burst.specs.declared.message.Message.{Message}
 use Rattle.tl_burst.specs.declared.message.MessageD.{MessageD}
-use Rattle.tl_burst.specs.statement.Messages.{unfinished}
-use Rattle.tl_burst.specs.statement.Part.{completes}
-use Rattle.tl_params.specs.declared.config.Config.{Config}
-use Rattle.tl_params.specs.declared.param.Cap.{Cap}
 use Rattle.tl_rules.specs.statement.History.{is_grant, is_release_ack}
 use Rattle.tl_client.specs.declared.verdict.Finish.{Finish}
 use Rattle.tl_client.specs.statement.Offer as offer
 use Rattle.tl_client.specs.statement.Send.{grant_ack}
 use Rattle.tl_manager.specs.statement.Handing.{grant_opcode}
-use Rattle.tl_coherence.specs.declared.event.Event.TheVariants.{Deliver}
-use Rattle.tl_coherence.specs.refinement.MemoryRelation.{MemoryRelation}
-use Rattle.tl_coherence.specs.statement.Draining.{is_moving}
-use Rattle.tl_coherence.specs.refinement.AbstractStep.{AbstractState, abstract_step, is_last, is_whole, packet_taken, kind_taken, taken_by_client}
-use Rattle.tl_coherence.specs.protocol.Invariant.{IsInvariant}
-use Rattle.tl_coherence.specs.statement.Log.{Log}
-use Rattle.tl_coherence.specs.statement.Machine.{Machine, Pool, Requests, Releases, pool_of, after_end}
-use Rattle.tl_coherence.specs.refinement.ChannelRelation.{ChannelRelation, receiver}
-use Rattle.tl_coherence.specs.protocol.Phase.{AcquirePhase, is_unreleased}
-use Rattle.tl_coherence.specs.protocol.Protocol.{Service, Block, packet, packets_on, shown, is_wanting, answer_taken, grant_taken, release_ack_taken, taken_block}
-use Rattle.tl_coherence.specs.statement.OneMemory.{one_memory_after, accesses_answered}
-use Rattle.tl_coherence.specs.refinement.PacketMessages.{block_message}
-use Rattle.tl_coherence.specs.statement.Step.{stepped, handed_by}
-use Rattle.tl_coherence.specs.statement.System.{System, with_client, with_channel, with_messages}
-use Rattle.tl_coherence.specs.protocol.Packet.{Kind, Answer, Grant, ReleaseAck, GrantAck, Packet}
-use Rattle.tl_coherence.specs.refinement.SimulationRelation.{SimulationRelation, is_caching}
+use Rattle.tl_coherence.specs.refinement.AbstractStep.{is_last, is_whole, taken_by_client}
+use Rattle.tl_coherence.specs.statement.Machine.{Pool, Releases, pool_of, after_end}
+use Rattle.tl_coherence.specs.protocol.Phase.{is_unreleased}
+use Rattle.tl_coherence.specs.protocol.Protocol.{is_wanting, answer_taken, grant_taken, release_ack_taken, taken_block}
 use Rattle.tl_coherence.proofs.memory.BesideKinds.{beside-answer, beside-grant, beside-release_ack}
-use Rattle.tl_coherence.proofs.simulation.CarriedEvents.{answer_taken-carried, grant_taken-carried, release_ack_taken-carried}
+use Rattle.tl_coherence.proofs.simulation.CarriedEvents.{answer_taken-carried, grant_taken-carried}
+use Rattle.tl_coherence.proofs.simulation.CarriedEvents.{release_ack_taken-carried}
 use Rattle.tl_coherence.proofs.queues.Channels.{IsTaken, pushes_at}
 use Rattle.tl_coherence.proofs.protocol.HeadOfD.{IsAnswerDue, IsGrantDue, grant_message, ack_message}
 use Rattle.tl_coherence.proofs.client.DeliverD.{finish_at, acked, finish-pool}
@@ -49,20 +38,26 @@ use Rattle.tl_manager.proofs.Answered.{no_ack_grant}
 
 -- ---- a delivery that moves a beat, as the protocol follows it
 
-pub followed-moving : {w : ℕ} (config : Config) (link : Link) (ch : Channel) (sys : System w) (h : AbstractState w) (x : Beat w) (queue : List (Beat w))
+pub followed-moving : {w : ℕ} (config : Config) (link : Link) (ch : Channel) (sys : System w) (h : AbstractState w)
+    (x : Beat w) (queue : List (Beat w))
     → is_moving (stepped config (Deliver link ch) sys).outcome ≡ true → sys.channels link.0 ch ≡ x ∷ queue
-    → abstract_step config (Deliver link ch) sys h ≡ (if completes x (unfinished ch (receiver ch link.0 sys)) then packet_taken config (next_tracker sys) link.0
+    → abstract_step config (Deliver link ch) sys h ≡ (if completes x (unfinished ch (receiver ch link.0 sys)) then
+    packet_taken config (next_tracker sys) link.0
     (packets_on ch (h.state.link link.0)) h else h)
 followed-moving {w} config link ch sys h x queue moving first =
-    ap (λ (b : Bool). if b && is_last (sys.channels link.0 ch) (unfinished ch (receiver ch link.0 sys)) then packet_taken config (next_tracker sys) link.0
+    ap (λ (b : Bool). if b && is_last (sys.channels link.0 ch) (unfinished ch (receiver ch link.0 sys)) then
+    packet_taken config (next_tracker sys) link.0
     (packets_on ch (h.state.link link.0)) h else h) moving
-    ∙ ap (λ (l : List (Beat w)). if is_last l (unfinished ch (receiver ch link.0 sys)) then packet_taken config (next_tracker sys) link.0 (packets_on ch (h.state.link link.0)) h else h) first
+    ∙ ap (λ (l : List (Beat w)). if is_last l (unfinished ch (receiver ch link.0 sys)) then packet_taken config
+    (next_tracker sys) link.0 (packets_on ch (h.state.link link.0)) h else h) first
 
 -- and one that moves none leaves it
 pub followed-still : {w : ℕ} (config : Config) (link : Link) (ch : Channel) (sys : System w) (h : AbstractState w)
-    → is_moving (stepped config (Deliver link ch) sys).outcome ≡ false → abstract_step config (Deliver link ch) sys h ≡ h
+    → is_moving (stepped config (Deliver link ch) sys).outcome ≡ false
+    → abstract_step config (Deliver link ch) sys h ≡ h
 followed-still {w} config link ch sys h still = ap
-    (λ (b : Bool). if b && is_last (sys.channels link.0 ch) (unfinished ch (receiver ch link.0 sys)) then packet_taken config (next_tracker sys) link.0
+    (λ (b : Bool). if b && is_last (sys.channels link.0 ch) (unfinished ch (receiver ch link.0 sys)) then packet_taken
+    config (next_tracker sys) link.0
     (packets_on ch (h.state.link link.0)) h else h) still
 
 pub on_d : {w : ℕ} (y : BeatD w) → IsOn channel.D (beat.D y)
@@ -76,112 +71,154 @@ on_d y channel.E = refl
 
 -- the whole afterwards, where this message was handed out
 abbrev after_heard : {w : ℕ} → ℕ → Channel → Beat w → List (Beat w) → System w → Option (Message w) → System w
-after_heard c ch x queue sys m = with_messages (handed_by c m) (with_client c (offer.taken x (sys.clients c)).after (with_channel c ch queue sys))
+after_heard c ch x queue sys m =
+    with_messages (handed_by c m) (with_client c (offer.taken x (sys.clients c)).after (with_channel c ch queue sys))
 
 -- what comes of it for the protocol: h' is what it is then, source that of the response, and f how its operation ends
-pub record IsResponded {w : ℕ} (c : ℕ) (x : Beat w) (queue : List (Beat w)) (sys : System w) (machine : Machine w) (source : ℕ) (f : Finish) (m : Option (Message w)) (h' : AbstractState w) : Type 0 where
+pub record IsResponded {w : ℕ} (c : ℕ) (x : Beat w) (queue : List (Beat w)) (sys : System w) (machine : Machine w)
+    (source : ℕ) (f : Finish) (m : Option (Message w)) (h' : AbstractState w) : Type 0 where
   pub carried : ChannelRelation h'.mail h'.state (after_heard c channel.D x queue sys m)
-  pub beside : MemoryRelation h'.mail h'.state (after_end c (pool_of f) source (machine.opened c (pool_of f) source) machine)
+  pub beside : MemoryRelation h'.mail h'.state (after_end c (pool_of f) source (machine.opened c (pool_of f) source)
+      machine)
   pub quiet : accesses_answered (handed_by c m) ≡ []
 
 -- the beat and the message that it belongs to
-pub record IsLastBeat {w : ℕ} (c : ℕ) (x : Beat w) (queue : List (Beat w)) (sys : System w) (mm : MessageD w) : Type 0 where
-  pub y : BeatD w
-  pub x_is : x ≡ beat.D y
-  pub opcode : y.opcode ≡ mm.opcode
-  pub source : y.source ≡ mm.source
-  pub sink : y.sink ≡ mm.sink
-  pub first : sys.channels c channel.D ≡ x ∷ queue
-  pub last : completes x (unfinished channel.D (sys.clients c).past) ≡ true
-  pub heard : HasHeard x (sys.clients c) (offer.taken x (sys.clients c)).after
+pub record IsLastBeat {w : ℕ} (c : ℕ) (x : Beat w) (queue : List (Beat w)) (sys : System w) (mm : MessageD w) : Type 0
+  where
+    pub y : BeatD w
+    pub x_is : x ≡ beat.D y
+    pub opcode : y.opcode ≡ mm.opcode
+    pub source : y.source ≡ mm.source
+    pub sink : y.sink ≡ mm.sink
+    pub first : sys.channels c channel.D ≡ x ∷ queue
+    pub last : completes x (unfinished channel.D (sys.clients c).past) ≡ true
+    pub heard : HasHeard x (sys.clients c) (offer.taken x (sys.clients c)).after
 
-taken_d : {w : ℕ} (c : ℕ) (x : Beat w) (queue : List (Beat w)) (sys : System w) (mm : MessageD w) (m : Option (Message w)) → IsLastBeat c x queue sys mm
+taken_d : {w : ℕ} (c : ℕ) (x : Beat w) (queue : List (Beat w)) (sys : System w) (mm : MessageD w)
+    (m : Option (Message w)) → IsLastBeat c x queue sys mm
     → IsTaken c channel.D x queue (pushes_at c (pushes_of m)) sys (after_heard c channel.D x queue sys m)
 taken_d {w} c x queue sys mm m is =
     taken-landed c channel.D x queue (pushes_at c (pushes_of m)) sys (after_heard c channel.D x queue sys m)
-    (landed-client c channel.D x queue m (offer.taken x (sys.clients c)).after sys refl is.first (subst (λ (z : Beat w). IsOn channel.D z) (sym is.x_is) (on_d is.y)) is.heard) is.last
+    (landed-client c channel.D x queue m (offer.taken x (sys.clients c)).after sys refl is.first
+    (subst (λ (z : Beat w). IsOn channel.D z) (sym is.x_is) (on_d is.y)) is.heard) is.last
 
-finish_pool_is : {w : ℕ} (c : ℕ) (x : Beat w) (queue : List (Beat w)) (sys : System w) (mm : MessageD w) (is : IsLastBeat c x queue sys mm)
+finish_pool_is : {w : ℕ} (c : ℕ) (x : Beat w) (queue : List (Beat w)) (sys : System w) (mm : MessageD w)
+    (is : IsLastBeat c x queue sys mm)
     → pool_of (finish_at is.y (sys.clients c)) ≡ (if is_release_ack mm.opcode then Releases else Requests)
-finish_pool_is {w} c x queue sys mm is = finish-pool w is.y.opcode is.y.param is.y.size _ _ ∙ ap (λ (o : OpD). if is_release_ack o then Releases else Requests) is.opcode
+finish_pool_is {w} c x queue sys mm is = finish-pool w is.y.opcode is.y.param is.y.size _ _ ∙ ap
+    (λ (o : OpD). if is_release_ack o then Releases else Requests) is.opcode
 
 acked_none : {w : ℕ} (o : OpD) (sink : ℕ) → is_grant o ≡ false → acked {w = w} o sink ≡ None
 acked_none o sink e = rw e refl
 
-pub responded-answer : {w : ℕ} (config : Config) (log : Log w) (h : AbstractState w) (sys : System w) (c source : ℕ) (rest : List Packet) (x : Beat w)
+pub responded-answer : {w : ℕ} (config : Config) (log : Log w) (h : AbstractState w) (sys : System w) (c source : ℕ)
+    (rest : List Packet) (x : Beat w)
     (queue : List (Beat w)) (due : IsAnswerDue c source h.mail h.state) → IsWidth w
-    → SimulationRelation config log h.mail h.request h.state sys → (h.state.link c).d ≡ packet Answer source ∷ rest → (is : IsLastBeat c x queue sys due.answer)
-    → IsResponded c x queue sys (one_memory_after config log) is.y.source (finish_at is.y (sys.clients c)) (acked is.y.opcode is.y.sink) (kind_taken config (next_tracker sys) c Answer source rest h)
+    → SimulationRelation config log h.mail h.request h.state sys → (h.state.link c).d ≡ packet Answer source ∷ rest
+    → (is : IsLastBeat c x queue sys due.answer)
+    → IsResponded c x queue sys (one_memory_after config log) is.y.source (finish_at is.y (sys.clients c))
+    (acked is.y.opcode is.y.sink) (kind_taken config (next_tracker sys) c Answer source rest h)
 unfolding accesses_answered
 responded-answer {w} config log h sys c source rest x queue due width matched first is =
     let plain = access_kind due.answer.opcode due.answers_access in
-    let none : acked {w = w} is.y.opcode is.y.sink ≡ None = acked_none is.y.opcode is.y.sink (ap is_grant is.opcode ∙ plain.0) in
-    let pool : pool_of (finish_at is.y (sys.clients c)) ≡ Requests = finish_pool_is c x queue sys due.answer is ∙ rw plain.1 refl in
+    let none : acked {w = w} is.y.opcode is.y.sink ≡ None =
+    acked_none is.y.opcode is.y.sink (ap is_grant is.opcode ∙ plain.0) in
+    let pool : pool_of (finish_at is.y (sys.clients c)) ≡ Requests =
+    finish_pool_is c x queue sys due.answer is ∙ rw plain.1 refl in
     let from : is.y.source ≡ source = is.source ∙ due.from in
     let inv = invariant-taken config log h sys c Answer source rest matched first tt in
     record {
-      carried = subst (λ (m : Option (Message w)). ChannelRelation h.mail (answer_taken c source rest h.state) (after_heard c channel.D x queue sys m)) (sym none)
+      carried = subst (λ (m : Option (Message w)). ChannelRelation h.mail (answer_taken c source rest h.state)
+          (after_heard c channel.D x queue sys m)) (sym none)
           (answer_taken-carried (is_caching config) c source rest h.mail h.state sys
           (after_heard c channel.D x queue sys None) x queue width matched.invariant inv first
           (taken_d c x queue sys due.answer None is) matched.carried);
       beside = subst (λ (p : Pool). MemoryRelation h.mail (answer_taken c source rest h.state)
-          (after_end c p is.y.source ((one_memory_after config log).opened c p is.y.source) (one_memory_after config log))) (sym pool)
-          (subst (λ (i : ℕ). MemoryRelation h.mail (answer_taken c source rest h.state) (after_end c Requests i ((one_memory_after config log).opened c Requests i) (one_memory_after config log))) (sym from)
+          (after_end c p is.y.source ((one_memory_after config log).opened c p is.y.source)
+          (one_memory_after config log))) (sym pool)
+          (subst (λ (i : ℕ). MemoryRelation h.mail (answer_taken c source rest h.state)
+          (after_end c Requests i ((one_memory_after config log).opened c Requests i)
+          (one_memory_after config log))) (sym from)
           (beside-answer c source rest h.mail h.state (one_memory_after config log) due.used matched.beside));
       quiet = ap (λ (m : Option (Message w)). accesses_answered (handed_by c m)) none;
     }
 
-pub responded-release_ack : {w : ℕ} (config : Config) (log : Log w) (h : AbstractState w) (sys : System w) (c n : ℕ) (rest : List Packet) (x : Beat w) (queue : List (Beat w)) → IsWidth w
-    → SimulationRelation config log h.mail h.request h.state sys → (h.state.link c).d ≡ packet ReleaseAck n ∷ rest → is_unreleased ((h.state.block n).pair c).letting ≡ false
+pub responded-release_ack : {w : ℕ} (config : Config) (log : Log w) (h : AbstractState w) (sys : System w) (c n : ℕ)
+    (rest : List Packet) (x : Beat w) (queue : List (Beat w)) → IsWidth w
+    → SimulationRelation config log h.mail h.request h.state sys → (h.state.link c).d ≡ packet ReleaseAck n ∷ rest
+    → is_unreleased ((h.state.block n).pair c).letting ≡ false
     → (is : IsLastBeat c x queue sys (ack_message ((h.state.block n).release_source c)))
-    → IsResponded c x queue sys (one_memory_after config log) is.y.source (finish_at is.y (sys.clients c)) (acked is.y.opcode is.y.sink) (kind_taken config (next_tracker sys) c ReleaseAck n rest h)
+    → IsResponded c x queue sys (one_memory_after config log) is.y.source (finish_at is.y (sys.clients c))
+    (acked is.y.opcode is.y.sink) (kind_taken config (next_tracker sys) c ReleaseAck n rest h)
 unfolding accesses_answered
 responded-release_ack {w} config log h sys c n rest x queue width matched first open_ is =
     let none : acked {w = w} is.y.opcode is.y.sink ≡ None = acked_none is.y.opcode is.y.sink (ap is_grant is.opcode) in
-    let pool : pool_of (finish_at is.y (sys.clients c)) ≡ Releases = finish_pool_is c x queue sys (ack_message ((h.state.block n).release_source c)) is in
+    let pool : pool_of (finish_at is.y (sys.clients c)) ≡ Releases =
+    finish_pool_is c x queue sys (ack_message ((h.state.block n).release_source c)) is in
     let inv = invariant-taken config log h sys c ReleaseAck n rest matched first tt in
     record {
-      carried = subst (λ (m : Option (Message w)). ChannelRelation h.mail (release_ack_taken c n rest h.state) (after_heard c channel.D x queue sys m)) (sym none)
+      carried = subst (λ (m : Option (Message w)). ChannelRelation h.mail (release_ack_taken c n rest h.state)
+          (after_heard c channel.D x queue sys m)) (sym none)
           (release_ack_taken-carried (is_caching config) c n rest h.mail h.state sys
           (after_heard c channel.D x queue sys None) x queue width matched.invariant inv first
           (taken_d c x queue sys (ack_message ((h.state.block n).release_source c)) None is) matched.carried);
       beside = subst (λ (p : Pool). MemoryRelation h.mail (release_ack_taken c n rest h.state)
-          (after_end c p is.y.source ((one_memory_after config log).opened c p is.y.source) (one_memory_after config log))) (sym pool)
-          (subst (λ (i : ℕ). MemoryRelation h.mail (release_ack_taken c n rest h.state) (after_end c Releases i ((one_memory_after config log).opened c Releases i) (one_memory_after config log))) (sym is.source)
-          (beside-release_ack (is_caching config) c n rest h.mail h.state (one_memory_after config log) matched.invariant open_ matched.beside));
+          (after_end c p is.y.source ((one_memory_after config log).opened c p is.y.source)
+          (one_memory_after config log))) (sym pool)
+          (subst (λ (i : ℕ). MemoryRelation h.mail (release_ack_taken c n rest h.state)
+          (after_end c Releases i ((one_memory_after config log).opened c Releases i)
+          (one_memory_after config log))) (sym is.source)
+          (beside-release_ack (is_caching config) c n rest h.mail h.state (one_memory_after config log)
+          matched.invariant open_ matched.beside));
       quiet = ap (λ (m : Option (Message w)). accesses_answered (handed_by c m)) none;
     }
 
-rendered_ack : {w : ℕ} (c n : ℕ) (whole d : Bool) (k : Cap) (b : Block (List ℕ)) → block_message {w = w} GrantAck c n (taken_block c whole d k b) ≡ grant_ack b.tracker
+rendered_ack : {w : ℕ} (c n : ℕ) (whole d : Bool) (k : Cap) (b : Block (List ℕ))
+    → block_message {w = w} GrantAck c n (taken_block c whole d k b) ≡ grant_ack b.tracker
 unfolding block_message
 rendered_ack c n whole d k b = refl
 
 -- what is asked of a Grant that stores a whole block: nothing else that carries its bytes is under way
 abbrev pub IsBare : ℕ → Bool → Bool → Cap → Block (List ℕ) → Type 0
-IsBare c whole d k b = (j : Kind) (i : ℕ) → shown j i b ≡ true → shown j i (taken_block c whole d k b) ≡ true → (carries j i b ≡ false) ⊎ ((taken_block c whole d k b).truth ≡ b.truth)
+IsBare c whole d k b = (j : Kind) (i : ℕ) → shown j i b ≡ true → shown j i (taken_block c whole d k b) ≡ true
+    → (carries j i b ≡ false) ⊎ ((taken_block c whole d k b).truth ≡ b.truth)
 
-pub responded-grant : {w : ℕ} (config : Config) (log : Log w) (h : AbstractState w) (sys : System w) (c n : ℕ) (rest : List Packet) (x : Beat w) (queue : List (Beat w))
+pub responded-grant : {w : ℕ} (config : Config) (log : Log w) (h : AbstractState w) (sys : System w) (c n : ℕ)
+    (rest : List Packet) (x : Beat w) (queue : List (Beat w))
     (due : IsGrantDue c n h.state) → IsWidth w
-    → SimulationRelation config log h.mail h.request h.state sys → (h.state.link c).d ≡ packet Grant n ∷ rest → IsBare c due.whole due.data_too due.k (h.state.block n)
-    → (is : IsLastBeat c x queue sys (grant_message due.data_too due.k ((h.state.block n).source c) (h.state.block n).tracker (h.state.block n).truth))
-    → IsResponded c x queue sys (one_memory_after config log) is.y.source (finish_at is.y (sys.clients c)) (acked is.y.opcode is.y.sink) (kind_taken config (next_tracker sys) c Grant n rest h)
+    → SimulationRelation config log h.mail h.request h.state sys → (h.state.link c).d ≡ packet Grant n ∷ rest
+    → IsBare c due.whole due.data_too due.k (h.state.block n)
+    → (is : IsLastBeat c x queue sys (grant_message due.data_too due.k ((h.state.block n).source c)
+    (h.state.block n).tracker (h.state.block n).truth))
+    → IsResponded c x queue sys (one_memory_after config log) is.y.source (finish_at is.y (sys.clients c))
+    (acked is.y.opcode is.y.sink) (kind_taken config (next_tracker sys) c Grant n rest h)
 unfolding accesses_answered
 responded-grant {w} config log h sys c n rest x queue due width matched first bare is =
-    subst (λ (z : AbstractState w). IsResponded c x queue sys (one_memory_after config log) is.y.source (finish_at is.y (sys.clients c)) (acked is.y.opcode is.y.sink) z) (sym same)
+    subst (λ (z : AbstractState w). IsResponded c x queue sys (one_memory_after config log) is.y.source
+    (finish_at is.y (sys.clients c)) (acked is.y.opcode is.y.sink) z) (sym same)
     (record {
-      carried = subst (λ (m : Option (Message w)). ChannelRelation h.mail (grant_taken c n due.whole due.data_too due.k rest h.state) (after_heard c channel.D x queue sys m)) (sym some)
-          (grant_taken-carried (is_caching config) c n due.whole due.data_too due.k rest (grant_ack (h.state.block n).tracker) h.mail h.state sys
-          (after_heard c channel.D x queue sys (Some (grant_ack (h.state.block n).tracker))) x queue width matched.invariant inv first due.service bare
+      carried = subst (λ (m : Option (Message w)). ChannelRelation h.mail
+          (grant_taken c n due.whole due.data_too due.k rest h.state) (after_heard c channel.D x queue sys m))
+          (sym some)
+          (grant_taken-carried (is_caching config) c n due.whole due.data_too due.k rest
+          (grant_ack (h.state.block n).tracker) h.mail h.state sys
+          (after_heard c channel.D x queue sys (Some (grant_ack (h.state.block n).tracker))) x queue width
+          matched.invariant inv first due.service bare
           refl
-          (rendered_ack c n due.whole due.data_too due.k (h.state.block n)) (taken_d c x queue sys mm (Some (grant_ack (h.state.block n).tracker)) is) matched.carried);
+          (rendered_ack c n due.whole due.data_too due.k (h.state.block n))
+          (taken_d c x queue sys mm (Some (grant_ack (h.state.block n).tracker)) is) matched.carried);
       beside = subst (λ (p : Pool). MemoryRelation h.mail (grant_taken c n due.whole due.data_too due.k rest h.state)
-          (after_end c p is.y.source ((one_memory_after config log).opened c p is.y.source) (one_memory_after config log))) (sym pool)
+          (after_end c p is.y.source ((one_memory_after config log).opened c p is.y.source)
+          (one_memory_after config log))) (sym pool)
           (subst (λ (i : ℕ). MemoryRelation h.mail (grant_taken c n due.whole due.data_too due.k rest h.state)
-          (after_end c Requests i ((one_memory_after config log).opened c Requests i) (one_memory_after config log))) (sym is.source)
+          (after_end c Requests i ((one_memory_after config log).opened c Requests i) (one_memory_after config log)))
+          (sym is.source)
           (subst (λ (b : Bool). MemoryRelation h.mail (grant_taken c n b due.data_too due.k rest h.state)
-          (after_end c Requests ((h.state.block n).source c) ((one_memory_after config log).opened c Requests ((h.state.block n).source c))
+          (after_end c Requests ((h.state.block n).source c)
+          ((one_memory_after config log).opened c Requests ((h.state.block n).source c))
           (one_memory_after config log))) (ap is_whole due.wants)
-          (beside-grant (is_caching config) c n due.data_too due.k rest h.mail h.state (one_memory_after config log) matched.invariant (ap is_wanting due.wants) matched.beside)));
+          (beside-grant (is_caching config) c n due.data_too due.k rest h.mail h.state (one_memory_after config log)
+          matched.invariant (ap is_wanting due.wants) matched.beside)));
       quiet = ap (λ (m : Option (Message w)). accesses_answered (handed_by c m)) some;
     })
   where
@@ -189,14 +226,23 @@ responded-grant {w} config log h sys c n rest x queue due width matched first ba
     mm = grant_message due.data_too due.k ((h.state.block n).source c) (h.state.block n).tracker (h.state.block n).truth
 
     some : acked {w = w} is.y.opcode is.y.sink ≡ Some (grant_ack (h.state.block n).tracker)
-    some = ap (λ (o : OpD). acked {w = w} o is.y.sink) is.opcode ∙ ap (λ (i : ℕ). acked {w = w} (grant_opcode due.data_too) i) is.sink
-        ∙ ap (λ (b : Bool). if b then Some (grant_ack {w = w} (h.state.block n).tracker) else None) (grants-so due.data_too)
+    some = ap (λ (o : OpD). acked {w = w} o is.y.sink) is.opcode ∙ ap
+        (λ (i : ℕ). acked {w = w} (grant_opcode due.data_too) i) is.sink
+        ∙ ap (λ (b : Bool). if b then Some (grant_ack {w = w} (h.state.block n).tracker) else None)
+        (grants-so due.data_too)
 
     pool : pool_of (finish_at is.y (sys.clients c)) ≡ Requests
-    pool = finish_pool_is c x queue sys mm is ∙ ap (λ (b : Bool). if b then Releases else Requests) (no_ack_grant due.data_too)
+    pool = finish_pool_is c x queue sys mm is ∙ ap (λ (b : Bool). if b then Releases else Requests)
+        (no_ack_grant due.data_too)
 
-    same : kind_taken config (next_tracker sys) c Grant n rest h ≡ record h { state = grant_taken c n due.whole due.data_too due.k rest h.state }
-    same = ap (λ (v : Service). taken_by_client c n v rest h) due.service ∙ ap (λ (a : AcquirePhase). record h { state = grant_taken c n (is_whole a) due.data_too due.k rest h.state }) due.wants
+    same : kind_taken config (next_tracker sys) c Grant n rest h ≡ record h {
+      state =
+          grant_taken c n due.whole due.data_too due.k rest h.state;
+    }
+    same = ap (λ (v : Service). taken_by_client c n v rest h) due.service ∙ ap
+        (λ (a : AcquirePhase). record h { state = grant_taken c n (is_whole a) due.data_too due.k rest h.state })
+        due.wants
 
     inv : IsInvariant (is_caching config) (grant_taken c n due.whole due.data_too due.k rest h.state)
-    inv = subst (λ (z : AbstractState w). IsInvariant (is_caching config) z.state) same (invariant-taken config log h sys c Grant n rest matched first tt)
+    inv = subst (λ (z : AbstractState w). IsInvariant (is_caching config) z.state) same
+        (invariant-taken config log h sys c Grant n rest matched first tt)

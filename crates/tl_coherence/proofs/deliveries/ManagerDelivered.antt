@@ -1,69 +1,67 @@
 -- The manager's end after any beat that is delivered on channel C or E: it takes the beat, and all that is kept of it
 -- is kept as the protocol follows.
+use Rattle.tl_coherence.proofs.deliveries.Imports.{is_granted_data, reaction-part, Reaction, Handed, IsWidth, Beat}
+use Rattle.tl_coherence.proofs.deliveries.Imports.{Channel, Message, MessageA, beats_of, unfinished, completes, Config}
+use Rattle.tl_coherence.proofs.deliveries.Imports.{Cap, Grow, Prune, Report, prune_left, report_left, on_link}
+use Rattle.tl_coherence.proofs.deliveries.Imports.{same_perm, IsFor, reaction, End, AbstractState, ack_taken}
+use Rattle.tl_coherence.proofs.deliveries.Imports.{last_taken, some_below, packet_taken, with_state, answers}
+use Rattle.tl_coherence.proofs.deliveries.Imports.{IsInvariant, IsWell, Log, ProbeAnswered, AcquirePhase, NoAcquire}
+use Rattle.tl_coherence.proofs.deliveries.Imports.{AcquireOpen, Service, Free, Waits, GrantSent, GrantTaken, Block}
+use Rattle.tl_coherence.proofs.deliveries.Imports.{SourceState, report_taken, release_taken, shown, packet, view}
+use Rattle.tl_coherence.proofs.deliveries.Imports.{let_block, message_of, prune_told, block_message, report_told}
+use Rattle.tl_coherence.proofs.deliveries.Imports.{System, Kind, ProbeAck, Release, GrantAck, Acquire, Packet, Grant}
+use Rattle.tl_coherence.proofs.deliveries.Imports.{ReleaseAck, SimulationRelation, is_caching}
 use Rattle.tl_coherence.proofs.queues.FirstToken.{first-token}
-use Rattle.tl_coherence.specs.protocol.PhaseSteps.{is_granted_data}
 use Rattle.tl_coherence.specs.protocol.Protocol as protocol
 use Rattle.tl_coherence.proofs.manager.RequestsTaken.{invariant-taken}
 use Rattle.tl_coherence.proofs.manager.ManagersEnd.{at_manager-matched}
 use Rattle.tl_coherence.proofs.manager.ManagerHanded.{grant-rendered}
-use Rattle.tl_manager.proofs.Events.{reaction-part, reaction-ack}
-use Rattle.tl_manager.specs.statement.Handing.{Reaction, Handed, release_ack}
-use Rattle.std.proofs.Common.{[], ◌≡◌, ℕ, ◌+◌, Bool, true, false, ◌&&◌, List, ◌∷◌, None, length, refl, sym, ◌∙◌, ap, subst}
+use Rattle.tl_manager.proofs.Events.{reaction-ack}
+use Rattle.tl_manager.specs.statement.Handing.{release_ack}
+use Rattle.std.proofs.Common.{[], ◌≡◌, ℕ, ◌+◌, Bool, true, false, ◌&&◌, List, ◌∷◌, None, length, refl, sym, ◌∙◌, ap}
+use Rattle.std.proofs.Common.{subst}
 use Rattle.std.specs.Prelude.{◌==◌, if◌then◌else◌, map}
 use Rattle.std.proofs.lemmas.Bool.{eqb-true}
-use Rattle.tl_beat.specs.statement.Width.{IsWidth}
-use Rattle.tl_beat.specs.declared.beat.Beat.{Beat}
 use Rattle.tl_beat.specs.declared.beat.Beat.TheVariants as beat
 use Rattle.tl_beat.specs.declared.beat.BeatE.{BeatE}
-use Rattle.tl_beat.specs.declared.channel.Channel.{Channel}
 use Rattle.tl_beat.specs.declared.channel.Channel.TheVariants as channel
-use Rattle.tl_burst.specs.declared.message.Message.{Message}
 use Rattle.tl_burst.specs.declared.message.Message.TheVariants as message
-use Rattle.tl_burst.specs.declared.message.MessageA.{MessageA}
 use Rattle.tl_burst.specs.declared.message.MessageC.{MessageC}
-use Rattle.tl_burst.specs.statement.Burst.{beats_of, begun, c_beat_of}
-use Rattle.tl_burst.specs.statement.Messages.{unfinished}
-use Rattle.tl_burst.specs.statement.Part.{completes}
-use Rattle.tl_params.specs.declared.config.Config.{Config}
-use Rattle.tl_params.specs.declared.param.Cap.{Cap}
-use Rattle.tl_params.specs.declared.param.Grow.{Grow}
-use Rattle.tl_params.specs.declared.param.Prune.{Prune}
-use Rattle.tl_params.specs.declared.param.Report.{Report}
+use Rattle.tl_burst.specs.statement.Burst.{begun, c_beat_of}
 use Rattle.tl_params.specs.declared.perm.Perm.TheVariants as perm
-use Rattle.tl_params.specs.statement.Param.{grow_code, prune_code, prune_left, report_code, report_left}
-use Rattle.tl_rules.specs.statement.Conformance.{on_link, broken_in_order, same_perm}
+use Rattle.tl_params.specs.statement.Param.{grow_code, prune_code, report_code}
+use Rattle.tl_rules.specs.statement.Conformance.{broken_in_order}
 use Rattle.tl_rules.specs.statement.History.{pending}
 use Rattle.tl_params.specs.declared.key.Key.TheVariants.{GrantSink}
 use Rattle.tl_manager.proofs.LinkHistories.{whole-e}
-use Rattle.tl_coherence.specs.refinement.SourceRelation.{IsFor}
 use Rattle.tl_manager.specs.code.Kept as manager
-use Rattle.tl_manager.specs.statement.Reaction.{reaction}
-use Rattle.tl_manager.specs.statement.End.{End}
-use Rattle.tl_coherence.specs.refinement.AbstractStep.{AbstractState, acquire_opcode, ack_taken, granted_after, last_taken, some_below, packet_taken, with_state, answers}
-use Rattle.tl_coherence.specs.protocol.Invariant.{IsInvariant, IsOwnSource, IsWell}
-use Rattle.tl_coherence.specs.statement.Log.{Log}
-use Rattle.tl_coherence.specs.protocol.Phase.{View, Own, Other, Granting, Acknowledging, GrantedOther, ProbeAnswered, ReleaseSent, AcquirePhase, NoAcquire, AcquireOpen}
-use Rattle.tl_coherence.specs.protocol.Protocol.{Service, Free, Waits, GrantSent, GrantTaken, Block, SourceState, Acquires, is_wanting, report_taken, release_taken, grant_ack_taken}
-use Rattle.tl_coherence.specs.protocol.Protocol.{shown, packet, view, granted_block, let_block}
-use Rattle.tl_coherence.specs.refinement.PacketMessages.{message_of, prune_told, block_message, report_told}
-use Rattle.tl_coherence.specs.statement.System.{System}
-use Rattle.tl_coherence.specs.protocol.Packet.{Kind, ProbeAck, Release, GrantAck, Acquire, Packet, Grant, ReleaseAck, set}
-use Rattle.tl_coherence.specs.refinement.SimulationRelation.{SimulationRelation, IsAcquireOf, is_caching}
+use Rattle.tl_coherence.specs.refinement.AbstractStep.{acquire_opcode, granted_after}
+use Rattle.tl_coherence.specs.protocol.Invariant.{IsOwnSource}
+use Rattle.tl_coherence.specs.protocol.Phase.{View, Own, Other, Granting, Acknowledging, GrantedOther, ReleaseSent}
+use Rattle.tl_coherence.specs.protocol.Protocol.{Acquires, is_wanting, grant_ack_taken, granted_block}
+use Rattle.tl_coherence.specs.protocol.Packet.{set}
+use Rattle.tl_coherence.specs.refinement.SimulationRelation.{IsAcquireOf}
 use Rattle.tl_coherence.proofs.queues.Carried.{IsNext}
 use Rattle.tl_coherence.proofs.queues.Facts.{answered_other, is_other, own_wants}
 use Rattle.tl_coherence.proofs.manager.ManagedAcks.{IsAcked}
-use Rattle.tl_coherence.proofs.manager.ManagerAfter.{IsManagerOf, left, IsEnd, others_probed, report_part-left, reported-left, released-left, acked-left, reaction-reported, reaction-released}
-use Rattle.tl_coherence.proofs.manager.ManagerSettles.{IsWanted, IsSettling, ended-left, conceded-left, reaction-ended, reaction-conceded, gift_after}
-use Rattle.tl_coherence.proofs.manager.ManagerTakes.{IsTakenUp, ack-order, by-first_c, by-first_e, release-order, report-order, takes}
+use Rattle.tl_coherence.proofs.manager.ManagerAfter.{IsManagerOf, left, IsEnd, others_probed, report_part-left}
+use Rattle.tl_coherence.proofs.manager.ManagerAfter.{reported-left, released-left, acked-left, reaction-reported}
+use Rattle.tl_coherence.proofs.manager.ManagerAfter.{reaction-released}
+use Rattle.tl_coherence.proofs.manager.ManagerSettles.{IsWanted, IsSettling, ended-left, conceded-left, reaction-ended}
+use Rattle.tl_coherence.proofs.manager.ManagerSettles.{reaction-conceded, gift_after}
+use Rattle.tl_coherence.proofs.manager.ManagerTakes.{IsTakenUp, ack-order, by-first_c, by-first_e, release-order}
+use Rattle.tl_coherence.proofs.manager.ManagerTakes.{report-order, takes}
 use Rattle.tl_coherence.proofs.manager.Reporting.{IsAbout, report-about, release-about}
 use Rattle.tl_coherence.proofs.queues.Tokens.{holds-first, same_number, set-same, set_at-same}
-use Rattle.tl_coherence.proofs.protocol.BothParts.{acquires_of-is, answered-is, releasing-is, acknowledging-is, not-calm}
+use Rattle.tl_coherence.proofs.protocol.BothParts.{acquires_of-is, answered-is, releasing-is, acknowledging-is}
+use Rattle.tl_coherence.proofs.protocol.BothParts.{not-calm}
 use Rattle.tl_coherence.proofs.manager.Admitted.{head_all}
 use Rattle.tl_coherence.proofs.memory.BesideTaken.{same_message}
 
 -- ---- the Acquire that is granted
 
-wanted_fields : {w : ℕ} (q n : ℕ) (whole : Bool) (g : Grow) (b : Block (List ℕ)) (v : MessageA w) → (b.pair q).acquiring ≡ AcquireOpen whole g
+wanted_fields : {w : ℕ} (q n : ℕ) (whole : Bool) (g : Grow) (b : Block (List ℕ)) (v : MessageA w)
+    → (b.pair q).acquiring ≡ AcquireOpen whole g
     → block_message Acquire q n b ≡ message.A v → (v.opcode ≡ acquire_opcode whole) × (v.param ≡ grow_code g)
 unfolding block_message
 wanted_fields {w} q n true g b v wants e =
@@ -91,26 +89,33 @@ pushed_last n _ h' = []
 
 -- at the last beat of the message of client c and block n, before which the protocol was `h`
 abbrev pub pushed : {w : ℕ} → Config → ℕ → Kind → ℕ → AbstractState w → AbstractState w → Handed w
-pushed config c ProbeAck n h h' = if some_below (length config.clients.items) (others_probed c (h.state.block n).pair) then [] else pushed_last n (h.state.block n).service h'
+pushed config c ProbeAck n h h' = if some_below (length config.clients.items) (others_probed c (h.state.block n).pair)
+    then [] else pushed_last n (h.state.block n).service h'
 pushed config c Release n h h' = (record { 0 = c }, block_message ReleaseAck c n (h'.state.block n)) ∷ []
 pushed config c _ n h h' = []
 
 -- what is kept of the manager's end after this beat, and what it hands out
 abbrev pub Does : {w : ℕ} → Config → ℕ → AbstractState w → AbstractState w → Kind → ℕ → End w → Beat w → Type 0
 Does config c h h' kind n e x =
-    IsManagerOf config h' (left c x (reaction config (record { 0 = c }) x e) e) × ((reaction config (record { 0 = c }) x e).handed ≡ pushed config c kind n h h')
+    IsManagerOf config h' (left c x (reaction config (record { 0 = c }) x e) e)
+    × ((reaction config (record { 0 = c }) x e).handed ≡ pushed config c kind n h h')
 
 -- ---- a ProbeAck
 
 -- where its last beat is taken
-reported-last : {w : ℕ} (config : Config) (log : Log w) (h : AbstractState w) (sys : System w) (c n k : ℕ) (rest : List Packet) (m : MessageC w) → SimulationRelation config log h.mail h.request h.state sys
-    → (h.state.link c).c ≡ packet ProbeAck n ∷ rest → ((h.state.block n).pair c).probing ≡ ProbeAnswered (report_told ((h.state.block n).pair c).probing)
+reported-last : {w : ℕ} (config : Config) (log : Log w) (h : AbstractState w) (sys : System w) (c n k : ℕ)
+    (rest : List Packet) (m : MessageC w) → SimulationRelation config log h.mail h.request h.state sys
+    → (h.state.link c).c ≡ packet ProbeAck n ∷ rest → ((h.state.block n).pair c).probing ≡ ProbeAnswered
+    (report_told ((h.state.block n).pair c).probing)
     → IsTakenUp config c channel.C (beat.C (c_beat_of m k)) sys.manager
     → IsEnd true c n (report_code (report_told ((h.state.block n).pair c).probing))
-    (same_perm (report_left (report_told ((h.state.block n).pair c).probing)) perm.Trunk) (h.state.block n).truth k m sys.manager
-    → Does config c h (ack_taken (length config.clients.items) config.profile c n (report_told ((h.state.block n).pair c).probing) rest h) ProbeAck n sys.manager (beat.C (c_beat_of m k))
+    (same_perm (report_left (report_told ((h.state.block n).pair c).probing)) perm.Trunk) (h.state.block n).truth k m
+    sys.manager
+    → Does config c h (ack_taken (length config.clients.items) config.profile c n
+    (report_told ((h.state.block n).pair c).probing) rest h) ProbeAck n sys.manager (beat.C (c_beat_of m k))
 reported-last {w} config log h sys c n k rest m is tokens answered up end =
-    others (some_below (length config.clients.items) (others_probed c b.pair)) refl (invariant-taken config log h sys c ProbeAck n rest is tokens tt)
+    others (some_below (length config.clients.items) (others_probed c b.pair)) refl
+    (invariant-taken config log h sys c ProbeAck n rest is tokens tt)
   where
     b : Block (List ℕ)
     b = h.state.block n
@@ -126,20 +131,26 @@ reported-last {w} config log h sys c n k rest m is tokens answered up end =
 
     -- what is kept, and what is handed out
     Result : AbstractState w → Handed w → Type 0
-    Result h' pushes = IsManagerOf config h' (left c x (reaction config (record { 0 = c }) x e) e) × ((reaction config (record { 0 = c }) x e).handed ≡ pushes)
+    Result h' pushes = IsManagerOf config h' (left c x (reaction config (record { 0 = c }) x e) e)
+        × ((reaction config (record { 0 = c }) x e).handed ≡ pushes)
 
     seen : is_other (view b.service c) ≡ true
     seen = answered_other r (b.pair c) (view b.service c) ((is.invariant.blocks n).phases c) answered
 
-    unseen : (x : Bool) (u v : View) → is_other u ≡ false → is_other v ≡ false → is_other (if x then u else v) ≡ true → ⊥
+    unseen : (x : Bool) (u v : View) → is_other u ≡ false → is_other v ≡ false → is_other (if x then u else v) ≡ true
+        → ⊥
     unseen true u v f g i = cc
     unseen false u v f g i = cc
 
-    last : some_below (length config.clients.items) (others_probed c b.pair) ≡ false → (service : Service) → b.service ≡ service
-        → IsInvariant (is_caching config) (last_taken (length config.clients.items) config.profile c n r service rest h).state
-        → Result (last_taken (length config.clients.items) config.profile c n r service rest h) (pushed_last n service (last_taken (length config.clients.items) config.profile c n r service rest h))
+    last : some_below (length config.clients.items) (others_probed c b.pair) ≡ false → (service : Service)
+        → b.service ≡ service
+        → IsInvariant (is_caching config) (last_taken (length config.clients.items) config.profile c n r service rest
+        h).state
+        → Result (last_taken (length config.clients.items) config.profile c n r service rest h)
+        (pushed_last n service (last_taken (length config.clients.items) config.profile c n r service rest h))
     last alone Free f inv = absurd (let other : false ≡ true = rw f at seen in cc)
-    last alone (GrantSent q d low) f inv = absurd (unseen (c == q) (Granting d low) GrantedOther refl refl (rw f at seen))
+    last alone (GrantSent q d low) f inv =
+        absurd (unseen (c == q) (Granting d low) GrantedOther refl refl (rw f at seen))
     last alone (GrantTaken q) f inv = absurd (unseen (c == q) Acknowledging GrantedOther refl refl (rw f at seen))
     last alone (Waits q false source low) f inv =
         let at : IsSettling config c q n source k false low r m h e =
@@ -154,25 +165,35 @@ reported-last {w} config log h sys c n k rest m is tokens answered up end =
         } in (
           ended-left config c q n source k low r rest m h e at,
           ap (λ (d : Reaction w). d.handed) (reaction-ended config c q n source k low r m h e at)
-              ∙ rw (set_at-same q source (answers (h.request n) (protocol.written r b.truth b.memory)) h.mail.answer) refl,
+              ∙ rw (set_at-same q source (answers (h.request n) (protocol.written r b.truth b.memory)) h.mail.answer)
+              refl,
         )
     last alone (Waits q true source low) f inv = go (b.pair q).acquiring refl inv
       where
         own_source : source ≡ b.source q
-        own_source = let here : IsOwnSource (Waits q true source low) b.source = rw f at ((is.invariant.blocks n).own_source) in here
+        own_source = let here : IsOwnSource (Waits q true source low) b.source =
+            rw f at ((is.invariant.blocks n).own_source) in here
 
         wants : is_wanting (b.pair q).acquiring ≡ true
-        wants = not-calm (b.pair q).acquiring (own_wants (b.pair q) (view b.service q) ((is.invariant.blocks n).phases q) (rw (f, same_number q) refl))
+        wants = not-calm (b.pair q).acquiring
+            (own_wants (b.pair q) (view b.service q) ((is.invariant.blocks n).phases q) (rw (f, same_number q) refl))
 
         used : h.state.uses q source ≡ Acquires n
-        used = acquires_of-is n (h.state.uses q source) (is.invariant.named.acquires q source n ∙ rw (wants, ← own_source, same_number source) refl)
+        used = acquires_of-is n (h.state.uses q source)
+            (is.invariant.named.acquires q source n ∙ rw (wants, ← own_source, same_number source) refl)
 
         acquired : block_message Acquire q n b ≡ message.A (h.request n)
         acquired = subst (λ (v : Service). IsAcquireOf n b v (h.request n)) f (is.acquired n)
 
-        go : (y : AcquirePhase) → (b.pair q).acquiring ≡ y → IsInvariant (is_caching config) (granted_after (length config.clients.items) config.profile c q n r y rest h).state
+        go : (y : AcquirePhase) → (b.pair q).acquiring ≡ y
+            → IsInvariant (is_caching config) (granted_after (length config.clients.items) config.profile c q n r y rest
+            h).state
             → Result (granted_after (length config.clients.items) config.profile c q n r y rest h)
-            ((record { 0 = q }, block_message Grant q n ((granted_after (length config.clients.items) config.profile c q n r y rest h).state.block n)) ∷ [])
+            ((
+              record { 0 = q },
+              block_message Grant q n
+                  ((granted_after (length config.clients.items) config.profile c q n r y rest h).state.block n),
+            ) ∷ [])
         go NoAcquire g after = absurd (let none : false ≡ true = rw g at wants in cc)
         go (AcquireOpen whole grow) g after =
             let fields = wanted_fields q n whole grow b (h.request n) g acquired in
@@ -186,21 +207,33 @@ reported-last {w} config log h sys c n k rest m is tokens answered up end =
               is =
                   at_manager-matched config log h.mail h.request h.state sys is;
             } in
-            let wanted : IsWanted c q n source whole grow h = record { apart = seen_apart q source low c (rw f at seen); used = used; opcode_is = fields.0; param_is = fields.1 } in
-            let new : Block (List ℕ) = granted_block c q r (is_granted_data whole grow (b.pair q).recorded) (gift_after config c n r whole grow h) b in
+            let wanted : IsWanted c q n source whole grow h =
+            record {
+              apart = seen_apart q source low c (rw f at seen);
+              used = used;
+              opcode_is = fields.0;
+              param_is =
+                  fields.1;
+            } in
+            let new : Block (List ℕ) = granted_block c q r (is_granted_data whole grow (b.pair q).recorded)
+            (gift_after config c n r whole grow h) b in
             let here : set n new h.state.block n ≡ new = set-same n new h.state.block in (
               conceded-left config c q n source k low r whole grow rest m h e at wanted,
-              ap (λ (d : Reaction w). d.handed) (reaction-conceded config c q n source k low r whole grow m h e at wanted)
+              ap (λ (d : Reaction w). d.handed) (reaction-conceded config c q n source k low r whole grow m h e at
+                  wanted)
                   ∙ ap (λ (i : Message w). (record { 0 = q }, i) ∷ [])
                   (grant-rendered config (is_caching config) c q n source r whole grow h own_source
                   (subst (IsWell (is_caching config)) here (after.blocks n)) ∙ ap (block_message Grant q n) (sym here)),
             )
 
     others : (y : Bool) → some_below (length config.clients.items) (others_probed c b.pair) ≡ y
-        → IsInvariant (is_caching config) (if y then with_state (report_taken c n r rest h.state) h else last_taken (length config.clients.items) config.profile c n r b.service rest h).state
-        → Result (if y then with_state (report_taken c n r rest h.state) h else last_taken (length config.clients.items) config.profile c n r b.service rest h)
+        → IsInvariant (is_caching config) (if y then with_state (report_taken c n r rest h.state) h else last_taken
+        (length config.clients.items) config.profile c n r b.service rest h).state
+        → Result (if y then with_state (report_taken c n r rest h.state) h else last_taken (length config.clients.items)
+        config.profile c n r b.service rest h)
         (if some_below (length config.clients.items) (others_probed c b.pair) then [] else pushed_last n b.service
-        (if y then with_state (report_taken c n r rest h.state) h else last_taken (length config.clients.items) config.profile c n r b.service rest h))
+        (if y then with_state (report_taken c n r rest h.state) h else last_taken (length config.clients.items)
+        config.profile c n r b.service rest h))
     others true f inv = (
       reported-left config c n k r rest m h e up end f (at_manager-matched config log h.mail h.request h.state sys is),
       ap (λ (d : Reaction w). d.handed) (reaction-reported config c n k r m h e end f is.managed) ∙ rw f refl,
@@ -218,20 +251,25 @@ pushed_by config c (x ∷ rest) h h' = pushed config c x.kind x.number h h'
 
 -- The beat is taken, what is kept follows, and this is handed out: `h'` is the protocol where the beat is the last one
 -- of its message, and `pushes` is what is handed out then.
-pub record Delivered {w : ℕ} (config : Config) (c : ℕ) (ch : Channel) (rest : List (Beat w)) (h h' : AbstractState w) (pushes : Handed w) (e : End w) (x : Beat w) : Type 0 where
+pub record Delivered {w : ℕ} (config : Config) (c : ℕ) (ch : Channel) (rest : List (Beat w)) (h h' : AbstractState w)
+    (pushes : Handed w) (e : End w) (x : Beat w) : Type 0 where
   pub up : IsTakenUp config c ch x e
-  pub manager : IsManagerOf config (if completes x rest then h' else h) (left c x (reaction config (record { 0 = c }) x e) e)
+  pub manager : IsManagerOf config (if completes x rest then h' else h)
+      (left c x (reaction config (record { 0 = c }) x e) e)
   pub handed : (reaction config (record { 0 = c }) x e).handed ≡ (if completes x rest then pushes else [])
 
-delivered-c : {w : ℕ} (config : Config) (h h' : AbstractState w) (kind : Kind) (c n : ℕ) (x : Beat w) (m : MessageC w) (ms : List (Message w)) (queue : List (Beat w))
+delivered-c : {w : ℕ} (config : Config) (h h' : AbstractState w) (kind : Kind) (c n : ℕ) (x : Beat w) (m : MessageC w)
+    (ms : List (Message w)) (queue : List (Beat w))
     (e : End w) → IsWidth w → IsManagerOf config h e → manager.IsSound config (record { 0 = c }, x)
     → IsNext x (unfinished channel.C (on_link c e.trace)) (message.C m) ms queue
-    → ((k : ℕ) → unfinished channel.C (on_link c e.trace) ≡ begun (message.C m) k → broken_in_order config.profile (beat.C (c_beat_of m k)) (on_link c e.trace) ≡ None)
+    → ((k : ℕ) → unfinished channel.C (on_link c e.trace) ≡ begun (message.C m) k
+    → broken_in_order config.profile (beat.C (c_beat_of m k)) (on_link c e.trace) ≡ None)
     → ((k : ℕ) → k + 1 ≡ beats_of (message.C m) → unfinished channel.C (on_link c e.trace) ≡ begun (message.C m) k
     → IsTakenUp config c channel.C (beat.C (c_beat_of m k)) e → Does config c h h' kind n e (beat.C (c_beat_of m k)))
     → Delivered config c channel.C (unfinished channel.C (on_link c e.trace)) h h' (pushed config c kind n h h') e x
 delivered-c {w} config h h' kind c n x m ms queue e width is sound next order last =
-    subst (Delivered config c channel.C rest h h' pushes e) (sym next.beat_is) (go (next.k + 1 == beats_of (message.C m)) refl)
+    subst (Delivered config c channel.C rest h h' pushes e) (sym next.beat_is)
+    (go (next.k + 1 == beats_of (message.C m)) refl)
   where
     rest : List (Beat w)
     rest = unfinished channel.C (on_link c e.trace)
@@ -243,7 +281,8 @@ delivered-c {w} config h h' kind c n x m ms queue e width is sound next order la
     y = beat.C (c_beat_of m next.k)
 
     up : IsTakenUp config c channel.C y e
-    up = takes config c channel.C y e (subst (λ (i : Beat w). manager.IsSound config (record { 0 = c }, i)) next.beat_is sound) refl refl is.all_live (order next.k next.rest_is) refl
+    up = takes config c channel.C y e (subst (λ (i : Beat w). manager.IsSound config (record { 0 = c }, i)) next.beat_is
+        sound) refl refl is.all_live (order next.k next.rest_is) refl
 
     completes_it : completes y rest ≡ (next.k + 1 == beats_of (message.C m))
     completes_it = ap (λ (i : Beat w). completes i rest) (sym next.beat_is) ∙ next.completes_is
@@ -254,38 +293,50 @@ delivered-c {w} config h h' kind c n x m ms queue e width is sound next order la
         let done = last next.k (eqb-true (next.k + 1) (beats_of (message.C m)) f) next.rest_is up in
         record {
           up = up;
-          manager = subst (λ (b : Bool). IsManagerOf config (if b then h' else h) (left c y (reaction config (record { 0 = c }) y e) e)) (sym ended) done.0;
+          manager = subst (λ (b : Bool). IsManagerOf config (if b then h' else h)
+              (left c y (reaction config (record { 0 = c }) y e) e)) (sym ended) done.0;
           handed = done.1 ∙ sym (ap (λ (b : Bool). if b then pushes else []) ended);
         }
     go false f =
         let part : completes y rest ≡ false = completes_it ∙ f in
         record {
           up = up;
-          manager = subst (λ (b : Bool). IsManagerOf config (if b then h' else h) (left c y (reaction config (record { 0 = c }) y e) e)) (sym part)
+          manager = subst (λ (b : Bool). IsManagerOf config (if b then h' else h)
+              (left c y (reaction config (record { 0 = c }) y e) e)) (sym part)
               (report_part-left config c (c_beat_of m next.k) h e width up part is);
-          handed = ap (λ (d : Reaction w). d.handed) (reaction-part config (record { 0 = c }) y e part) ∙ sym (ap (λ (b : Bool). if b then pushes else []) part);
+          handed = ap (λ (d : Reaction w). d.handed) (reaction-part config (record { 0 = c }) y e part) ∙ sym
+              (ap (λ (b : Bool). if b then pushes else []) part);
         }
 
-pub reports-delivered : {w : ℕ} (config : Config) (log : Log w) (h : AbstractState w) (sys : System w) (c n : ℕ) (rest : List Packet) (x : Beat w)
-    (queue : List (Beat w)) (ms : List (Message w)) → IsWidth w → SimulationRelation config log h.mail h.request h.state sys
+pub reports-delivered : {w : ℕ} (config : Config) (log : Log w) (h : AbstractState w) (sys : System w) (c n : ℕ)
+    (rest : List Packet) (x : Beat w)
+    (queue : List (Beat w)) (ms : List (Message w)) → IsWidth w → SimulationRelation config log h.mail h.request h.state
+    sys
     → sys.channels c channel.C ≡ x ∷ queue → (h.state.link c).c ≡ packet ProbeAck n ∷ rest
-    → IsNext x (unfinished channel.C (on_link c sys.manager.trace)) (block_message ProbeAck c n (h.state.block n)) ms queue
+    → IsNext x (unfinished channel.C (on_link c sys.manager.trace)) (block_message ProbeAck c n (h.state.block n)) ms
+    queue
     → Delivered config c channel.C (unfinished channel.C (on_link c sys.manager.trace)) h
     (ack_taken (length config.clients.items) config.profile c n (report_told ((h.state.block n).pair c).probing) rest h)
-    (pushed config c ProbeAck n h (ack_taken (length config.clients.items) config.profile c n (report_told ((h.state.block n).pair c).probing) rest h)) sys.manager x
+    (pushed config c ProbeAck n h (ack_taken (length config.clients.items) config.profile c n
+    (report_told ((h.state.block n).pair c).probing) rest h)) sys.manager x
 unfolding block_message
 reports-delivered {w} config log h sys c n rest x queue ms width is beats tokens next =
-    delivered-c config h _ ProbeAck c n x m ms queue sys.manager width (at_manager-matched config log h.mail h.request h.state sys is)
-    (head_all (λ y. manager.IsSound config (record { 0 = c }, y)) x queue (sys.channels c channel.C) beats (is.sound c channel.C))
+    delivered-c config h _ ProbeAck c n x m ms queue sys.manager width
+    (at_manager-matched config log h.mail h.request h.state sys is)
+    (head_all (λ y. manager.IsSound config (record { 0 = c }, y)) x queue (sys.channels c channel.C) beats
+    (is.sound c channel.C))
     (subst (λ (i : Message w). IsNext x (unfinished channel.C (on_link c sys.manager.trace)) i ms queue) about.1 next)
     (λ k before. report-order config (is_caching config) h.request c n k r (h.state.block n).truth
-    (same_perm (report_left r) perm.Trunk) m h.state sys.manager is.invariant is.managed is.served is.manager_kept answered about.2 before)
-    (λ k all before up. reported-last config log h sys c n k rest m is tokens answered up (record { width = width; about = about.2; rest = before; last = all; long = (is.sized n).truth }))
+    (same_perm (report_left r) perm.Trunk) m h.state sys.manager is.invariant is.managed is.served is.manager_kept
+    answered about.2 before)
+    (λ k all before up. reported-last config log h sys c n k rest m is tokens answered up
+    (record { width = width; about = about.2; rest = before; last = all; long = (is.sized n).truth }))
   where
     r : Report
     r = report_told ((h.state.block n).pair c).probing
 
-    about : (i : MessageC w) × (block_message ProbeAck c n (h.state.block n) ≡ message.C i) × IsAbout true n (report_code r) (same_perm (report_left r) perm.Trunk) (h.state.block n).truth i
+    about : (i : MessageC w) × (block_message ProbeAck c n (h.state.block n) ≡ message.C i)
+        × IsAbout true n (report_code r) (same_perm (report_left r) perm.Trunk) (h.state.block n).truth i
     about = report-about r n (h.state.block n).truth width (is.sized n).truth
 
     m : MessageC w
@@ -293,28 +344,39 @@ reports-delivered {w} config log h sys c n rest x queue ms width is beats tokens
 
     answered : ((h.state.block n).pair c).probing ≡ ProbeAnswered r
     answered = answered-is ((h.state.block n).pair c).probing
-        (holds-first ProbeAck (h.state.link c).c rest (packet ProbeAck n) (λ i. shown ProbeAck c (h.state.block i)) tokens refl
+        (holds-first ProbeAck (h.state.link c).c rest (packet ProbeAck n) (λ i. shown ProbeAck c (h.state.block i))
+        tokens refl
         (is.invariant.transfers c ProbeAck refl))
 
 -- ---- a Release
 
-pub releases-delivered : {w : ℕ} (config : Config) (log : Log w) (h : AbstractState w) (sys : System w) (c n : ℕ) (rest : List Packet) (x : Beat w)
-    (queue : List (Beat w)) (ms : List (Message w)) → IsWidth w → SimulationRelation config log h.mail h.request h.state sys
+pub releases-delivered : {w : ℕ} (config : Config) (log : Log w) (h : AbstractState w) (sys : System w) (c n : ℕ)
+    (rest : List Packet) (x : Beat w)
+    (queue : List (Beat w)) (ms : List (Message w)) → IsWidth w → SimulationRelation config log h.mail h.request h.state
+    sys
     → sys.channels c channel.C ≡ x ∷ queue → (h.state.link c).c ≡ packet Release n ∷ rest
-    → IsNext x (unfinished channel.C (on_link c sys.manager.trace)) (block_message Release c n (h.state.block n)) ms queue
-    → Delivered config c channel.C (unfinished channel.C (on_link c sys.manager.trace)) h (with_state (release_taken c n (prune_told ((h.state.block n).pair c).letting) rest h.state) h)
-    (pushed config c Release n h (with_state (release_taken c n (prune_told ((h.state.block n).pair c).letting) rest h.state) h)) sys.manager x
+    → IsNext x (unfinished channel.C (on_link c sys.manager.trace)) (block_message Release c n (h.state.block n)) ms
+    queue
+    → Delivered config c channel.C (unfinished channel.C (on_link c sys.manager.trace)) h
+    (with_state (release_taken c n (prune_told ((h.state.block n).pair c).letting) rest h.state) h)
+    (pushed config c Release n h
+    (with_state (release_taken c n (prune_told ((h.state.block n).pair c).letting) rest h.state) h)) sys.manager x
 unfolding block_message
 releases-delivered {w} config log h sys c n rest x queue ms width is beats tokens next =
-    delivered-c config h _ Release c n x m ms queue sys.manager width (at_manager-matched config log h.mail h.request h.state sys is)
-    (head_all (λ y. manager.IsSound config (record { 0 = c }, y)) x queue (sys.channels c channel.C) beats (is.sound c channel.C))
+    delivered-c config h _ Release c n x m ms queue sys.manager width
+    (at_manager-matched config log h.mail h.request h.state sys is)
+    (head_all (λ y. manager.IsSound config (record { 0 = c }, y)) x queue (sys.channels c channel.C) beats
+    (is.sound c channel.C))
     (subst (λ (i : Message w). IsNext x (unfinished channel.C (on_link c sys.manager.trace)) i ms queue) about.1 next)
     (λ k before. release-order config (is_caching config) h.request c n k r rest (h.state.block n).truth
-    (same_perm (prune_left r) perm.Trunk) m h.state sys.manager is.invariant is.managed is.manager_kept tokens releasing about.2 before)
+    (same_perm (prune_left r) perm.Trunk) m h.state sys.manager is.invariant is.managed is.manager_kept tokens releasing
+    about.2 before)
     (λ k all before up.
-    let end : IsEnd false c n (prune_code r) (same_perm (prune_left r) perm.Trunk) (h.state.block n).truth k m sys.manager =
+    let end : IsEnd false c n (prune_code r) (same_perm (prune_left r) perm.Trunk) (h.state.block n).truth k m
+    sys.manager =
     record { width = width; about = about.2; rest = before; last = all; long = (is.sized n).truth } in (
-      released-left config c n k r rest m h sys.manager up end (at_manager-matched config log h.mail h.request h.state sys is),
+      released-left config c n k r rest m h sys.manager up end (at_manager-matched config log h.mail h.request h.state
+          sys is),
       ap (λ (d : Reaction w). d.handed) (reaction-released config c n k r m h sys.manager end)
           ∙ ap (λ (i : ℕ). (record { 0 = c }, release_ack {w = w} i) ∷ []) about.3
           ∙ sym (ap (λ (b : Block (List ℕ)). (record { 0 = c }, block_message {w = w} ReleaseAck c n b) ∷ [])
@@ -325,7 +387,8 @@ releases-delivered {w} config log h sys c n rest x queue ms width is beats token
     r = prune_told ((h.state.block n).pair c).letting
 
     about : (i : MessageC w) × (block_message Release c n (h.state.block n) ≡ message.C i)
-        × IsAbout false n (prune_code r) (same_perm (prune_left r) perm.Trunk) (h.state.block n).truth i × (i.source ≡ (h.state.block n).release_source c)
+        × IsAbout false n (prune_code r) (same_perm (prune_left r) perm.Trunk) (h.state.block n).truth i
+        × (i.source ≡ (h.state.block n).release_source c)
     about = release-about r ((h.state.block n).release_source c) n (h.state.block n).truth width (is.sized n).truth
 
     m : MessageC w
@@ -333,24 +396,31 @@ releases-delivered {w} config log h sys c n rest x queue ms width is beats token
 
     releasing : ((h.state.block n).pair c).letting ≡ ReleaseSent r
     releasing = releasing-is ((h.state.block n).pair c).letting
-        (holds-first Release (h.state.link c).c rest (packet Release n) (λ i. shown Release c (h.state.block i)) tokens refl
+        (holds-first Release (h.state.link c).c rest (packet Release n) (λ i. shown Release c (h.state.block i)) tokens
+        refl
         (is.invariant.transfers c Release refl))
 
 -- ---- a GrantAck
 
-pub acks-delivered : {w : ℕ} (config : Config) (log : Log w) (h : AbstractState w) (sys : System w) (c n : ℕ) (rest : List Packet) (x : Beat w) (queue : List (Beat w))
+pub acks-delivered : {w : ℕ} (config : Config) (log : Log w) (h : AbstractState w) (sys : System w) (c n : ℕ)
+    (rest : List Packet) (x : Beat w) (queue : List (Beat w))
     (ms : List (Message w)) → IsWidth w → SimulationRelation config log h.mail h.request h.state sys
     → sys.channels c channel.E ≡ x ∷ queue → (h.state.link c).e ≡ packet GrantAck n ∷ rest
-    → IsNext x (unfinished channel.E (on_link c sys.manager.trace)) (block_message GrantAck c n (h.state.block n)) ms queue
-    → Delivered config c channel.E (unfinished channel.E (on_link c sys.manager.trace)) h (with_state (grant_ack_taken c n rest h.state) h) [] sys.manager x
+    → IsNext x (unfinished channel.E (on_link c sys.manager.trace)) (block_message GrantAck c n (h.state.block n)) ms
+    queue
+    → Delivered config c channel.E (unfinished channel.E (on_link c sys.manager.trace)) h
+    (with_state (grant_ack_taken c n rest h.state) h) [] sys.manager x
 unfolding block_message
 acks-delivered {w} config log h sys c n rest x queue ms width is beats tokens next =
     subst (Delivered config c channel.E before h after [] e) (sym next.beat_is) (record {
       up = up;
       manager =
-          subst (λ (b : Bool). IsManagerOf config (if b then after else h) (left c (beat.E y) (reaction config (record { 0 = c }) (beat.E y) e) e)) (sym whole)
-          (acked-left config c n rest y h e width up acks (at_manager-matched config log h.mail h.request h.state sys is));
-      handed = ap (λ (d : Reaction w). d.handed) (reaction-ack config (record { 0 = c }) y e) ∙ sym (ap (λ (b : Bool). if b then [] else []) whole);
+          subst (λ (b : Bool). IsManagerOf config (if b then after else h)
+          (left c (beat.E y) (reaction config (record { 0 = c }) (beat.E y) e) e)) (sym whole)
+          (acked-left config c n rest y h e width up acks (at_manager-matched config log h.mail h.request h.state sys
+          is));
+      handed = ap (λ (d : Reaction w). d.handed) (reaction-ack config (record { 0 = c }) y e) ∙ sym
+          (ap (λ (b : Bool). if b then [] else []) whole);
     })
   where
     e : End w
@@ -367,17 +437,20 @@ acks-delivered {w} config log h sys c n rest x queue ms width is beats tokens ne
 
     taken_is : (h.state.block n).service ≡ GrantTaken c
     taken_is = acknowledging-is (h.state.block n).service c
-        (holds-first GrantAck (h.state.link c).e rest (packet GrantAck n) (λ i. shown GrantAck c (h.state.block i)) tokens refl
+        (holds-first GrantAck (h.state.link c).e rest (packet GrantAck n) (λ i. shown GrantAck c (h.state.block i))
+        tokens refl
         (is.invariant.transfers c GrantAck refl))
 
-    order : (pending (GrantSink y.sink) (on_link c e.trace) ≡ true) × (broken_in_order {w = w} config.profile (beat.E y) (on_link c e.trace) ≡ None)
+    order : (pending (GrantSink y.sink) (on_link c e.trace) ≡ true)
+        × (broken_in_order {w = w} config.profile (beat.E y) (on_link c e.trace) ≡ None)
     order = ack-order config h.request c n y h.state e is.invariant.named is.served is.manager_kept taken_is refl
 
     up : IsTakenUp config c channel.E (beat.E y) e
     up =
         takes config c channel.E (beat.E y) e
         (subst (λ (i : Beat w). manager.IsSound config (record { 0 = c }, i)) next.beat_is
-        (head_all (λ i. manager.IsSound config (record { 0 = c }, i)) x queue (sys.channels c channel.E) beats (is.sound c channel.E)))
+        (head_all (λ i. manager.IsSound config (record { 0 = c }, i)) x queue (sys.channels c channel.E) beats
+        (is.sound c channel.E)))
         refl refl is.all_live order.1 refl
 
     whole : completes {w = w} (beat.E y) before ≡ true
@@ -397,23 +470,32 @@ acks-delivered {w} config log h sys c n rest x queue ms width is beats tokens ne
 -- ---- channels C and E
 
 -- the protocol where the last beat of the first message of a channel is taken
-pub channel_c-delivered : {w : ℕ} (config : Config) (log : Log w) (tracker : ℕ) (h : AbstractState w) (sys : System w) (c : ℕ) (x : Beat w) (queue : List (Beat w))
+pub channel_c-delivered : {w : ℕ} (config : Config) (log : Log w) (tracker : ℕ) (h : AbstractState w) (sys : System w)
+    (c : ℕ) (x : Beat w) (queue : List (Beat w))
     → IsWidth w → SimulationRelation config log h.mail h.request h.state sys → sys.channels c channel.C ≡ x ∷ queue
-    → Delivered config c channel.C (unfinished channel.C (on_link c sys.manager.trace)) h (packet_taken config tracker c (h.state.link c).c h)
+    → Delivered config c channel.C (unfinished channel.C (on_link c sys.manager.trace)) h
+    (packet_taken config tracker c (h.state.link c).c h)
     (pushed_by config c (h.state.link c).c h (packet_taken config tracker c (h.state.link c).c h)) sys.manager x
 channel_c-delivered {w} config log tracker h sys c x queue width is beats =
-    by-first_c (λ i. Delivered config c channel.C (unfinished channel.C (on_link c sys.manager.trace)) h (packet_taken config tracker c i h)
+    by-first_c (λ i. Delivered config c channel.C (unfinished channel.C (on_link c sys.manager.trace)) h
+    (packet_taken config tracker c i h)
     (pushed_by config c i h (packet_taken config tracker c i h)) sys.manager x) c h.mail h.state sys x queue
     (first-token (is_caching config) channel.C c h.mail h.state sys x queue width is.invariant is.carried beats)
-    (λ n rest tokens next. reports-delivered config log h sys c n rest x queue (map (message_of h.mail h.state c) rest) width is beats tokens next)
-    (λ n rest tokens next. releases-delivered config log h sys c n rest x queue (map (message_of h.mail h.state c) rest) width is beats tokens next)
+    (λ n rest tokens next. reports-delivered config log h sys c n rest x queue (map (message_of h.mail h.state c) rest)
+    width is beats tokens next)
+    (λ n rest tokens next. releases-delivered config log h sys c n rest x queue (map (message_of h.mail h.state c) rest)
+    width is beats tokens next)
 
-pub channel_e-delivered : {w : ℕ} (config : Config) (log : Log w) (tracker : ℕ) (h : AbstractState w) (sys : System w) (c : ℕ) (x : Beat w) (queue : List (Beat w))
+pub channel_e-delivered : {w : ℕ} (config : Config) (log : Log w) (tracker : ℕ) (h : AbstractState w) (sys : System w)
+    (c : ℕ) (x : Beat w) (queue : List (Beat w))
     → IsWidth w → SimulationRelation config log h.mail h.request h.state sys → sys.channels c channel.E ≡ x ∷ queue
-    → Delivered config c channel.E (unfinished channel.E (on_link c sys.manager.trace)) h (packet_taken config tracker c (h.state.link c).e h)
+    → Delivered config c channel.E (unfinished channel.E (on_link c sys.manager.trace)) h
+    (packet_taken config tracker c (h.state.link c).e h)
     (pushed_by config c (h.state.link c).e h (packet_taken config tracker c (h.state.link c).e h)) sys.manager x
 channel_e-delivered {w} config log tracker h sys c x queue width is beats =
-    by-first_e (λ i. Delivered config c channel.E (unfinished channel.E (on_link c sys.manager.trace)) h (packet_taken config tracker c i h)
+    by-first_e (λ i. Delivered config c channel.E (unfinished channel.E (on_link c sys.manager.trace)) h
+    (packet_taken config tracker c i h)
     (pushed_by config c i h (packet_taken config tracker c i h)) sys.manager x) c h.mail h.state sys x queue
     (first-token (is_caching config) channel.E c h.mail h.state sys x queue width is.invariant is.carried beats)
-    (λ n rest tokens next. acks-delivered config log h sys c n rest x queue (map (message_of h.mail h.state c) rest) width is beats tokens next)
+    (λ n rest tokens next. acks-delivered config log h sys c n rest x queue (map (message_of h.mail h.state c) rest)
+    width is beats tokens next)

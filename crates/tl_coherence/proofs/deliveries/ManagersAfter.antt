@@ -1,51 +1,34 @@
 -- A beat that is delivered to the manager: the channels and the one memory afterwards, by what is handed out.
+use Rattle.tl_coherence.proofs.deliveries.Imports.{IsWidth, Beat, Link, Channel, Message, beat_of, unfinished}
+use Rattle.tl_coherence.proofs.deliveries.Imports.{completes, Config, Prune, Report, Perm, report_left, on_link}
+use Rattle.tl_coherence.proofs.deliveries.Imports.{release, Handed, reaction, reaction-part, Deliver, MemoryRelation}
+use Rattle.tl_coherence.proofs.deliveries.Imports.{is_moving, AbstractState, abstract_step, packet_taken, kind_taken}
+use Rattle.tl_coherence.proofs.deliveries.Imports.{Log, system_after, Machine, ChannelRelation, receiver, AcquirePhase}
+use Rattle.tl_coherence.proofs.deliveries.Imports.{NoAcquire, AcquireOpen, Block, SourceState, packet, packets_on}
+use Rattle.tl_coherence.proofs.deliveries.Imports.{is_on, one_memory_after, performing, accesses_answered, report_told}
+use Rattle.tl_coherence.proofs.deliveries.Imports.{prune_told, block_message, message_of_kind, Step, stepped, handing}
+use Rattle.tl_coherence.proofs.deliveries.Imports.{is_to_client, System, terms_at, channel_of_message, with_manager}
+use Rattle.tl_coherence.proofs.deliveries.Imports.{with_channel, with_messages, Kind, Request, Acquire, Probe, ProbeAck}
+use Rattle.tl_coherence.proofs.deliveries.Imports.{Release, Answer, Grant, ReleaseAck, GrantAck, Packet}
+use Rattle.tl_coherence.proofs.deliveries.Imports.{SimulationRelation, is_caching, IsRequest}
 use Rattle.std.proofs.Common.{◌≡◌, ℕ, Bool, true, false, List, [], ◌∷◌, Option, Some, None, refl, sym, ◌∙◌, ap, subst}
 use Rattle.std.specs.Prelude.{if◌then◌else◌, All}
 use Rattle.std.proofs.lemmas.List.Elements.{All-head}
-use Rattle.tl_beat.specs.statement.Width.{IsWidth}
-use Rattle.tl_beat.specs.declared.beat.Beat.{Beat}
-use Rattle.tl_beat.specs.declared.beat.Link.{Link}
-use Rattle.tl_beat.specs.declared.channel.Channel.{Channel}
 use Rattle.tl_beat.specs.declared.channel.Channel.TheVariants as channel
 use Rattle.tl_beat.specs.declared.opcode.OpB.TheVariants as opb
-use Rattle.tl_burst.specs.declared.message.Message.{Message}
 use Rattle.tl_burst.specs.declared.message.Message.TheVariants as message
-use Rattle.tl_burst.specs.statement.Burst.{beat_of}
-use Rattle.tl_burst.specs.statement.Messages.{channel_of, unfinished}
-use Rattle.tl_burst.specs.statement.Part.{completes}
-use Rattle.tl_params.specs.declared.config.Config.{Config}
-use Rattle.tl_params.specs.declared.param.Prune.{Prune}
+use Rattle.tl_burst.specs.statement.Messages.{channel_of}
 use Rattle.tl_params.specs.declared.param.Prune.TheVariants as prune
-use Rattle.tl_params.specs.declared.param.Report.{Report}
-use Rattle.tl_params.specs.declared.perm.Perm.{Perm}
 use Rattle.tl_params.specs.declared.perm.Perm.TheVariants as perm
-use Rattle.tl_params.specs.statement.Param.{report_left}
-use Rattle.tl_rules.specs.statement.Conformance.{on_link}
 use Rattle.tl_rules.specs.statement.History.{ends}
 use Rattle.tl_client.specs.statement.Endpoint as client
-use Rattle.tl_client.specs.statement.Send.{release, probe_ack}
-use Rattle.tl_manager.specs.statement.Handing.{Handed}
+use Rattle.tl_client.specs.statement.Send.{probe_ack}
 use Rattle.tl_manager.specs.code.Kept as manager
 use Rattle.tl_manager.specs.statement.End as manager_end
 use Rattle.tl_manager.specs.statement.Offer as manager_offer
-use Rattle.tl_manager.specs.statement.Reaction.{reaction}
-use Rattle.tl_manager.proofs.Events.{reaction-part}
-use Rattle.tl_coherence.specs.declared.event.Event.TheVariants.{Deliver}
 use Rattle.tl_coherence.specs.declared.event.Outcome.TheVariants as outcome
-use Rattle.tl_coherence.specs.refinement.MemoryRelation.{MemoryRelation}
-use Rattle.tl_coherence.specs.statement.Draining.{is_moving}
-use Rattle.tl_coherence.specs.refinement.AbstractStep.{AbstractState, abstract_step, packet_taken, kind_taken}
-use Rattle.tl_coherence.specs.statement.Log.{Log, system_after}
-use Rattle.tl_coherence.specs.statement.Machine.{Machine}
-use Rattle.tl_coherence.specs.refinement.ChannelRelation.{ChannelRelation, receiver}
-use Rattle.tl_coherence.specs.protocol.Phase.{AcquirePhase, NoAcquire, AcquireOpen}
-use Rattle.tl_coherence.specs.protocol.Protocol.{Block, SourceState, packet, packets_on, is_on}
-use Rattle.tl_coherence.specs.statement.OneMemory.{one_memory_after, performing, accesses_answered}
-use Rattle.tl_coherence.specs.refinement.PacketMessages.{acquire_of, report_told, prune_told, block_message, message_of_kind}
-use Rattle.tl_coherence.specs.statement.Step.{Step, stepped, handing, is_to_client}
-use Rattle.tl_coherence.specs.statement.System.{System, terms_at, channel_of_message, with_manager, with_channel, with_messages}
-use Rattle.tl_coherence.specs.protocol.Packet.{Kind, Request, Acquire, Probe, ProbeAck, Release, Answer, Grant, ReleaseAck, GrantAck, Packet}
-use Rattle.tl_coherence.specs.refinement.SimulationRelation.{SimulationRelation, is_caching, IsRequest, IsSourced}
+use Rattle.tl_coherence.specs.refinement.PacketMessages.{acquire_of}
+use Rattle.tl_coherence.specs.refinement.SimulationRelation.{IsSourced}
 use Rattle.tl_coherence.proofs.queues.Channels.{behind, IsTaken}
 use Rattle.tl_coherence.proofs.queues.FirstToken.{IsFirst, first-token}
 use Rattle.tl_coherence.proofs.deliveries.DeliverDAfter.{followed-moving}
@@ -91,35 +74,42 @@ channel_of_beat (message.C m) i = refl
 channel_of_beat (message.D m) i = refl
 channel_of_beat (message.E m) i = refl
 
-acquire_channel : (w : ℕ) (x : AcquirePhase) (source n : ℕ) → channel_of_message {w = w} (acquire_of x source n) ≡ channel.A
+acquire_channel : (w : ℕ) (x : AcquirePhase) (source n : ℕ)
+    → channel_of_message {w = w} (acquire_of x source n) ≡ channel.A
 acquire_channel w NoAcquire source n = refl
 acquire_channel w (AcquireOpen true g) source n = refl
 acquire_channel w (AcquireOpen false g) source n = refl
 
-pub ack_channel : (w : ℕ) (p : Perm) (r : Report) (n : ℕ) (x : List ℕ) → channel_of_message {w = w} (probe_ack opb.ProbeBlock p r n x) ≡ channel.C
+pub ack_channel : (w : ℕ) (p : Perm) (r : Report) (n : ℕ) (x : List ℕ)
+    → channel_of_message {w = w} (probe_ack opb.ProbeBlock p r n x) ≡ channel.C
 ack_channel w perm.None r n x = refl
 ack_channel w perm.Branch r n x = refl
 ack_channel w perm.Trunk r n x = refl
 
-pub release_channel : (w : ℕ) (p : Prune) (source n : ℕ) (x : List ℕ) → channel_of_message {w = w} (release p source n x) ≡ channel.C
+pub release_channel : (w : ℕ) (p : Prune) (source n : ℕ) (x : List ℕ)
+    → channel_of_message {w = w} (release p source n x) ≡ channel.C
 release_channel w prune.TtoB source n x = refl
 release_channel w prune.TtoN source n x = refl
 release_channel w prune.BtoN source n x = refl
 
-request_channel : {w : ℕ} (config : Config) (c source : ℕ) (m : Message w) → IsRequest config c source m → channel_of_message m ≡ channel.A
+request_channel : {w : ℕ} (config : Config) (c source : ℕ) (m : Message w) → IsRequest config c source m
+    → channel_of_message m ≡ channel.A
 request_channel config c source (message.A m) h = refl
 request_channel config c source (message.B m) h = absurd (let e = h.0 in cc)
 request_channel config c source (message.C m) h = absurd (let e = h.0 in cc)
 request_channel config c source (message.D m) h = absurd (let e = h.0 in cc)
 request_channel config c source (message.E m) h = absurd (let e = h.0 in cc)
 
-rendered_channel : (w : ℕ) (ch : Channel) (k : Kind) (c n : ℕ) (b : Block (List ℕ)) → is_to_client ch ≡ false → is_on ch k ≡ true → (k ≡ Request → ⊥)
+rendered_channel : (w : ℕ) (ch : Channel) (k : Kind) (c n : ℕ) (b : Block (List ℕ)) → is_to_client ch ≡ false
+    → is_on ch k ≡ true → (k ≡ Request → ⊥)
     → channel_of_message (block_message {w = w} k c n b) ≡ ch
 unfolding block_message
 rendered_channel w channel.A Acquire c n b down own other = acquire_channel w (b.pair c).acquiring (b.source c) n
 rendered_channel w channel.A Request c n b down own other = absurd (other refl)
-rendered_channel w channel.C ProbeAck c n b down own other = ack_channel w (report_left (report_told (b.pair c).probing)) (report_told (b.pair c).probing) n b.truth
-rendered_channel w channel.C Release c n b down own other = release_channel w (prune_told (b.pair c).letting) (b.release_source c) n b.truth
+rendered_channel w channel.C ProbeAck c n b down own other =
+    ack_channel w (report_left (report_told (b.pair c).probing)) (report_told (b.pair c).probing) n b.truth
+rendered_channel w channel.C Release c n b down own other =
+    release_channel w (prune_told (b.pair c).letting) (b.release_source c) n b.truth
 rendered_channel w channel.E GrantAck c n b down own other = refl
 rendered_channel w channel.B k c n b down own other = absurd cc
 rendered_channel w channel.D k c n b down own other = absurd cc
@@ -149,92 +139,129 @@ rendered_channel w channel.E ReleaseAck c n b down own other = absurd cc
 -- ---- the beat, and the step
 
 -- a beat that the manager takes: which it is, and what the step is where this is handed out
-pub record IsAtManager {w : ℕ} (config : Config) (log : Log w) (link : Link) (ch : Channel) (h : AbstractState w) (x : Beat w) (queue : List (Beat w)) : Type 0 where
+pub record IsAtManager {w : ℕ} (config : Config) (log : Log w) (link : Link) (ch : Channel) (h : AbstractState w)
+    (x : Beat w) (queue : List (Beat w)) : Type 0 where
   pub first : IsFirst ch link.0 h.mail h.state (system_after config log) x queue
   pub on_it : IsOn ch x
   pub of_it : channel_of x ≡ ch
   pub beats : (system_after config log).channels link.0 ch ≡ x ∷ queue
-  pub heard : HasTaken link.0 x (system_after config log).manager (manager_offer.taken link x (reaction config link x (system_after config log).manager) (system_after config log).manager)
+  pub heard : HasTaken link.0 x (system_after config log).manager
+      (manager_offer.taken link x (reaction config link x (system_after config log).manager)
+      (system_after config log).manager)
   pub step_is : stepped config (Deliver link ch) (system_after config log)
       ≡ handing (outcome.Moved x) (reaction config link x (system_after config log).manager).handed
-      (with_manager (manager_offer.taken link x (reaction config link x (system_after config log).manager) (system_after config log).manager)
+      (with_manager (manager_offer.taken link x (reaction config link x (system_after config log).manager)
+      (system_after config log).manager)
       (with_channel link.0 ch queue (system_after config log)))
   pub follows : abstract_step config (Deliver link ch) (system_after config log) h
-      ≡ (if completes x (unfinished ch (receiver ch link.0 (system_after config log))) then kind_taken config (next_tracker (system_after config log)) link.0 first.kind first.number first.rest h else h)
+      ≡ (if completes x (unfinished ch (receiver ch link.0 (system_after config log))) then kind_taken config
+      (next_tracker (system_after config log)) link.0 first.kind first.number first.rest h else h)
 
-pub at-manager : {w : ℕ} (config : Config) (log : Log w) (link : Link) (ch : Channel) (h : AbstractState w) (terms : client.EndConfig) (x : Beat w) (queue : List (Beat w))
+pub at-manager : {w : ℕ} (config : Config) (log : Log w) (link : Link) (ch : Channel) (h : AbstractState w)
+    (terms : client.EndConfig) (x : Beat w) (queue : List (Beat w))
     → IsWidth w → SimulationRelation config log h.mail h.request h.state (system_after config log)
-    → terms_at config link.0 ≡ Some terms → is_to_client ch ≡ false → (system_after config log).channels link.0 ch ≡ x ∷ queue
-    → is_moving (stepped config (Deliver link ch) (system_after config log)).outcome ≡ true → IsAtManager config log link ch h x queue
+    → terms_at config link.0 ≡ Some terms → is_to_client ch ≡ false
+    → (system_after config log).channels link.0 ch ≡ x ∷ queue
+    → is_moving (stepped config (Deliver link ch) (system_after config log)).outcome ≡ true
+    → IsAtManager config log link ch h x queue
 at-manager {w} config log link ch h terms x queue width is known down beats moving =
-    let first = first-token (is_caching config) ch link.0 h.mail h.state (system_after config log) x queue width is.invariant is.carried beats in
+    let first = first-token (is_caching config) ch link.0 h.mail h.state (system_after config log) x queue width
+    is.invariant is.carried beats in
     let t = manager-moves config link ch (system_after config log) terms x queue known beats down moving in
     let chan = message_channel first.kind first.number first.tokens first.own in
     record {
       first = first;
       on_it = subst (λ (i : Channel). IsOn i x) chan (subst
-          (λ (z : Beat w). IsOn (channel_of_message (message_of_kind first.kind h.mail h.state link.0 first.number)) z) (sym first.next.beat_is)
+          (λ (z : Beat w). IsOn (channel_of_message (message_of_kind first.kind h.mail h.state link.0 first.number)) z)
+          (sym first.next.beat_is)
           (on_message (message_of_kind first.kind h.mail h.state link.0 first.number) first.next.k));
-      of_it = ap (λ (z : Beat w). channel_of z) first.next.beat_is ∙ channel_of_beat (message_of_kind first.kind h.mail h.state link.0 first.number) first.next.k ∙ chan;
+      of_it = ap (λ (z : Beat w). channel_of z) first.next.beat_is ∙ channel_of_beat
+          (message_of_kind first.kind h.mail h.state link.0 first.number) first.next.k ∙ chan;
       beats = beats;
-      heard = manager-heard config link ch x queue (system_after config log) (stepped config (Deliver link ch) (system_after config log)) width head.typed is.manager_kept t;
+      heard = manager-heard config link ch x queue (system_after config log)
+          (stepped config (Deliver link ch) (system_after config log)) width head.typed is.manager_kept t;
       step_is = t.step_is;
       follows = followed-moving config link ch (system_after config log) h x queue moving beats
-          ∙ ap (λ (l : List Packet). if completes x (unfinished ch (receiver ch link.0 (system_after config log))) then packet_taken config (next_tracker (system_after config log)) link.0 l h else h) first.tokens;
+          ∙ ap (λ (l : List Packet). if completes x (unfinished ch (receiver ch link.0 (system_after config log))) then
+          packet_taken config (next_tracker (system_after config log)) link.0 l h else h) first.tokens;
     }
   where
     head : manager.IsSound config (record { 0 = link.0 }, x)
     head = All-head (λ y. manager.IsSound config (record { 0 = link.0 }, y)) x queue (same beats (is.sound link.0 ch))
       where
         same : (system_after config log).channels link.0 ch ≡ x ∷ queue
-            → All (λ y. manager.IsSound config (record { 0 = link.0 }, y)) ((system_after config log).channels link.0 ch)
+            → All (λ y. manager.IsSound config (record { 0 = link.0 }, y))
+            ((system_after config log).channels link.0 ch)
             → All (λ y. manager.IsSound config (record { 0 = link.0 }, y)) (x ∷ queue)
         same e f = rw e at f
 
-    message_channel : (k : Kind) (i : ℕ) {rest : List Packet} → packets_on ch (h.state.link link.0) ≡ packet k i ∷ rest → is_on ch k ≡ true
+    message_channel : (k : Kind) (i : ℕ) {rest : List Packet} → packets_on ch (h.state.link link.0) ≡ packet k i ∷ rest
+        → is_on ch k ≡ true
         → channel_of_message (message_of_kind k h.mail h.state link.0 i) ≡ ch
     message_channel Request i {rest} tokens own = asked ch tokens own
       where
-        asked : (at : Channel) → packets_on at (h.state.link link.0) ≡ packet Request i ∷ rest → is_on at Request ≡ true → channel_of_message (h.mail.request link.0 i) ≡ at
+        asked : (at : Channel) → packets_on at (h.state.link link.0) ≡ packet Request i ∷ rest → is_on at Request ≡ true
+            → channel_of_message (h.mail.request link.0 i) ≡ at
         asked channel.A e f =
             let used = first-asked (is_caching config) link.0 i rest h is.invariant e in
-            request_channel config link.0 i (h.mail.request link.0 i) (subst (λ (u : SourceState). IsSourced config link.0 i (h.mail.request link.0 i) u) used (is.sourced link.0 i))
+            request_channel config link.0 i (h.mail.request link.0 i)
+            (subst (λ (u : SourceState). IsSourced config link.0 i (h.mail.request link.0 i) u) used
+            (is.sourced link.0 i))
         asked channel.B e f = absurd cc
         asked channel.C e f = absurd cc
         asked channel.D e f = absurd cc
         asked channel.E e f = absurd cc
     message_channel Answer i tokens own = never ch down own
       where
-        never : (at : Channel) → is_to_client at ≡ false → is_on at Answer ≡ true → channel_of_message (h.mail.answer link.0 i) ≡ at
+        never : (at : Channel) → is_to_client at ≡ false → is_on at Answer ≡ true
+            → channel_of_message (h.mail.answer link.0 i) ≡ at
         never channel.D e f = absurd cc
         never channel.A e f = absurd cc
         never channel.B e f = absurd cc
         never channel.C e f = absurd cc
         never channel.E e f = absurd cc
-    message_channel Acquire i tokens own = rendered_channel w ch Acquire link.0 i (h.state.block i) down own (λ e. absurd cc)
-    message_channel Probe i tokens own = rendered_channel w ch Probe link.0 i (h.state.block i) down own (λ e. absurd cc)
-    message_channel ProbeAck i tokens own = rendered_channel w ch ProbeAck link.0 i (h.state.block i) down own (λ e. absurd cc)
-    message_channel Release i tokens own = rendered_channel w ch Release link.0 i (h.state.block i) down own (λ e. absurd cc)
-    message_channel Grant i tokens own = rendered_channel w ch Grant link.0 i (h.state.block i) down own (λ e. absurd cc)
-    message_channel ReleaseAck i tokens own = rendered_channel w ch ReleaseAck link.0 i (h.state.block i) down own (λ e. absurd cc)
-    message_channel GrantAck i tokens own = rendered_channel w ch GrantAck link.0 i (h.state.block i) down own (λ e. absurd cc)
+    message_channel Acquire i tokens own = rendered_channel w ch Acquire link.0 i (h.state.block i) down own
+        (λ e. absurd cc)
+    message_channel Probe i tokens own = rendered_channel w ch Probe link.0 i (h.state.block i) down own
+        (λ e. absurd cc)
+    message_channel ProbeAck i tokens own = rendered_channel w ch ProbeAck link.0 i (h.state.block i) down own
+        (λ e. absurd cc)
+    message_channel Release i tokens own = rendered_channel w ch Release link.0 i (h.state.block i) down own
+        (λ e. absurd cc)
+    message_channel Grant i tokens own = rendered_channel w ch Grant link.0 i (h.state.block i) down own
+        (λ e. absurd cc)
+    message_channel ReleaseAck i tokens own = rendered_channel w ch ReleaseAck link.0 i (h.state.block i) down own
+        (λ e. absurd cc)
+    message_channel GrantAck i tokens own = rendered_channel w ch GrantAck link.0 i (h.state.block i) down own
+        (λ e. absurd cc)
 
 -- the whole where these messages were handed out
 abbrev pub after_taken : {w : ℕ} → Config → Link → Channel → Beat w → List (Beat w) → System w → Handed w → System w
-after_taken config link ch x queue sys handed = with_messages handed (with_manager (manager_offer.taken link x (reaction config link x sys.manager) sys.manager) (with_channel link.0 ch queue sys))
+after_taken config link ch x queue sys handed =
+    with_messages handed (with_manager (manager_offer.taken link x (reaction config link x sys.manager) sys.manager)
+    (with_channel link.0 ch queue sys))
 
 -- What is left to show of the last beat of a message: what the manager hands out, and that the channels and the one
 -- memory are those of the protocol then.
-pub delivered-last : {w : ℕ} (config : Config) (log : Log w) (link : Link) (ch : Channel) (h : AbstractState w) (x : Beat w) (queue : List (Beat w))
+pub delivered-last : {w : ℕ} (config : Config) (log : Log w) (link : Link) (ch : Channel) (h : AbstractState w)
+    (x : Beat w) (queue : List (Beat w))
     (handed : Handed w) (pushes : ℕ → Channel → Option (Message w)) → is_to_client ch ≡ false
-    → (is : IsAtManager config log link ch h x queue) → completes x (unfinished ch (receiver ch link.0 (system_after config log))) ≡ true → (reaction config link x (system_after config log).manager).handed ≡ handed
-    → ((d : ℕ) (at : Channel) → (after_taken config link ch x queue (system_after config log) handed).channels d at ≡ behind (pushes d at) ((with_channel link.0 ch queue (system_after config log)).channels d at))
-    → (IsTaken link.0 ch x queue pushes (system_after config log) (after_taken config link ch x queue (system_after config log) handed)
-    → ChannelRelation (kind_taken config (next_tracker (system_after config log)) link.0 is.first.kind is.first.number is.first.rest h).mail
-    (kind_taken config (next_tracker (system_after config log)) link.0 is.first.kind is.first.number is.first.rest h).state
+    → (is : IsAtManager config log link ch h x queue)
+    → completes x (unfinished ch (receiver ch link.0 (system_after config log))) ≡ true
+    → (reaction config link x (system_after config log).manager).handed ≡ handed
+    → ((d : ℕ) (at : Channel) → (after_taken config link ch x queue (system_after config log) handed).channels d
+    at ≡ behind (pushes d at) ((with_channel link.0 ch queue (system_after config log)).channels d at))
+    → (IsTaken link.0 ch x queue pushes (system_after config log)
+    (after_taken config link ch x queue (system_after config log) handed)
+    → ChannelRelation (kind_taken config (next_tracker (system_after config log)) link.0 is.first.kind is.first.number
+    is.first.rest h).mail
+    (kind_taken config (next_tracker (system_after config log)) link.0 is.first.kind is.first.number is.first.rest
+    h).state
     (after_taken config link ch x queue (system_after config log) handed))
-    → MemoryRelation (kind_taken config (next_tracker (system_after config log)) link.0 is.first.kind is.first.number is.first.rest h).mail
-    (kind_taken config (next_tracker (system_after config log)) link.0 is.first.kind is.first.number is.first.rest h).state
+    → MemoryRelation (kind_taken config (next_tracker (system_after config log)) link.0 is.first.kind is.first.number
+    is.first.rest h).mail
+    (kind_taken config (next_tracker (system_after config log)) link.0 is.first.kind is.first.number is.first.rest
+    h).state
     (performing (accesses_answered handed) (one_memory_after config log))
     → IsDelivered config log link ch h
 delivered-last {w} config log link ch h x queue handed pushes down is last gives pushed carried beside =
@@ -242,7 +269,8 @@ delivered-last {w} config log link ch h x queue handed pushes down is last gives
     (subst (λ (y : Step w). ChannelRelation h'.mail h'.state y.after) (sym step_is)
     (carried (taken-landed link.0 ch x queue pushes sys now.after
     (landed-manager link.0 ch x queue pushes handed e sys down is.beats is.on_it is.heard pushed) last)))
-    (subst (λ (m : Machine w). MemoryRelation h'.mail h'.state m) (sym (remembered_after config log link ch now step_is)) beside)
+    (subst (λ (m : Machine w). MemoryRelation h'.mail h'.state m)
+    (sym (remembered_after config log link ch now step_is)) beside)
   where
     sys : System w
     sys = system_after config log
@@ -257,27 +285,36 @@ delivered-last {w} config log link ch h x queue handed pushes down is last gives
     now = handing (outcome.Moved x) handed (with_manager e (with_channel link.0 ch queue sys))
 
     step_is : stepped config (Deliver link ch) sys ≡ now
-    step_is = is.step_is ∙ ap (λ (l : Handed w). handing (outcome.Moved x) l (with_manager e (with_channel link.0 ch queue sys))) gives
+    step_is = is.step_is ∙ ap
+        (λ (l : Handed w). handing (outcome.Moved x) l (with_manager e (with_channel link.0 ch queue sys))) gives
 
 -- ---- a beat that isn't the last of its message
 
-receiver_down : {w : ℕ} (ch : Channel) (c : ℕ) (sys : System w) → is_to_client ch ≡ false → receiver ch c sys ≡ on_link c sys.manager.trace
+receiver_down : {w : ℕ} (ch : Channel) (c : ℕ) (sys : System w) → is_to_client ch ≡ false
+    → receiver ch c sys ≡ on_link c sys.manager.trace
 receiver_down channel.A c sys e = refl
 receiver_down channel.C c sys e = refl
 receiver_down channel.E c sys e = refl
 receiver_down channel.B c sys e = absurd cc
 receiver_down channel.D c sys e = absurd cc
 
-pub delivered-part : {w : ℕ} (config : Config) (log : Log w) (link : Link) (ch : Channel) (h : AbstractState w) (x : Beat w) (queue : List (Beat w)) → IsWidth w
+pub delivered-part : {w : ℕ} (config : Config) (log : Log w) (link : Link) (ch : Channel) (h : AbstractState w)
+    (x : Beat w) (queue : List (Beat w)) → IsWidth w
     → SimulationRelation config log h.mail h.request h.state (system_after config log) → is_to_client ch ≡ false
-    → IsAtManager config log link ch h x queue → completes x (unfinished ch (receiver ch link.0 (system_after config log))) ≡ false → IsDelivered config log link ch h
+    → IsAtManager config log link ch h x queue
+    → completes x (unfinished ch (receiver ch link.0 (system_after config log))) ≡ false
+    → IsDelivered config log link ch h
 unfolding with_messages performing accesses_answered
 delivered-part {w} config log link ch h x queue width matched down is part =
-    delivered_as config log link ch h h (is.follows ∙ ap (λ (b : Bool). if b then kind_taken config (next_tracker sys) link.0 is.first.kind is.first.number is.first.rest h else h) part)
+    delivered_as config log link ch h h
+    (is.follows ∙ ap (λ (b : Bool). if b then kind_taken config (next_tracker sys) link.0 is.first.kind
+    is.first.number is.first.rest h else h) part)
     (subst (λ (y : Step w). ChannelRelation h.mail h.state y.after) (sym step_is)
     (carried-part h.mail h.state link.0 ch x queue (λ d at. None) sys now.after width
-    (landed-manager link.0 ch x queue (λ d at. None) [] e sys down is.beats is.on_it is.heard (λ d at. refl)) (λ d at. refl) part matched.carried))
-    (subst (λ (m : Machine w). MemoryRelation h.mail h.state m) (sym (remembered_after config log link ch now step_is)) matched.beside)
+    (landed-manager link.0 ch x queue (λ d at. None) [] e sys down is.beats is.on_it is.heard (λ d at. refl))
+    (λ d at. refl) part matched.carried))
+    (subst (λ (m : Machine w). MemoryRelation h.mail h.state m) (sym (remembered_after config log link ch now step_is))
+    matched.beside)
   where
     sys : System w
     sys = system_after config log
@@ -289,7 +326,10 @@ delivered-part {w} config log link ch h x queue width matched down is part =
     now = handing (outcome.Moved x) [] (with_manager e (with_channel link.0 ch queue sys))
 
     unended : ends x (on_link link.0 sys.manager.trace) ≡ false
-    unended = ap (λ (i : Channel). completes x (unfinished i (on_link link.0 sys.manager.trace))) is.of_it ∙ ap (λ t. completes x (unfinished ch t)) (sym (receiver_down ch link.0 sys down)) ∙ part
+    unended = ap (λ (i : Channel). completes x (unfinished i (on_link link.0 sys.manager.trace))) is.of_it ∙ ap
+        (λ t. completes x (unfinished ch t)) (sym (receiver_down ch link.0 sys down)) ∙ part
 
     step_is : stepped config (Deliver link ch) sys ≡ now
-    step_is = is.step_is ∙ ap (λ (l : Handed w). handing (outcome.Moved x) l (with_manager e (with_channel link.0 ch queue sys))) (ap (λ d. d.handed) (reaction-part config link x sys.manager unended))
+    step_is = is.step_is ∙ ap
+        (λ (l : Handed w). handing (outcome.Moved x) l (with_manager e (with_channel link.0 ch queue sys)))
+        (ap (λ d. d.handed) (reaction-part config link x sys.manager unended))

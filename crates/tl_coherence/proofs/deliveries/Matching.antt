@@ -1,36 +1,26 @@
 -- What is kept of the whole is kept by every event: so it holds after every log, beside the protocol as it follows.
+use Rattle.tl_coherence.proofs.deliveries.Imports.{IsWidth, Beat, Link, Channel, Config, Op, EndConfig, Event, Ask}
+use Rattle.tl_coherence.proofs.deliveries.Imports.{Deliver, MemoryRelation, is_moving, AbstractState, abstract_step}
+use Rattle.tl_coherence.proofs.deliveries.Imports.{Log, system_after, Machine, moved, ChannelRelation, one_memory_after}
+use Rattle.tl_coherence.proofs.deliveries.Imports.{performing, accesses_answered, Step, stepped, only, System, terms_at}
+use Rattle.tl_coherence.proofs.deliveries.Imports.{SimulationRelation, is_caching}
 use Rattle.std.proofs.Common.{◌≡◌, ℕ, Bool, true, false, List, [], ◌∷◌, Option, Some, None, refl, sym, ◌∙◌, ap, subst}
-use Rattle.tl_beat.specs.statement.Width.{IsWidth}
-use Rattle.tl_beat.specs.declared.beat.Beat.{Beat}
-use Rattle.tl_beat.specs.declared.beat.Link.{Link}
-use Rattle.tl_beat.specs.declared.channel.Channel.{Channel}
 use Rattle.tl_beat.specs.declared.channel.Channel.TheVariants as channel
-use Rattle.tl_params.specs.declared.config.Config.{Config}
-use Rattle.tl_client.specs.declared.operation.Op.{Op}
 use Rattle.tl_client.specs.statement.Ask as ask
-use Rattle.tl_client.specs.statement.Endpoint.{EndConfig}
-use Rattle.tl_coherence.specs.declared.event.Event.{Event}
-use Rattle.tl_coherence.specs.declared.event.Event.TheVariants.{Ask, Deliver}
 use Rattle.tl_coherence.specs.declared.event.Outcome.{Outcome}
 use Rattle.tl_coherence.specs.declared.event.Outcome.TheVariants as outcome
-use Rattle.tl_coherence.specs.refinement.MemoryRelation.{MemoryRelation}
-use Rattle.tl_coherence.specs.statement.Draining.{is_moving}
-use Rattle.tl_coherence.specs.refinement.AbstractStep.{AbstractState, first_abstract_state, abstract_step, abstract_step_by}
+use Rattle.tl_coherence.specs.refinement.AbstractStep.{first_abstract_state, abstract_step_by}
 use Rattle.tl_coherence.specs.statement.Headline.{IsTyped, AreTyped}
-use Rattle.tl_coherence.specs.statement.Log.{Log, IsLog, system_after}
-use Rattle.tl_coherence.specs.statement.Machine.{Machine, moved}
-use Rattle.tl_coherence.specs.refinement.ChannelRelation.{ChannelRelation}
-use Rattle.tl_coherence.specs.statement.OneMemory.{one_memory_after, performing, accesses_answered}
-use Rattle.tl_coherence.specs.statement.Step.{Step, stepped, only, client_of}
-use Rattle.tl_coherence.specs.statement.System.{System, terms_at}
-use Rattle.tl_coherence.specs.refinement.SimulationRelation.{SimulationRelation, is_caching}
+use Rattle.tl_coherence.specs.statement.Log.{IsLog}
+use Rattle.tl_coherence.specs.statement.Step.{client_of}
 use Rattle.tl_coherence.proofs.deliveries.AcksAfter.{delivered-e}
 use Rattle.tl_coherence.proofs.client.Askable.{askable}
 use Rattle.tl_coherence.proofs.deliveries.AskedAfter.{carried-ask, beside-ask}
 use Rattle.tl_coherence.proofs.deliveries.AskedWell.{asked-well}
 use Rattle.tl_coherence.proofs.client.ClientAsked.{IsEndOf}
 use Rattle.tl_coherence.proofs.client.ClientStep.{clients-kept}
-use Rattle.tl_coherence.proofs.simulation.FollowCases.{followed-cases, asked-cases, delivered-cases, answered-followed, given-followed, on-first}
+use Rattle.tl_coherence.proofs.simulation.FollowCases.{followed-cases, asked-cases, delivered-cases, answered-followed}
+use Rattle.tl_coherence.proofs.simulation.FollowCases.{given-followed, on-first}
 use Rattle.tl_coherence.proofs.simulation.Fresh.{fresh-matched}
 use Rattle.tl_coherence.proofs.deliveries.DeliverDWhole.{IsDelivered, delivered-unmoved, delivered-d}
 use Rattle.tl_coherence.proofs.deliveries.InvariantKept.{invariant-followed}
@@ -42,20 +32,23 @@ use Rattle.tl_coherence.proofs.deliveries.ReportsAfter.{delivered-c}
 use Rattle.tl_coherence.proofs.deliveries.RequestsDelivered.{delivery-a, carried-delivered_a, beside-delivered_a}
 use Rattle.tl_coherence.proofs.manager.RequestsTaken.{next_tracker}
 use Rattle.tl_coherence.proofs.simulation.Sized.{AreStrange, strangers-asked, strangers-kind_taken}
-use Rattle.tl_coherence.proofs.simulation.SizedAfter.{AllSized, AreSourced, sized-asked, sized-kind_taken, sourced-asked, sourced-kind_taken}
+use Rattle.tl_coherence.proofs.simulation.SizedAfter.{AllSized, AreSourced, sized-asked, sized-kind_taken}
+use Rattle.tl_coherence.proofs.simulation.SizedAfter.{sourced-asked, sourced-kind_taken}
 use Rattle.tl_coherence.proofs.simulation.SoundAfter.{sound-after, typed-after}
 use Rattle.tl_coherence.proofs.queues.Steps.{stepped-asked, stepped-empty}
 use Rattle.tl_coherence.proofs.client.Waiting.{AreAcquired, asked-acquired, kind_taken-acquired}
 
 -- ---- steps
 
-pub stepped-nobody : {w : ℕ} (config : Config) (event : Event w) (sys : System w) → terms_at config (client_of event) ≡ None → stepped config event sys ≡ only outcome.NoSuchClient sys
+pub stepped-nobody : {w : ℕ} (config : Config) (event : Event w) (sys : System w)
+    → terms_at config (client_of event) ≡ None → stepped config event sys ≡ only outcome.NoSuchClient sys
 unfolding stepped
 stepped-nobody config (Ask c o) sys e = rw e refl
 stepped-nobody config (Deliver link ch) sys e = rw e refl
 
 pub not_moving : {w : ℕ} (x y : Step w) → x ≡ y → is_moving x.outcome ≡ true → is_moving y.outcome ≡ false → ⊥
-not_moving {w} x y e moving still = let no : true ≡ false = sym moving ∙ ap (λ (s : Step w). is_moving s.outcome) e ∙ still in cc
+not_moving {w} x y e moving still = let no : true ≡ false = sym moving ∙ ap (λ (s : Step w). is_moving s.outcome)
+    e ∙ still in cc
 
 -- ---- the channels and the one memory after any delivery
 
@@ -68,29 +61,38 @@ delivered-a {w} config log c h terms width is at =
     let m : Machine w = one_memory_after config log in
     let event : Event w = Deliver (record { 0 = c }) channel.A in
     let still : moved event (stepped config event sys).outcome m ≡ m =
-    delivery-a config log h sys c terms (λ (step : Step w). moved event step.outcome m ≡ m) width is at (λ e. refl) (λ x queue e waits. refl) (λ x queue e arrives moves. refl) in
+    delivery-a config log h sys c terms (λ (step : Step w). moved event step.outcome m ≡ m) width is at (λ e. refl)
+    (λ x queue e waits. refl) (λ x queue e arrives moves. refl) in
     record {
       carried = carried-delivered_a config log h sys c terms width is at;
-      beside = beside-delivered_a config log h sys c terms (moved event (stepped config event sys).outcome m) width is at (subst (MemoryRelation h.mail h.state) (sym still) is.beside);
+      beside = beside-delivered_a config log h sys c terms (moved event (stepped config event sys).outcome m) width is
+          at (subst (MemoryRelation h.mail h.state) (sym still) is.beside);
     }
 
 delivered-all : {w : ℕ} (config : Config) (log : Log w) (link : Link) (ch : Channel) (h : AbstractState w) → IsWidth w
-    → SimulationRelation config log h.mail h.request h.state (system_after config log) → IsDelivered config log link ch h
+    → SimulationRelation config log h.mail h.request h.state (system_after config log)
+    → IsDelivered config log link ch h
 delivered-all {w} config log link ch h width is = go (is_moving (stepped config (Deliver link ch) sys).outcome) refl
   where
     sys : System w
     sys = system_after config log
 
-    moves : (at : Channel) (terms : EndConfig) (beats : List (Beat w)) → terms_at config link.0 ≡ Some terms → sys.channels link.0 at ≡ beats
+    moves : (at : Channel) (terms : EndConfig) (beats : List (Beat w)) → terms_at config link.0 ≡ Some terms
+        → sys.channels link.0 at ≡ beats
         → is_moving (stepped config (Deliver link at) sys).outcome ≡ true → IsDelivered config log link at h
-    moves at terms [] known none moving = absurd (not_moving _ _ (stepped-empty config link at sys terms known none) moving refl)
+    moves at terms [] known none moving =
+        absurd (not_moving _ _ (stepped-empty config link at sys terms known none) moving refl)
     moves channel.A terms (x ∷ queue) known beats moving = delivered-a config log link.0 h terms width is known
-    moves channel.B terms (x ∷ queue) known beats moving = delivered-b config log link h terms x queue width is known beats moving
+    moves channel.B terms (x ∷ queue) known beats moving = delivered-b config log link h terms x queue width is known
+        beats moving
     moves channel.C terms (x ∷ queue) known beats moving = delivered-c config log link.0 h x queue width is beats
-    moves channel.D terms (x ∷ queue) known beats moving = delivered-d config log link h terms x queue width is known beats moving
-    moves channel.E terms (x ∷ queue) known beats moving = delivered-e config log link h terms x queue width is known beats moving
+    moves channel.D terms (x ∷ queue) known beats moving = delivered-d config log link h terms x queue width is known
+        beats moving
+    moves channel.E terms (x ∷ queue) known beats moving = delivered-e config log link h terms x queue width is known
+        beats moving
 
-    found : (o : Option EndConfig) → terms_at config link.0 ≡ o → is_moving (stepped config (Deliver link ch) sys).outcome ≡ true → IsDelivered config log link ch h
+    found : (o : Option EndConfig) → terms_at config link.0 ≡ o
+        → is_moving (stepped config (Deliver link ch) sys).outcome ≡ true → IsDelivered config log link ch h
     found None none moving = absurd (not_moving _ _ (stepped-nobody config (Deliver link ch) sys none) moving refl)
     found (Some terms) known moving = moves ch terms (sys.channels link.0 ch) known refl moving
 
@@ -101,93 +103,132 @@ delivered-all {w} config log link ch h width is = go (is_moving (stepped config 
 -- ---- and after any event
 
 record IsFollowed {w : ℕ} (config : Config) (log : Log w) (event : Event w) (h : AbstractState w) : Type 0 where
-  pub carried : ChannelRelation (abstract_step config event (system_after config log) h).mail (abstract_step config event (system_after config log) h).state (stepped config event (system_after config log)).after
-  pub beside : MemoryRelation (abstract_step config event (system_after config log) h).mail (abstract_step config event (system_after config log) h).state
+  pub carried : ChannelRelation (abstract_step config event (system_after config log) h).mail
+      (abstract_step config event (system_after config log) h).state
+      (stepped config event (system_after config log)).after
+  pub beside : MemoryRelation (abstract_step config event (system_after config log) h).mail
+      (abstract_step config event (system_after config log) h).state
       (one_memory_after config ((event, (stepped config event (system_after config log)).outcome) ∷ log))
 
 -- where this is the step
 abbrev FollowedBy : {w : ℕ} → Config → Log w → Event w → AbstractState w → Step w → Type 0
 FollowedBy config log event h x =
-    ChannelRelation (abstract_step_by config event x.outcome (system_after config log) h).mail (abstract_step_by config event x.outcome (system_after config log) h).state x.after
-    × MemoryRelation (abstract_step_by config event x.outcome (system_after config log) h).mail (abstract_step_by config event x.outcome (system_after config log) h).state
+    ChannelRelation (abstract_step_by config event x.outcome (system_after config log) h).mail
+    (abstract_step_by config event x.outcome (system_after config log) h).state x.after
+    × MemoryRelation (abstract_step_by config event x.outcome (system_after config log) h).mail
+    (abstract_step_by config event x.outcome (system_after config log) h).state
     (performing (accesses_answered x.handed) (moved event x.outcome (one_memory_after config log)))
 
 asked-all : {w : ℕ} (config : Config) (log : Log w) (c : ℕ) (o : Op w) (h : AbstractState w) → IsWidth w
-    → SimulationRelation config log h.mail h.request h.state (system_after config log) → FollowedBy config log (Ask c o) h (stepped config (Ask c o) (system_after config log))
+    → SimulationRelation config log h.mail h.request h.state (system_after config log)
+    → FollowedBy config log (Ask c o) h (stepped config (Ask c o) (system_after config log))
 unfolding one_memory_after performing accesses_answered
 asked-all {w} config log c o h width is = go (terms_at config c) refl
   where
     sys : System w
     sys = system_after config log
 
-    go : (i : Option EndConfig) → terms_at config c ≡ i → FollowedBy config log (Ask c o) h (stepped config (Ask c o) sys)
-    go None none = subst (FollowedBy config log (Ask c o) h) (sym (stepped-nobody config (Ask c o) sys none)) (is.carried, is.beside)
+    go : (i : Option EndConfig) → terms_at config c ≡ i
+        → FollowedBy config log (Ask c o) h (stepped config (Ask c o) sys)
+    go None none = subst (FollowedBy config log (Ask c o) h) (sym (stepped-nobody config (Ask c o) sys none))
+        (is.carried, is.beside)
     go (Some terms) known =
         let r = (ask.asked terms o (sys.clients c)).reply in
-        let replied : (stepped config (Ask c o) sys).outcome ≡ outcome.Replied r = ap (λ (x : Step w). x.outcome) (stepped-asked config c o sys terms known) in (
-          subst (λ (x : Outcome w). ChannelRelation (abstract_step_by config (Ask c o) x sys h).mail (abstract_step_by config (Ask c o) x sys h).state
-              (stepped config (Ask c o) sys).after) (sym replied) (carried-ask config log h sys c terms o width is known),
+        let replied : (stepped config (Ask c o) sys).outcome ≡ outcome.Replied r =
+        ap (λ (x : Step w). x.outcome) (stepped-asked config c o sys terms known) in (
+          subst (λ (x : Outcome w). ChannelRelation (abstract_step_by config (Ask c o) x sys h).mail
+              (abstract_step_by config (Ask c o) x sys h).state
+              (stepped config (Ask c o) sys).after) (sym replied)
+              (carried-ask config log h sys c terms o width is known),
           subst
-              (λ (x : Outcome w). MemoryRelation (abstract_step_by config (Ask c o) x sys h).mail (abstract_step_by config (Ask c o) x sys h).state
-              (performing (accesses_answered (stepped config (Ask c o) sys).handed) (moved (Ask c o) x (one_memory_after config log)))) (sym replied)
+              (λ (x : Outcome w). MemoryRelation (abstract_step_by config (Ask c o) x sys h).mail
+              (abstract_step_by config (Ask c o) x sys h).state
+              (performing (accesses_answered (stepped config (Ask c o) sys).handed)
+              (moved (Ask c o) x (one_memory_after config log)))) (sym replied)
               (beside-ask config log h c terms o width is known),
         )
 
-followed-all : {w : ℕ} (config : Config) (log : Log w) (event : Event w) (h : AbstractState w) → IsWidth w → SimulationRelation config log h.mail h.request h.state (system_after config log) → IsFollowed config log event h
+followed-all : {w : ℕ} (config : Config) (log : Log w) (event : Event w) (h : AbstractState w) → IsWidth w
+    → SimulationRelation config log h.mail h.request h.state (system_after config log) → IsFollowed config log event h
 unfolding one_memory_after
-followed-all config log (Ask c o) h width is = let all = asked-all config log c o h width is in record { carried = all.0; beside = all.1 }
-followed-all config log (Deliver link ch) h width is = let all = delivered-all config log link ch h width is in record { carried = all.carried; beside = all.beside }
+followed-all config log (Ask c o) h width is = let all = asked-all config log c o h width is in
+    record { carried = all.0; beside = all.1 }
+followed-all config log (Deliver link ch) h width is = let all = delivered-all config log link ch h width is in
+    record { carried = all.carried; beside = all.beside }
 
 -- ---- all that is kept, after an event
 
-sized-followed : {w : ℕ} (config : Config) (log : Log w) (h : AbstractState w) (sys : System w) (event : Event w) → IsWidth w
-    → SimulationRelation config log h.mail h.request h.state sys → IsTyped event → AllSized (abstract_step config event sys h).state
+sized-followed : {w : ℕ} (config : Config) (log : Log w) (h : AbstractState w) (sys : System w) (event : Event w)
+    → IsWidth w
+    → SimulationRelation config log h.mail h.request h.state sys → IsTyped event
+    → AllSized (abstract_step config event sys h).state
 unfolding stepped
 sized-followed {w} config log h sys (Ask c o) width is typed =
-    asked-cases config log h.mail h.request h.state sys c o (terms_at config c) (λ (i : AbstractState w). AllSized i.state) refl is.sized
-    (λ terms at. sized-asked (is_caching config) c o (ask.asked terms o (sys.clients c)).reply h is.invariant typed (asked-well config log h sys c terms o width is at).word is.sized)
+    asked-cases config log h.mail h.request h.state sys c o (terms_at config c)
+    (λ (i : AbstractState w). AllSized i.state) refl is.sized
+    (λ terms at. sized-asked (is_caching config) c o (ask.asked terms o (sys.clients c)).reply h is.invariant typed
+    (asked-well config log h sys c terms o width is at).word is.sized)
 sized-followed {w} config log h sys (Deliver link ch) width is typed =
-    delivered-cases config log h.mail h.request h.state sys link ch (λ (i : AbstractState w). AllSized i.state) width is is.sized
+    delivered-cases config log h.mail h.request h.state sys link ch (λ (i : AbstractState w). AllSized i.state) width is
+    is.sized
     (λ x queue d. sized-kind_taken config (next_tracker sys) link.0 d.first.kind d.first.number d.first.rest h is.sized)
 
-strangers-followed : {w : ℕ} (config : Config) (log : Log w) (h : AbstractState w) (sys : System w) (event : Event w) → IsWidth w
-    → SimulationRelation config log h.mail h.request h.state sys → AreStrange config (abstract_step config event sys h).state.uses
+strangers-followed : {w : ℕ} (config : Config) (log : Log w) (h : AbstractState w) (sys : System w) (event : Event w)
+    → IsWidth w
+    → SimulationRelation config log h.mail h.request h.state sys
+    → AreStrange config (abstract_step config event sys h).state.uses
 strangers-followed {w} config log h sys event width is =
-    followed-cases config log h.mail h.request h.state sys event (λ (i : AbstractState w). AreStrange config i.state.uses) width is is.strangers
+    followed-cases config log h.mail h.request h.state sys event
+    (λ (i : AbstractState w). AreStrange config i.state.uses) width is is.strangers
     (λ terms c o at. strangers-asked config c o (ask.asked terms o (sys.clients c)).reply h terms at is.strangers)
     (λ link ch x queue d.
     let t = client-of config link.0 ch x queue sys d.beats (is.sound link.0 ch) in
-    strangers-kind_taken (is_caching config) config (next_tracker sys) link.0 d.first.kind d.first.number d.first.rest h t.0 is.invariant t.1 is.strangers)
+    strangers-kind_taken (is_caching config) config (next_tracker sys) link.0 d.first.kind d.first.number d.first.rest h
+    t.0 is.invariant t.1 is.strangers)
 
-sourced-followed : {w : ℕ} (config : Config) (log : Log w) (h : AbstractState w) (sys : System w) (event : Event w) → IsWidth w → SimulationRelation config log h.mail h.request h.state sys
+sourced-followed : {w : ℕ} (config : Config) (log : Log w) (h : AbstractState w) (sys : System w) (event : Event w)
+    → IsWidth w → SimulationRelation config log h.mail h.request h.state sys
     → AreSourced config (abstract_step config event sys h).mail.request (abstract_step config event sys h).state.uses
 sourced-followed {w} config log h sys event width is =
-    followed-cases config log h.mail h.request h.state sys event (λ (i : AbstractState w). AreSourced config i.mail.request i.state.uses) width is is.sourced
-    (λ terms c o at. sourced-asked config c o (ask.asked terms o (sys.clients c)).reply h (asked-well config log h sys c terms o width is at).source is.sourced)
+    followed-cases config log h.mail h.request h.state sys event
+    (λ (i : AbstractState w). AreSourced config i.mail.request i.state.uses) width is is.sourced
+    (λ terms c o at. sourced-asked config c o (ask.asked terms o (sys.clients c)).reply h
+    (asked-well config log h sys c terms o width is at).source is.sourced)
     (λ link ch x queue d.
-    sourced-kind_taken (is_caching config) config (next_tracker sys) link.0 d.first.kind d.first.number d.first.rest h is.invariant (on-first config h.mail h.state sys link ch x queue d) is.sourced)
+    sourced-kind_taken (is_caching config) config (next_tracker sys) link.0 d.first.kind d.first.number d.first.rest h
+    is.invariant (on-first config h.mail h.state sys link ch x queue d) is.sourced)
 
-acquired-followed : {w : ℕ} (config : Config) (log : Log w) (h : AbstractState w) (sys : System w) (event : Event w) → IsWidth w → SimulationRelation config log h.mail h.request h.state sys
+acquired-followed : {w : ℕ} (config : Config) (log : Log w) (h : AbstractState w) (sys : System w) (event : Event w)
+    → IsWidth w → SimulationRelation config log h.mail h.request h.state sys
     → AreAcquired (abstract_step config event sys h).request (abstract_step config event sys h).state.block
 acquired-followed {w} config log h sys event width is =
-    followed-cases config log h.mail h.request h.state sys event (λ (i : AbstractState w). AreAcquired i.request i.state.block) width is is.acquired
-    (λ terms c o at. asked-acquired (is_caching config) c o (ask.asked terms o (sys.clients c)).reply h is.invariant (askable config log h.mail h.request h.state sys terms c o is at) is.acquired)
-    (λ link ch x queue d. kind_taken-acquired config (next_tracker sys) link.0 d.first.kind d.first.number d.first.rest h is.acquired)
+    followed-cases config log h.mail h.request h.state sys event
+    (λ (i : AbstractState w). AreAcquired i.request i.state.block) width is is.acquired
+    (λ terms c o at. asked-acquired (is_caching config) c o (ask.asked terms o (sys.clients c)).reply h is.invariant
+    (askable config log h.mail h.request h.state sys terms c o is at) is.acquired)
+    (λ link ch x queue d. kind_taken-acquired config (next_tracker sys) link.0 d.first.kind d.first.number d.first.rest
+    h is.acquired)
 
 allowed : {w : ℕ} (config : Config) (log : Log w) (h : AbstractState w) (sys : System w) (event : Event w) → IsWidth w
-    → SimulationRelation config log h.mail h.request h.state sys → (terms : EndConfig) → terms_at config (client_of event) ≡ Some terms
+    → SimulationRelation config log h.mail h.request h.state sys → (terms : EndConfig)
+    → terms_at config (client_of event) ≡ Some terms
     → IsAllowed config event terms sys h
 allowed config log h sys (Ask c o) width is terms at = askable config log h.mail h.request h.state sys terms c o is at
 allowed config log h sys (Deliver link channel.A) width is terms at = tt
-allowed config log h sys (Deliver link channel.B) width is terms at = invariant-followed config log h.mail h.request h.state sys (Deliver link channel.B) width is
+allowed config log h sys (Deliver link channel.B) width is terms at =
+    invariant-followed config log h.mail h.request h.state sys (Deliver link channel.B) width is
 allowed config log h sys (Deliver link channel.C) width is terms at = tt
-allowed config log h sys (Deliver link channel.D) width is terms at = invariant-followed config log h.mail h.request h.state sys (Deliver link channel.D) width is
+allowed config log h sys (Deliver link channel.D) width is terms at =
+    invariant-followed config log h.mail h.request h.state sys (Deliver link channel.D) width is
 allowed config log h sys (Deliver link channel.E) width is terms at = tt
 
 -- what is kept of the whole is kept by an event
-pub matched-event : {w : ℕ} (config : Config) (log : Log w) (h : AbstractState w) (event : Event w) → IsWidth w → IsTyped event → SimulationRelation config log h.mail h.request h.state (system_after config log)
-    → SimulationRelation config ((event, (stepped config event (system_after config log)).outcome) ∷ log) (abstract_step config event (system_after config log) h).mail
-    (abstract_step config event (system_after config log) h).request (abstract_step config event (system_after config log) h).state
+pub matched-event : {w : ℕ} (config : Config) (log : Log w) (h : AbstractState w) (event : Event w) → IsWidth w
+    → IsTyped event → SimulationRelation config log h.mail h.request h.state (system_after config log)
+    → SimulationRelation config ((event, (stepped config event (system_after config log)).outcome) ∷ log)
+    (abstract_step config event (system_after config log) h).mail
+    (abstract_step config event (system_after config log) h).request
+    (abstract_step config event (system_after config log) h).state
     (stepped config event (system_after config log)).after
 matched-event {w} config log h event width typed is = record {
   invariant = invariant-followed config log h.mail h.request h.state sys event width is;
@@ -237,12 +278,14 @@ shadow config (x ∷ log) = abstract_step config x.0 (system_after config log) (
 
 -- What is kept of the whole holds after every log.
 pub matched : {w : ℕ} (config : Config) (log : Log w) → IsWidth w → AreTyped log → IsLog config log
-    → SimulationRelation config log (shadow config log).mail (shadow config log).request (shadow config log).state (system_after config log)
+    → SimulationRelation config log (shadow config log).mail (shadow config log).request (shadow config log).state
+    (system_after config log)
 unfolding shadow system_after AreTyped IsLog
 matched config [] width typed is = fresh-matched config
 matched {w} config (x ∷ log) width typed is =
     let sys : System w = system_after config log in
     let h : AbstractState w = shadow config log in
     let h' : AbstractState w = abstract_step config x.0 sys h in
-    subst (λ (o : Outcome w). SimulationRelation config ((x.0, o) ∷ log) h'.mail h'.request h'.state (stepped config x.0 sys).after) (sym is.0)
+    subst (λ (o : Outcome w). SimulationRelation config ((x.0, o) ∷ log) h'.mail h'.request h'.state
+    (stepped config x.0 sys).after) (sym is.0)
     (matched-event config log h x.0 width typed.0 (matched config log width typed.1 is.1))

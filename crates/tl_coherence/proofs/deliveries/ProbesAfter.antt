@@ -1,24 +1,24 @@
 -- A Probe that is delivered to a client: the channels and the one memory afterwards.
-use Rattle.std.proofs.Common.{◌≡◌, ℕ, ◌*◌, Bool, true, false, List, [], ◌∷◌, Option, Some, None, refl, sym, ◌∙◌, ap, subst}
+use Rattle.tl_coherence.proofs.deliveries.Imports.{IsWidth, Beat, Link, Message, unfinished, Config, Cap, Report, Perm}
+use Rattle.tl_coherence.proofs.deliveries.Imports.{report_left, block_at, same_perm, same_block, Deliver}
+use Rattle.tl_coherence.proofs.deliveries.Imports.{MemoryRelation, is_moving, AbstractState, abstract_step}
+use Rattle.tl_coherence.proofs.deliveries.Imports.{packet_taken, kind_taken, Log, system_after, Machine, moved}
+use Rattle.tl_coherence.proofs.deliveries.Imports.{ChannelRelation, ClientBlock, Block, packet, is_on, shown}
+use Rattle.tl_coherence.proofs.deliveries.Imports.{one_memory_after, performing, accesses_answered, block_message}
+use Rattle.tl_coherence.proofs.deliveries.Imports.{message_of, message_of_kind, Step, stepped, handing, handed_by}
+use Rattle.tl_coherence.proofs.deliveries.Imports.{System, terms_at, with_client, with_channel, Kind, Request, Acquire}
+use Rattle.tl_coherence.proofs.deliveries.Imports.{Probe, ProbeAck, Release, Answer, Grant, ReleaseAck, GrantAck}
+use Rattle.tl_coherence.proofs.deliveries.Imports.{Packet, SimulationRelation, is_caching}
+use Rattle.std.proofs.Common.{◌≡◌, ℕ, ◌*◌, Bool, true, false, List, [], ◌∷◌, Option, Some, None, refl, sym, ◌∙◌, ap}
+use Rattle.std.proofs.Common.{subst}
 use Rattle.std.specs.Prelude.{if◌then◌else◌, map, unwrap_or, Ok}
-use Rattle.tl_beat.specs.statement.Width.{IsWidth}
-use Rattle.tl_beat.specs.declared.beat.Beat.{Beat}
 use Rattle.tl_beat.specs.declared.beat.Beat.TheVariants as beat
 use Rattle.tl_beat.specs.declared.beat.BeatB.{BeatB}
-use Rattle.tl_beat.specs.declared.beat.Link.{Link}
 use Rattle.tl_beat.specs.declared.channel.Channel.TheVariants as channel
 use Rattle.tl_beat.specs.declared.opcode.OpB.TheVariants as opb
-use Rattle.tl_burst.specs.declared.message.Message.{Message}
-use Rattle.tl_burst.specs.statement.Messages.{unfinished}
-use Rattle.tl_params.specs.declared.config.Config.{Config}
-use Rattle.tl_params.specs.declared.param.Cap.{Cap}
 use Rattle.tl_params.specs.declared.param.Cap.TheVariants as cap
-use Rattle.tl_params.specs.declared.param.Report.{Report}
-use Rattle.tl_params.specs.declared.perm.Perm.{Perm}
 use Rattle.tl_params.specs.declared.perm.Perm.TheVariants as perm
-use Rattle.tl_params.specs.statement.Param.{report_at, report_left}
-use Rattle.tl_rules.specs.statement.History.{block_at}
-use Rattle.tl_rules.specs.statement.Conformance.{same_perm}
+use Rattle.tl_params.specs.statement.Param.{report_at}
 use Rattle.tl_client.specs.declared.verdict.Verdict.{Verdict}
 use Rattle.tl_client.specs.declared.verdict.Verdict.TheVariants as verdict
 use Rattle.tl_client.specs.statement.Endpoint as client
@@ -26,25 +26,12 @@ use Rattle.tl_client.specs.statement.Endpoint.{zeros, copy_at, held_at}
 use Rattle.tl_client.specs.statement.Offer as offer
 use Rattle.tl_client.specs.statement.Offer.{report_for}
 use Rattle.tl_client.specs.statement.Send.{probe_ack}
-use Rattle.tl_client.proofs.HeldAfter.{same_block}
-use Rattle.tl_coherence.specs.declared.event.Event.TheVariants.{Deliver}
 use Rattle.tl_coherence.specs.declared.event.Outcome.TheVariants as outcome
-use Rattle.tl_coherence.specs.refinement.MemoryRelation.{MemoryRelation}
-use Rattle.tl_coherence.specs.statement.Draining.{is_moving}
-use Rattle.tl_coherence.specs.refinement.AbstractStep.{AbstractState, abstract_step, packet_taken, kind_taken}
-use Rattle.tl_coherence.specs.statement.Log.{Log, system_after}
-use Rattle.tl_coherence.specs.statement.Machine.{Machine, moved}
-use Rattle.tl_coherence.specs.refinement.ChannelRelation.{ChannelRelation}
-use Rattle.tl_coherence.specs.protocol.Phase.{ClientBlock, ProbeSent, is_unreleased}
+use Rattle.tl_coherence.specs.protocol.Phase.{ProbeSent, is_unreleased}
 use Rattle.tl_coherence.specs.protocol.PhaseSteps.{after_probe}
-use Rattle.tl_coherence.specs.protocol.Protocol.{Block, packet, is_on, shown, probed_block, probe_taken}
-use Rattle.tl_coherence.specs.statement.OneMemory.{one_memory_after, performing, accesses_answered}
-use Rattle.tl_coherence.specs.refinement.PacketMessages.{cap_sent, probe_beat, block_message, message_of, message_of_kind}
-use Rattle.tl_coherence.specs.statement.Step.{Step, stepped, handing, handed_by}
+use Rattle.tl_coherence.specs.protocol.Protocol.{probed_block, probe_taken}
+use Rattle.tl_coherence.specs.refinement.PacketMessages.{cap_sent, probe_beat}
 use Rattle.tl_coherence.specs.statement.Step as step
-use Rattle.tl_coherence.specs.statement.System.{System, terms_at, with_client, with_channel}
-use Rattle.tl_coherence.specs.protocol.Packet.{Kind, Request, Acquire, Probe, ProbeAck, Release, Answer, Grant, ReleaseAck, GrantAck, Packet}
-use Rattle.tl_coherence.specs.refinement.SimulationRelation.{SimulationRelation, is_caching}
 use Rattle.tl_coherence.proofs.memory.BesideKinds.{beside_block, same_acquiring}
 use Rattle.tl_coherence.proofs.queues.Carried.{IsNext}
 use Rattle.tl_coherence.proofs.simulation.CarriedEvents.{probe_taken-carried}
@@ -76,12 +63,14 @@ left_is cap.ToN perm.None = refl
 left_is cap.ToN perm.Branch = refl
 left_is cap.ToN perm.Trunk = refl
 
-ack_same : {w : ℕ} (p : Perm) (r : Report) (n : ℕ) (x y : List ℕ) → (same_perm p perm.None ≡ false → x ≡ y) → probe_ack {w = w} opb.ProbeBlock p r n x ≡ probe_ack opb.ProbeBlock p r n y
+ack_same : {w : ℕ} (p : Perm) (r : Report) (n : ℕ) (x y : List ℕ) → (same_perm p perm.None ≡ false → x ≡ y)
+    → probe_ack {w = w} opb.ProbeBlock p r n x ≡ probe_ack opb.ProbeBlock p r n y
 ack_same perm.None r n x y e = refl
 ack_same perm.Branch r n x y e = refl
 ack_same perm.Trunk r n x y e = rw (e refl) refl
 
-ack_quiet : (w c : ℕ) (p : Perm) (r : Report) (n : ℕ) (x : List ℕ) → accesses_answered {w = w} (handed_by c (Some (probe_ack opb.ProbeBlock p r n x))) ≡ []
+ack_quiet : (w c : ℕ) (p : Perm) (r : Report) (n : ℕ) (x : List ℕ)
+    → accesses_answered {w = w} (handed_by c (Some (probe_ack opb.ProbeBlock p r n x))) ≡ []
 unfolding accesses_answered
 ack_quiet w c perm.None r n x = refl
 ack_quiet w c perm.Branch r n x = refl
@@ -89,15 +78,18 @@ ack_quiet w c perm.Trunk r n x = refl
 
 -- what is rendered after it
 rendered_probed : {w : ℕ} (c n : ℕ) (k : Cap) (b : Block (List ℕ))
-    → block_message {w = w} ProbeAck c n (probed_block c k b) ≡ probe_ack opb.ProbeBlock (b.pair c).held (report_at k (b.pair c).held) n b.truth
+    → block_message {w = w} ProbeAck c n (probed_block c k b) ≡ probe_ack opb.ProbeBlock (b.pair c).held
+    (report_at k (b.pair c).held) n b.truth
 unfolding block_message
 rendered_probed {w} c n k b = rw (set-same c (after_probe k (b.pair c)) b.pair, left_is k (b.pair c).held) refl
 
 -- the message that the client hands out
 abbrev handed_for : {w : ℕ} → BeatB w → client.Endpoint w → Message w
-handed_for x e = probe_ack x.opcode (held_at e (block_at x.address)) (report_for x (held_at e (block_at x.address))) (block_at x.address) (copy_at e (block_at x.address))
+handed_for x e = probe_ack x.opcode (held_at e (block_at x.address)) (report_for x (held_at e (block_at x.address)))
+    (block_at x.address) (copy_at e (block_at x.address))
 
-answer_b : {w : ℕ} (x : BeatB w) (e : client.Endpoint w) → (offer.taken (beat.B x) e).answer ≡ Ok (verdict.Taken, Some (handed_for x e))
+answer_b : {w : ℕ} (x : BeatB w) (e : client.Endpoint w)
+    → (offer.taken (beat.B x) e).answer ≡ Ok (verdict.Taken, Some (handed_for x e))
 answer_b x e = refl
 
 on_b : {w : ℕ} (y : BeatB w) → IsOn channel.B (beat.B y)
@@ -110,12 +102,15 @@ on_b y channel.E = refl
 taken_stalls : verdict.Taken ≡ verdict.Stalled → ⊥
 taken_stalls f = absurd cc
 
-pub delivered-b : {w : ℕ} (config : Config) (log : Log w) (link : Link) (h : AbstractState w) (terms : client.EndConfig) (x : Beat w) (queue : List (Beat w)) → IsWidth w
+pub delivered-b : {w : ℕ} (config : Config) (log : Log w) (link : Link) (h : AbstractState w) (terms : client.EndConfig)
+    (x : Beat w) (queue : List (Beat w)) → IsWidth w
     → SimulationRelation config log h.mail h.request h.state (system_after config log)
     → terms_at config link.0 ≡ Some terms → (system_after config log).channels link.0 channel.B ≡ x ∷ queue
-    → is_moving (stepped config (Deliver link channel.B) (system_after config log)).outcome ≡ true → IsDelivered config log link channel.B h
+    → is_moving (stepped config (Deliver link channel.B) (system_after config log)).outcome ≡ true
+    → IsDelivered config log link channel.B h
 unfolding performing
-delivered-b {w} config log link h terms x queue width is known beats moving = kinds first.kind first.number first.tokens first.own first.next
+delivered-b {w} config log link h terms x queue width is known beats moving =
+    kinds first.kind first.number first.tokens first.own first.next
   where
     sys : System w
     sys = system_after config log
@@ -133,7 +128,8 @@ delivered-b {w} config log link h terms x queue width is known beats moving = ki
     t = client-moves config link channel.B sys terms x queue known beats refl moving
 
     probe : (n : ℕ) → (h.state.link c).b ≡ packet Probe n ∷ first.rest
-        → IsNext x (unfinished channel.B e.past) (block_message Probe c n (h.state.block n)) (map (message_of h.mail h.state c) first.rest) queue
+        → IsNext x (unfinished channel.B e.past) (block_message Probe c n (h.state.block n))
+        (map (message_of h.mail h.state c) first.rest) queue
         → IsDelivered config log link channel.B h
     probe n tokens next = by_letting (is_unreleased b_pair.letting) refl
       where
@@ -146,78 +142,105 @@ delivered-b {w} config log link h terms x queue width is known beats moving = ki
         y : BeatB w
         y = probe_beat n k
 
-        probed : IsProbed config terms (next_tracker sys) c n (record { state = h.state; mail = h.mail; request = h.request }) x e
-        probed = probe-delivered config log h.mail h.request h.state sys terms (next_tracker sys) c n first.rest (map (message_of h.mail h.state c) first.rest) x queue width is known beats tokens next
+        probed : IsProbed config terms (next_tracker sys) c n (record {
+          state = h.state;
+          mail = h.mail;
+          request =
+              h.request;
+        }) x e
+        probed = probe-delivered config log h.mail h.request h.state sys terms (next_tracker sys) c n first.rest
+            (map (message_of h.mail h.state c) first.rest) x queue width is known beats tokens next
 
         answers : (offer.taken x e).answer ≡ Ok (verdict.Taken, Some (handed_for y e))
         answers = ap (λ (z : Beat w). (offer.taken z e).answer) probed.beat_is ∙ answer_b y e
 
         same_parts : (t.verdict_is ≡ verdict.Taken) × (t.message ≡ Some (handed_for y e))
-        same_parts = same_answers t.verdict_is verdict.Taken t.message (Some (handed_for y e)) (offer.taken x e).answer t.answer answers
+        same_parts = same_answers t.verdict_is verdict.Taken t.message (Some (handed_for y e)) (offer.taken x e).answer
+            t.answer answers
 
         ack : Message w
         ack = probe_ack opb.ProbeBlock b_pair.held (report_at k b_pair.held) n (h.state.block n).truth
 
         copied : same_perm b_pair.held perm.None ≡ false → copy_at e n ≡ (h.state.block n).truth
-        copied some = ap (λ (o : Option (List ℕ)). unwrap_or o zeros) (is.copies c n some) ∙ (is.invariant.blocks n).copies c some
+        copied some = ap (λ (o : Option (List ℕ)). unwrap_or o zeros) (is.copies c n some)
+            ∙ (is.invariant.blocks n).copies c some
 
-        handed_at : (m : ℕ) → m ≡ n → probe_ack {w = w} opb.ProbeBlock (held_at e m) (report_for y (held_at e m)) m (copy_at e m) ≡ ack
+        handed_at : (m : ℕ) → m ≡ n → probe_ack {w = w} opb.ProbeBlock (held_at e m) (report_for y (held_at e m)) m
+            (copy_at e m) ≡ ack
         handed_at m at =
-            ap (λ (i : ℕ). probe_ack {w = w} opb.ProbeBlock (held_at e i) (report_for y (held_at e i)) i (copy_at e i)) at
-            ∙ ap (λ (p : Perm). probe_ack {w = w} opb.ProbeBlock p (report_for y p) n (copy_at e n)) ((is.known c).held_is n)
-            ∙ ap (λ (r : Report). probe_ack {w = w} opb.ProbeBlock b_pair.held r n (copy_at e n)) (report_is w n k b_pair.held)
+            ap (λ (i : ℕ). probe_ack {w = w} opb.ProbeBlock (held_at e i) (report_for y (held_at e i)) i (copy_at e i))
+            at
+            ∙ ap (λ (p : Perm). probe_ack {w = w} opb.ProbeBlock p (report_for y p) n (copy_at e n))
+            ((is.known c).held_is n)
+            ∙ ap (λ (r : Report). probe_ack {w = w} opb.ProbeBlock b_pair.held r n (copy_at e n))
+            (report_is w n k b_pair.held)
             ∙ ack_same b_pair.held (report_at k b_pair.held) n (copy_at e n) (h.state.block n).truth copied
 
         message_is : t.message ≡ Some ack
         message_is = same_parts.1 ∙ ap Some (handed_at (block_at (64 * n)) (same_block n))
 
         now : Step w
-        now = handing (outcome.Moved x) (handed_by c (Some ack)) (with_client c (offer.taken x e).after (with_channel c channel.B queue sys))
+        now = handing (outcome.Moved x) (handed_by c (Some ack))
+            (with_client c (offer.taken x e).after (with_channel c channel.B queue sys))
 
         step_is : stepped config (Deliver link channel.B) sys ≡ now
         step_is =
             t.step_is
-            ∙ ap (λ (v : Verdict). handing (step.outcome_of x v) (handed_by c t.message) (with_client c (offer.taken x e).after (with_channel c channel.B queue sys))) same_parts.0
-            ∙ ap (λ (m : Option (Message w)). handing (outcome.Moved x) (handed_by c m) (with_client c (offer.taken x e).after (with_channel c channel.B queue sys))) message_is
+            ∙ ap (λ (v : Verdict). handing (step.outcome_of x v) (handed_by c t.message)
+            (with_client c (offer.taken x e).after (with_channel c channel.B queue sys))) same_parts.0
+            ∙ ap (λ (m : Option (Message w)). handing (outcome.Moved x) (handed_by c m)
+            (with_client c (offer.taken x e).after (with_channel c channel.B queue sys))) message_is
 
         sent : b_pair.probing ≡ ProbeSent k
-        sent = sent-is b_pair.probing (holds-first Probe (h.state.link c).b first.rest (packet Probe n) (λ i. shown Probe c (h.state.block i)) tokens refl (is.invariant.transfers c Probe refl))
+        sent = sent-is b_pair.probing (holds-first Probe (h.state.link c).b first.rest (packet Probe n)
+            (λ i. shown Probe c (h.state.block i)) tokens refl (is.invariant.transfers c Probe refl))
 
         taken : IsTaken c channel.B x queue (pushes_at c (pushes_of (Some ack))) sys now.after
         taken =
             taken-landed c channel.B x queue (pushes_at c (pushes_of (Some ack))) sys now.after
             (landed-client c channel.B x queue (Some ack) (offer.taken x e).after sys refl beats
             (subst (λ (z : Beat w). IsOn channel.B z) (sym probed.beat_is) (on_b y))
-            (client-heard terms c channel.B x queue sys (stepped config (Deliver link channel.B) sys) width (is.kept c) t))
+            (client-heard terms c channel.B x queue sys (stepped config (Deliver link channel.B) sys) width (is.kept c)
+            t))
             probed.whole
 
-        follows : abstract_step config (Deliver link channel.B) sys h ≡ kind_taken config (next_tracker sys) c Probe n first.rest h
+        follows : abstract_step config (Deliver link channel.B) sys h ≡ kind_taken config (next_tracker sys) c Probe n
+            first.rest h
         follows =
             followed-moving config link channel.B sys h x queue moving beats
-            ∙ ap (λ (b : Bool). if b then packet_taken config (next_tracker sys) c (h.state.link c).b h else h) probed.whole
+            ∙ ap (λ (b : Bool). if b then packet_taken config (next_tracker sys) c (h.state.link c).b h else h)
+            probed.whole
             ∙ ap (λ (l : List Packet). packet_taken config (next_tracker sys) c l h) tokens
 
         by_letting : (b : Bool) → is_unreleased b_pair.letting ≡ b → IsDelivered config log link channel.B h
         by_letting true kept =
             let inv = invariant-taken config log h sys c Probe n first.rest is tokens (kept-is b_pair.letting kept) in
-            delivered_as config log link channel.B h (kind_taken config (next_tracker sys) c Probe n first.rest h) follows
+            delivered_as config log link channel.B h (kind_taken config (next_tracker sys) c Probe n first.rest h)
+            follows
             (subst (λ (z : Step w). ChannelRelation h.mail (probe_taken c n k first.rest h.state) z.after) (sym step_is)
-            (probe_taken-carried (is_caching config) c n k first.rest ack h.mail h.state sys now.after x queue width is.invariant inv tokens sent
+            (probe_taken-carried (is_caching config) c n k first.rest ack h.mail h.state sys now.after x queue width
+            is.invariant inv tokens sent
             (ack_channel w b_pair.held (report_at k b_pair.held) n (h.state.block n).truth)
             (rendered_probed c n k (h.state.block n)) taken is.carried))
             (subst (λ (m : Machine w). MemoryRelation h.mail (probe_taken c n k first.rest h.state) m)
             (sym (remembered_after config log link channel.B now step_is
-            ∙ ap (λ (l : List (ℕ × ℕ)). performing l (moved (Deliver link channel.B) now.outcome (one_memory_after config log)))
+            ∙ ap (λ (l : List (ℕ × ℕ)). performing l
+            (moved (Deliver link channel.B) now.outcome (one_memory_after config log)))
             (ack_quiet w c b_pair.held (report_at k b_pair.held) n (h.state.block n).truth)))
-            (beside_block n (probed_block c k (h.state.block n)) h.mail h.state (probe_taken c n k first.rest h.state) (one_memory_after config log) (λ i. refl)
-            (λ d i. refl) (λ d i. refl) refl (λ d. same_acquiring c (after_probe k b_pair) (h.state.block n).pair refl d) (λ d. refl) is.beside))
+            (beside_block n (probed_block c k (h.state.block n)) h.mail h.state (probe_taken c n k first.rest h.state)
+            (one_memory_after config log) (λ i. refl)
+            (λ d i. refl) (λ d i. refl) refl (λ d. same_acquiring c (after_probe k b_pair) (h.state.block n).pair refl
+            d) (λ d. refl) is.beside))
         by_letting false open_ =
-            let stalled : (offer.taken x e).answer ≡ Ok (verdict.Stalled, None) = ap (λ (o : offer.Offered w). o.answer) (sym t.takes ∙ probed.waits_for open_) in
-            let differ = (same_answers verdict.Taken verdict.Stalled (Some (handed_for y e)) None (offer.taken x e).answer answers stalled).0 in
+            let stalled : (offer.taken x e).answer ≡ Ok (verdict.Stalled, None) =
+            ap (λ (o : offer.Offered w). o.answer) (sym t.takes ∙ probed.waits_for open_) in
+            let differ = (same_answers verdict.Taken verdict.Stalled (Some (handed_for y e)) None
+            (offer.taken x e).answer answers stalled).0 in
             absurd (taken_stalls differ)
 
     kinds : (k : Kind) (i : ℕ) → (h.state.link c).b ≡ packet k i ∷ first.rest → is_on channel.B k ≡ true
-        → IsNext x (unfinished channel.B e.past) (message_of_kind k h.mail h.state c i) (map (message_of h.mail h.state c) first.rest) queue → IsDelivered config log link channel.B h
+        → IsNext x (unfinished channel.B e.past) (message_of_kind k h.mail h.state c i)
+        (map (message_of h.mail h.state c) first.rest) queue → IsDelivered config log link channel.B h
     kinds Probe n tokens own next = probe n tokens next
     kinds Answer i tokens own next = absurd cc
     kinds Grant n tokens own next = absurd cc

@@ -1,36 +1,26 @@
 -- A beat of channel C that is delivered to the manager: the channels and the one memory afterwards.
-use Rattle.std.proofs.Common.{◌≡◌, ℕ, Bool, true, false, List, [], ◌∷◌, None, refl, sym, ◌∙◌, ap, subst, inl, inr, not, ◌&&◌}
+use Rattle.tl_coherence.proofs.deliveries.Imports.{IsWidth, Beat, Link, Message, unfinished, completes, Config, Prune}
+use Rattle.tl_coherence.proofs.deliveries.Imports.{Report, on_link, Handed, reaction, Deliver, MemoryRelation}
+use Rattle.tl_coherence.proofs.deliveries.Imports.{AbstractState, ack_taken, answers, kind_taken, last_taken}
+use Rattle.tl_coherence.proofs.deliveries.Imports.{some_below, packet_taken, with_state, Log, system_after, Machine}
+use Rattle.tl_coherence.proofs.deliveries.Imports.{Requests, ProbeAnswered, Service, Free, Waits, GrantSent, GrantTaken}
+use Rattle.tl_coherence.proofs.deliveries.Imports.{Block, State, SourceState, packet, let_block, release_taken}
+use Rattle.tl_coherence.proofs.deliveries.Imports.{report_taken, shown, one_memory_after, performing, accesses_answered}
+use Rattle.tl_coherence.proofs.deliveries.Imports.{message_of, prune_told, block_message, report_told, stepped, IsFor}
+use Rattle.tl_coherence.proofs.deliveries.Imports.{System, ProbeAck, Release, ReleaseAck, Grant, Packet}
+use Rattle.tl_coherence.proofs.deliveries.Imports.{SimulationRelation, IsRequest, is_caching}
+use Rattle.std.proofs.Common.{◌≡◌, ℕ, Bool, true, false, List, [], ◌∷◌, None, refl, sym, ◌∙◌, ap, subst, inl, inr, not}
+use Rattle.std.proofs.Common.{◌&&◌}
 use Rattle.std.specs.Prelude.{◌==◌, if◌then◌else◌, length, map}
-use Rattle.tl_beat.specs.statement.Width.{IsWidth}
-use Rattle.tl_beat.specs.declared.beat.Beat.{Beat}
-use Rattle.tl_beat.specs.declared.beat.Link.{Link}
 use Rattle.tl_beat.specs.declared.channel.Channel.TheVariants as channel
-use Rattle.tl_burst.specs.declared.message.Message.{Message}
-use Rattle.tl_burst.specs.statement.Messages.{unfinished}
-use Rattle.tl_burst.specs.statement.Part.{completes}
-use Rattle.tl_params.specs.declared.config.Config.{Config}
-use Rattle.tl_params.specs.declared.param.Prune.{Prune}
-use Rattle.tl_params.specs.declared.param.Report.{Report}
-use Rattle.tl_rules.specs.statement.Conformance.{on_link}
-use Rattle.tl_manager.specs.statement.Handing.{Handed}
-use Rattle.tl_manager.specs.statement.Reaction.{reaction}
-use Rattle.tl_coherence.specs.declared.event.Event.TheVariants.{Deliver}
-use Rattle.tl_coherence.specs.refinement.MemoryRelation.{MemoryRelation, IsAccess, IsOpened}
-use Rattle.tl_coherence.specs.refinement.AbstractStep.{AbstractState, ack_taken, answers, kind_taken, last_taken, some_below, packet_taken, with_state}
-use Rattle.tl_coherence.specs.statement.Log.{Log, system_after}
-use Rattle.tl_coherence.specs.statement.Machine.{Machine, Requests}
-use Rattle.tl_coherence.specs.protocol.Phase.{is_unprobed, ProbeAnswered}
+use Rattle.tl_coherence.specs.refinement.MemoryRelation.{IsAccess, IsOpened}
+use Rattle.tl_coherence.specs.protocol.Phase.{is_unprobed}
 use Rattle.tl_coherence.specs.protocol.PhaseSteps.{after_release_taken}
-use Rattle.tl_coherence.specs.protocol.Protocol.{Service, Free, Waits, GrantSent, GrantTaken, Block, State, SourceState, Asked, InService, packet, let_block, release_taken, report_taken, shown}
+use Rattle.tl_coherence.specs.protocol.Protocol.{Asked, InService}
 use Rattle.tl_coherence.specs.protocol.Protocol as protocol
-use Rattle.tl_coherence.specs.statement.OneMemory.{one_memory_after, performing, accesses_answered}
-use Rattle.tl_coherence.specs.refinement.PacketMessages.{message_of, prune_told, block_message, report_told}
-use Rattle.tl_coherence.specs.statement.Step.{stepped}
-use Rattle.tl_coherence.specs.refinement.SourceRelation.{IsFor}
-use Rattle.tl_coherence.specs.statement.System.{System}
-use Rattle.tl_coherence.specs.protocol.Packet.{ProbeAck, Release, ReleaseAck, Grant, Packet}
-use Rattle.tl_coherence.specs.refinement.SimulationRelation.{SimulationRelation, IsRequest, IsServedWith, is_caching}
-use Rattle.tl_coherence.proofs.memory.BesideKinds.{IsWaiting, accesses_by, beside-report, beside_block, last_accesses, same_acquiring}
+use Rattle.tl_coherence.specs.refinement.SimulationRelation.{IsServedWith}
+use Rattle.tl_coherence.proofs.memory.BesideKinds.{IsWaiting, accesses_by, beside-report, beside_block, last_accesses}
+use Rattle.tl_coherence.proofs.memory.BesideKinds.{same_acquiring}
 use Rattle.tl_coherence.proofs.memory.BesideRequests.{IsOnce, accesses-answer}
 use Rattle.tl_coherence.proofs.deliveries.CarriedReports.{carried-followed_c}
 use Rattle.tl_coherence.proofs.manager.Choices.{plain-past}
@@ -38,7 +28,8 @@ use Rattle.tl_coherence.proofs.queues.FirstToken.{first-token}
 use Rattle.tl_coherence.proofs.protocol.FollowKept.{settled_all}
 use Rattle.tl_coherence.proofs.deliveries.DeliverDWhole.{IsDelivered, remembered_after}
 use Rattle.tl_coherence.proofs.manager.ManagerAfter.{others_probed}
-use Rattle.tl_coherence.proofs.deliveries.ManagerDelivered.{channel_c-delivered, pushed, pushed_last, releases-delivered, reports-delivered}
+use Rattle.tl_coherence.proofs.deliveries.ManagerDelivered.{channel_c-delivered, pushed, pushed_last}
+use Rattle.tl_coherence.proofs.deliveries.ManagerDelivered.{releases-delivered, reports-delivered}
 use Rattle.tl_coherence.proofs.deliveries.ManagerFollowed.{client-of, followed-taken, step-taken}
 use Rattle.tl_coherence.proofs.manager.ManagerTakes.{by-first_c}
 use Rattle.tl_coherence.proofs.manager.RequestsTaken.{next_tracker}
@@ -49,7 +40,8 @@ use Rattle.tl_coherence.proofs.rank.RankParts.{serving-use}
 
 -- ---- which accesses are answered by what is handed out
 
-grant-quiet : (w : ℕ) (link : Link) (q n : ℕ) (b : Block (List ℕ)) (s : Service) → b.service ≡ s → accesses_answered {w = w} ((link, block_message Grant q n b) ∷ []) ≡ []
+grant-quiet : (w : ℕ) (link : Link) (q n : ℕ) (b : Block (List ℕ)) (s : Service) → b.service ≡ s
+    → accesses_answered {w = w} ((link, block_message Grant q n b) ∷ []) ≡ []
 unfolding accesses_answered block_message
 grant-quiet w link q n b Free e = rw e refl
 grant-quiet w link q n b (Waits r own source k) e = rw e refl
@@ -57,32 +49,40 @@ grant-quiet w link q n b (GrantTaken r) e = rw e refl
 grant-quiet w link q n b (GrantSent r true k) e = rw e refl
 grant-quiet w link q n b (GrantSent r false k) e = rw e refl
 
-ack-quiet : (w : ℕ) (link : Link) (c n : ℕ) (b : Block (List ℕ)) → accesses_answered {w = w} ((link, block_message ReleaseAck c n b) ∷ []) ≡ []
+ack-quiet : (w : ℕ) (link : Link) (c n : ℕ) (b : Block (List ℕ))
+    → accesses_answered {w = w} ((link, block_message ReleaseAck c n b) ∷ []) ≡ []
 unfolding accesses_answered block_message
 ack-quiet w link c n b = refl
 
-last-answered : {w : ℕ} (config : Config) (c n : ℕ) (r : Report) (service : Service) (rest : List Packet) (h : AbstractState w) → IsFor service n (h.request n)
-    → accesses_answered (pushed_last n service (last_taken (length config.clients.items) config.profile c n r service rest h)) ≡ last_accesses service
+last-answered : {w : ℕ} (config : Config) (c n : ℕ) (r : Report) (service : Service) (rest : List Packet)
+    (h : AbstractState w) → IsFor service n (h.request n)
+    → accesses_answered (pushed_last n service (last_taken (length config.clients.items) config.profile c n r service
+    rest h)) ≡ last_accesses service
 unfolding accesses_answered
 last-answered config c n r Free rest h for = refl
 last-answered config c n r (GrantSent q d k) rest h for = refl
 last-answered config c n r (GrantTaken q) rest h for = refl
 last-answered {w} config c n r (Waits q true source k) rest h for =
-    let b = (last_taken (length config.clients.items) config.profile c n r (Waits q true source k) rest h).state.block n in
+    let b = (last_taken (length config.clients.items) config.profile c n r (Waits q true source k) rest h).state.block n
+    in
     grant-quiet w (record { 0 = q }) q n b b.service refl
 last-answered {w} config c n r (Waits q false source k) rest h for =
     let said = answers (h.request n) (protocol.written r (h.state.block n).truth (h.state.block n).memory) in
     ap (λ (m : Message w). accesses_answered ((record { 0 = q }, m) ∷ [])) (set_at-same q source said h.mail.answer)
     ∙ accesses-answer q (h.request n) _ ∙ ap (λ i. (q, i) ∷ []) for.1
 
-report-answered : {w : ℕ} (config : Config) (c n : ℕ) (r : Report) (rest : List Packet) (h : AbstractState w) → IsFor (h.state.block n).service n (h.request n)
-    → accesses_answered (pushed config c ProbeAck n h (ack_taken (length config.clients.items) config.profile c n r rest h)) ≡ accesses_by config c ProbeAck n h
+report-answered : {w : ℕ} (config : Config) (c n : ℕ) (r : Report) (rest : List Packet) (h : AbstractState w)
+    → IsFor (h.state.block n).service n (h.request n)
+    → accesses_answered (pushed config c ProbeAck n h (ack_taken (length config.clients.items) config.profile c n r rest
+    h)) ≡ accesses_by config c ProbeAck n h
 unfolding accesses_answered
-report-answered {w} config c n r rest h for = go (some_below (length config.clients.items) (others_probed c (h.state.block n).pair))
+report-answered {w} config c n r rest h for =
+    go (some_below (length config.clients.items) (others_probed c (h.state.block n).pair))
   where
     go : (y : Bool)
         → accesses_answered (if y then [] else pushed_last n (h.state.block n).service
-        (if y then with_state (report_taken c n r rest h.state) h else last_taken (length config.clients.items) config.profile c n r
+        (if y then with_state (report_taken c n r rest h.state) h else last_taken (length config.clients.items)
+        config.profile c n r
         (h.state.block n).service rest h))
         ≡ (if y then [] else last_accesses (h.state.block n).service)
     go true = refl
@@ -91,12 +91,15 @@ report-answered {w} config c n r rest h for = go (some_below (length config.clie
 -- ---- the access that waits can be performed
 
 served-open : {w : ℕ} (q source n : ℕ) (h : AbstractState w) (m : Machine w) (u : SourceState) → u ≡ InService n
-    → IsOpened q source h.mail h.state u (m.opened q Requests source) → IsAccess source (h.mail.request q source) None (m.opened q Requests source)
+    → IsOpened q source h.mail h.state u (m.opened q Requests source)
+    → IsAccess source (h.mail.request q source) None (m.opened q Requests source)
 served-open q source n h m u e is = rw e at is
 
-waiting-one : {w : ℕ} (config : Config) (log : Log w) (h : AbstractState w) (sys : System w) (n : ℕ) (m : Machine w) (service : Service) → IsWidth w
+waiting-one : {w : ℕ} (config : Config) (log : Log w) (h : AbstractState w) (sys : System w) (n : ℕ) (m : Machine w)
+    (service : Service) → IsWidth w
     → SimulationRelation config log h.mail h.request h.state sys → MemoryRelation h.mail h.state m
-    → (h.state.block n).service ≡ service → IsFor service n (h.request n) → IsServedWith h.mail service (h.request n) → IsWaiting config n service h m
+    → (h.state.block n).service ≡ service → IsFor service n (h.request n) → IsServedWith h.mail service (h.request n)
+    → IsWaiting config n service h m
 waiting-one config log h sys n m Free width is beside e for with = tt
 waiting-one config log h sys n m (GrantSent q d k) width is beside e for with = tt
 waiting-one config log h sys n m (GrantTaken q) width is beside e for with = tt
@@ -106,7 +109,8 @@ waiting-one {w} config log h sys n m (Waits q false source k) width is beside e 
       record {
         width = width;
         request = with;
-        sent = subst (IsRequest config q source) with (served-request config q source n (h.mail.request q source) (h.state.uses q source) used (is.sourced q source));
+        sent = subst (IsRequest config q source) with (served-request config q source n (h.mail.request q source)
+            (h.state.uses q source) used (is.sourced q source));
         access = for.0;
         opened = served-open q source n h m (h.state.uses q source) used (beside.requests q source);
         long = (is.sized _).truth;
@@ -116,63 +120,90 @@ waiting-one {w} config log h sys n m (Waits q false source k) width is beside e 
 
 -- ---- any beat
 
-by-place : {w : ℕ} (h h' : AbstractState w) (pushes handed : Handed w) (m : Machine w) (b : Bool) → handed ≡ (if b then pushes else []) → MemoryRelation h.mail h.state m
+by-place : {w : ℕ} (h h' : AbstractState w) (pushes handed : Handed w) (m : Machine w) (b : Bool)
+    → handed ≡ (if b then pushes else []) → MemoryRelation h.mail h.state m
     → (MemoryRelation h'.mail h'.state (performing (accesses_answered pushes) m))
     → MemoryRelation (if b then h' else h).mail (if b then h' else h).state (performing (accesses_answered handed) m)
 unfolding performing accesses_answered
 by-place h h' pushes handed m true e before last = rw e last
 by-place h h' pushes handed m false e before last = rw e before
 
-pub beside-followed_c : {w : ℕ} (config : Config) (log : Log w) (h : AbstractState w) (sys : System w) (c : ℕ) (x : Beat w) (queue : List (Beat w)) (m : Machine w)
-    → IsWidth w → SimulationRelation config log h.mail h.request h.state sys → sys.channels c channel.C ≡ x ∷ queue → MemoryRelation h.mail h.state m
-    → MemoryRelation (if completes x (unfinished channel.C (on_link c sys.manager.trace)) then packet_taken config (next_tracker sys) c (h.state.link c).c h else h).mail
-    (if completes x (unfinished channel.C (on_link c sys.manager.trace)) then packet_taken config (next_tracker sys) c (h.state.link c).c h else h).state
+pub beside-followed_c : {w : ℕ} (config : Config) (log : Log w) (h : AbstractState w) (sys : System w) (c : ℕ)
+    (x : Beat w) (queue : List (Beat w)) (m : Machine w)
+    → IsWidth w → SimulationRelation config log h.mail h.request h.state sys → sys.channels c channel.C ≡ x ∷ queue
+    → MemoryRelation h.mail h.state m
+    → MemoryRelation (if completes x (unfinished channel.C (on_link c sys.manager.trace)) then packet_taken config
+    (next_tracker sys) c (h.state.link c).c h else h).mail
+    (if completes x (unfinished channel.C (on_link c sys.manager.trace)) then packet_taken config (next_tracker sys) c
+    (h.state.link c).c h else h).state
     (performing (accesses_answered (reaction config (record { 0 = c }) x sys.manager).handed) m)
 unfolding performing
 beside-followed_c {w} config log h sys c x queue m width is beats beside =
     by-first_c
-    (λ i. MemoryRelation (if completes x before then packet_taken config (next_tracker sys) c i h else h).mail (if completes x before then packet_taken config (next_tracker sys) c i h else h).state
-    (performing (accesses_answered (reaction config (record { 0 = c }) x sys.manager).handed) m)) c h.mail h.state sys x queue
+    (λ i. MemoryRelation (if completes x before then packet_taken config (next_tracker sys) c i h else h).mail
+    (if completes x before then packet_taken config (next_tracker sys) c i h else h).state
+    (performing (accesses_answered (reaction config (record { 0 = c }) x sys.manager).handed) m)) c h.mail h.state sys x
+    queue
     (first-token (is_caching config) channel.C c h.mail h.state sys x queue width is.invariant is.carried beats)
     (λ n rest tokens next.
-    let d = reports-delivered config log h sys c n rest x queue (map (message_of h.mail h.state c) rest) width is beats tokens next in
-    by-place h (kind_taken config (next_tracker sys) c ProbeAck n rest h) _ (reaction config (record { 0 = c }) x sys.manager).handed m (completes x before) d.handed beside (reported n rest tokens))
+    let d = reports-delivered config log h sys c n rest x queue (map (message_of h.mail h.state c) rest) width is beats
+    tokens next in
+    by-place h (kind_taken config (next_tracker sys) c ProbeAck n rest h) _
+    (reaction config (record { 0 = c }) x sys.manager).handed m (completes x before) d.handed beside
+    (reported n rest tokens))
     (λ n rest tokens next.
-    let d = releases-delivered config log h sys c n rest x queue (map (message_of h.mail h.state c) rest) width is beats tokens next in
-    by-place h (kind_taken config (next_tracker sys) c Release n rest h) _ (reaction config (record { 0 = c }) x sys.manager).handed m (completes x before) d.handed beside (released n rest))
+    let d = releases-delivered config log h sys c n rest x queue (map (message_of h.mail h.state c) rest) width is beats
+    tokens next in
+    by-place h (kind_taken config (next_tracker sys) c Release n rest h) _
+    (reaction config (record { 0 = c }) x sys.manager).handed m (completes x before) d.handed beside
+    (released n rest))
   where
     before : List (Beat w)
     before = unfinished channel.C (on_link c sys.manager.trace)
 
     reported : (n : ℕ) (rest : List Packet) → (h.state.link c).c ≡ packet ProbeAck n ∷ rest
-        → MemoryRelation (kind_taken config (next_tracker sys) c ProbeAck n rest h).mail (kind_taken config (next_tracker sys) c ProbeAck n rest h).state
-        (performing (accesses_answered (pushed config c ProbeAck n h (kind_taken config (next_tracker sys) c ProbeAck n rest h))) m)
+        → MemoryRelation (kind_taken config (next_tracker sys) c ProbeAck n rest h).mail
+        (kind_taken config (next_tracker sys) c ProbeAck n rest h).state
+        (performing (accesses_answered
+        (pushed config c ProbeAck n h (kind_taken config (next_tracker sys) c ProbeAck n rest h))) m)
     reported n rest tokens =
         let b : Block (List ℕ) = h.state.block n in
         let r : Report = report_told (b.pair c).probing in
         let answered : (b.pair c).probing ≡ ProbeAnswered r = answered-is (b.pair c).probing
-        (holds-first ProbeAck (h.state.link c).c rest (packet ProbeAck n) (λ i. shown ProbeAck c (h.state.block i)) tokens refl
+        (holds-first ProbeAck (h.state.link c).c rest (packet ProbeAck n) (λ i. shown ProbeAck c (h.state.block i))
+        tokens refl
         (is.invariant.transfers c ProbeAck refl)) in
-        subst (λ (l : List (ℕ × ℕ)). MemoryRelation (kind_taken config (next_tracker sys) c ProbeAck n rest h).mail (kind_taken config (next_tracker sys) c ProbeAck n rest h).state (performing l m))
+        subst (λ (l : List (ℕ × ℕ)). MemoryRelation (kind_taken config (next_tracker sys) c ProbeAck n rest h).mail
+        (kind_taken config (next_tracker sys) c ProbeAck n rest h).state (performing l m))
         (sym (report-answered config c n r rest h (is.served.requests n)))
         (beside-report (is_caching config) config c n r rest h m is.invariant answered
-        (settled_all (length config.clients.items) (is_caching config) c b.pair (plain-past config) (is.invariant.blocks n).outside)
-        (waiting-one config log h sys n m b.service width is beside refl (is.served.requests n) (is.served_with n)) beside)
+        (settled_all (length config.clients.items) (is_caching config) c b.pair (plain-past config)
+        (is.invariant.blocks n).outside)
+        (waiting-one config log h sys n m b.service width is beside refl (is.served.requests n) (is.served_with n))
+        beside)
 
     released : (n : ℕ) (rest : List Packet)
-        → MemoryRelation (kind_taken config (next_tracker sys) c Release n rest h).mail (kind_taken config (next_tracker sys) c Release n rest h).state
-        (performing (accesses_answered (pushed config c Release n h (kind_taken config (next_tracker sys) c Release n rest h))) m)
+        → MemoryRelation (kind_taken config (next_tracker sys) c Release n rest h).mail
+        (kind_taken config (next_tracker sys) c Release n rest h).state
+        (performing (accesses_answered
+        (pushed config c Release n h (kind_taken config (next_tracker sys) c Release n rest h))) m)
     released n rest =
         let b : Block (List ℕ) = h.state.block n in
         let p : Prune = prune_told (b.pair c).letting in
-        subst (λ (l : List (ℕ × ℕ)). MemoryRelation h.mail (release_taken c n p rest h.state) (performing l m)) (sym (ack-quiet w (record { 0 = c }) c n ((release_taken c n p rest h.state).block n)))
-        (beside_block n (let_block c p b) h.mail h.state (release_taken c n p rest h.state) m (λ i. refl) (λ d i. refl) (λ d i. refl) refl
+        subst (λ (l : List (ℕ × ℕ)). MemoryRelation h.mail (release_taken c n p rest h.state) (performing l m))
+        (sym (ack-quiet w (record { 0 = c }) c n ((release_taken c n p rest h.state).block n)))
+        (beside_block n (let_block c p b) h.mail h.state (release_taken c n p rest h.state) m (λ i. refl) (λ d i. refl)
+        (λ d i. refl) refl
         (λ d. same_acquiring c (after_release_taken p (b.pair c)) b.pair refl d) (λ d. refl) beside)
 
 -- at most one access is answered then, and it can be performed
-report-once : {w : ℕ} (config : Config) (log : Log w) (h : AbstractState w) (sys : System w) (c n : ℕ) (m : Machine w) → IsWidth w
-    → SimulationRelation config log h.mail h.request h.state sys → MemoryRelation h.mail h.state m → IsOnce (accesses_by config c ProbeAck n h) h m
-report-once {w} config log h sys c n m width is beside = go (some_below (length config.clients.items) (λ d. not (d == c) && not (is_unprobed ((h.state.block n).pair d).probing)))
+report-once : {w : ℕ} (config : Config) (log : Log w) (h : AbstractState w) (sys : System w) (c n : ℕ) (m : Machine w)
+    → IsWidth w
+    → SimulationRelation config log h.mail h.request h.state sys → MemoryRelation h.mail h.state m
+    → IsOnce (accesses_by config c ProbeAck n h) h m
+report-once {w} config log h sys c n m width is beside =
+    go (some_below (length config.clients.items)
+    (λ d. not (d == c) && not (is_unprobed ((h.state.block n).pair d).probing)))
   where
     of_service : (service : Service) → IsWaiting config n service h m → IsOnce (last_accesses service) h m
     of_service (Waits q false source k) waits = inr (q, source, refl, waits.0.opened)
@@ -183,32 +214,45 @@ report-once {w} config log h sys c n m width is beside = go (some_below (length 
 
     go : (b : Bool) → IsOnce (if b then [] else last_accesses (h.state.block n).service) h m
     go true = inl refl
-    go false = of_service (h.state.block n).service (waiting-one config log h sys n m (h.state.block n).service width is beside refl (is.served.requests n) (is.served_with n))
+    go false = of_service (h.state.block n).service (waiting-one config log h sys n m (h.state.block n).service width is
+        beside refl (is.served.requests n) (is.served_with n))
 
-once-place : {w : ℕ} (h : AbstractState w) (pushes handed : Handed w) (m : Machine w) (b : Bool) → handed ≡ (if b then pushes else [])
+once-place : {w : ℕ} (h : AbstractState w) (pushes handed : Handed w) (m : Machine w) (b : Bool)
+    → handed ≡ (if b then pushes else [])
     → IsOnce (accesses_answered pushes) h m → IsOnce (accesses_answered handed) h m
 unfolding accesses_answered
 once-place h pushes handed m true e last = rw e last
 once-place h pushes handed m false e last = rw e (inl refl)
 
-pub once-followed_c : {w : ℕ} (config : Config) (log : Log w) (h : AbstractState w) (sys : System w) (c : ℕ) (x : Beat w) (queue : List (Beat w)) (m : Machine w)
-    → IsWidth w → SimulationRelation config log h.mail h.request h.state sys → sys.channels c channel.C ≡ x ∷ queue → MemoryRelation h.mail h.state m
+pub once-followed_c : {w : ℕ} (config : Config) (log : Log w) (h : AbstractState w) (sys : System w) (c : ℕ)
+    (x : Beat w) (queue : List (Beat w)) (m : Machine w)
+    → IsWidth w → SimulationRelation config log h.mail h.request h.state sys → sys.channels c channel.C ≡ x ∷ queue
+    → MemoryRelation h.mail h.state m
     → IsOnce (accesses_answered (reaction config (record { 0 = c }) x sys.manager).handed) h m
 once-followed_c {w} config log h sys c x queue m width is beats beside =
-    by-first_c (λ i. IsOnce (accesses_answered (reaction config (record { 0 = c }) x sys.manager).handed) h m) c h.mail h.state sys x queue
+    by-first_c (λ i. IsOnce (accesses_answered (reaction config (record { 0 = c }) x sys.manager).handed) h m) c h.mail
+    h.state sys x queue
     (first-token (is_caching config) channel.C c h.mail h.state sys x queue width is.invariant is.carried beats)
     (λ n rest tokens next.
-    let d = reports-delivered config log h sys c n rest x queue (map (message_of h.mail h.state c) rest) width is beats tokens next in
-    once-place h _ (reaction config (record { 0 = c }) x sys.manager).handed m (completes x (unfinished channel.C (on_link c sys.manager.trace))) d.handed
-    (subst (λ (l : List (ℕ × ℕ)). IsOnce l h m) (sym (report-answered config c n (report_told ((h.state.block n).pair c).probing) rest h
+    let d = reports-delivered config log h sys c n rest x queue (map (message_of h.mail h.state c) rest) width is beats
+    tokens next in
+    once-place h _ (reaction config (record { 0 = c }) x sys.manager).handed m
+    (completes x (unfinished channel.C (on_link c sys.manager.trace))) d.handed
+    (subst (λ (l : List (ℕ × ℕ)). IsOnce l h m)
+    (sym (report-answered config c n (report_told ((h.state.block n).pair c).probing) rest h
     (is.served.requests n))) (report-once config log h sys c n m width is beside)))
     (λ n rest tokens next.
-    let d = releases-delivered config log h sys c n rest x queue (map (message_of h.mail h.state c) rest) width is beats tokens next in
-    once-place h _ (reaction config (record { 0 = c }) x sys.manager).handed m (completes x (unfinished channel.C (on_link c sys.manager.trace))) d.handed
-    (inl (ack-quiet w (record { 0 = c }) c n ((release_taken c n (prune_told ((h.state.block n).pair c).letting) rest h.state).block n))))
+    let d = releases-delivered config log h sys c n rest x queue (map (message_of h.mail h.state c) rest) width is beats
+    tokens next in
+    once-place h _ (reaction config (record { 0 = c }) x sys.manager).handed m
+    (completes x (unfinished channel.C (on_link c sys.manager.trace))) d.handed
+    (inl (ack-quiet w (record { 0 = c }) c n
+    ((release_taken c n (prune_told ((h.state.block n).pair c).letting) rest h.state).block n))))
 
 -- the channels and the one memory after any delivery on channel C that finds a beat
-pub delivered-c : {w : ℕ} (config : Config) (log : Log w) (c : ℕ) (h : AbstractState w) (x : Beat w) (queue : List (Beat w)) → IsWidth w → SimulationRelation config log h.mail h.request h.state (system_after config log)
+pub delivered-c : {w : ℕ} (config : Config) (log : Log w) (c : ℕ) (h : AbstractState w) (x : Beat w)
+    (queue : List (Beat w)) → IsWidth w → SimulationRelation config log h.mail h.request h.state
+    (system_after config log)
     → (system_after config log).channels c channel.C ≡ x ∷ queue → IsDelivered config log (record { 0 = c }) channel.C h
 delivered-c {w} config log c h x queue width is beats =
     let sys : System w = system_after config log in
@@ -217,11 +261,20 @@ delivered-c {w} config log c h x queue width is beats =
     record {
       carried = carried-followed_c config log h sys c x queue width is beats;
       beside =
-          subst (λ (i : AbstractState w). MemoryRelation i.mail i.state (one_memory_after config ((Deliver (record { 0 = c }) channel.C, (stepped config (Deliver (record { 0 = c }) channel.C) sys).outcome) ∷ log)))
+          subst (λ (i : AbstractState w). MemoryRelation i.mail i.state
+          (one_memory_after config
+          ((
+            Deliver (record { 0 = c }) channel.C,
+            (stepped config (Deliver (record { 0 = c }) channel.C)
+                sys).outcome,
+          ) ∷ log)))
           (sym (followed-taken config c channel.C x queue sys h t.0 t.1 beats refl d.up))
           (subst
-          (λ (i : Machine w). MemoryRelation (if completes x (unfinished channel.C (on_link c sys.manager.trace)) then packet_taken config (next_tracker sys) c (h.state.link c).c h else h).mail
-          (if completes x (unfinished channel.C (on_link c sys.manager.trace)) then packet_taken config (next_tracker sys) c (h.state.link c).c h else h).state i)
-          (sym (remembered_after config log (record { 0 = c }) channel.C _ (step-taken config c channel.C x queue sys t.0 t.1 beats refl d.up)))
+          (λ (i : Machine w). MemoryRelation (if completes x (unfinished channel.C (on_link c sys.manager.trace)) then
+          packet_taken config (next_tracker sys) c (h.state.link c).c h else h).mail
+          (if completes x (unfinished channel.C (on_link c sys.manager.trace)) then packet_taken config
+          (next_tracker sys) c (h.state.link c).c h else h).state i)
+          (sym (remembered_after config log (record { 0 = c }) channel.C _
+          (step-taken config c channel.C x queue sys t.0 t.1 beats refl d.up)))
           (beside-followed_c config log h sys c x queue (one_memory_after config log) width is beats is.beside));
     }

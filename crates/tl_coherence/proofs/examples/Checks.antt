@@ -1,15 +1,15 @@
 -- Whether what the headline says holds at every event of a list that is played, evaluated: by tests, each with a
 -- number, of which those that fail are listed.
+use Rattle.tl_coherence.proofs.examples.Imports.{Beat, Link, Channel, Config, bytes_from, number_from, Event, Ask}
+use Rattle.tl_coherence.proofs.examples.Imports.{Deliver, started, flow, is_movable, next_delivery, accesses_answered}
+use Rattle.tl_coherence.proofs.examples.Imports.{performing, Step, stepped, System}
 use Rattle.std.proofs.Common.{◌≡◌}
-use Rattle.std.specs.Prelude.{min, ◌-◌, ℕ, zero, suc, Bool, true, false, not, List, [], ◌∷◌, ◌++◌, ◌==◌, ◌&&◌, ◌||◌, ◌*◌, ◌/◌, ◌^◌, nat_le, length, reverse, Option, Some, None, is_none}
+use Rattle.std.specs.Prelude.{min, ◌-◌, ℕ, zero, suc, Bool, true, false, not, List, [], ◌∷◌, ◌++◌, ◌==◌, ◌&&◌, ◌||◌}
+use Rattle.std.specs.Prelude.{◌*◌, ◌/◌, ◌^◌, nat_le, length, reverse, Option, Some, None, is_none}
 use Rattle.std.specs.Bool.{beq}
-use Rattle.tl_beat.specs.declared.beat.Beat.{Beat}
 use Rattle.tl_beat.specs.declared.beat.Beat.TheVariants as beat
-use Rattle.tl_beat.specs.declared.beat.Link.{Link}
-use Rattle.tl_beat.specs.declared.channel.Channel.{Channel}
 use Rattle.tl_beat.specs.declared.channel.Channel.TheVariants as channel
 use Rattle.tl_burst.specs.statement.Messages.{same_control, carried_on}
-use Rattle.tl_params.specs.declared.config.Config.{Config}
 use Rattle.tl_params.specs.declared.level.Level.{Level}
 use Rattle.tl_params.specs.declared.perm.Perm.{Perm}
 use Rattle.tl_params.specs.declared.perm.Perm.TheVariants as perm
@@ -17,7 +17,7 @@ use Rattle.tl_params.specs.declared.profile.Profile.{Profile}
 use Rattle.tl_rules.specs.statement.Admission.{lanes_of}
 use Rattle.tl_rules.specs.statement.Conformance.{is_legal, same_perm}
 use Rattle.tl_rules.specs.statement.Effect as memory
-use Rattle.tl_rules.specs.statement.Effect.{Memory, bytes_from, number_from}
+use Rattle.tl_rules.specs.statement.Effect.{Memory}
 use Rattle.tl_rules.specs.statement.History.{block_at}
 use Rattle.tl_client.specs.declared.operation.Op.{Op}
 use Rattle.tl_client.specs.declared.operation.Op.TheVariants.{Load, Store, Acquire, AcquireWhole, Release, Access}
@@ -28,21 +28,16 @@ use Rattle.tl_client.specs.declared.verdict.Finish.TheVariants as finish
 use Rattle.tl_client.specs.statement.Ask.{same_bytes, op_block}
 use Rattle.tl_client.specs.statement.Endpoint.{held_at}
 use Rattle.tl_manager.specs.statement.Offer.{level_of, must_wait}
-use Rattle.tl_coherence.specs.declared.event.Event.{Event}
-use Rattle.tl_coherence.specs.declared.event.Event.TheVariants.{Ask, Deliver}
 use Rattle.tl_coherence.specs.declared.event.Outcome.{Outcome}
 use Rattle.tl_coherence.specs.declared.event.Outcome.TheVariants as outcome
-use Rattle.tl_coherence.specs.statement.Coherent.{started}
-use Rattle.tl_coherence.specs.statement.Flow.{flow}
 use Rattle.tl_coherence.specs.statement.Draining.{is_delivery, is_moving}
 use Rattle.tl_coherence.specs.statement.Delivery.{capacity, sources_of, sender, receiver}
 use Rattle.tl_coherence.specs.statement.Load.{outstanding, load}
 use Rattle.tl_coherence.specs.statement.Log.{Log}
-use Rattle.tl_coherence.specs.statement.Machine.{Machine, Open, Requests, Releases, first, is_client, is_word_op, pool_of_op, pool_of, finish_with, cap_named, moved, performed}
-use Rattle.tl_coherence.specs.statement.Movable.{is_movable, next_delivery}
-use Rattle.tl_coherence.specs.statement.OneMemory.{accesses_answered, performing}
-use Rattle.tl_coherence.specs.statement.Step.{Step, stepped, client_of}
-use Rattle.tl_coherence.specs.statement.System.{System, fresh, terms_at}
+use Rattle.tl_coherence.specs.statement.Machine.{Machine, Open, Requests, Releases, first, is_client, is_word_op}
+use Rattle.tl_coherence.specs.statement.Machine.{pool_of_op, pool_of, finish_with, cap_named, moved, performed}
+use Rattle.tl_coherence.specs.statement.Step.{client_of}
+use Rattle.tl_coherence.specs.statement.System.{fresh, terms_at}
 use Rattle.tl_coherence.proofs.examples.Play.{Line, Does, Drains}
 use Rattle.tl_coherence.proofs.queues.Phases.{implies}
 
@@ -142,7 +137,8 @@ all_below (suc n) test = test n && all_below n test
 abbrev pub one_writer : {w : ℕ} → ℕ → Config → System w → Bool
 one_writer clients config s =
     all_below clients (λ c. all_below clients (λ d. all_below config.blocks (λ block.
-    (c == d) || implies (same_perm (held_at (s.clients c) block) perm.Trunk) (same_perm (held_at (s.clients d) block) perm.None))))
+    (c == d) || implies (same_perm (held_at (s.clients c) block) perm.Trunk)
+    (same_perm (held_at (s.clients d) block) perm.None))))
 
 abbrev pub copy_agrees : Option (List ℕ) → List ℕ → Bool
 copy_agrees None bytes = true
@@ -150,7 +146,8 @@ copy_agrees (Some copy) bytes = same_bytes copy bytes
 
 abbrev pub copies_agree : {w : ℕ} → ℕ → Config → System w → Memory → Bool
 copies_agree clients config s memory =
-    all_below clients (λ c. all_below config.blocks (λ block. copy_agrees ((s.clients c).copies block) (bytes_from memory (64 * block) 64)))
+    all_below clients (λ c. all_below config.blocks (λ block. copy_agrees ((s.clients c).copies block)
+    (bytes_from memory (64 * block) 64)))
 
 abbrev pub same_presence : {w : ℕ} → Option (Open w) → Option (Op w) → Bool
 same_presence None None = true
@@ -161,17 +158,21 @@ same_presence _ _ = false
 abbrev pub opened_agree : {w : ℕ} → ℕ → Log w → Machine w → Bool
 opened_agree clients log m =
     all_below clients (λ c. all_below 2 (λ source.
-    same_presence (m.opened c Requests source) (started c Requests source log) && same_presence (m.opened c Releases source) (started c Releases source log)))
+    same_presence (m.opened c Requests source) (started c Requests source log) && same_presence
+    (m.opened c Releases source) (started c Releases source log)))
 
 abbrev pub is_unrefused : {w : ℕ} → ℕ → System w → Bool
 is_unrefused clients s = all_below clients (λ c. not (s.clients c).closed) && (length s.manager.closed == 0)
 
 abbrev pub fit : {w : ℕ} → Config → ℕ → Channel → System w → Bool
-fit {w} config link ch s = nat_le (length (s.channels link ch)) (capacity (64 / w) (sources_of (terms_at config link)) config.trackers ch)
+fit {w} config link ch s =
+    nat_le (length (s.channels link ch)) (capacity (64 / w) (sources_of (terms_at config link)) config.trackers ch)
 
 abbrev pub all_fit : {w : ℕ} → ℕ → Config → System w → Bool
 all_fit clients config s =
-    all_below clients (λ link. fit config link channel.A s && (fit config link channel.B s && (fit config link channel.C s && (fit config link channel.D s && fit config link channel.E s))))
+    all_below clients (λ link. fit config link channel.A
+    s && (fit config link channel.B
+    s && (fit config link channel.C s && (fit config link channel.D s && fit config link channel.E s))))
 
 -- a Release of the block by the client is outstanding, with one of two sources
 abbrev pub is_release_of : {w : ℕ} → ℕ → Option (Op w) → Bool
@@ -180,16 +181,21 @@ is_release_of block _ = false
 
 abbrev pub moves_so : {w : ℕ} → Config → Log w → System w → ℕ → Channel → List (Beat w) → Bool
 moves_so config log s link ch [] = not (is_movable config link ch s)
-moves_so config log s link ch (beat.A x ∷ rest) = beq (is_movable config link ch s) (not (must_wait config (record { 0 = link }) (beat.A x) s.manager.trace))
+moves_so config log s link ch (beat.A x ∷ rest) =
+    beq (is_movable config link ch s) (not (must_wait config (record { 0 = link }) (beat.A x) s.manager.trace))
 moves_so config log s link ch (beat.B x ∷ rest) =
-    beq (is_movable config link ch s) (not (is_release_of (block_at x.address) (started link Releases 0 log) || is_release_of (block_at x.address) (started link Releases 1 log)))
+    beq (is_movable config link ch s)
+    (not (is_release_of (block_at x.address) (started link Releases 0 log) || is_release_of (block_at x.address)
+    (started link Releases 1 log)))
 moves_so config log s link ch (x ∷ rest) = is_movable config link ch s
 
 abbrev pub all_move_so : {w : ℕ} → ℕ → Config → Log w → System w → Bool
 all_move_so clients config log s =
     all_below clients (λ link.
-    moves_so config log s link channel.A (s.channels link channel.A) && (moves_so config log s link channel.B (s.channels link channel.B)
-    && (moves_so config log s link channel.C (s.channels link channel.C) && (moves_so config log s link channel.D (s.channels link channel.D)
+    moves_so config log s link channel.A (s.channels link channel.A) && (moves_so config log s link channel.B
+    (s.channels link channel.B)
+    && (moves_so config log s link channel.C (s.channels link channel.C) && (moves_so config log s link channel.D
+    (s.channels link channel.D)
     && moves_so config log s link channel.E (s.channels link channel.E)))))
 
 abbrev pub same_beats : {w : ℕ} → List (Beat w) → List (Beat w) → Bool
@@ -204,7 +210,9 @@ carries log s link ch =
 
 abbrev pub all_carry : {w : ℕ} → ℕ → Log w → System w → Bool
 all_carry clients log s =
-    all_below clients (λ link. carries log s link channel.A && (carries log s link channel.B && (carries log s link channel.C && (carries log s link channel.D && carries log s link channel.E))))
+    all_below clients (λ link. carries log s link
+    channel.A && (carries log s link
+    channel.B && (carries log s link channel.C && (carries log s link channel.D && carries log s link channel.E))))
 
 -- at a Grant the client holds what it is granted
 abbrev pub holds_granted : {w : ℕ} → ℕ → Option (Op w) → Perm → System w → Bool
@@ -212,7 +220,8 @@ holds_granted client None p s = false
 holds_granted client (Some op) p s = same_perm (held_at (s.clients client) (op_block op)) p
 
 abbrev pub grants : {w : ℕ} → Event w → Outcome w → Log w → System w → Bool
-grants (Deliver link ch) (outcome.Done x source (finish.Granted p)) before s = holds_granted link.0 (started link.0 Requests source before) p s
+grants (Deliver link ch) (outcome.Done x source (finish.Granted p)) before s =
+    holds_granted link.0 (started link.0 Requests source before) p s
 grants _ _ before s = true
 
 -- what fails at an event, and after it
@@ -237,25 +246,31 @@ is_legal_on (Some l) p link log = is_legal l p (flow link log)
 
 -- what fails in the end
 abbrev pub faults_in_the_end : {w : ℕ} → ℕ → Config → Past w → List ℕ
-faults_in_the_end clients config p = failed 10 (all_below clients (λ link. is_legal_on (level_of config link) config.profile link p.log)) []
+faults_in_the_end clients config p =
+    failed 10 (all_below clients (λ link. is_legal_on (level_of config link) config.profile link p.log)) []
 
 -- ---- playing
 
 abbrev pub checked : {w : ℕ} → ℕ → Config → Event w → Step w → Past w → (Past w → List ℕ) → List ℕ
-checked {w} clients config event step p later = let q : Past w = next event step p in faults_at clients config event step p q (later q)
+checked {w} clients config event step p later = let q : Past w = next event step p in
+    faults_at clients config event step p q (later q)
 
-abbrev pub on_delivery : {w : ℕ} → ℕ → Config → Option (Link × Channel) → Past w → (Past w → List ℕ) → (Past w → List ℕ) → List ℕ
+abbrev pub on_delivery : {w : ℕ} → ℕ → Config → Option (Link × Channel) → Past w → (Past w → List ℕ) → (Past w → List ℕ)
+    → List ℕ
 on_delivery clients config None p on stop = stop p
-on_delivery clients config (Some d) p on stop = checked clients config (Deliver d.0 d.1) (stepped config (Deliver d.0 d.1) p.system) p on
+on_delivery clients config (Some d) p on stop =
+    checked clients config (Deliver d.0 d.1) (stepped config (Deliver d.0 d.1) p.system) p on
 
 unfoldable pub faults_draining : {w : ℕ} → ℕ → Config → ℕ → Past w → (Past w → List ℕ) → List ℕ
 faults_draining clients config zero p stop = failed 11 (outstanding p.log == 0) (stop p)
-faults_draining clients config (suc n) p stop = on_delivery clients config (next_delivery config p.system) p (λ q. faults_draining clients config n q stop) stop
+faults_draining clients config (suc n) p stop = on_delivery clients config (next_delivery config p.system) p
+    (λ q. faults_draining clients config n q stop) stop
 
 -- a drain makes no more deliveries than the load before it
 unfoldable pub faults : {w : ℕ} → ℕ → Config → List (Line w) → Past w → List ℕ
 faults clients config [] p = faults_in_the_end clients config p
-faults clients config (Does e ∷ lines) p = checked clients config e (stepped config e p.system) p (faults clients config lines)
+faults clients config (Does e ∷ lines) p = checked clients config e (stepped config e p.system) p
+    (faults clients config lines)
 faults clients config (Drains n ∷ lines) p = faults_draining clients config (load p.log) p (faults clients config lines)
 
 -- nothing that the headline says fails at these lines

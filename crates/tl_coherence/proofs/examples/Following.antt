@@ -1,69 +1,64 @@
 -- Whether the protocol follows the world at every event of a list that is played, evaluated: the values that the ends,
--- the manager and the flow have are those of the protocol, and its phases are well. By tests with numbers, of which those
+-- the manager and the flow have are those of the protocol, and its phases are well. By tests with numbers, of which
+-- those
 -- that fail are listed.
+use Rattle.tl_coherence.proofs.examples.Imports.{Beat, Link, Channel, unfinished, Config, bytes_carried, on_link}
+use Rattle.tl_coherence.proofs.examples.Imports.{broken_order, bytes_from, number_from, effect, held, pending}
+use Rattle.tl_coherence.proofs.examples.Imports.{request_of, release_of, probe_of, grant_sink, illegal, first_illegal}
+use Rattle.tl_coherence.proofs.examples.Imports.{beats_from, each_below, with_handed, clients_from, masks_carried}
+use Rattle.tl_coherence.proofs.examples.Imports.{corrupt_carried, request_carried, Event, Deliver, flow, is_movable}
+use Rattle.tl_coherence.proofs.examples.Imports.{first_movable, next_delivery, Step, stepped, System, with_messages}
+use Rattle.tl_coherence.proofs.examples.Imports.{started, requests, releases, accesses_answered, performing}
 use Rattle.std.proofs.Common.{◌≡◌, refl, lit≤}
-use Rattle.std.specs.Prelude.{ℕ, zero, suc, Bool, true, false, not, List, [], ◌∷◌, ◌++◌, ◌==◌, ◌&&◌, ◌||◌, ◌*◌, replicate, reverse, Option, Some, None, is_some, option_map, length, if◌then◌else◌}
+use Rattle.std.specs.Prelude.{ℕ, zero, suc, Bool, true, false, not, List, [], ◌∷◌, ◌++◌, ◌==◌, ◌&&◌, ◌||◌, ◌*◌}
+use Rattle.std.specs.Prelude.{replicate, reverse, Option, Some, None, is_some, option_map, length, if◌then◌else◌}
 use Rattle.std.specs.Bool.{beq}
-use Rattle.tl_beat.specs.declared.beat.Beat.{Beat}
 use Rattle.tl_beat.specs.declared.beat.Beat.TheVariants as beat
 use Rattle.tl_beat.specs.declared.beat.BeatA.{BeatA}
 use Rattle.tl_beat.specs.declared.beat.BeatB.{BeatB}
-use Rattle.tl_beat.specs.declared.beat.Link.{Link}
-use Rattle.tl_beat.specs.declared.channel.Channel.{Channel}
 use Rattle.tl_beat.specs.declared.channel.Channel.TheVariants as channel
 use Rattle.tl_beat.specs.declared.opcode.OpA.TheVariants as a
 use Rattle.tl_burst.specs.declared.message.MessageA.{MessageA}
 use Rattle.tl_burst.specs.statement.Burst.{a_beat_of}
-use Rattle.tl_burst.specs.statement.Messages.{same_control, unfinished}
-use Rattle.tl_params.specs.declared.config.Config.{Config}
-use Rattle.tl_params.specs.declared.key.Key.TheVariants.{RequestSource, ReleaseSource, AcquireOf, ReleaseOf, GrantSink, GrantAckOf, ProbeOf}
+use Rattle.tl_burst.specs.statement.Messages.{same_control}
+use Rattle.tl_params.specs.declared.key.Key.TheVariants.{RequestSource, ReleaseSource, AcquireOf, ReleaseOf, GrantSink}
+use Rattle.tl_params.specs.declared.key.Key.TheVariants.{GrantAckOf, ProbeOf}
 use Rattle.tl_params.specs.declared.level.Level.TheVariants as level
 use Rattle.tl_params.specs.declared.param.Cap.{Cap}
 use Rattle.tl_params.specs.declared.param.Grow.TheVariants as grow
 use Rattle.tl_params.specs.declared.param.Prune.TheVariants as prune
 use Rattle.tl_params.specs.declared.perm.Perm.TheVariants as perm
 use Rattle.tl_params.specs.declared.profile.Profile.TheVariants as profile
-use Rattle.tl_rules.specs.statement.Admission.{bytes_carried}
-use Rattle.tl_rules.specs.statement.Conformance.{Trace, on_link, comes_in_request, comes_in_grant, broken_order, same_perm}
-use Rattle.tl_rules.specs.statement.Effect.{bytes_from, number_from, effect}
-use Rattle.tl_rules.specs.statement.History.{held, pending, block_at, is_acquire, request_of, release_of, probe_of, grant_sink}
-use Rattle.tl_rules.specs.statement.Legality.{illegal, first_illegal, beats_from, each_below}
+use Rattle.tl_rules.specs.statement.Conformance.{Trace, comes_in_request, comes_in_grant, same_perm}
+use Rattle.tl_rules.specs.statement.History.{block_at, is_acquire}
 use Rattle.tl_client.specs.statement.Ask as ask
 use Rattle.tl_client.specs.statement.Ask.{same_bytes}
 use Rattle.tl_client.specs.statement.Offer as offer
 use Rattle.tl_client.specs.statement.Requests.{open_beat}
-use Rattle.tl_manager.specs.statement.Handing.{with_handed}
-use Rattle.tl_manager.specs.statement.Holders.{recorded, cap_probed, clients_from}
+use Rattle.tl_manager.specs.statement.Holders.{recorded, cap_probed}
 use Rattle.tl_manager.specs.code.Releases.{comes_of, comes_with}
-use Rattle.tl_manager.specs.statement.Request.{masks_carried, corrupt_carried, request_carried}
 use Rattle.tl_manager.specs.statement.Service as service
 use Rattle.tl_manager.specs.statement.Service.{services, service_of_block}
 use Rattle.tl_manager.specs.statement.Reaction as manager_reaction
 use Rattle.tl_manager.specs.statement.Offer as manager_offer
-use Rattle.tl_coherence.specs.declared.event.Event.{Event}
-use Rattle.tl_coherence.specs.declared.event.Event.TheVariants.{Deliver}
 use Rattle.tl_coherence.specs.refinement.Carried.{spelled}
-use Rattle.tl_coherence.specs.statement.Flow.{flow}
 use Rattle.tl_coherence.specs.refinement.MonitorRelation.{is_requested, is_let, is_let_by, is_sunk}
 use Rattle.tl_coherence.specs.refinement.AbstractStep.{AbstractState, first_abstract_state, abstract_step, some_below}
-use Rattle.tl_coherence.specs.protocol.Invariant.{is_of, acquires_of, serves_of, acquires_with, serves_with, releases_with, tracks_with}
+use Rattle.tl_coherence.specs.protocol.Invariant.{is_of, acquires_of, serves_of, acquires_with, serves_with}
+use Rattle.tl_coherence.specs.protocol.Invariant.{releases_with, tracks_with}
 use Rattle.tl_coherence.specs.refinement.ClientRelation.{comes_granting}
 use Rattle.tl_coherence.specs.refinement.ManagerRelation.{is_own, client_in}
 use Rattle.tl_coherence.specs.refinement.ChannelRelation.{receiver}
-use Rattle.tl_coherence.specs.statement.Movable.{is_movable, first_movable, next_delivery}
 use Rattle.tl_coherence.specs.protocol.Phase.{ok, same_cap, is_unprobed, is_unreleased}
-use Rattle.tl_coherence.specs.protocol.Protocol.{Service, Free, Waits, GrantSent, GrantTaken, State, view, is_wanting, is_granting, is_acknowledging, is_unserved, is_answered}
+use Rattle.tl_coherence.specs.protocol.Protocol.{Service, Free, Waits, GrantSent, GrantTaken, State, view, is_wanting}
+use Rattle.tl_coherence.specs.protocol.Protocol.{is_granting, is_acknowledging, is_unserved, is_answered}
 use Rattle.tl_coherence.specs.refinement.PacketMessages.{AccessMessages, block_message, messages_on, probe_beat}
 use Rattle.tl_coherence.specs.refinement.SourceRelation.{is_served, is_granted, cap_waited}
 use Rattle.tl_coherence.specs.refinement.SimulationRelation.{asked_by, is_storing}
-use Rattle.tl_coherence.specs.statement.Step.{Step, stepped}
-use Rattle.tl_coherence.specs.statement.System.{System, with_messages}
 use Rattle.tl_coherence.proofs.examples.Checks.{Past, begun, next, all_below, failed, same_beats, performs}
-use Rattle.tl_coherence.proofs.examples.Play.{Line, Does, Drains, world, deliver, load, store, acquire, whole, release, access}
+use Rattle.tl_coherence.proofs.examples.Play.{Line, Does, Drains, world, deliver, load, store, acquire, whole, release}
+use Rattle.tl_coherence.proofs.examples.Play.{access}
 use Rattle.tl_coherence.proofs.queues.Phases.{implies}
-use Rattle.tl_coherence.specs.statement.Coherent.{started}
-use Rattle.tl_coherence.specs.statement.Load.{requests, releases}
-use Rattle.tl_coherence.specs.statement.OneMemory.{accesses_answered, performing}
 
 -- ---- tests of values
 
@@ -90,7 +85,8 @@ known blocks sources mail s sys c =
     && (beq (pending (AcquireOf n) (sys.clients c).past) (is_wanting ((s.block n).pair c).acquiring)
     && (beq (pending (ReleaseOf n) (sys.clients c).past) (not (is_unreleased ((s.block n).pair c).letting))
     && (not (pending (ProbeOf n) (sys.clients c).past)
-    && beq (pending (GrantAckOf n) (sys.clients c).past) (comes_granting n (asked_by mail s c) (unfinished channel.D (sys.clients c).past))))))
+    && beq (pending (GrantAckOf n) (sys.clients c).past)
+    (comes_granting n (asked_by mail s c) (unfinished channel.D (sys.clients c).past))))))
     && all_below sources (λ i.
     same_a (open_beat i (sys.clients c).past) (asked_by mail s c i)
     && beq (pending (GrantSink i) (sys.clients c).past) (comes_in_grant i (unfinished channel.D (sys.clients c).past)))
@@ -113,7 +109,8 @@ copied (Some copy) bytes = same_bytes copy bytes
 abbrev pub kept : {w : ℕ} → ℕ → State (List ℕ) → System w → ℕ → Bool
 kept blocks s sys c =
     all_below blocks (λ n.
-    implies (not (same_perm ((s.block n).pair c).held perm.None)) (copied ((sys.clients c).copies n) ((s.block n).copy c))
+    implies (not (same_perm ((s.block n).pair c).held perm.None))
+    (copied ((sys.clients c).copies n) ((s.block n).copy c))
     && implies (is_storing ((s.block n).pair c).acquiring) (copied ((sys.clients c).waiting n) ((s.block n).waiting c)))
 
 -- ---- the manager's end
@@ -124,11 +121,14 @@ managed blocks s t c =
     same_perm (recorded c n t) ((s.block n).pair c).recorded
     && (beq (pending (ProbeOf n) (on_link c t)) (not (is_unprobed ((s.block n).pair c).probing))
     && (beq (pending (AcquireOf n) (on_link c t)) (is_own (view (s.block n).service c))
-    && beq (pending (GrantAckOf n) (on_link c t)) (is_granting (view (s.block n).service c) || is_acknowledging (view (s.block n).service c)))))
+    && beq (pending (GrantAckOf n) (on_link c t)) (is_granting (view (s.block n).service c) || is_acknowledging
+    (view (s.block n).service c)))))
 
 abbrev pub same_service : {w : ℕ} → Option (service.Service w) → Option ℕ → ℕ → MessageA w → Bool
 same_service None None tracker m = true
-same_service (Some x) (Some r) tracker m = (x.tracker == tracker) && ((x.link.0 == r) && same_control (beat.A (a_beat_of x.request 0)) (beat.A (a_beat_of m 0)))
+same_service (Some x) (Some r) tracker m =
+    (x.tracker == tracker) && ((x.link.0 == r) && same_control (beat.A (a_beat_of x.request 0))
+    (beat.A (a_beat_of m 0)))
 same_service _ _ tracker m = false
 
 abbrev pub same_option_cap : Option Cap → Cap → Bool
@@ -139,37 +139,46 @@ abbrev pub is_for : {w : ℕ} → Service → ℕ → MessageA w → Trace w →
 is_for Free n m t = true
 is_for (Waits r own source k) n m t =
     beq (is_acquire m.opcode) own
-    && ((m.source == source) && ((block_at m.address == n) && (same_option_cap (cap_probed m.opcode m.param) k && same_a (request_of source (on_link r t)) (Some (a_beat_of m 0)))))
+    && ((m.source == source) && ((block_at m.address == n) && (same_option_cap (cap_probed m.opcode m.param) k && same_a
+    (request_of source (on_link r t)) (Some (a_beat_of m 0)))))
 is_for (GrantSent q d k) n m t = is_acquire m.opcode && (block_at m.address == n)
 is_for (GrantTaken q) n m t = is_acquire m.opcode && (block_at m.address == n)
 
 abbrev pub in_service : {w : ℕ} → ℕ → AbstractState w → Trace w → Bool
 in_service blocks h t =
     all_below blocks (λ n.
-    same_service (service_of_block n (services t)) (client_in (h.state.block n).service) (h.state.block n).tracker (h.request n)
+    same_service (service_of_block n (services t)) (client_in (h.state.block n).service) (h.state.block n).tracker
+    (h.request n)
     && is_for (h.state.block n).service n (h.request n) t)
 
 abbrev pub served : {w : ℕ} → ℕ → ℕ → ℕ → State (List ℕ) → Trace w → ℕ → Bool
 served blocks sources trackers s t c =
     all_below sources (λ i.
-    beq (pending (RequestSource i) (on_link c t)) (is_served c (s.uses c i) s || comes_in_request i (unfinished channel.A (on_link c t)))
+    beq (pending (RequestSource i) (on_link c t))
+    (is_served c (s.uses c i) s || comes_in_request i (unfinished channel.A (on_link c t)))
     && beq (pending (ReleaseSource i) (on_link c t)) (comes_with i (unfinished channel.C (on_link c t))))
     && (all_below trackers (λ i. beq (pending (GrantSink i) (on_link c t)) (is_granted c (s.tracked i) s))
     && all_below blocks (λ n.
     beq (pending (ReleaseOf n) (on_link c t)) (comes_of n (unfinished channel.C (on_link c t)))
-    && implies (not (is_unprobed ((s.block n).pair c).probing)) (same_b (probe_of n (on_link c t)) (Some (probe_beat n (cap_waited (s.block n).service))))))
+    && implies (not (is_unprobed ((s.block n).pair c).probing))
+    (same_b (probe_of n (on_link c t)) (Some (probe_beat n (cap_waited (s.block n).service))))))
 
 -- ---- the flow
 
 abbrev pub flowed : {w : ℕ} → ℕ → ℕ → ℕ → AccessMessages w → State (List ℕ) → System w → List (Beat w) → ℕ → Bool
 flowed {w} blocks sources trackers mail s sys t c =
     all_below blocks (λ n.
-    same_perm (held n t) (if is_granting (view (s.block n).service c) then ((s.block n).pair c).held else ((s.block n).pair c).recorded)
-    && (beq (pending (AcquireOf n) t) (is_wanting ((s.block n).pair c).acquiring && not (is_unserved (view (s.block n).service c)))
-    && (beq (pending (ReleaseOf n) t) (is_let ((s.block n).release_source c) (rest channel.C) ((s.block n).pair c).letting)
-    && (beq (pending (GrantAckOf n) t) (is_acknowledging (view (s.block n).service c) || comes_granting n (asked_by mail s c) (rest channel.D))
+    same_perm (held n t) (if is_granting (view (s.block n).service c) then ((s.block n).pair c).held else
+    ((s.block n).pair c).recorded)
+    && (beq (pending (AcquireOf n) t)
+    (is_wanting ((s.block n).pair c).acquiring && not (is_unserved (view (s.block n).service c)))
+    && (beq (pending (ReleaseOf n) t) (is_let ((s.block n).release_source c) (rest channel.C)
+    ((s.block n).pair c).letting)
+    && (beq (pending (GrantAckOf n) t) (is_acknowledging (view (s.block n).service c) || comes_granting n
+    (asked_by mail s c) (rest channel.D))
     && (beq (pending (ProbeOf n) t) (is_answered ((s.block n).pair c).probing)
-    && (implies (is_answered ((s.block n).pair c).probing) (same_b (probe_of n t) (Some (probe_beat n (cap_waited (s.block n).service))))
+    && (implies (is_answered ((s.block n).pair c).probing)
+    (same_b (probe_of n t) (Some (probe_beat n (cap_waited (s.block n).service))))
     && implies (pending (GrantAckOf n) t) (is_of (s.block n).tracker (grant_sink n t))))))))
     && (all_below sources (λ i.
     beq (pending (RequestSource i) t) (is_requested c i (rest channel.A) (s.uses c i) s)
@@ -188,11 +197,15 @@ flowed {w} blocks sources trackers mail s sys t c =
 -- ---- channels, the memory and the protocol by itself
 
 abbrev pub carries : {w : ℕ} → AccessMessages w → State (List ℕ) → System w → ℕ → Channel → Bool
-carries mail s sys c ch = same_beats (reverse (unfinished ch (receiver ch c sys)) ++ sys.channels c ch) (spelled (messages_on ch mail s c))
+carries mail s sys c ch = same_beats (reverse (unfinished ch (receiver ch c sys)) ++ sys.channels c ch)
+    (spelled (messages_on ch mail s c))
 
 abbrev pub all_carry : {w : ℕ} → AccessMessages w → State (List ℕ) → System w → ℕ → Bool
 all_carry mail s sys c =
-    carries mail s sys c channel.A && (carries mail s sys c channel.B && (carries mail s sys c channel.C && (carries mail s sys c channel.D && carries mail s sys c channel.E)))
+    carries mail s sys c channel.A
+    && (carries mail s sys c
+    channel.B && (carries mail s sys c channel.C && (carries mail s sys c channel.D && carries mail s sys c
+    channel.E)))
 
 abbrev pub named : ℕ → ℕ → ℕ → State (List ℕ) → ℕ → Bool
 named blocks sources trackers s c =
@@ -200,12 +213,14 @@ named blocks sources trackers s c =
     ok ((s.block n).pair c) (view (s.block n).service c)
     && (all_below sources (λ i.
     beq (acquires_of n (s.uses c i)) (acquires_with c i (s.block n))
-    && (beq (serves_of n (s.uses c i)) (serves_with c i (s.block n)) && beq (is_of n (s.lets c i)) (releases_with c i (s.block n))))
+    && (beq (serves_of n (s.uses c i)) (serves_with c i (s.block n)) && beq (is_of n (s.lets c i))
+    (releases_with c i (s.block n))))
     && all_below trackers (λ i. beq (is_of n (s.tracked i)) (tracks_with i (s.block n)))))
 
 abbrev pub remembers : {w : ℕ} → ℕ → State (List ℕ) → Past w → Bool
 remembers blocks s p =
-    all_below blocks (λ n. same_bytes (bytes_from p.system.manager.memory (64 * n) 64) (s.block n).memory && same_bytes (bytes_from p.machine.memory (64 * n) 64) (s.block n).truth)
+    all_below blocks (λ n. same_bytes (bytes_from p.system.manager.memory (64 * n) 64) (s.block n).memory && same_bytes
+    (bytes_from p.machine.memory (64 * n) 64) (s.block n).truth)
 
 -- ---- playing
 
@@ -224,31 +239,40 @@ faults_at clients sources config f more =
     (failed 3 (all_below clients (kept config.blocks f.shadow.state f.past.system))
     (failed 4 (all_below clients (managed config.blocks f.shadow.state f.past.system.manager.trace))
     (failed 5 (in_service config.blocks f.shadow f.past.system.manager.trace)
-    (failed 6 (all_below clients (served config.blocks sources config.trackers f.shadow.state f.past.system.manager.trace))
-    (failed 7 (all_below clients (λ c. flowed config.blocks sources config.trackers f.shadow.mail f.shadow.state f.past.system (flow c f.past.log) c))
+    (failed 6 (all_below clients (served config.blocks sources config.trackers f.shadow.state
+    f.past.system.manager.trace))
+    (failed 7 (all_below clients (λ c. flowed config.blocks sources config.trackers f.shadow.mail f.shadow.state
+    f.past.system (flow c f.past.log) c))
     (failed 8 (all_below clients (all_carry f.shadow.mail f.shadow.state f.past.system))
     (failed 9 (all_below clients (named config.blocks sources config.trackers f.shadow.state))
     (failed 10 (remembers config.blocks f.shadow.state f.past) more)))))))))
 
 abbrev pub after_event : {w : ℕ} → Config → Event w → Step w → Followed w → Followed w
-after_event config event step f = record { past = next event step f.past; shadow = abstract_step config event f.past.system f.shadow }
+after_event config event step f =
+    record { past = next event step f.past; shadow = abstract_step config event f.past.system f.shadow }
 
 abbrev pub checked : {w : ℕ} → ℕ → ℕ → Config → Event w → Followed w → (Followed w → List ℕ) → List ℕ
 checked {w} clients sources config event f later =
-    let g : Followed w = after_event config event (stepped config event f.past.system) f in faults_at clients sources config g (later g)
+    let g : Followed w = after_event config event (stepped config event f.past.system) f in
+    faults_at clients sources config g (later g)
 
-abbrev pub on_delivery : {w : ℕ} → ℕ → ℕ → Config → Option (Link × Channel) → Followed w → (Followed w → List ℕ) → (Followed w → List ℕ) → List ℕ
+abbrev pub on_delivery : {w : ℕ} → ℕ → ℕ → Config → Option (Link × Channel) → Followed w → (Followed w → List ℕ)
+    → (Followed w → List ℕ) → List ℕ
 on_delivery clients sources config None f on stop = stop f
 on_delivery clients sources config (Some d) f on stop = checked clients sources config (Deliver d.0 d.1) f on
 
 unfoldable pub faults_draining : {w : ℕ} → ℕ → ℕ → Config → ℕ → Followed w → (Followed w → List ℕ) → List ℕ
 faults_draining clients sources config zero f stop = stop f
-faults_draining clients sources config (suc n) f stop = on_delivery clients sources config (next_delivery config f.past.system) f (λ g. faults_draining clients sources config n g stop) stop
+faults_draining clients sources config (suc n) f stop =
+    on_delivery clients sources config (next_delivery config f.past.system) f
+    (λ g. faults_draining clients sources config n g stop) stop
 
 unfoldable pub faults : {w : ℕ} → ℕ → ℕ → Config → List (Line w) → Followed w → List ℕ
 faults clients sources config [] f = []
-faults clients sources config (Does e ∷ lines) f = checked clients sources config e f (faults clients sources config lines)
-faults clients sources config (Drains n ∷ lines) f = faults_draining clients sources config n f (faults clients sources config lines)
+faults clients sources config (Does e ∷ lines) f =
+    checked clients sources config e f (faults clients sources config lines)
+faults clients sources config (Drains n ∷ lines) f =
+    faults_draining clients sources config n f (faults clients sources config lines)
 
 -- the protocol follows the world at these lines; sources are tried up to this number
 abbrev pub Follows : {w : ℕ} → ℕ → Config → List (Line w) → Type 0
@@ -257,23 +281,34 @@ Follows {w} sources config lines = faults {w = w} (length config.clients.items) 
 -- ---- lists that are known from elsewhere
 
 plain_accesses_of_what_a_cache_holds : Follows {w = 8} 2 (world profile.One 2 1 ((level.C, 1) ∷ (level.UL, 1) ∷ []))
-    ((acquire 0 0 grow.NtoT ∷ Drains 220 ∷ store 0 0 0 90 ∷ access 1 a.Get 0 0 (lit≤ tt) 0 1 (replicate 64 0) ∷ deliver 1 channel.A ∷ deliver 0 channel.B ∷ [])
+    ((acquire 0 0 grow.NtoT ∷ Drains 220 ∷ store 0 0 0 90 ∷ access 1 a.Get 0 0 (lit≤ tt) 0 1 (replicate 64 0) ∷ deliver
+    1 channel.A ∷ deliver 0 channel.B ∷ [])
     ++ replicate 8 (deliver 0 channel.C)
-    ++ (deliver 1 channel.D ∷ load 0 0 0 ∷ access 1 a.PutFullData 0 0 (lit≤ tt) 0 1 ((107 ∷ []) ++ replicate 63 0) ∷ deliver 1 channel.A ∷ deliver 0 channel.B
+    ++ (deliver 1 channel.D ∷ load 0 0 0 ∷ access 1 a.PutFullData 0 0 (lit≤ tt) 0 1 ((107 ∷ []) ++ replicate 63 0)
+    ∷ deliver 1 channel.A ∷ deliver 0 channel.B
     ∷ deliver 0 channel.C ∷ deliver 1 channel.D ∷ load 0 0 0 ∷ []))
-unfolding faults faults_draining block_message some_below spelled ok performs all_below flow started requests releases accesses_answered performing stepped
-    with_messages is_movable first_movable next_delivery ask.asked ask.busy ask.least_free ask.low_bytes offer.offered offer.stalls bytes_carried number_from
-    unfinished request_of release_of probe_of grant_sink pending held illegal first_illegal beats_from each_below broken_order on_link bytes_from effect
-    with_handed clients_from masks_carried corrupt_carried request_carried service.least_untaken service.services manager_offer.judged_at manager_reaction.reaction
+unfolding faults faults_draining block_message some_below spelled ok performs all_below flow started requests releases
+    accesses_answered performing stepped
+    with_messages is_movable first_movable next_delivery ask.asked ask.busy ask.least_free ask.low_bytes offer.offered
+    offer.stalls bytes_carried number_from
+    unfinished request_of release_of probe_of grant_sink pending held illegal first_illegal beats_from each_below
+    broken_order on_link bytes_from effect
+    with_handed clients_from masks_carried corrupt_carried request_carried service.least_untaken service.services
+    manager_offer.judged_at manager_reaction.reaction
     manager_offer.offered manager_offer.stalls
 plain_accesses_of_what_a_cache_holds = refl
 
 bytes_of_a_word : Follows {w = 8} 2 (world profile.One 1 1 ((level.UL, 1) ∷ []))
-    ((access 0 a.PutPartialData 0 2 (lit≤ tt) 4 80 (replicate 4 0 ++ (17 ∷ 34 ∷ 51 ∷ 68 ∷ []) ++ replicate 56 0) ∷ Drains 220 ∷ access 0 a.Get 0 3 (lit≤ tt) 0 255 (replicate 64 0) ∷ Drains 220 ∷ []))
-unfolding faults faults_draining block_message some_below spelled ok performs all_below flow started requests releases accesses_answered performing stepped
-    with_messages is_movable first_movable next_delivery ask.asked ask.busy ask.least_free ask.low_bytes offer.offered offer.stalls bytes_carried number_from
-    unfinished request_of release_of probe_of grant_sink pending held illegal first_illegal beats_from each_below broken_order on_link bytes_from effect
-    with_handed clients_from masks_carried corrupt_carried request_carried service.least_untaken service.services manager_offer.judged_at manager_reaction.reaction
+    ((access 0 a.PutPartialData 0 2 (lit≤ tt) 4 80 (replicate 4 0 ++ (17 ∷ 34 ∷ 51 ∷ 68 ∷ []) ++ replicate 56 0)
+    ∷ Drains 220 ∷ access 0 a.Get 0 3 (lit≤ tt) 0 255 (replicate 64 0) ∷ Drains 220 ∷ []))
+unfolding faults faults_draining block_message some_below spelled ok performs all_below flow started requests releases
+    accesses_answered performing stepped
+    with_messages is_movable first_movable next_delivery ask.asked ask.busy ask.least_free ask.low_bytes offer.offered
+    offer.stalls bytes_carried number_from
+    unfinished request_of release_of probe_of grant_sink pending held illegal first_illegal beats_from each_below
+    broken_order on_link bytes_from effect
+    with_handed clients_from masks_carried corrupt_carried request_carried service.least_untaken service.services
+    manager_offer.judged_at manager_reaction.reaction
     manager_offer.offered manager_offer.stalls
 bytes_of_a_word = refl
 
@@ -281,147 +316,222 @@ a_put_counts_from_its_last_beat : Follows {w = 8} 2 (world profile.One 1 1 ((lev
     ((access 0 a.PutFullData 0 6 (lit≤ tt) 0 18446744073709551615 (replicate 64 255) ∷ [])
     ++ replicate 7 (deliver 0 channel.A)
     ++ (access 1 a.Get 0 3 (lit≤ tt) 0 255 (replicate 64 0) ∷ deliver 1 channel.A ∷ deliver 1 channel.D ∷ []))
-unfolding faults faults_draining block_message some_below spelled ok performs all_below flow started requests releases accesses_answered performing stepped
-    with_messages is_movable first_movable next_delivery ask.asked ask.busy ask.least_free ask.low_bytes offer.offered offer.stalls bytes_carried number_from
-    unfinished request_of release_of probe_of grant_sink pending held illegal first_illegal beats_from each_below broken_order on_link bytes_from effect
-    with_handed clients_from masks_carried corrupt_carried request_carried service.least_untaken service.services manager_offer.judged_at manager_reaction.reaction
+unfolding faults faults_draining block_message some_below spelled ok performs all_below flow started requests releases
+    accesses_answered performing stepped
+    with_messages is_movable first_movable next_delivery ask.asked ask.busy ask.least_free ask.low_bytes offer.offered
+    offer.stalls bytes_carried number_from
+    unfinished request_of release_of probe_of grant_sink pending held illegal first_illegal beats_from each_below
+    broken_order on_link bytes_from effect
+    with_handed clients_from masks_carried corrupt_carried request_carried service.least_untaken service.services
+    manager_offer.judged_at manager_reaction.reaction
     manager_offer.offered manager_offer.stalls
 a_put_counts_from_its_last_beat = refl
 
 min_by_sign_and_without : Follows {w = 8} 2 (world profile.One 1 1 ((level.UH, 1) ∷ []))
-    ((access 0 a.PutFullData 0 2 (lit≤ tt) 0 15 (replicate 4 255 ++ replicate 60 0) ∷ Drains 220 ∷ access 0 a.ArithmeticData 0 2 (lit≤ tt) 0 15
+    ((access 0 a.PutFullData 0 2 (lit≤ tt) 0 15 (replicate 4 255 ++ replicate 60 0) ∷ Drains 220 ∷ access 0
+    a.ArithmeticData 0 2 (lit≤ tt) 0 15
     ((1 ∷ []) ++ replicate 63 0) ∷ Drains 220 ∷ access 0 a.ArithmeticData 2 2 (lit≤ tt) 0 15
     ((1 ∷ []) ++ replicate 63 0) ∷ Drains 220 ∷ access 0 a.Get 0 2 (lit≤ tt) 0 15 (replicate 64 0) ∷ Drains 220 ∷ []))
-unfolding faults faults_draining block_message some_below spelled ok performs all_below flow started requests releases accesses_answered performing stepped
-    with_messages is_movable first_movable next_delivery ask.asked ask.busy ask.least_free ask.low_bytes offer.offered offer.stalls bytes_carried number_from
-    unfinished request_of release_of probe_of grant_sink pending held illegal first_illegal beats_from each_below broken_order on_link bytes_from effect
-    with_handed clients_from masks_carried corrupt_carried request_carried service.least_untaken service.services manager_offer.judged_at manager_reaction.reaction
+unfolding faults faults_draining block_message some_below spelled ok performs all_below flow started requests releases
+    accesses_answered performing stepped
+    with_messages is_movable first_movable next_delivery ask.asked ask.busy ask.least_free ask.low_bytes offer.offered
+    offer.stalls bytes_carried number_from
+    unfinished request_of release_of probe_of grant_sink pending held illegal first_illegal beats_from each_below
+    broken_order on_link bytes_from effect
+    with_handed clients_from masks_carried corrupt_carried request_carried service.least_untaken service.services
+    manager_offer.judged_at manager_reaction.reaction
     manager_offer.offered manager_offer.stalls
 min_by_sign_and_without = refl
 
 add_wraps : Follows {w = 8} 2 (world profile.One 1 1 ((level.UH, 1) ∷ []))
-    ((access 0 a.PutFullData 0 3 (lit≤ tt) 0 255 (replicate 8 255 ++ replicate 56 0) ∷ Drains 220 ∷ access 0 a.ArithmeticData 4 3 (lit≤ tt) 0 255
+    ((access 0 a.PutFullData 0 3 (lit≤ tt) 0 255 (replicate 8 255 ++ replicate 56 0) ∷ Drains 220 ∷ access 0
+    a.ArithmeticData 4 3 (lit≤ tt) 0 255
     ((1 ∷ []) ++ replicate 63 0) ∷ Drains 220 ∷ access 0 a.Get 0 3 (lit≤ tt) 0 255 (replicate 64 0) ∷ Drains 220 ∷ []))
-unfolding faults faults_draining block_message some_below spelled ok performs all_below flow started requests releases accesses_answered performing stepped
-    with_messages is_movable first_movable next_delivery ask.asked ask.busy ask.least_free ask.low_bytes offer.offered offer.stalls bytes_carried number_from
-    unfinished request_of release_of probe_of grant_sink pending held illegal first_illegal beats_from each_below broken_order on_link bytes_from effect
-    with_handed clients_from masks_carried corrupt_carried request_carried service.least_untaken service.services manager_offer.judged_at manager_reaction.reaction
+unfolding faults faults_draining block_message some_below spelled ok performs all_below flow started requests releases
+    accesses_answered performing stepped
+    with_messages is_movable first_movable next_delivery ask.asked ask.busy ask.least_free ask.low_bytes offer.offered
+    offer.stalls bytes_carried number_from
+    unfinished request_of release_of probe_of grant_sink pending held illegal first_illegal beats_from each_below
+    broken_order on_link bytes_from effect
+    with_handed clients_from masks_carried corrupt_carried request_carried service.least_untaken service.services
+    manager_offer.judged_at manager_reaction.reaction
     manager_offer.offered manager_offer.stalls
 add_wraps = refl
 
 a_reader_gets_what_the_writer_stored : Follows {w = 8} 2 (world profile.One 1 1 ((level.C, 1) ∷ (level.C, 1) ∷ []))
-    ((acquire 0 0 grow.NtoT ∷ Drains 220 ∷ store 0 0 0 90 ∷ acquire 1 0 grow.NtoB ∷ Drains 220 ∷ load 0 0 0 ∷ load 1 0 0 ∷ []))
-unfolding faults faults_draining block_message some_below spelled ok performs all_below flow started requests releases accesses_answered performing stepped
-    with_messages is_movable first_movable next_delivery ask.asked ask.busy ask.least_free ask.low_bytes offer.offered offer.stalls bytes_carried number_from
-    unfinished request_of release_of probe_of grant_sink pending held illegal first_illegal beats_from each_below broken_order on_link bytes_from effect
-    with_handed clients_from masks_carried corrupt_carried request_carried service.least_untaken service.services manager_offer.judged_at manager_reaction.reaction
+    ((acquire 0 0 grow.NtoT ∷ Drains 220 ∷ store 0 0 0 90 ∷ acquire 1 0 grow.NtoB ∷ Drains 220 ∷ load 0 0 0 ∷ load 1 0
+    0 ∷ []))
+unfolding faults faults_draining block_message some_below spelled ok performs all_below flow started requests releases
+    accesses_answered performing stepped
+    with_messages is_movable first_movable next_delivery ask.asked ask.busy ask.least_free ask.low_bytes offer.offered
+    offer.stalls bytes_carried number_from
+    unfinished request_of release_of probe_of grant_sink pending held illegal first_illegal beats_from each_below
+    broken_order on_link bytes_from effect
+    with_handed clients_from masks_carried corrupt_carried request_carried service.least_untaken service.services
+    manager_offer.judged_at manager_reaction.reaction
     manager_offer.offered manager_offer.stalls
 a_reader_gets_what_the_writer_stored = refl
 
 a_release_while_a_probe_waits : Follows {w = 8} 2 (world profile.One 1 1 ((level.C, 1) ∷ (level.C, 1) ∷ []))
-    ((acquire 0 0 grow.NtoT ∷ Drains 220 ∷ store 0 0 0 90 ∷ acquire 1 0 grow.NtoT ∷ deliver 1 channel.A ∷ release 0 0 prune.TtoN ∷ deliver 0 channel.B ∷ Drains 220 ∷ load 1 0 0 ∷ []))
-unfolding faults faults_draining block_message some_below spelled ok performs all_below flow started requests releases accesses_answered performing stepped
-    with_messages is_movable first_movable next_delivery ask.asked ask.busy ask.least_free ask.low_bytes offer.offered offer.stalls bytes_carried number_from
-    unfinished request_of release_of probe_of grant_sink pending held illegal first_illegal beats_from each_below broken_order on_link bytes_from effect
-    with_handed clients_from masks_carried corrupt_carried request_carried service.least_untaken service.services manager_offer.judged_at manager_reaction.reaction
+    ((acquire 0 0 grow.NtoT ∷ Drains 220 ∷ store 0 0 0 90 ∷ acquire 1 0 grow.NtoT ∷ deliver 1 channel.A ∷ release 0 0
+    prune.TtoN ∷ deliver 0 channel.B ∷ Drains 220 ∷ load 1 0 0 ∷ []))
+unfolding faults faults_draining block_message some_below spelled ok performs all_below flow started requests releases
+    accesses_answered performing stepped
+    with_messages is_movable first_movable next_delivery ask.asked ask.busy ask.least_free ask.low_bytes offer.offered
+    offer.stalls bytes_carried number_from
+    unfinished request_of release_of probe_of grant_sink pending held illegal first_illegal beats_from each_below
+    broken_order on_link bytes_from effect
+    with_handed clients_from masks_carried corrupt_carried request_carried service.least_untaken service.services
+    manager_offer.judged_at manager_reaction.reaction
     manager_offer.offered manager_offer.stalls
 a_release_while_a_probe_waits = refl
 
 the_second_writer_gets_data : Follows {w = 8} 2 (world profile.One 1 2 ((level.C, 1) ∷ (level.C, 1) ∷ []))
-    ((acquire 0 0 grow.NtoB ∷ Drains 220 ∷ acquire 1 0 grow.NtoB ∷ Drains 220 ∷ acquire 0 0 grow.BtoT ∷ acquire 1 0 grow.BtoT ∷ Drains 220 ∷ []))
-unfolding faults faults_draining block_message some_below spelled ok performs all_below flow started requests releases accesses_answered performing stepped
-    with_messages is_movable first_movable next_delivery ask.asked ask.busy ask.least_free ask.low_bytes offer.offered offer.stalls bytes_carried number_from
-    unfinished request_of release_of probe_of grant_sink pending held illegal first_illegal beats_from each_below broken_order on_link bytes_from effect
-    with_handed clients_from masks_carried corrupt_carried request_carried service.least_untaken service.services manager_offer.judged_at manager_reaction.reaction
+    ((acquire 0 0 grow.NtoB ∷ Drains 220 ∷ acquire 1 0 grow.NtoB ∷ Drains 220 ∷ acquire 0 0 grow.BtoT ∷ acquire 1 0
+    grow.BtoT ∷ Drains 220 ∷ []))
+unfolding faults faults_draining block_message some_below spelled ok performs all_below flow started requests releases
+    accesses_answered performing stepped
+    with_messages is_movable first_movable next_delivery ask.asked ask.busy ask.least_free ask.low_bytes offer.offered
+    offer.stalls bytes_carried number_from
+    unfinished request_of release_of probe_of grant_sink pending held illegal first_illegal beats_from each_below
+    broken_order on_link bytes_from effect
+    with_handed clients_from masks_carried corrupt_carried request_carried service.least_untaken service.services
+    manager_offer.judged_at manager_reaction.reaction
     manager_offer.offered manager_offer.stalls
 the_second_writer_gets_data = refl
 
 a_whole_block_store_takes_no_data : Follows {w = 8} 2 (world profile.One 1 2 ((level.C, 1) ∷ (level.C, 1) ∷ []))
-    ((acquire 0 0 grow.NtoB ∷ Drains 220 ∷ acquire 1 0 grow.NtoB ∷ Drains 220 ∷ acquire 0 0 grow.BtoT ∷ whole 1 0 (replicate 64 17) ∷ Drains 220 ∷ load 1 0 0 ∷ load 0 0 0 ∷ []))
-unfolding faults faults_draining block_message some_below spelled ok performs all_below flow started requests releases accesses_answered performing stepped
-    with_messages is_movable first_movable next_delivery ask.asked ask.busy ask.least_free ask.low_bytes offer.offered offer.stalls bytes_carried number_from
-    unfinished request_of release_of probe_of grant_sink pending held illegal first_illegal beats_from each_below broken_order on_link bytes_from effect
-    with_handed clients_from masks_carried corrupt_carried request_carried service.least_untaken service.services manager_offer.judged_at manager_reaction.reaction
+    ((acquire 0 0 grow.NtoB ∷ Drains 220 ∷ acquire 1 0 grow.NtoB ∷ Drains 220 ∷ acquire 0 0 grow.BtoT ∷ whole 1 0
+    (replicate 64 17) ∷ Drains 220 ∷ load 1 0 0 ∷ load 0 0 0 ∷ []))
+unfolding faults faults_draining block_message some_below spelled ok performs all_below flow started requests releases
+    accesses_answered performing stepped
+    with_messages is_movable first_movable next_delivery ask.asked ask.busy ask.least_free ask.low_bytes offer.offered
+    offer.stalls bytes_carried number_from
+    unfinished request_of release_of probe_of grant_sink pending held illegal first_illegal beats_from each_below
+    broken_order on_link bytes_from effect
+    with_handed clients_from masks_carried corrupt_carried request_carried service.least_untaken service.services
+    manager_offer.judged_at manager_reaction.reaction
     manager_offer.offered manager_offer.stalls
 a_whole_block_store_takes_no_data = refl
 
 a_release_before_its_grant_ack : Follows {w = 8} 2 (world profile.One 1 1 ((level.C, 1) ∷ []))
     ((acquire 0 0 grow.NtoB ∷ deliver 0 channel.A ∷ [])
     ++ replicate 8 (deliver 0 channel.D)
-    ++ (release 0 0 prune.BtoN ∷ deliver 0 channel.C ∷ deliver 0 channel.D ∷ acquire 0 0 grow.NtoB ∷ deliver 0 channel.A ∷ deliver 0 channel.E ∷ deliver 0 channel.A ∷ []))
-unfolding faults faults_draining block_message some_below spelled ok performs all_below flow started requests releases accesses_answered performing stepped
-    with_messages is_movable first_movable next_delivery ask.asked ask.busy ask.least_free ask.low_bytes offer.offered offer.stalls bytes_carried number_from
-    unfinished request_of release_of probe_of grant_sink pending held illegal first_illegal beats_from each_below broken_order on_link bytes_from effect
-    with_handed clients_from masks_carried corrupt_carried request_carried service.least_untaken service.services manager_offer.judged_at manager_reaction.reaction
+    ++ (release 0 0 prune.BtoN ∷ deliver 0 channel.C ∷ deliver 0 channel.D ∷ acquire 0 0 grow.NtoB ∷ deliver 0
+    channel.A ∷ deliver 0 channel.E ∷ deliver 0 channel.A ∷ []))
+unfolding faults faults_draining block_message some_below spelled ok performs all_below flow started requests releases
+    accesses_answered performing stepped
+    with_messages is_movable first_movable next_delivery ask.asked ask.busy ask.least_free ask.low_bytes offer.offered
+    offer.stalls bytes_carried number_from
+    unfinished request_of release_of probe_of grant_sink pending held illegal first_illegal beats_from each_below
+    broken_order on_link bytes_from effect
+    with_handed clients_from masks_carried corrupt_carried request_carried service.least_untaken service.services
+    manager_offer.judged_at manager_reaction.reaction
     manager_offer.offered manager_offer.stalls
 a_release_before_its_grant_ack = refl
 
 busy_in_order : Follows {w = 8} 2 (world profile.One 1 1 ((level.UL, 1) ∷ []))
-    ((load 0 0 0 ∷ access 0 a.Get 0 4 (lit≤ tt) 0 255 (replicate 64 0) ∷ access 0 a.Get 0 3 (lit≤ tt) 0 255 (replicate 64 0) ∷ access 0 a.Get 0 3
+    ((load 0 0 0 ∷ access 0 a.Get 0 4 (lit≤ tt) 0 255 (replicate 64 0) ∷ access 0 a.Get 0 3 (lit≤ tt) 0 255
+    (replicate 64 0) ∷ access 0 a.Get 0 3
     (lit≤ tt) 0 255 (replicate 64 0) ∷ access 0 a.PutPartialData 0 1 (lit≤ tt) 7 128
     (replicate 7 0 ++ (17 ∷ []) ++ replicate 56 0) ∷ deliver 0 channel.D ∷ []))
-unfolding faults faults_draining block_message some_below spelled ok performs all_below flow started requests releases accesses_answered performing stepped
-    with_messages is_movable first_movable next_delivery ask.asked ask.busy ask.least_free ask.low_bytes offer.offered offer.stalls bytes_carried number_from
-    unfinished request_of release_of probe_of grant_sink pending held illegal first_illegal beats_from each_below broken_order on_link bytes_from effect
-    with_handed clients_from masks_carried corrupt_carried request_carried service.least_untaken service.services manager_offer.judged_at manager_reaction.reaction
+unfolding faults faults_draining block_message some_below spelled ok performs all_below flow started requests releases
+    accesses_answered performing stepped
+    with_messages is_movable first_movable next_delivery ask.asked ask.busy ask.least_free ask.low_bytes offer.offered
+    offer.stalls bytes_carried number_from
+    unfinished request_of release_of probe_of grant_sink pending held illegal first_illegal beats_from each_below
+    broken_order on_link bytes_from effect
+    with_handed clients_from masks_carried corrupt_carried request_carried service.least_untaken service.services
+    manager_offer.judged_at manager_reaction.reaction
     manager_offer.offered manager_offer.stalls
 busy_in_order = refl
 
 beats_of_4_bytes : Follows {w = 4} 2 (world profile.One 1 1 ((level.C, 1) ∷ (level.C, 1) ∷ []))
-    ((acquire 0 0 grow.NtoT ∷ Drains 220 ∷ store 0 0 0 90 ∷ acquire 1 0 grow.NtoB ∷ Drains 220 ∷ load 0 0 0 ∷ load 1 0 0 ∷ []))
-unfolding faults faults_draining block_message some_below spelled ok performs all_below flow started requests releases accesses_answered performing stepped
-    with_messages is_movable first_movable next_delivery ask.asked ask.busy ask.least_free ask.low_bytes offer.offered offer.stalls bytes_carried number_from
-    unfinished request_of release_of probe_of grant_sink pending held illegal first_illegal beats_from each_below broken_order on_link bytes_from effect
-    with_handed clients_from masks_carried corrupt_carried request_carried service.least_untaken service.services manager_offer.judged_at manager_reaction.reaction
+    ((acquire 0 0 grow.NtoT ∷ Drains 220 ∷ store 0 0 0 90 ∷ acquire 1 0 grow.NtoB ∷ Drains 220 ∷ load 0 0 0 ∷ load 1 0
+    0 ∷ []))
+unfolding faults faults_draining block_message some_below spelled ok performs all_below flow started requests releases
+    accesses_answered performing stepped
+    with_messages is_movable first_movable next_delivery ask.asked ask.busy ask.least_free ask.low_bytes offer.offered
+    offer.stalls bytes_carried number_from
+    unfinished request_of release_of probe_of grant_sink pending held illegal first_illegal beats_from each_below
+    broken_order on_link bytes_from effect
+    with_handed clients_from masks_carried corrupt_carried request_carried service.least_untaken service.services
+    manager_offer.judged_at manager_reaction.reaction
     manager_offer.offered manager_offer.stalls
 beats_of_4_bytes = refl
 
 beats_of_16_bytes : Follows {w = 16} 2 (world profile.One 1 1 ((level.C, 1) ∷ (level.C, 1) ∷ []))
-    ((acquire 0 0 grow.NtoT ∷ Drains 220 ∷ store 0 0 0 90 ∷ acquire 1 0 grow.NtoB ∷ Drains 220 ∷ load 0 0 0 ∷ load 1 0 0 ∷ []))
-unfolding faults faults_draining block_message some_below spelled ok performs all_below flow started requests releases accesses_answered performing stepped
-    with_messages is_movable first_movable next_delivery ask.asked ask.busy ask.least_free ask.low_bytes offer.offered offer.stalls bytes_carried number_from
-    unfinished request_of release_of probe_of grant_sink pending held illegal first_illegal beats_from each_below broken_order on_link bytes_from effect
-    with_handed clients_from masks_carried corrupt_carried request_carried service.least_untaken service.services manager_offer.judged_at manager_reaction.reaction
+    ((acquire 0 0 grow.NtoT ∷ Drains 220 ∷ store 0 0 0 90 ∷ acquire 1 0 grow.NtoB ∷ Drains 220 ∷ load 0 0 0 ∷ load 1 0
+    0 ∷ []))
+unfolding faults faults_draining block_message some_below spelled ok performs all_below flow started requests releases
+    accesses_answered performing stepped
+    with_messages is_movable first_movable next_delivery ask.asked ask.busy ask.least_free ask.low_bytes offer.offered
+    offer.stalls bytes_carried number_from
+    unfinished request_of release_of probe_of grant_sink pending held illegal first_illegal beats_from each_below
+    broken_order on_link bytes_from effect
+    with_handed clients_from masks_carried corrupt_carried request_carried service.least_untaken service.services
+    manager_offer.judged_at manager_reaction.reaction
     manager_offer.offered manager_offer.stalls
 beats_of_16_bytes = refl
 
 an_atomic_of_two_beats : Follows {w = 4} 2 (world profile.One 1 1 ((level.UH, 1) ∷ []))
-    ((access 0 a.PutFullData 0 3 (lit≤ tt) 0 255 (replicate 8 255 ++ replicate 56 0) ∷ Drains 220 ∷ access 0 a.ArithmeticData 4 3 (lit≤ tt) 0 255 ((1 ∷ []) ++ replicate 63 0) ∷ Drains 220 ∷ []))
-unfolding faults faults_draining block_message some_below spelled ok performs all_below flow started requests releases accesses_answered performing stepped
-    with_messages is_movable first_movable next_delivery ask.asked ask.busy ask.least_free ask.low_bytes offer.offered offer.stalls bytes_carried number_from
-    unfinished request_of release_of probe_of grant_sink pending held illegal first_illegal beats_from each_below broken_order on_link bytes_from effect
-    with_handed clients_from masks_carried corrupt_carried request_carried service.least_untaken service.services manager_offer.judged_at manager_reaction.reaction
+    ((access 0 a.PutFullData 0 3 (lit≤ tt) 0 255 (replicate 8 255 ++ replicate 56 0) ∷ Drains 220 ∷ access 0
+    a.ArithmeticData 4 3 (lit≤ tt) 0 255 ((1 ∷ []) ++ replicate 63 0) ∷ Drains 220 ∷ []))
+unfolding faults faults_draining block_message some_below spelled ok performs all_below flow started requests releases
+    accesses_answered performing stepped
+    with_messages is_movable first_movable next_delivery ask.asked ask.busy ask.least_free ask.low_bytes offer.offered
+    offer.stalls bytes_carried number_from
+    unfinished request_of release_of probe_of grant_sink pending held illegal first_illegal beats_from each_below
+    broken_order on_link bytes_from effect
+    with_handed clients_from masks_carried corrupt_carried request_carried service.least_untaken service.services
+    manager_offer.judged_at manager_reaction.reaction
     manager_offer.offered manager_offer.stalls
 an_atomic_of_two_beats = refl
 
 a_lone_reader_may_write : Follows {w = 8} 2 (world profile.Two 1 1 ((level.C, 1) ∷ (level.C, 1) ∷ []))
     ((acquire 0 0 grow.NtoB ∷ Drains 220 ∷ store 0 0 0 90 ∷ acquire 1 0 grow.NtoB ∷ Drains 220 ∷ []))
-unfolding faults faults_draining block_message some_below spelled ok performs all_below flow started requests releases accesses_answered performing stepped
-    with_messages is_movable first_movable next_delivery ask.asked ask.busy ask.least_free ask.low_bytes offer.offered offer.stalls bytes_carried number_from
-    unfinished request_of release_of probe_of grant_sink pending held illegal first_illegal beats_from each_below broken_order on_link bytes_from effect
-    with_handed clients_from masks_carried corrupt_carried request_carried service.least_untaken service.services manager_offer.judged_at manager_reaction.reaction
+unfolding faults faults_draining block_message some_below spelled ok performs all_below flow started requests releases
+    accesses_answered performing stepped
+    with_messages is_movable first_movable next_delivery ask.asked ask.busy ask.least_free ask.low_bytes offer.offered
+    offer.stalls bytes_carried number_from
+    unfinished request_of release_of probe_of grant_sink pending held illegal first_illegal beats_from each_below
+    broken_order on_link bytes_from effect
+    with_handed clients_from masks_carried corrupt_carried request_carried service.least_untaken service.services
+    manager_offer.judged_at manager_reaction.reaction
     manager_offer.offered manager_offer.stalls
 a_lone_reader_may_write = refl
 
 nobody_has_it_any_longer_at_the_grant : Follows {w = 8} 2 (world profile.Two 1 1 ((level.C, 1) ∷ (level.C, 1) ∷ []))
-    ((acquire 0 0 grow.NtoB ∷ Drains 220 ∷ store 0 0 0 90 ∷ acquire 1 0 grow.NtoB ∷ deliver 1 channel.A ∷ release 0 0 prune.TtoN ∷ Drains 220 ∷ []))
-unfolding faults faults_draining block_message some_below spelled ok performs all_below flow started requests releases accesses_answered performing stepped
-    with_messages is_movable first_movable next_delivery ask.asked ask.busy ask.least_free ask.low_bytes offer.offered offer.stalls bytes_carried number_from
-    unfinished request_of release_of probe_of grant_sink pending held illegal first_illegal beats_from each_below broken_order on_link bytes_from effect
-    with_handed clients_from masks_carried corrupt_carried request_carried service.least_untaken service.services manager_offer.judged_at manager_reaction.reaction
+    ((acquire 0 0 grow.NtoB ∷ Drains 220 ∷ store 0 0 0 90 ∷ acquire 1 0 grow.NtoB ∷ deliver 1 channel.A ∷ release 0 0
+    prune.TtoN ∷ Drains 220 ∷ []))
+unfolding faults faults_draining block_message some_below spelled ok performs all_below flow started requests releases
+    accesses_answered performing stepped
+    with_messages is_movable first_movable next_delivery ask.asked ask.busy ask.least_free ask.low_bytes offer.offered
+    offer.stalls bytes_carried number_from
+    unfinished request_of release_of probe_of grant_sink pending held illegal first_illegal beats_from each_below
+    broken_order on_link bytes_from effect
+    with_handed clients_from masks_carried corrupt_carried request_carried service.least_untaken service.services
+    manager_offer.judged_at manager_reaction.reaction
     manager_offer.offered manager_offer.stalls
 nobody_has_it_any_longer_at_the_grant = refl
 
 -- two blocks and two trackers, with Releases beside Acquires, and the oldest beats not first
 beside_each_other : Follows {w = 16} 3 (world profile.One 2 2 ((level.C, 2) ∷ (level.C, 2) ∷ (level.UH, 1) ∷ []))
-    ((acquire 0 0 grow.NtoT ∷ acquire 0 1 grow.NtoB ∷ acquire 1 1 grow.NtoB ∷ Drains 220 ∷ store 0 0 2 90 ∷ release 0 1 prune.BtoN ∷ release 0 0 prune.TtoB
+    ((acquire 0 0 grow.NtoT ∷ acquire 0 1 grow.NtoB ∷ acquire 1 1 grow.NtoB ∷ Drains 220 ∷ store 0 0 2 90 ∷ release 0 1
+    prune.BtoN ∷ release 0 0 prune.TtoB
     ∷ acquire 1 0 grow.NtoB ∷ deliver 1 channel.A ∷ whole 1 1 (replicate 64 7)
-    ∷ access 2 a.Get 0 6 (lit≤ tt) 0 65535 (replicate 64 0) ∷ deliver 2 channel.A ∷ deliver 0 channel.C ∷ Drains 220 ∷ access 2 a.PutFullData 0 6
-    (lit≤ tt) 0 18446744073709551615 (replicate 64 3) ∷ acquire 0 1 grow.NtoB ∷ Drains 220 ∷ release 0 1 prune.BtoN ∷ Drains 220
+    ∷ access 2 a.Get 0 6 (lit≤ tt) 0 65535 (replicate 64 0) ∷ deliver 2 channel.A ∷ deliver 0 channel.C ∷ Drains
+    220 ∷ access 2 a.PutFullData 0 6
+    (lit≤ tt) 0 18446744073709551615 (replicate 64 3) ∷ acquire 0 1 grow.NtoB ∷ Drains 220 ∷ release 0 1
+    prune.BtoN ∷ Drains 220
     ∷ access 0 a.Intent 0 6 (lit≤ tt) 0 65535 (replicate 64 0) ∷ Drains 220 ∷ []))
-unfolding faults faults_draining block_message some_below spelled ok performs all_below flow started requests releases accesses_answered performing stepped
-    with_messages is_movable first_movable next_delivery ask.asked ask.busy ask.least_free ask.low_bytes offer.offered offer.stalls bytes_carried number_from
-    unfinished request_of release_of probe_of grant_sink pending held illegal first_illegal beats_from each_below broken_order on_link bytes_from effect
-    with_handed clients_from masks_carried corrupt_carried request_carried service.least_untaken service.services manager_offer.judged_at manager_reaction.reaction
+unfolding faults faults_draining block_message some_below spelled ok performs all_below flow started requests releases
+    accesses_answered performing stepped
+    with_messages is_movable first_movable next_delivery ask.asked ask.busy ask.least_free ask.low_bytes offer.offered
+    offer.stalls bytes_carried number_from
+    unfinished request_of release_of probe_of grant_sink pending held illegal first_illegal beats_from each_below
+    broken_order on_link bytes_from effect
+    with_handed clients_from masks_carried corrupt_carried request_carried service.least_untaken service.services
+    manager_offer.judged_at manager_reaction.reaction
     manager_offer.offered manager_offer.stalls
 beside_each_other = refl

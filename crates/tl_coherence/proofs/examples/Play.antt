@@ -1,32 +1,27 @@
 -- What comes of lists of events and drains, evaluated, with words for events and beats.
+use Rattle.tl_coherence.proofs.examples.Imports.{Beat, Link, Channel, Config, Event, Ask, Deliver, next_delivery, Step}
+use Rattle.tl_coherence.proofs.examples.Imports.{stepped, System}
 use Rattle.std.proofs.Common.{◌≡◌, ◌≤◌}
 use Rattle.std.specs.Prelude.{ℕ, zero, suc, Bool, false, List, [], ◌∷◌, map, if◌then◌else◌, Option, Some, None, is_some}
-use Rattle.tl_beat.specs.declared.beat.Beat.{Beat}
 use Rattle.tl_beat.specs.declared.beat.Beat.TheVariants.{A, B, C, D, E}
-use Rattle.tl_beat.specs.declared.beat.Link.{Link}
-use Rattle.tl_beat.specs.declared.channel.Channel.{Channel}
 use Rattle.tl_beat.specs.declared.channel.Channel.TheVariants as channel
 use Rattle.tl_beat.specs.declared.opcode.OpA.{OpA}
 use Rattle.tl_beat.specs.declared.opcode.OpB.{OpB}
 use Rattle.tl_beat.specs.declared.opcode.OpC.{OpC}
 use Rattle.tl_beat.specs.declared.opcode.OpD.{OpD}
-use Rattle.tl_beat.specs.statement.Opcode.{a_code, b_code, c_code, d_code, a_carries_data, b_carries_data, c_carries_data, d_carries_data}
+use Rattle.tl_beat.specs.statement.Opcode.{a_code, b_code, c_code, d_code, a_carries_data, b_carries_data}
+use Rattle.tl_beat.specs.statement.Opcode.{c_carries_data, d_carries_data}
 use Rattle.tl_burst.specs.declared.message.Message.TheVariants as message
-use Rattle.tl_params.specs.declared.config.Config.{Config}
 use Rattle.tl_params.specs.declared.level.Level.{Level}
 use Rattle.tl_params.specs.declared.param.Grow.{Grow}
 use Rattle.tl_params.specs.declared.param.Prune.{Prune}
 use Rattle.tl_params.specs.declared.profile.Profile.{Profile}
 use Rattle.tl_client.specs.declared.operation.Op.TheVariants as op
-use Rattle.tl_coherence.specs.declared.event.Event.{Event}
-use Rattle.tl_coherence.specs.declared.event.Event.TheVariants.{Ask, Deliver}
 use Rattle.tl_client.specs.declared.reply.Reply.{Reply}
 use Rattle.tl_client.specs.declared.verdict.Finish.{Finish}
 use Rattle.tl_coherence.specs.declared.event.Outcome.{Outcome}
 use Rattle.tl_coherence.specs.declared.event.Outcome.TheVariants as outcome
-use Rattle.tl_coherence.specs.statement.Movable.{next_delivery}
-use Rattle.tl_coherence.specs.statement.Step.{Step, stepped}
-use Rattle.tl_coherence.specs.statement.System.{System, fresh}
+use Rattle.tl_coherence.specs.statement.System.{fresh}
 
 -- ---- playing
 
@@ -38,7 +33,8 @@ pub data Line (w : ℕ) : Type 0 where
 abbrev pub and_then : {w : ℕ} → Step w → (System w → List (Outcome w)) → List (Outcome w)
 and_then step later = step.outcome ∷ later step.after
 
-abbrev pub delivering : {w : ℕ} → Config → Option (Link × Channel) → System w → (System w → List (Outcome w)) → (System w → List (Outcome w)) → List (Outcome w)
+abbrev pub delivering : {w : ℕ} → Config → Option (Link × Channel) → System w → (System w → List (Outcome w))
+    → (System w → List (Outcome w)) → List (Outcome w)
 delivering config None s on stop = stop s
 delivering config (Some d) s on stop = and_then (stepped config (Deliver d.0 d.1) s) on
 
@@ -61,7 +57,12 @@ abbrev pub plain : {w : ℕ} → Beat w → Plain
 plain (A x) = (channel.A, a_code x.opcode ∷ x.param ∷ x.size ∷ x.source ∷ x.address ∷ x.mask ∷ [], x.lanes, x.corrupt)
 plain (B x) = (channel.B, b_code x.opcode ∷ x.param ∷ x.size ∷ x.source ∷ x.address ∷ x.mask ∷ [], x.lanes, x.corrupt)
 plain (C x) = (channel.C, c_code x.opcode ∷ x.param ∷ x.size ∷ x.source ∷ x.address ∷ [], x.lanes, x.corrupt)
-plain (D x) = (channel.D, d_code x.opcode ∷ x.param ∷ x.size ∷ x.source ∷ x.sink ∷ (if x.denied then 1 else 0) ∷ [], x.lanes, x.corrupt)
+plain (D x) = (
+  channel.D,
+  d_code x.opcode ∷ x.param ∷ x.size ∷ x.source ∷ x.sink ∷ (if x.denied then 1 else 0) ∷ [],
+  x.lanes,
+  x.corrupt,
+)
 plain (E x) = (channel.E, x.sink ∷ [], None, false)
 
 pub data Seen : Type 0 where
@@ -114,25 +115,84 @@ release client block prune = Does (Ask client (op.Release block prune))
 
 abbrev pub access : {w : ℕ} → ℕ → OpA → ℕ → (size : ℕ) → size ≤ 6 → ℕ → ℕ → List ℕ → Line w
 access client opcode param size small address mask payload =
-    Does (Ask client (op.Access (message.A (record { opcode = opcode; param = param; size = size; source = 0; address = address; payload = payload; mask = mask; corrupt = 0; small = small }))))
+    Does (Ask client (op.Access
+    (message.A (record {
+      opcode = opcode;
+      param = param;
+      size = size;
+      source = 0;
+      address = address;
+      payload =
+          payload;
+      mask = mask;
+      corrupt = 0;
+      small = small;
+    }))))
 
 -- ---- beats by their fields
 
-abbrev pub a_beat : {w : ℕ} → (opcode : OpA) → ℕ → ℕ → ℕ → ℕ → ℕ → (lanes : Option (List ℕ)) → is_some lanes ≡ a_carries_data opcode → Beat w
+abbrev pub a_beat : {w : ℕ} → (opcode : OpA) → ℕ → ℕ → ℕ → ℕ → ℕ → (lanes : Option (List ℕ))
+    → is_some lanes ≡ a_carries_data opcode → Beat w
 a_beat opcode param size source address mask lanes carries =
-    A (record { opcode = opcode; param = param; size = size; source = source; address = address; mask = mask; lanes = lanes; corrupt = false; carries = carries })
+    A (record {
+      opcode = opcode;
+      param = param;
+      size = size;
+      source = source;
+      address = address;
+      mask = mask;
+      lanes =
+          lanes;
+      corrupt = false;
+      carries = carries;
+    })
 
-abbrev pub b_beat : {w : ℕ} → (opcode : OpB) → ℕ → ℕ → ℕ → ℕ → ℕ → (lanes : Option (List ℕ)) → is_some lanes ≡ b_carries_data opcode → Beat w
+abbrev pub b_beat : {w : ℕ} → (opcode : OpB) → ℕ → ℕ → ℕ → ℕ → ℕ → (lanes : Option (List ℕ))
+    → is_some lanes ≡ b_carries_data opcode → Beat w
 b_beat opcode param size source address mask lanes carries =
-    B (record { opcode = opcode; param = param; size = size; source = source; address = address; mask = mask; lanes = lanes; corrupt = false; carries = carries })
+    B (record {
+      opcode = opcode;
+      param = param;
+      size = size;
+      source = source;
+      address = address;
+      mask = mask;
+      lanes =
+          lanes;
+      corrupt = false;
+      carries = carries;
+    })
 
-abbrev pub c_beat : {w : ℕ} → (opcode : OpC) → ℕ → ℕ → ℕ → ℕ → (lanes : Option (List ℕ)) → is_some lanes ≡ c_carries_data opcode → Beat w
+abbrev pub c_beat : {w : ℕ} → (opcode : OpC) → ℕ → ℕ → ℕ → ℕ → (lanes : Option (List ℕ))
+    → is_some lanes ≡ c_carries_data opcode → Beat w
 c_beat opcode param size source address lanes carries =
-    C (record { opcode = opcode; param = param; size = size; source = source; address = address; lanes = lanes; corrupt = false; carries = carries })
+    C (record {
+      opcode = opcode;
+      param = param;
+      size = size;
+      source = source;
+      address = address;
+      lanes =
+          lanes;
+      corrupt = false;
+      carries = carries;
+    })
 
-abbrev pub d_beat : {w : ℕ} → (opcode : OpD) → ℕ → ℕ → ℕ → ℕ → (lanes : Option (List ℕ)) → is_some lanes ≡ d_carries_data opcode → Beat w
+abbrev pub d_beat : {w : ℕ} → (opcode : OpD) → ℕ → ℕ → ℕ → ℕ → (lanes : Option (List ℕ))
+    → is_some lanes ≡ d_carries_data opcode → Beat w
 d_beat opcode param size source sink lanes carries =
-    D (record { opcode = opcode; param = param; size = size; source = source; sink = sink; denied = false; lanes = lanes; corrupt = false; carries = carries })
+    D (record {
+      opcode = opcode;
+      param = param;
+      size = size;
+      source = source;
+      sink = sink;
+      denied = false;
+      lanes =
+          lanes;
+      corrupt = false;
+      carries = carries;
+    })
 
 abbrev pub e_beat : {w : ℕ} → ℕ → Beat w
 e_beat sink = E (record { sink = sink })

@@ -1,33 +1,21 @@
 -- What is delivered on a link, as a beat of channel A is: of an access, or of an Acquire.
-use Rattle.std.proofs.Common.{◌≡◌, subst, ℕ, Bool, true, false, not, ◌&&◌, List, [], ◌∷◌, Option, Some, None, refl, sym, ◌∙◌, ap, ◌⊎◌, inl, inr}
+use Rattle.tl_coherence.proofs.flow.Imports.{Beat, BeatA, Channel, Message, a_beat_of, History, is_empty, completes}
+use Rattle.tl_coherence.proofs.flow.Imports.{Config, Cap, comes_in_request, comes_in_grant, same_perm, same_block}
+use Rattle.tl_coherence.proofs.flow.Imports.{MonitorRelation, AbstractState, Log, ClientBlock, View, Own, Granting}
+use Rattle.tl_coherence.proofs.flow.Imports.{is_unprobed, is_unreleased, Service, Free, GrantSent, Block, State}
+use Rattle.tl_coherence.proofs.flow.Imports.{Replied, view, is_granting, is_acknowledging, is_answered, is_unserved}
+use Rattle.tl_coherence.proofs.flow.Imports.{is_wanting, served_block, acquire_served, granted_at_once, acquire_granted}
+use Rattle.tl_coherence.proofs.flow.Imports.{System, Packet, set, SimulationRelation, asked_by}
+use Rattle.std.proofs.Common.{◌≡◌, subst, ℕ, Bool, true, false, not, ◌&&◌, List, [], ◌∷◌, Option, Some, None, refl, sym}
+use Rattle.std.proofs.Common.{◌∙◌, ap, ◌⊎◌, inl, inr}
 use Rattle.std.specs.Prelude.{◌==◌, if◌then◌else◌}
 use Rattle.std.proofs.lemmas.Bool.{cases_eq, eqb-true}
 use Rattle.std.proofs.Math.Bool.{and-false}
 use Rattle.std.proofs.lemmas.Option.{same_Some}
-use Rattle.tl_beat.specs.declared.beat.Beat.{Beat}
 use Rattle.tl_beat.specs.declared.beat.Beat.TheVariants as beat
-use Rattle.tl_beat.specs.declared.beat.BeatA.{BeatA}
-use Rattle.tl_beat.specs.declared.channel.Channel.{Channel}
 use Rattle.tl_beat.specs.declared.channel.Channel.TheVariants as channel
-use Rattle.tl_burst.specs.declared.message.Message.{Message}
 use Rattle.tl_burst.specs.declared.message.Message.TheVariants as message
-use Rattle.tl_burst.specs.statement.Burst.{a_beat_of}
-use Rattle.tl_burst.specs.statement.Messages.{History}
-use Rattle.tl_burst.specs.statement.Part.{is_empty, completes}
-use Rattle.tl_params.specs.declared.config.Config.{Config}
-use Rattle.tl_params.specs.declared.param.Cap.{Cap}
-use Rattle.tl_rules.specs.statement.Conformance.{comes_in_request, comes_in_grant, same_perm}
-use Rattle.tl_client.proofs.HeldAfter.{same_block}
-use Rattle.tl_coherence.specs.refinement.MonitorRelation.{MonitorRelation}
-use Rattle.tl_coherence.specs.refinement.AbstractStep.{AbstractState}
-use Rattle.tl_coherence.specs.statement.Log.{Log}
-use Rattle.tl_coherence.specs.protocol.Phase.{ClientBlock, View, Own, Granting, is_unprobed, is_unreleased}
 use Rattle.tl_coherence.specs.protocol.PhaseSteps.{after_grant_sent}
-use Rattle.tl_coherence.specs.protocol.Protocol.{Service, Free, GrantSent, Block, State, Replied, view, is_granting, is_acknowledging, is_answered, is_unserved, is_wanting}
-use Rattle.tl_coherence.specs.protocol.Protocol.{served_block, acquire_served, granted_at_once, acquire_granted}
-use Rattle.tl_coherence.specs.statement.System.{System}
-use Rattle.tl_coherence.specs.protocol.Packet.{Packet, set}
-use Rattle.tl_coherence.specs.refinement.SimulationRelation.{SimulationRelation, asked_by}
 use Rattle.tl_coherence.proofs.manager.Admitted.{first_three}
 use Rattle.tl_coherence.proofs.queues.Carried.{IsNext}
 use Rattle.tl_coherence.proofs.client.ClientEnd.{is_access, asks-access, asks-acquire}
@@ -37,7 +25,8 @@ use Rattle.tl_coherence.proofs.flow.FlowAccess.{IsAccess, flowed-access}
 use Rattle.tl_coherence.proofs.flow.FlowAcquired.{flowed-acquire}
 use Rattle.tl_coherence.proofs.flow.FlowAlone.{AreRests}
 use Rattle.tl_coherence.proofs.flow.FlowApart.{replied}
-use Rattle.tl_coherence.proofs.flow.FlowBeats.{came-so, comes-so, first-zero, one-beat, set_at-if, same_perms, unused-else}
+use Rattle.tl_coherence.proofs.flow.FlowBeats.{came-so, comes-so, first-zero, one-beat, set_at-if, same_perms}
+use Rattle.tl_coherence.proofs.flow.FlowBeats.{unused-else}
 use Rattle.tl_coherence.proofs.flow.FlowComing.{coming-sink, coming-granting}
 use Rattle.tl_coherence.proofs.flow.FlowStep.{held_by}
 use Rattle.tl_coherence.proofs.flow.FlowSunk.{sunk_in, sunk-elsewhere, IsWithin, tracked-new}
@@ -49,26 +38,32 @@ use Rattle.tl_coherence.proofs.protocol.BothParts.{quiet_unanswered}
 use Rattle.tl_coherence.proofs.queues.Codes.{acquires-so}
 use Rattle.tl_coherence.proofs.simulation.Popped.{unfinished_at}
 
-module _ {w : ℕ} (config : Config) (log : Log w) (h : AbstractState w) (sys : System w) (c : ℕ) (is : SimulationRelation config log h.mail h.request h.state sys)
-    (t : History w) (flowed : MonitorRelation (asked_by h.mail h.state c) (unfinished_at sys c) c h.state t) (rest' : Channel → List (Beat w)) where
+module _ {w : ℕ} (config : Config) (log : Log w) (h : AbstractState w) (sys : System w) (c : ℕ)
+    (is : SimulationRelation config log h.mail h.request h.state sys)
+    (t : History w) (flowed : MonitorRelation (asked_by h.mail h.state c) (unfinished_at sys c) c h.state t)
+    (rest' : Channel → List (Beat w)) where
   -- ---- an access
 
   -- the state in which the access is answered, with the last beat
   abbrev pub replied_if : ℕ → Bool → State (List ℕ)
   replied_if source b = if b then replied c source h.state else h.state
 
-  access_of : (source : ℕ) (asked : IsAsked config c source h.mail h.state) (k : ℕ) (ms : List (Message w)) (queue : List (Beat w))
+  access_of : (source : ℕ) (asked : IsAsked config c source h.mail h.state) (k : ℕ) (ms : List (Message w))
+      (queue : List (Beat w))
       → IsNext (beat.A (a_beat_of asked.request k)) (unfinished_at sys c channel.A) (message.A asked.request) ms queue
-      → AreRests (beat.A (a_beat_of asked.request k)) (unfinished_at sys c) rest' → (b : Bool) → completes (beat.A (a_beat_of asked.request k)) (unfinished_at sys c channel.A) ≡ b
+      → AreRests (beat.A (a_beat_of asked.request k)) (unfinished_at sys c) rest' → (b : Bool)
+      → completes (beat.A (a_beat_of asked.request k)) (unfinished_at sys c channel.A) ≡ b
       → (is_empty (unfinished_at sys c channel.A) ≡ true → k ≡ 0)
-      → IsAccess c (a_beat_of asked.request k) (is_empty (unfinished_at sys c channel.A)) b (asked_by h.mail h.state c) (unfinished_at sys c) rest' h.state (replied_if source b)
+      → IsAccess c (a_beat_of asked.request k) (is_empty (unfinished_at sys c channel.A)) b (asked_by h.mail h.state c)
+      (unfinished_at sys c) rest' h.state (replied_if source b)
   access_of source asked k ms queue next rests b last zeroth = record {
     access = asked.access;
     use_is = λ i e. ap (h.state.uses c) (sym (eqb-true asked.request.source i e) ∙ asked.source_is) ∙ asked.used;
     asked_is = λ i e first. ap (asked_by h.mail h.state c) (sym (eqb-true asked.request.source i e) ∙ asked.source_is)
         ∙ asks-access c source asked.request h.mail h.state (ap is_access asked.used) asked.is_it
         ∙ ap (λ (j : ℕ). Some (a_beat_of asked.request j)) (sym (zeroth first));
-    came = λ i. came-so (comes_in_request i) (message.A asked.request) y (unfinished_at sys c channel.A) ms queue (asked.request.source == i) next refl (λ j. refl);
+    came = λ i. came-so (comes_in_request i) (message.A asked.request) y (unfinished_at sys c channel.A) ms queue
+        (asked.request.source == i) next refl (λ j. refl);
     comes = λ i. ap (comes_in_request i) (rests channel.A)
         ∙ comes-so (comes_in_request i) y (unfinished_at sys c channel.A) (asked.request.source == i) refl refl
         ∙ ap (λ (z : Bool). not z && (asked.request.source == i)) last;
@@ -85,7 +80,8 @@ module _ {w : ℕ} (config : Config) (log : Log w) (h : AbstractState w) (sys : 
       blocks true m = refl
       blocks false m = refl
 
-      uses : (z : Bool) (i : ℕ) → (replied_if source z).uses c i ≡ (if z && (asked.request.source == i) then Replied else h.state.uses c i)
+      uses : (z : Bool) (i : ℕ)
+          → (replied_if source z).uses c i ≡ (if z && (asked.request.source == i) then Replied else h.state.uses c i)
       uses true i = set_at-if c source i Replied h.state.uses asked.request.source asked.source_is
       uses false i = refl
 
@@ -97,14 +93,22 @@ module _ {w : ℕ} (config : Config) (log : Log w) (h : AbstractState w) (sys : 
       tracked true i = refl
       tracked false i = refl
 
-  pub own-access : (source : ℕ) (asked : IsAsked config c source h.mail h.state) (x : Beat w) (ms : List (Message w)) (queue : List (Beat w))
-      → IsNext x (unfinished_at sys c channel.A) (message.A asked.request) ms queue → AreRests x (unfinished_at sys c) rest'
-      → (b : Bool) → completes x (unfinished_at sys c channel.A) ≡ b → MonitorRelation (asked_by h.mail h.state c) rest' c (replied_if source b) (x ∷ t)
+  pub own-access : (source : ℕ) (asked : IsAsked config c source h.mail h.state) (x : Beat w) (ms : List (Message w))
+      (queue : List (Beat w))
+      → IsNext x (unfinished_at sys c channel.A) (message.A asked.request) ms queue
+      → AreRests x (unfinished_at sys c) rest'
+      → (b : Bool) → completes x (unfinished_at sys c channel.A) ≡ b → MonitorRelation (asked_by h.mail h.state c) rest'
+      c (replied_if source b) (x ∷ t)
   own-access source asked x ms queue next rests b last =
-      subst (λ (z : Beat w). MonitorRelation (asked_by h.mail h.state c) rest' c (replied_if source b) (z ∷ t)) (sym next.beat_is)
-      (flowed-access c (a_beat_of asked.request next.k) (is_empty (unfinished_at sys c channel.A)) b (asked_by h.mail h.state c) (unfinished_at sys c) rest' h.state (replied_if source b) t
-      (ap is_empty (flowed.rest_is channel.A)) (ap (completes (beat.A (a_beat_of asked.request next.k))) (flowed.rest_is channel.A) ∙ last_y) rests_y
-      (access_of source asked next.k ms queue (subst (λ (z : Beat w). IsNext z (unfinished_at sys c channel.A) (message.A asked.request) ms queue) next.beat_is next) rests_y b last_y
+      subst (λ (z : Beat w). MonitorRelation (asked_by h.mail h.state c) rest' c (replied_if source b) (z ∷ t))
+      (sym next.beat_is)
+      (flowed-access c (a_beat_of asked.request next.k) (is_empty (unfinished_at sys c channel.A)) b
+      (asked_by h.mail h.state c) (unfinished_at sys c) rest' h.state (replied_if source b) t
+      (ap is_empty (flowed.rest_is channel.A)) (ap (completes (beat.A (a_beat_of asked.request next.k)))
+      (flowed.rest_is channel.A) ∙ last_y) rests_y
+      (access_of source asked next.k ms queue
+      (subst (λ (z : Beat w). IsNext z (unfinished_at sys c channel.A) (message.A asked.request) ms queue)
+      next.beat_is next) rests_y b last_y
       (first-zero (message.A asked.request) x (unfinished_at sys c channel.A) ms queue next)) flowed)
     where
       last_y : completes (beat.A (a_beat_of asked.request next.k)) (unfinished_at sys c channel.A) ≡ b
@@ -115,14 +119,18 @@ module _ {w : ℕ} (config : Config) (log : Log w) (h : AbstractState w) (sys : 
 
   -- ---- an Acquire
 
-  module _ (n : ℕ) (wanted : IsWanted w c n h.state) (free : (h.state.block n).service ≡ Free) (tracker : ℕ) (unused : h.state.tracked tracker ≡ None)
+  module _ (n : ℕ) (wanted : IsWanted w c n h.state) (free : (h.state.block n).service ≡ Free) (tracker : ℕ)
+      (unused : h.state.tracked tracker ≡ None)
       (asked' : ℕ → Option (BeatA w)) (asks : (i : ℕ) → asked' i ≡ asked_by h.mail h.state c i) where
     abbrev s : State (List ℕ)
     s = h.state
 
-    settled : ((is_unprobed ((s.block n).pair c).probing && is_unreleased ((s.block n).pair c).letting) && same_perm ((s.block n).pair c).recorded ((s.block n).pair c).held) ≡ true
-    settled = first_three (is_unprobed ((s.block n).pair c).probing) (is_unreleased ((s.block n).pair c).letting) (same_perm ((s.block n).pair c).recorded ((s.block n).pair c).held) _
-        (asked_alone wanted.whole wanted.grow ((s.block n).pair c) (view (s.block n).service c) ((is.invariant.blocks n).phases c) (rw free refl) wanted.wants)
+    settled : ((is_unprobed ((s.block n).pair c).probing && is_unreleased ((s.block n).pair c).letting) && same_perm
+        ((s.block n).pair c).recorded ((s.block n).pair c).held) ≡ true
+    settled = first_three (is_unprobed ((s.block n).pair c).probing) (is_unreleased ((s.block n).pair c).letting)
+        (same_perm ((s.block n).pair c).recorded ((s.block n).pair c).held) _
+        (asked_alone wanted.whole wanted.grow ((s.block n).pair c) (view (s.block n).service c)
+        ((is.invariant.blocks n).phases c) (rw free refl) wanted.wants)
 
     quiet : is_answered ((s.block n).pair c).probing ≡ false
     quiet = quiet_unanswered ((s.block n).pair c).probing
@@ -145,49 +153,60 @@ module _ {w : ℕ} (config : Config) (log : Log w) (h : AbstractState w) (sys : 
       serves : is_unserved (view new.service c) ≡ false
       waits_so : is_acknowledging (view new.service c) ≡ false
 
-    acquired : (new : Block (List ℕ)) (s' : State (List ℕ)) → ((m : ℕ) → s'.block m ≡ set n new s.block m) → ((i : ℕ) → s'.uses c i ≡ s.uses c i)
-        → ((i : ℕ) → s'.lets c i ≡ s.lets c i) → ((i : ℕ) → s'.tracked i ≡ set tracker (Some n) s.tracked i) → IsTakenUp new
+    acquired : (new : Block (List ℕ)) (s' : State (List ℕ)) → ((m : ℕ) → s'.block m ≡ set n new s.block m)
+        → ((i : ℕ) → s'.uses c i ≡ s.uses c i)
+        → ((i : ℕ) → s'.lets c i ≡ s.lets c i) → ((i : ℕ) → s'.tracked i ≡ set tracker (Some n) s.tracked i)
+        → IsTakenUp new
         → (x : Beat w) (ms : List (Message w)) (queue : List (Beat w))
-        → IsNext x (unfinished_at sys c channel.A) (message.A (acquire_wanted c n s wanted)) ms queue → AreRests x (unfinished_at sys c) rest'
+        → IsNext x (unfinished_at sys c channel.A) (message.A (acquire_wanted c n s wanted)) ms queue
+        → AreRests x (unfinished_at sys c) rest'
         → MonitorRelation asked' rest' c s' (x ∷ t)
     acquired new s' changed uses lets tracked taken x ms queue next rests =
         subst (λ (z : Beat w). MonitorRelation asked' rest' c s' (z ∷ t)) (sym x_is)
-        (flowed-acquire c n y (asked_by h.mail s c) asked' (unfinished_at sys c) rest' s s' t (ap is_empty (flowed.rest_is channel.A ∙ one.1))
+        (flowed-acquire c n y (asked_by h.mail s c) asked' (unfinished_at sys c) rest' s s' t
+        (ap is_empty (flowed.rest_is channel.A ∙ one.1))
         (ap (completes (beat.A y)) (flowed.rest_is channel.A) ∙ last_y) rests_y (record {
           acquire = acquires-so wanted.whole;
           at = same_block n;
           use_is = λ i e. ap (s.uses c) (sym (eqb-true ((s.block n).source c) i e)) ∙ wanted.used;
           no_use = λ i e. unused-else c n i s is.invariant.named e;
           asks = λ i e. ap (asked_by h.mail s c) (sym (eqb-true ((s.block n).source c) i e))
-              ∙ asks-acquire c ((s.block n).source c) n ((s.block n).source c) wanted.whole wanted.grow h.mail s wanted.used wanted.wants refl;
+              ∙ asks-acquire c ((s.block n).source c) n ((s.block n).source c) wanted.whole wanted.grow h.mail s
+              wanted.used wanted.wants refl;
           idle = rw free refl;
           quiet = quiet;
           coming = coming-granting config log h.mail h.request s sys c is;
           came = λ i. ap (comes_in_request i) one.1;
           comes = λ i. ap (comes_in_request i) (rests_y channel.A)
-              ∙ comes-so (comes_in_request i) (beat.A y) (unfinished_at sys c channel.A) ((s.block n).source c == i) refl refl
+              ∙ comes-so (comes_in_request i) (beat.A y) (unfinished_at sys c channel.A) ((s.block n).source c == i)
+              refl refl
               ∙ ap (λ (z : Bool). not z && ((s.block n).source c == i)) last_y;
           asked_is = asks;
           elsewhere = λ m ne. changed m ∙ set-other n m new s.block ne;
           uses = uses;
           lets = lets;
-          sinks = λ i. sunk-elsewhere c i n (unfinished_at sys c channel.D) (s.tracked i) (s'.tracked i) s s' (λ m ne. changed m ∙ set-other n m new s.block ne)
-              (subst (λ (o : Option ℕ). (o ≡ s.tracked i) ⊎ (IsWithin n (s.tracked i) × IsWithin n o)) (sym (tracked i)) (tracked-new n tracker s.tracked unused i))
+          sinks = λ i. sunk-elsewhere c i n (unfinished_at sys c channel.D) (s.tracked i) (s'.tracked i) s s'
+              (λ m ne. changed m ∙ set-other n m new s.block ne)
+              (subst (λ (o : Option ℕ). (o ≡ s.tracked i) ⊎ (IsWithin n (s.tracked i) × IsWithin n o)) (sym (tracked i))
+              (tracked-new n tracker s.tracked unused i))
               (λ e. rw free refl) (λ e. unsunk i (sym (tracked i) ∙ e));
           held_is = ap (held_by c) now ∙ taken.keeps_held;
           served = ap (λ (b : Block (List ℕ)). is_unserved (view b.service c)) now ∙ taken.serves;
           waits = ap (λ (b : Block (List ℕ)). is_acknowledging (view b.service c)) now ∙ taken.waits_so;
-          wants = ap (λ (b : Block (List ℕ)). is_wanting (b.pair c).acquiring) now ∙ ap is_wanting (taken.pair_acquiring ∙ wanted.wants);
+          wants = ap (λ (b : Block (List ℕ)). is_wanting (b.pair c).acquiring) now ∙ ap is_wanting
+              (taken.pair_acquiring ∙ wanted.wants);
           letting_is = ap (λ (b : Block (List ℕ)). (b.pair c).letting) now ∙ taken.pair_letting;
           release_source = ap (λ (b : Block (List ℕ)). b.release_source c) now ∙ taken.keeps_source;
-          answered = ap (λ (b : Block (List ℕ)). is_answered (b.pair c).probing) now ∙ ap is_answered taken.pair_probing ∙ quiet;
+          answered = ap (λ (b : Block (List ℕ)). is_answered (b.pair c).probing) now ∙ ap is_answered taken.pair_probing
+              ∙ quiet;
         }) flowed)
       where
         y : BeatA w
         y = a_beat_of (acquire_wanted c n s wanted) 0
 
         one : (next.k ≡ 0) × (unfinished_at sys c channel.A ≡ []) × (completes x (unfinished_at sys c channel.A) ≡ true)
-        one = one-beat (message.A (acquire_wanted c n s wanted)) x (unfinished_at sys c channel.A) ms queue next (acquisition_beats w wanted.whole wanted.grow ((s.block n).source c) n)
+        one = one-beat (message.A (acquire_wanted c n s wanted)) x (unfinished_at sys c channel.A) ms queue next
+            (acquisition_beats w wanted.whole wanted.grow ((s.block n).source c) n)
 
         x_is : x ≡ beat.A y
         x_is = next.beat_is ∙ ap (λ (j : ℕ). beat.A (a_beat_of (acquire_wanted c n s wanted) j)) one.0
@@ -202,7 +221,8 @@ module _ {w : ℕ} (config : Config) (log : Log w) (h : AbstractState w) (sys : 
         now = changed n ∙ set-same n new s.block
 
         -- no Grant that was delivered in part is of the block
-        none_comes : (i : ℕ) → set tracker (Some n) s.tracked i ≡ Some n → comes_in_grant i (unfinished_at sys c channel.D) ≡ false
+        none_comes : (i : ℕ) → set tracker (Some n) s.tracked i ≡ Some n
+            → comes_in_grant i (unfinished_at sys c channel.D) ≡ false
         none_comes i e = go (comes_in_grant i (unfinished_at sys c channel.D)) refl
           where
             go : (b : Bool) → comes_in_grant i (unfinished_at sys c channel.D) ≡ b → b ≡ false
@@ -210,33 +230,43 @@ module _ {w : ℕ} (config : Config) (log : Log w) (h : AbstractState w) (sys : 
             go true f = absurd (elim (cases_eq i tracker) [
               | inl same ↦ let no : None ≡ Some of.0 = sym unused ∙ sym (ap s.tracked same) ∙ of.2 in cc
               | inr other ↦
-                  let here : of.0 ≡ n = same_Some of.0 n (sym of.2 ∙ sym (set-other tracker i (Some n) s.tracked other) ∙ e) in
-                  let no : GrantSent c of.1.data_too of.1.k ≡ Free = sym of.1.service ∙ ap (λ (j : ℕ). (s.block j).service) here ∙ free in
+                  let here : of.0 ≡ n = same_Some of.0 n (sym of.2 ∙ sym (set-other tracker i (Some n) s.tracked other)
+                  ∙ e) in
+                  let no : GrantSent c of.1.data_too of.1.k ≡ Free =
+                  sym of.1.service ∙ ap (λ (j : ℕ). (s.block j).service) here ∙ free in
                   cc
             ])
               where
                 of : (m : ℕ) × IsGrantDue c m s × (s.tracked i ≡ Some m)
                 of = coming-sink config log h.mail h.request s sys c i is f
 
-        unsunk : (i : ℕ) → set tracker (Some n) s.tracked i ≡ Some n → sunk_in c i (unfinished_at sys c channel.D) (s'.block n) ≡ false
-        unsunk i e = rw (ap (λ (b : Block (List ℕ)). is_acknowledging (view b.service c)) now ∙ taken.waits_so, none_comes i e) (and-false (is_granting (view (s'.block n).service c)))
+        unsunk : (i : ℕ) → set tracker (Some n) s.tracked i ≡ Some n
+            → sunk_in c i (unfinished_at sys c channel.D) (s'.block n) ≡ false
+        unsunk i e = rw (
+          ap (λ (b : Block (List ℕ)). is_acknowledging (view b.service c)) now ∙ taken.waits_so,
+          none_comes i e,
+        ) (and-false (is_granting (view (s'.block n).service c)))
 
     held_free : held_by c (s.block n) ≡ ((s.block n).pair c).recorded
-    held_free = ap (λ (q : Service). if is_granting (view q c) then ((s.block n).pair c).held else ((s.block n).pair c).recorded) free
+    held_free = ap (λ (q : Service). if is_granting (view q c) then ((s.block n).pair c).held else
+        ((s.block n).pair c).recorded) free
 
     -- it waits for ProbeAcks
     pub own-acquire_served : (k : Cap) (toks : List Packet) (x : Beat w) (ms : List (Message w)) (queue : List (Beat w))
-        → IsNext x (unfinished_at sys c channel.A) (message.A (acquire_wanted c n s wanted)) ms queue → AreRests x (unfinished_at sys c) rest'
+        → IsNext x (unfinished_at sys c channel.A) (message.A (acquire_wanted c n s wanted)) ms queue
+        → AreRests x (unfinished_at sys c) rest'
         → MonitorRelation asked' rest' c (acquire_served c n ((s.block n).source c) tracker k toks s) (x ∷ t)
-    own-acquire_served k toks = acquired new (acquire_served c n ((s.block n).source c) tracker k toks s) (λ m. refl) (λ i. refl) (λ i. refl) (λ i. refl) (record {
-      pair_acquiring = ap (λ (p : ClientBlock). p.acquiring) pair;
-      pair_letting = ap (λ (p : ClientBlock). p.letting) pair;
-      pair_probing = ap (λ (p : ClientBlock). p.probing) pair;
-      keeps_source = refl;
-      keeps_held = ap (λ (v : View). if is_granting v then (new.pair c).held else (new.pair c).recorded) seen ∙ ap (λ (p : ClientBlock). p.recorded) pair ∙ sym held_free;
-      serves = ap is_unserved seen;
-      waits_so = ap is_acknowledging seen;
-    })
+    own-acquire_served k toks = acquired new (acquire_served c n ((s.block n).source c) tracker k toks s) (λ m. refl)
+        (λ i. refl) (λ i. refl) (λ i. refl) (record {
+          pair_acquiring = ap (λ (p : ClientBlock). p.acquiring) pair;
+          pair_letting = ap (λ (p : ClientBlock). p.letting) pair;
+          pair_probing = ap (λ (p : ClientBlock). p.probing) pair;
+          keeps_source = refl;
+          keeps_held = ap (λ (v : View). if is_granting v then (new.pair c).held else (new.pair c).recorded) seen ∙ ap
+              (λ (p : ClientBlock). p.recorded) pair ∙ sym held_free;
+          serves = ap is_unserved seen;
+          waits_so = ap is_acknowledging seen;
+        })
       where
         new : Block (List ℕ)
         new = served_block c true ((s.block n).source c) tracker k (s.block n)
@@ -248,18 +278,22 @@ module _ {w : ℕ} (config : Config) (log : Log w) (h : AbstractState w) (sys : 
         seen = rw (same_number c) refl
 
     -- it is granted at once
-    pub own-acquire_granted : (d : Bool) (k : Cap) (toks : List Packet) (x : Beat w) (ms : List (Message w)) (queue : List (Beat w))
-        → IsNext x (unfinished_at sys c channel.A) (message.A (acquire_wanted c n s wanted)) ms queue → AreRests x (unfinished_at sys c) rest'
+    pub own-acquire_granted : (d : Bool) (k : Cap) (toks : List Packet) (x : Beat w) (ms : List (Message w))
+        (queue : List (Beat w))
+        → IsNext x (unfinished_at sys c channel.A) (message.A (acquire_wanted c n s wanted)) ms queue
+        → AreRests x (unfinished_at sys c) rest'
         → MonitorRelation asked' rest' c (acquire_granted c n tracker d k toks s) (x ∷ t)
-    own-acquire_granted d k toks = acquired new (acquire_granted c n tracker d k toks s) (λ m. refl) (λ i. refl) (λ i. refl) (λ i. refl) (record {
-      pair_acquiring = ap (λ (p : ClientBlock). p.acquiring) pair;
-      pair_letting = ap (λ (p : ClientBlock). p.letting) pair;
-      pair_probing = ap (λ (p : ClientBlock). p.probing) pair;
-      keeps_source = refl;
-      keeps_held = ap (λ (v : View). if is_granting v then (new.pair c).held else (new.pair c).recorded) seen ∙ ap (λ (p : ClientBlock). p.held) pair ∙ even ∙ sym held_free;
-      serves = ap is_unserved seen;
-      waits_so = ap is_acknowledging seen;
-    })
+    own-acquire_granted d k toks = acquired new (acquire_granted c n tracker d k toks s) (λ m. refl) (λ i. refl)
+        (λ i. refl) (λ i. refl) (record {
+          pair_acquiring = ap (λ (p : ClientBlock). p.acquiring) pair;
+          pair_letting = ap (λ (p : ClientBlock). p.letting) pair;
+          pair_probing = ap (λ (p : ClientBlock). p.probing) pair;
+          keeps_source = refl;
+          keeps_held = ap (λ (v : View). if is_granting v then (new.pair c).held else (new.pair c).recorded) seen ∙ ap
+              (λ (p : ClientBlock). p.held) pair ∙ even ∙ sym held_free;
+          serves = ap is_unserved seen;
+          waits_so = ap is_acknowledging seen;
+        })
       where
         new : Block (List ℕ)
         new = granted_at_once c tracker d k (s.block n)

@@ -1,28 +1,16 @@
 -- What is delivered on a link, as the beat of a Probe is, for a whole that is that of the protocol.
+use Rattle.tl_coherence.proofs.flow.Imports.{Beat, BeatA, Channel, Message, History, is_empty, completes, Config, Cap}
+use Rattle.tl_coherence.proofs.flow.Imports.{same_block, MonitorRelation, AbstractState, Log, ClientBlock, View, Idle}
+use Rattle.tl_coherence.proofs.flow.Imports.{Own, Other, Granting, Acknowledging, GrantedOther, ProbeSent, ok, Service}
+use Rattle.tl_coherence.proofs.flow.Imports.{Free, Waits, GrantSent, GrantTaken, State, packet, shown, view}
+use Rattle.tl_coherence.proofs.flow.Imports.{probe_taken, cap_sent, probe_beat, block_message, cap_waited, System}
+use Rattle.tl_coherence.proofs.flow.Imports.{Probe, Packet, SimulationRelation, asked_by}
 use Rattle.std.proofs.Common.{◌≡◌, subst, ℕ, Bool, true, false, ◌&&◌, List, [], ◌∷◌, Option, refl, sym, ◌∙◌, ap}
 use Rattle.std.specs.Prelude.{◌==◌, if◌then◌else◌}
-use Rattle.tl_beat.specs.declared.beat.Beat.{Beat}
 use Rattle.tl_beat.specs.declared.beat.Beat.TheVariants as beat
-use Rattle.tl_beat.specs.declared.beat.BeatA.{BeatA}
-use Rattle.tl_beat.specs.declared.channel.Channel.{Channel}
 use Rattle.tl_beat.specs.declared.channel.Channel.TheVariants as channel
-use Rattle.tl_burst.specs.declared.message.Message.{Message}
-use Rattle.tl_burst.specs.statement.Messages.{History}
-use Rattle.tl_burst.specs.statement.Part.{is_empty, completes}
-use Rattle.tl_params.specs.declared.config.Config.{Config}
-use Rattle.tl_params.specs.declared.param.Cap.{Cap}
 use Rattle.tl_params.specs.declared.param.Cap.TheVariants as cap
-use Rattle.tl_client.proofs.HeldAfter.{same_block}
-use Rattle.tl_coherence.specs.refinement.MonitorRelation.{MonitorRelation}
-use Rattle.tl_coherence.specs.refinement.AbstractStep.{AbstractState}
-use Rattle.tl_coherence.specs.statement.Log.{Log}
-use Rattle.tl_coherence.specs.protocol.Phase.{ClientBlock, View, Idle, Own, Other, Granting, Acknowledging, GrantedOther, ProbeSent, same_cap, fits_service, ok}
-use Rattle.tl_coherence.specs.protocol.Protocol.{Service, Free, Waits, GrantSent, GrantTaken, State, packet, shown, view, probe_taken}
-use Rattle.tl_coherence.specs.refinement.PacketMessages.{cap_sent, probe_beat, block_message}
-use Rattle.tl_coherence.specs.refinement.SourceRelation.{cap_waited}
-use Rattle.tl_coherence.specs.statement.System.{System}
-use Rattle.tl_coherence.specs.protocol.Packet.{Probe, Packet}
-use Rattle.tl_coherence.specs.refinement.SimulationRelation.{SimulationRelation, asked_by}
+use Rattle.tl_coherence.specs.protocol.Phase.{same_cap, fits_service}
 use Rattle.tl_coherence.proofs.queues.Carried.{IsNext}
 use Rattle.tl_coherence.proofs.flow.FlowAlone.{AreRests}
 use Rattle.tl_coherence.proofs.flow.FlowAside.{comes-same}
@@ -79,8 +67,10 @@ waited_as k (GrantTaken r) c e = absurd (go (c == r) e)
     go true f = cc
     go false f = cc
 
-module _ {w : ℕ} (config : Config) (log : Log w) (h : AbstractState w) (sys : System w) (c : ℕ) (is : SimulationRelation config log h.mail h.request h.state sys)
-    (t : History w) (flowed : MonitorRelation (asked_by h.mail h.state c) (unfinished_at sys c) c h.state t) (rest' : Channel → List (Beat w))
+module _ {w : ℕ} (config : Config) (log : Log w) (h : AbstractState w) (sys : System w) (c : ℕ)
+    (is : SimulationRelation config log h.mail h.request h.state sys)
+    (t : History w) (flowed : MonitorRelation (asked_by h.mail h.state c) (unfinished_at sys c) c h.state t)
+    (rest' : Channel → List (Beat w))
     (toks : List Packet) where
   abbrev s : State (List ℕ)
   s = h.state
@@ -90,15 +80,20 @@ module _ {w : ℕ} (config : Config) (log : Log w) (h : AbstractState w) (sys : 
 
   -- ---- a Probe
 
-  pub own-probe : (n : ℕ) → (s.link c).b ≡ packet Probe n ∷ toks → (x : Beat w) (ms : List (Message w)) (queue : List (Beat w))
-      → IsNext x (unfinished_at sys c channel.B) (block_message Probe c n (s.block n)) ms queue → AreRests x (unfinished_at sys c) rest'
-      → (asked' : ℕ → Option (BeatA w)) → ((i : ℕ) → asked' i ≡ before i) → MonitorRelation asked' rest' c (probe_taken c n (cap_sent ((s.block n).pair c).probing) toks s) (x ∷ t)
+  pub own-probe : (n : ℕ) → (s.link c).b ≡ packet Probe n ∷ toks
+      → (x : Beat w) (ms : List (Message w)) (queue : List (Beat w))
+      → IsNext x (unfinished_at sys c channel.B) (block_message Probe c n (s.block n)) ms queue
+      → AreRests x (unfinished_at sys c) rest'
+      → (asked' : ℕ → Option (BeatA w)) → ((i : ℕ) → asked' i ≡ before i)
+      → MonitorRelation asked' rest' c (probe_taken c n (cap_sent ((s.block n).pair c).probing) toks s) (x ∷ t)
   own-probe n tokens x ms queue next rests asked' asks =
       subst (λ (z : Beat w). MonitorRelation asked' rest' c (probe_taken c n k toks s) (z ∷ t)) (sym x_is)
-      (flowed-probe c n k toks before asked' (unfinished_at sys c) rest' s t (ap is_empty (flowed.rest_is channel.B ∙ whole))
+      (flowed-probe c n k toks before asked' (unfinished_at sys c) rest' s t
+      (ap is_empty (flowed.rest_is channel.B ∙ whole))
       (ap (completes {w = w} (beat.B (probe_beat n k))) (flowed.rest_is channel.B ∙ whole))
       (subst (λ (z : Beat w). AreRests z (unfinished_at sys c) rest') x_is rests) asks
-      (same_block n) seen (waited_as k (s.block n).service c seen) (λ m. comes-same m before asked' (unfinished_at sys c channel.D) asks) flowed)
+      (same_block n) seen (waited_as k (s.block n).service c seen)
+      (λ m. comes-same m before asked' (unfinished_at sys c channel.D) asks) flowed)
     where
       k : Cap
       k = cap_sent ((s.block n).pair c).probing
@@ -111,4 +106,5 @@ module _ {w : ℕ} (config : Config) (log : Log w) (h : AbstractState w) (sys : 
 
       seen : view (s.block n).service c ≡ Other k
       seen = sent_sees k ((s.block n).pair c) (view (s.block n).service c) ((is.invariant.blocks n).phases c)
-          (sent-is ((s.block n).pair c).probing (holds-first Probe (s.link c).b toks (packet Probe n) (λ i. shown Probe c (s.block i)) tokens refl (is.invariant.transfers c Probe refl)))
+          (sent-is ((s.block n).pair c).probing (holds-first Probe (s.link c).b toks (packet Probe n)
+          (λ i. shown Probe c (s.block i)) tokens refl (is.invariant.transfers c Probe refl)))

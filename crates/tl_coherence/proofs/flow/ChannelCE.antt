@@ -1,41 +1,27 @@
 -- What is delivered on a link, as a beat of channel C or E is: of a ProbeAck, a Release or a GrantAck.
-use Rattle.std.proofs.Common.{◌≡◌, subst, ℕ, Bool, true, false, not, ◌&&◌, List, [], ◌∷◌, Option, refl, sym, ◌∙◌, ap, length}
+use Rattle.tl_coherence.proofs.flow.Imports.{IsWidth, Beat, BeatA, BeatE, Channel, Message, MessageC, History, is_empty}
+use Rattle.tl_coherence.proofs.flow.Imports.{completes, Config, Prune, Report, prune_code, prune_left, report_code}
+use Rattle.tl_coherence.proofs.flow.Imports.{report_left, comes_in_release, same_perm, is_release, reported}
+use Rattle.tl_coherence.proofs.flow.Imports.{MonitorRelation, AbstractState, is_busy, Log, ClientBlock, View, Idle, Own}
+use Rattle.tl_coherence.proofs.flow.Imports.{Other, Granting, Acknowledging, GrantedOther, ReleaseSent, is_unprobed}
+use Rattle.tl_coherence.proofs.flow.Imports.{is_unreleased, ok, Service, Free, Waits, GrantSent, GrantTaken, Block}
+use Rattle.tl_coherence.proofs.flow.Imports.{State, packet, shown, view, is_granting, is_acknowledging, let_block}
+use Rattle.tl_coherence.proofs.flow.Imports.{release_taken, report_taken, grant_ack_taken, block_message, prune_told}
+use Rattle.tl_coherence.proofs.flow.Imports.{report_told, System, ProbeAck, Release, GrantAck, Packet}
+use Rattle.tl_coherence.proofs.flow.Imports.{SimulationRelation, asked_by}
+use Rattle.std.proofs.Common.{◌≡◌, subst, ℕ, Bool, true, false, not, ◌&&◌, List, [], ◌∷◌, Option, refl, sym, ◌∙◌, ap}
+use Rattle.std.proofs.Common.{length}
 use Rattle.std.proofs.lemmas.Bool.{and_right as with_false}
 use Rattle.std.specs.Prelude.{◌==◌, if◌then◌else◌}
-use Rattle.tl_beat.specs.statement.Width.{IsWidth}
-use Rattle.tl_beat.specs.declared.beat.Beat.{Beat}
 use Rattle.tl_beat.specs.declared.beat.Beat.TheVariants as beat
-use Rattle.tl_beat.specs.declared.beat.BeatA.{BeatA}
-use Rattle.tl_beat.specs.declared.beat.BeatE.{BeatE}
-use Rattle.tl_beat.specs.declared.channel.Channel.{Channel}
 use Rattle.tl_beat.specs.declared.channel.Channel.TheVariants as channel
-use Rattle.tl_burst.specs.declared.message.Message.{Message}
 use Rattle.tl_burst.specs.declared.message.Message.TheVariants as message
-use Rattle.tl_burst.specs.declared.message.MessageC.{MessageC}
 use Rattle.tl_burst.specs.statement.Burst.{c_beat_of}
-use Rattle.tl_burst.specs.statement.Messages.{History}
-use Rattle.tl_burst.specs.statement.Part.{is_empty, completes}
-use Rattle.tl_params.specs.declared.config.Config.{Config}
-use Rattle.tl_params.specs.declared.param.Prune.{Prune}
 use Rattle.tl_params.specs.declared.param.Prune.TheVariants as prune
-use Rattle.tl_params.specs.declared.param.Report.{Report}
 use Rattle.tl_params.specs.declared.perm.Perm.TheVariants as perm
-use Rattle.tl_params.specs.statement.Param.{prune_code, prune_left, prune_right, report_code, report_left}
-use Rattle.tl_rules.specs.statement.Conformance.{comes_in_release, same_perm}
-use Rattle.tl_rules.specs.statement.History.{is_release, reported}
+use Rattle.tl_params.specs.statement.Param.{prune_right}
 use Rattle.tl_client.specs.statement.Send.{release}
-use Rattle.tl_coherence.specs.refinement.MonitorRelation.{MonitorRelation}
-use Rattle.tl_coherence.specs.refinement.AbstractStep.{AbstractState}
-use Rattle.tl_coherence.specs.protocol.Invariant.{is_busy}
-use Rattle.tl_coherence.specs.statement.Log.{Log}
-use Rattle.tl_coherence.specs.protocol.Phase.{ClientBlock, View, Idle, Own, Other, Granting, Acknowledging, GrantedOther, ReleaseSent, is_unprobed, is_unreleased, ok}
 use Rattle.tl_coherence.specs.protocol.PhaseSteps.{after_release_taken}
-use Rattle.tl_coherence.specs.protocol.Protocol.{Service, Free, Waits, GrantSent, GrantTaken, Block, State, packet, shown, view, is_granting, is_acknowledging, let_block}
-use Rattle.tl_coherence.specs.protocol.Protocol.{release_taken, report_taken, grant_ack_taken}
-use Rattle.tl_coherence.specs.refinement.PacketMessages.{block_message, prune_told, report_told}
-use Rattle.tl_coherence.specs.statement.System.{System}
-use Rattle.tl_coherence.specs.protocol.Packet.{ProbeAck, Release, GrantAck, Packet}
-use Rattle.tl_coherence.specs.refinement.SimulationRelation.{SimulationRelation, asked_by}
 use Rattle.tl_coherence.proofs.queues.Carried.{IsNext}
 use Rattle.tl_coherence.proofs.queues.Facts.{answered_other, granting_alone}
 use Rattle.tl_coherence.proofs.flow.FlowAlone.{AreRests, flowed-grant_ack}
@@ -66,11 +52,13 @@ size_of m = 0
 
 pub report_rendered : {w : ℕ} (c n : ℕ) (b : Block (List ℕ)) → IsWidth w → IsLong b
     → (m : MessageC w) × (block_message ProbeAck c n b ≡ message.C m)
-    × IsAbout true n (report_code (report_told (b.pair c).probing)) (same_perm (report_left (report_told (b.pair c).probing)) perm.Trunk) b.truth m
+    × IsAbout true n (report_code (report_told (b.pair c).probing))
+    (same_perm (report_left (report_told (b.pair c).probing)) perm.Trunk) b.truth m
 unfolding block_message
 report_rendered c n b width long = report-about (report_told (b.pair c).probing) n b.truth width long
 
-release_size : {w : ℕ} (r : Prune) (source n : ℕ) (truth : List ℕ) (m : MessageC w) → release r source n truth ≡ message.C m → m.size ≡ 6
+release_size : {w : ℕ} (r : Prune) (source n : ℕ) (truth : List ℕ) (m : MessageC w)
+    → release r source n truth ≡ message.C m → m.size ≡ 6
 unfolding size_of
 release_size prune.TtoB source n truth m e = sym (ap size_of e)
 release_size prune.TtoN source n truth m e = sym (ap size_of e)
@@ -78,7 +66,8 @@ release_size prune.BtoN source n truth m e = sym (ap size_of e)
 
 release_rendered : {w : ℕ} (c n : ℕ) (b : Block (List ℕ)) → IsWidth w → IsLong b
     → (m : MessageC w) × (block_message Release c n b ≡ message.C m)
-    × IsAbout false n (prune_code (prune_told (b.pair c).letting)) (same_perm (prune_left (prune_told (b.pair c).letting)) perm.Trunk) b.truth m
+    × IsAbout false n (prune_code (prune_told (b.pair c).letting))
+    (same_perm (prune_left (prune_told (b.pair c).letting)) perm.Trunk) b.truth m
     × (m.source ≡ b.release_source c) × (m.size ≡ 6)
 unfolding block_message
 release_rendered c n b width long =
@@ -87,10 +76,12 @@ release_rendered c n b width long =
     (about.0, about.1, about.2, about.3, release_size r (b.release_source c) n b.truth about.0 about.1)
 
 -- who has a Release open isn't granted the block
-released_ungranted : (r : Prune) (p : ClientBlock) (v : View) → ok p v ≡ true → p.letting ≡ ReleaseSent r → is_granting v ≡ false
+released_ungranted : (r : Prune) (p : ClientBlock) (v : View) → ok p v ≡ true → p.letting ≡ ReleaseSent r
+    → is_granting v ≡ false
 released_ungranted r p (Granting d k) well open_ =
     let alone = granting_alone d k p (Granting d k) well refl in
-    let held_back : is_unreleased p.letting ≡ true = and_left (is_unreleased p.letting) _ (and_right (is_unprobed p.probing) _ alone) in
+    let held_back : is_unreleased p.letting ≡ true =
+    and_left (is_unreleased p.letting) _ (and_right (is_unprobed p.probing) _ alone) in
     absurd (let no : false ≡ true = rw open_ at held_back in cc)
 released_ungranted r p Idle well open_ = refl
 released_ungranted r p Own well open_ = refl
@@ -105,12 +96,14 @@ busy_seen test none (Waits r own source k) c e = refl
 busy_seen test none (GrantSent r d k) c e = refl
 busy_seen test none (GrantTaken r) c e = refl
 
-pub ack_rendered : {w : ℕ} (c n : ℕ) (b : Block (List ℕ)) → block_message {w = w} GrantAck c n b ≡ message.E (record { sink = b.tracker })
+pub ack_rendered : {w : ℕ} (c n : ℕ) (b : Block (List ℕ)) → block_message {w = w} GrantAck c n b ≡ message.E
+    (record { sink = b.tracker })
 unfolding block_message
 ack_rendered c n b = refl
 
 module _ {w : ℕ} (config : Config) (log : Log w) (h : AbstractState w) (sys : System w) (c : ℕ) (width : IsWidth w)
-    (is : SimulationRelation config log h.mail h.request h.state sys) (t : History w) (flowed : MonitorRelation (asked_by h.mail h.state c) (unfinished_at sys c) c h.state t)
+    (is : SimulationRelation config log h.mail h.request h.state sys) (t : History w)
+    (flowed : MonitorRelation (asked_by h.mail h.state c) (unfinished_at sys c) c h.state t)
     (rest' : Channel → List (Beat w)) (n : ℕ) (toks : List Packet) where
   abbrev s : State (List ℕ)
   s = h.state
@@ -126,7 +119,8 @@ module _ {w : ℕ} (config : Config) (log : Log w) (h : AbstractState w) (sys : 
 
   -- the beat of a message of channel C
   module _ (m : MessageC w) (x : Beat w) (ms : List (Message w)) (queue : List (Beat w))
-      (next : IsNext x (unfinished_at sys c channel.C) (message.C m) ms queue) (rests : AreRests x (unfinished_at sys c) rest') (b : Bool)
+      (next : IsNext x (unfinished_at sys c channel.C) (message.C m) ms queue)
+      (rests : AreRests x (unfinished_at sys c) rest') (b : Bool)
       (last : completes x (unfinished_at sys c channel.C) ≡ b) where
     rests_y : AreRests (beat.C (c_beat_of m next.k)) (unfinished_at sys c) rest'
     rests_y = subst (λ (z : Beat w). AreRests z (unfinished_at sys c) rest') next.beat_is rests
@@ -138,12 +132,15 @@ module _ {w : ℕ} (config : Config) (log : Log w) (h : AbstractState w) (sys : 
     next_y = subst (λ (z : Beat w). IsNext z (unfinished_at sys c channel.C) (message.C m) ms queue) next.beat_is next
 
     -- what of a Release with source i was delivered, before and afterwards
-    came : (i : ℕ) → comes_in_release i (unfinished_at sys c channel.C) ≡ (not (is_empty (unfinished_at sys c channel.C)) && (is_release m.opcode && (m.source == i)))
-    came i = came-so (comes_in_release i) (message.C m) (beat.C (c_beat_of m next.k)) (unfinished_at sys c channel.C) ms queue (is_release m.opcode && (m.source == i)) next_y refl (λ j. refl)
+    came : (i : ℕ) → comes_in_release i (unfinished_at sys c channel.C)
+        ≡ (not (is_empty (unfinished_at sys c channel.C)) && (is_release m.opcode && (m.source == i)))
+    came i = came-so (comes_in_release i) (message.C m) (beat.C (c_beat_of m next.k)) (unfinished_at sys c channel.C) ms
+        queue (is_release m.opcode && (m.source == i)) next_y refl (λ j. refl)
 
     comes : (i : ℕ) → comes_in_release i (rest' channel.C) ≡ (not b && (is_release m.opcode && (m.source == i)))
     comes i =
-        ap (comes_in_release i) (rests_y channel.C) ∙ comes-so (comes_in_release i) (beat.C (c_beat_of m next.k)) (unfinished_at sys c channel.C) (is_release m.opcode && (m.source == i)) refl refl
+        ap (comes_in_release i) (rests_y channel.C) ∙ comes-so (comes_in_release i) (beat.C (c_beat_of m next.k))
+        (unfinished_at sys c channel.C) (is_release m.opcode && (m.source == i)) refl refl
         ∙ ap (λ (z : Bool). not z && (is_release m.opcode && (m.source == i))) last_y
 
   -- ---- a ProbeAck
@@ -151,15 +148,21 @@ module _ {w : ℕ} (config : Config) (log : Log w) (h : AbstractState w) (sys : 
   abbrev reported_if : Report → Bool → State (List ℕ)
   reported_if r b = if b then report_taken c n r toks h.state else h.state
 
-  pub own-report : (s.link c).c ≡ packet ProbeAck n ∷ toks → (x : Beat w) (ms : List (Message w)) (queue : List (Beat w))
-      → IsNext x (unfinished_at sys c channel.C) (block_message ProbeAck c n (s.block n)) ms queue → AreRests x (unfinished_at sys c) rest'
-      → (b : Bool) → completes x (unfinished_at sys c channel.C) ≡ b → MonitorRelation before rest' c (if b then report_taken c n (report_told ((s.block n).pair c).probing) toks s else s) (x ∷ t)
-  own-report tokens x ms queue next rests b last = subst (λ (z : Beat w). MonitorRelation before rest' c (reported_if r b) (z ∷ t)) (sym here.beat_is) (go b last)
+  pub own-report : (s.link c).c ≡ packet ProbeAck n ∷ toks
+      → (x : Beat w) (ms : List (Message w)) (queue : List (Beat w))
+      → IsNext x (unfinished_at sys c channel.C) (block_message ProbeAck c n (s.block n)) ms queue
+      → AreRests x (unfinished_at sys c) rest'
+      → (b : Bool) → completes x (unfinished_at sys c channel.C) ≡ b
+      → MonitorRelation before rest' c (if b then report_taken c n (report_told ((s.block n).pair c).probing) toks s
+      else s) (x ∷ t)
+  own-report tokens x ms queue next rests b last =
+      subst (λ (z : Beat w). MonitorRelation before rest' c (reported_if r b) (z ∷ t)) (sym here.beat_is) (go b last)
     where
       r : Report
       r = report_told ((s.block n).pair c).probing
 
-      about : (m : MessageC w) × (block_message ProbeAck c n (s.block n) ≡ message.C m) × IsAbout true n (report_code r) (same_perm (report_left r) perm.Trunk) (s.block n).truth m
+      about : (m : MessageC w) × (block_message ProbeAck c n (s.block n) ≡ message.C m) × IsAbout true n (report_code r)
+          (same_perm (report_left r) perm.Trunk) (s.block n).truth m
       about = report_rendered c n (s.block n) width (is.sized n).truth
 
       m : MessageC w
@@ -175,20 +178,28 @@ module _ {w : ℕ} (config : Config) (log : Log w) (h : AbstractState w) (sys : 
           (answered-is ((s.block n).pair c).probing (holds-first ProbeAck (s.link c).c toks (packet ProbeAck n)
           (λ i. shown ProbeAck c (s.block i)) tokens refl (is.invariant.transfers c ProbeAck refl))))
 
-      same : (z : Bool) → completes x (unfinished_at sys c channel.C) ≡ z → (i : ℕ) → comes_in_release i (rest' channel.C) ≡ comes_in_release i (unfinished_at sys c channel.C)
+      same : (z : Bool) → completes x (unfinished_at sys c channel.C) ≡ z → (i : ℕ)
+          → comes_in_release i (rest' channel.C) ≡ comes_in_release i (unfinished_at sys c channel.C)
       same z e i =
-          comes m x ms queue here rests z e i ∙ with_false (not z) (is_release m.opcode && (m.source == i)) (first_false (is_release m.opcode) (m.source == i) about.2.releases)
-          ∙ sym (came m x ms queue here rests z e i ∙ with_false (not (is_empty (unfinished_at sys c channel.C))) (is_release m.opcode && (m.source == i))
+          comes m x ms queue here rests z e i ∙ with_false (not z) (is_release m.opcode && (m.source == i))
+          (first_false (is_release m.opcode) (m.source == i) about.2.releases)
+          ∙ sym (came m x ms queue here rests z e i ∙ with_false (not (is_empty (unfinished_at sys c channel.C)))
+          (is_release m.opcode && (m.source == i))
           (first_false (is_release m.opcode) (m.source == i) about.2.releases))
 
-      go : (z : Bool) → completes x (unfinished_at sys c channel.C) ≡ z → MonitorRelation before rest' c (reported_if r z) (beat.C (c_beat_of m here.k) ∷ t)
+      go : (z : Bool) → completes x (unfinished_at sys c channel.C) ≡ z
+          → MonitorRelation before rest' c (reported_if r z) (beat.C (c_beat_of m here.k) ∷ t)
       go false e =
-          flowed-report_part c (c_beat_of m here.k) (is_empty (unfinished_at sys c channel.C)) before (unfinished_at sys c) rest' s t (ap is_empty (flowed.rest_is channel.C))
-          (ap (completes (beat.C (c_beat_of m here.k))) (flowed.rest_is channel.C) ∙ last_y m x ms queue here rests false e)
+          flowed-report_part c (c_beat_of m here.k) (is_empty (unfinished_at sys c channel.C)) before
+          (unfinished_at sys c) rest' s t (ap is_empty (flowed.rest_is channel.C))
+          (ap (completes (beat.C (c_beat_of m here.k))) (flowed.rest_is channel.C) ∙ last_y m x ms queue here rests
+          false e)
           (rests_y m x ms queue here rests false e) about.2.releases (same false e) flowed
       go true e =
-          flowed-report c n r toks (c_beat_of m here.k) (is_empty (unfinished_at sys c channel.C)) before (unfinished_at sys c) rest' s t (ap is_empty (flowed.rest_is channel.C))
-          (ap (completes (beat.C (c_beat_of m here.k))) (flowed.rest_is channel.C) ∙ last_y m x ms queue here rests true e)
+          flowed-report c n r toks (c_beat_of m here.k) (is_empty (unfinished_at sys c channel.C)) before
+          (unfinished_at sys c) rest' s t (ap is_empty (flowed.rest_is channel.C))
+          (ap (completes (beat.C (c_beat_of m here.k))) (flowed.rest_is channel.C) ∙ last_y m x ms queue here rests true
+          e)
           (rests_y m x ms queue here rests true e) about.2.reports about.2.releases (same true e) about.2.block
           (ap reported about.2.param_is ∙ reported-report r) alone flowed
 
@@ -197,13 +208,19 @@ module _ {w : ℕ} (config : Config) (log : Log w) (h : AbstractState w) (sys : 
   abbrev released_if : Prune → Bool → State (List ℕ)
   released_if r b = if b then release_taken c n r toks h.state else h.state
 
-  pub own-release : (s.link c).c ≡ packet Release n ∷ toks → (x : Beat w) (ms : List (Message w)) (queue : List (Beat w))
-      → IsNext x (unfinished_at sys c channel.C) (block_message Release c n (s.block n)) ms queue → AreRests x (unfinished_at sys c) rest'
-      → (b : Bool) → completes x (unfinished_at sys c channel.C) ≡ b → MonitorRelation before rest' c (if b then release_taken c n (prune_told ((s.block n).pair c).letting) toks s else s) (x ∷ t)
+  pub own-release : (s.link c).c ≡ packet Release n ∷ toks
+      → (x : Beat w) (ms : List (Message w)) (queue : List (Beat w))
+      → IsNext x (unfinished_at sys c channel.C) (block_message Release c n (s.block n)) ms queue
+      → AreRests x (unfinished_at sys c) rest'
+      → (b : Bool) → completes x (unfinished_at sys c channel.C) ≡ b
+      → MonitorRelation before rest' c (if b then release_taken c n (prune_told ((s.block n).pair c).letting) toks s
+      else s) (x ∷ t)
   own-release tokens x ms queue next rests b last =
       subst (λ (z : Beat w). MonitorRelation before rest' c (released_if r b) (z ∷ t)) (sym here.beat_is)
-      (flowed-release c n r (c_beat_of m here.k) (is_empty (unfinished_at sys c channel.C)) b before (unfinished_at sys c) rest' s (released_if r b) t (ap is_empty (flowed.rest_is channel.C))
-      (ap (completes (beat.C (c_beat_of m here.k))) (flowed.rest_is channel.C) ∙ last_y m x ms queue here rests b last) (rests_y m x ms queue here rests b last)
+      (flowed-release c n r (c_beat_of m here.k) (is_empty (unfinished_at sys c channel.C)) b before
+      (unfinished_at sys c) rest' s (released_if r b) t (ap is_empty (flowed.rest_is channel.C))
+      (ap (completes (beat.C (c_beat_of m here.k))) (flowed.rest_is channel.C) ∙ last_y m x ms queue here rests b last)
+      (rests_y m x ms queue here rests b last)
       (λ i k. is.invariant.named.releases c i k) (record {
         release = about.2.releases;
         ack = about.2.reports;
@@ -212,8 +229,10 @@ module _ {w : ℕ} (config : Config) (log : Log w) (h : AbstractState w) (sys : 
         size = about.4;
         says = ap reported about.2.param_is ∙ reported-prune r;
         letting = releasing;
-        came = λ i. came m x ms queue here rests b last i ∙ ap (λ (z : Bool). not (is_empty (unfinished_at sys c channel.C)) && (z && (m.source == i))) about.2.releases;
-        comes = λ i. comes m x ms queue here rests b last i ∙ ap (λ (z : Bool). not b && (z && (m.source == i))) about.2.releases;
+        came = λ i. came m x ms queue here rests b last i ∙ ap
+            (λ (z : Bool). not (is_empty (unfinished_at sys c channel.C)) && (z && (m.source == i))) about.2.releases;
+        comes = λ i. comes m x ms queue here rests b last i ∙ ap (λ (z : Bool). not b && (z && (m.source == i)))
+            about.2.releases;
         elsewhere = elsewhere b;
         uses = uses b;
         lets = lets b;
@@ -231,7 +250,8 @@ module _ {w : ℕ} (config : Config) (log : Log w) (h : AbstractState w) (sys : 
       r = prune_told ((s.block n).pair c).letting
 
       about : (m : MessageC w) × (block_message Release c n (s.block n) ≡ message.C m)
-          × IsAbout false n (prune_code r) (same_perm (prune_left r) perm.Trunk) (s.block n).truth m × (m.source ≡ (s.block n).release_source c)
+          × IsAbout false n (prune_code r) (same_perm (prune_left r) perm.Trunk) (s.block n).truth m
+          × (m.source ≡ (s.block n).release_source c)
           × (m.size ≡ 6)
       about = release_rendered c n (s.block n) width (is.sized n).truth
 
@@ -243,7 +263,8 @@ module _ {w : ℕ} (config : Config) (log : Log w) (h : AbstractState w) (sys : 
 
       releasing : ((s.block n).pair c).letting ≡ ReleaseSent r
       releasing = releasing-is ((s.block n).pair c).letting
-          (holds-first Release (s.link c).c toks (packet Release n) (λ i. shown Release c (s.block i)) tokens refl (is.invariant.transfers c Release refl))
+          (holds-first Release (s.link c).c toks (packet Release n) (λ i. shown Release c (s.block i)) tokens refl
+          (is.invariant.transfers c Release refl))
 
       ungranted : is_granting (view (s.block n).service c) ≡ false
       ungranted = released_ungranted r ((s.block n).pair c) (view (s.block n).service c) well releasing
@@ -276,9 +297,11 @@ module _ {w : ℕ} (config : Config) (log : Log w) (h : AbstractState w) (sys : 
       tracked true i = refl
       tracked false i = refl
 
-      held_is : (z : Bool) → held_by c ((released_if r z).block n) ≡ (if z then prune_right r else held_by c (s.block n))
+      held_is : (z : Bool) → held_by c ((released_if r z).block n) ≡ (if z then prune_right r else held_by c
+          (s.block n))
       held_is true =
-          ap (held_by c) (now true) ∙ ap (λ (g : Bool). if g then ((let_block c r (s.block n)).pair c).held else ((let_block c r (s.block n)).pair c).recorded)
+          ap (held_by c) (now true) ∙ ap (λ (g : Bool). if g then ((let_block c r (s.block n)).pair c).held else
+          ((let_block c r (s.block n)).pair c).recorded)
           ungranted ∙ ap (λ (p : ClientBlock). p.recorded) pair
       held_is false = refl
 
@@ -308,31 +331,41 @@ module _ {w : ℕ} (config : Config) (log : Log w) (h : AbstractState w) (sys : 
 
   -- ---- a GrantAck
 
-  pub own-grant_ack : (s.link c).e ≡ packet GrantAck n ∷ toks → (x : Beat w) (ms : List (Message w)) (queue : List (Beat w))
-      → IsNext x (unfinished_at sys c channel.E) (block_message GrantAck c n (s.block n)) ms queue → AreRests x (unfinished_at sys c) rest'
-      → (asked' : ℕ → Option (BeatA w)) → ((i : ℕ) → asked' i ≡ before i) → MonitorRelation asked' rest' c (grant_ack_taken c n toks s) (x ∷ t)
+  pub own-grant_ack : (s.link c).e ≡ packet GrantAck n ∷ toks
+      → (x : Beat w) (ms : List (Message w)) (queue : List (Beat w))
+      → IsNext x (unfinished_at sys c channel.E) (block_message GrantAck c n (s.block n)) ms queue
+      → AreRests x (unfinished_at sys c) rest'
+      → (asked' : ℕ → Option (BeatA w)) → ((i : ℕ) → asked' i ≡ before i)
+      → MonitorRelation asked' rest' c (grant_ack_taken c n toks s) (x ∷ t)
   own-grant_ack tokens x ms queue next rests asked' asks =
       subst (λ (z : Beat w). MonitorRelation asked' rest' c (grant_ack_taken c n toks s) (z ∷ t)) (sym x_is)
-      (flowed-grant_ack c n toks y before asked' (unfinished_at sys c) rest' s t (ap is_empty (flowed.rest_is channel.E ∙ one.1)) (ap (completes {w = w} (beat.E y)) (flowed.rest_is channel.E ∙ one.1))
+      (flowed-grant_ack c n toks y before asked' (unfinished_at sys c) rest' s t
+      (ap is_empty (flowed.rest_is channel.E ∙ one.1))
+      (ap (completes {w = w} (beat.E y)) (flowed.rest_is channel.E ∙ one.1))
       (subst (λ (z : Beat w). AreRests z (unfinished_at sys c) rest') x_is rests) asks refl seen is.invariant.named
-      (busy_seen is_acknowledging refl (s.block n).service c shows) (λ k e. busy_seen is_acknowledging refl (s.block k).service c e)
-      (λ k e. busy_seen is_granting refl (s.block k).service c e) (coming-granting config log h.mail h.request h.state sys c is)
+      (busy_seen is_acknowledging refl (s.block n).service c shows)
+      (λ k e. busy_seen is_acknowledging refl (s.block k).service c e)
+      (λ k e. busy_seen is_granting refl (s.block k).service c e) (coming-granting config log h.mail h.request h.state
+      sys c is)
       (λ k. comes-same k before asked' (unfinished_at sys c channel.D) asks) flowed)
     where
       y : BeatE
       y = record { sink = (s.block n).tracker }
 
       here : IsNext x (unfinished_at sys c channel.E) (message.E (record { sink = (s.block n).tracker })) ms queue
-      here = subst (λ (i : Message w). IsNext x (unfinished_at sys c channel.E) i ms queue) (ack_rendered c n (s.block n)) next
+      here = subst (λ (i : Message w). IsNext x (unfinished_at sys c channel.E) i ms queue)
+          (ack_rendered c n (s.block n)) next
 
       one : (here.k ≡ 0) × (unfinished_at sys c channel.E ≡ []) × (completes x (unfinished_at sys c channel.E) ≡ true)
-      one = one-beat (message.E (record { sink = (s.block n).tracker })) x (unfinished_at sys c channel.E) ms queue here refl
+      one = one-beat (message.E (record { sink = (s.block n).tracker })) x (unfinished_at sys c channel.E) ms queue here
+          refl
 
       x_is : x ≡ beat.E y
       x_is = here.beat_is
 
       shows : is_acknowledging (view (s.block n).service c) ≡ true
-      shows = holds-first GrantAck (s.link c).e toks (packet GrantAck n) (λ i. shown GrantAck c (s.block i)) tokens refl (is.invariant.transfers c GrantAck refl)
+      shows = holds-first GrantAck (s.link c).e toks (packet GrantAck n) (λ i. shown GrantAck c (s.block i)) tokens refl
+          (is.invariant.transfers c GrantAck refl)
 
       seen : view (s.block n).service c ≡ Acknowledging
       seen = is_seen (view (s.block n).service c) shows

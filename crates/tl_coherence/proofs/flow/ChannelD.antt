@@ -1,46 +1,35 @@
 -- What is delivered on a link, as a beat of channel D is: of an answer, a Grant or a ReleaseAck.
-use Rattle.std.proofs.Common.{◌≡◌, subst, ℕ, Bool, true, false, not, ◌&&◌, List, [], ◌∷◌, Option, None, refl, sym, ◌∙◌, ap, inl}
+use Rattle.tl_coherence.proofs.flow.Imports.{Beat, BeatA, Channel, Message, MessageD, History, unfinished, is_empty}
+use Rattle.tl_coherence.proofs.flow.Imports.{completes, Config, Cap, comes_in_grant, is_grant, is_release_ack, asks_for}
+use Rattle.tl_coherence.proofs.flow.Imports.{same_block, MonitorRelation, AbstractState, acquires_of, is_busy}
+use Rattle.tl_coherence.proofs.flow.Imports.{comes_granting, Log, ClientBlock, View, Granting, is_unprobed}
+use Rattle.tl_coherence.proofs.flow.Imports.{is_unreleased, after_release_ack, Block, State, SourceFree, Acquires}
+use Rattle.tl_coherence.proofs.flow.Imports.{packet, shown, view, is_granting, is_answered, is_wanting, taken_block}
+use Rattle.tl_coherence.proofs.flow.Imports.{let_go_block, release_ack_taken, block_message, System, Answer, Grant}
+use Rattle.tl_coherence.proofs.flow.Imports.{ReleaseAck, Packet, SimulationRelation, is_caching, asked_by}
+use Rattle.std.proofs.Common.{◌≡◌, subst, ℕ, Bool, true, false, not, ◌&&◌, List, [], ◌∷◌, Option, None, refl, sym, ◌∙◌}
+use Rattle.std.proofs.Common.{ap, inl}
 use Rattle.std.specs.Prelude.{◌==◌, if◌then◌else◌}
 use Rattle.std.proofs.lemmas.Bool.{ne_eqb, eqb-true, and_right as with_false}
-use Rattle.tl_beat.specs.declared.beat.Beat.{Beat}
 use Rattle.tl_beat.specs.declared.beat.Beat.TheVariants as beat
-use Rattle.tl_beat.specs.declared.beat.BeatA.{BeatA}
-use Rattle.tl_beat.specs.declared.channel.Channel.{Channel}
 use Rattle.tl_beat.specs.declared.channel.Channel.TheVariants as channel
-use Rattle.tl_burst.specs.declared.message.Message.{Message}
 use Rattle.tl_burst.specs.declared.message.Message.TheVariants as message
-use Rattle.tl_burst.specs.declared.message.MessageD.{MessageD}
 use Rattle.tl_burst.specs.statement.Burst.{d_beat_of}
-use Rattle.tl_burst.specs.statement.Messages.{History, unfinished}
-use Rattle.tl_burst.specs.statement.Part.{is_empty, completes}
-use Rattle.tl_params.specs.declared.config.Config.{Config}
-use Rattle.tl_params.specs.declared.param.Cap.{Cap}
 use Rattle.tl_params.specs.statement.Param.{cap_right}
-use Rattle.tl_rules.specs.statement.Conformance.{comes_in_grant}
-use Rattle.tl_rules.specs.statement.History.{is_grant, is_release_ack, asks_for}
-use Rattle.tl_client.proofs.HeldAfter.{same_block}
 use Rattle.tl_manager.proofs.Recording.{cap-gives}
-use Rattle.tl_coherence.specs.refinement.MonitorRelation.{MonitorRelation}
-use Rattle.tl_coherence.specs.refinement.AbstractStep.{AbstractState}
-use Rattle.tl_coherence.specs.protocol.Invariant.{acquires_of, is_busy}
-use Rattle.tl_coherence.specs.refinement.ClientRelation.{comes_granting}
-use Rattle.tl_coherence.specs.statement.Log.{Log}
-use Rattle.tl_coherence.specs.protocol.Phase.{ClientBlock, View, Granting, is_unprobed, is_unreleased}
-use Rattle.tl_coherence.specs.protocol.PhaseSteps.{after_grant, after_release_ack}
-use Rattle.tl_coherence.specs.protocol.Protocol.{Block, State, SourceFree, Acquires, packet, shown, view, is_granting, is_answered, is_wanting, answer_taken, taken_block, grant_taken, let_go_block, release_ack_taken}
-use Rattle.tl_coherence.specs.refinement.PacketMessages.{block_message}
-use Rattle.tl_coherence.specs.statement.System.{System}
-use Rattle.tl_coherence.specs.protocol.Packet.{Answer, Grant, ReleaseAck, Packet}
-use Rattle.tl_coherence.specs.refinement.SimulationRelation.{SimulationRelation, is_caching, asked_by}
+use Rattle.tl_coherence.specs.protocol.PhaseSteps.{after_grant}
+use Rattle.tl_coherence.specs.protocol.Protocol.{answer_taken, grant_taken}
 use Rattle.tl_coherence.proofs.client.Aside.{set_at-else}
 use Rattle.tl_coherence.proofs.queues.Carried.{IsNext}
 use Rattle.tl_coherence.proofs.client.ClientDelivered.{ack_next}
 use Rattle.tl_coherence.proofs.client.ClientEnd.{asks-same, asks-acquire}
-use Rattle.tl_coherence.proofs.protocol.HeadOfD.{IsAnswerDue, answer-due, IsGrantDue, grant-rendered, grant_message, ack_message, own_view}
+use Rattle.tl_coherence.proofs.protocol.HeadOfD.{IsAnswerDue, answer-due, IsGrantDue, grant-rendered, grant_message}
+use Rattle.tl_coherence.proofs.protocol.HeadOfD.{ack_message, own_view}
 use Rattle.tl_coherence.proofs.queues.Facts.{granting_alone}
 use Rattle.tl_coherence.proofs.flow.FlowAlone.{AreRests}
 use Rattle.tl_coherence.proofs.flow.FlowAnswered.{flowed-answer, flowed-let_go}
-use Rattle.tl_coherence.proofs.flow.FlowBeats.{came-so, comes-so, one-beat, set_at-if, same_perms, unused-else, first_false}
+use Rattle.tl_coherence.proofs.flow.FlowBeats.{came-so, comes-so, one-beat, set_at-if, same_perms, unused-else}
+use Rattle.tl_coherence.proofs.flow.FlowBeats.{first_false}
 use Rattle.tl_coherence.proofs.flow.FlowGranted.{seen_after, flowed-grant}
 use Rattle.tl_coherence.proofs.flow.FlowResponses.{grant_quiet, grant_tracked}
 use Rattle.tl_coherence.proofs.flow.FlowStep.{held_by}
@@ -54,13 +43,16 @@ use Rattle.tl_coherence.proofs.simulation.Popped.{unfinished_at}
 -- ---- numbers and opcodes
 
 apart_numbers : (i j : ℕ) → (j == i) ≡ false → i ≡ j → ⊥
-apart_numbers i j e same = let no : (j == j) ≡ false = rw same at e in let yes : true ≡ false = sym (same_number j) ∙ no in cc
+apart_numbers i j e same = let no : (j == j) ≡ false = rw same at e in let yes : true ≡ false =
+    sym (same_number j) ∙ no in cc
 
 swapped : (i j : ℕ) → (j == i) ≡ false → (i == j) ≡ false
 swapped i j e = ne_eqb i j (apart_numbers i j e)
 
-module _ {w : ℕ} (config : Config) (log : Log w) (h : AbstractState w) (sys : System w) (c : ℕ) (is : SimulationRelation config log h.mail h.request h.state sys)
-    (t : History w) (flowed : MonitorRelation (asked_by h.mail h.state c) (unfinished_at sys c) c h.state t) (rest' : Channel → List (Beat w))
+module _ {w : ℕ} (config : Config) (log : Log w) (h : AbstractState w) (sys : System w) (c : ℕ)
+    (is : SimulationRelation config log h.mail h.request h.state sys)
+    (t : History w) (flowed : MonitorRelation (asked_by h.mail h.state c) (unfinished_at sys c) c h.state t)
+    (rest' : Channel → List (Beat w))
     (toks : List Packet) where
   abbrev s : State (List ℕ)
   s = h.state
@@ -71,7 +63,8 @@ module _ {w : ℕ} (config : Config) (log : Log w) (h : AbstractState w) (sys : 
   -- ---- a beat of channel D
 
   module _ (m : MessageD w) (x : Beat w) (ms : List (Message w)) (queue : List (Beat w))
-      (next : IsNext x (unfinished_at sys c channel.D) (message.D m) ms queue) (rests : AreRests x (unfinished_at sys c) rest') (b : Bool)
+      (next : IsNext x (unfinished_at sys c channel.D) (message.D m) ms queue)
+      (rests : AreRests x (unfinished_at sys c) rest') (b : Bool)
       (last : completes x (unfinished_at sys c channel.D) ≡ b) where
     rests_y : AreRests (beat.D (d_beat_of m next.k)) (unfinished_at sys c) rest'
     rests_y = subst (λ (z : Beat w). AreRests z (unfinished_at sys c) rest') next.beat_is rests
@@ -83,22 +76,29 @@ module _ {w : ℕ} (config : Config) (log : Log w) (h : AbstractState w) (sys : 
     next_y = subst (λ (z : Beat w). IsNext z (unfinished_at sys c channel.D) (message.D m) ms queue) next.beat_is next
 
     -- what of a Grant with sink i was delivered, before and afterwards
-    came : (i : ℕ) → comes_in_grant i (unfinished_at sys c channel.D) ≡ (not (is_empty (unfinished_at sys c channel.D)) && (is_grant m.opcode && (m.sink == i)))
-    came i = came-so (comes_in_grant i) (message.D m) (beat.D (d_beat_of m next.k)) (unfinished_at sys c channel.D) ms queue (is_grant m.opcode && (m.sink == i)) next_y refl (λ j. refl)
+    came : (i : ℕ) → comes_in_grant i (unfinished_at sys c channel.D)
+        ≡ (not (is_empty (unfinished_at sys c channel.D)) && (is_grant m.opcode && (m.sink == i)))
+    came i = came-so (comes_in_grant i) (message.D m) (beat.D (d_beat_of m next.k)) (unfinished_at sys c channel.D) ms
+        queue (is_grant m.opcode && (m.sink == i)) next_y refl (λ j. refl)
 
     comes : (i : ℕ) → comes_in_grant i (rest' channel.D) ≡ (not b && (is_grant m.opcode && (m.sink == i)))
     comes i =
-        ap (comes_in_grant i) (rests_y channel.D) ∙ comes-so (comes_in_grant i) (beat.D (d_beat_of m next.k)) (unfinished_at sys c channel.D) (is_grant m.opcode && (m.sink == i)) refl refl
+        ap (comes_in_grant i) (rests_y channel.D) ∙ comes-so (comes_in_grant i) (beat.D (d_beat_of m next.k))
+        (unfinished_at sys c channel.D) (is_grant m.opcode && (m.sink == i)) refl refl
         ∙ ap (λ (z : Bool). not z && (is_grant m.opcode && (m.sink == i))) last_y
 
     -- and of a Grant of block j
-    granted : (j : ℕ) → comes_granting j before (unfinished_at sys c channel.D) ≡ (not (is_empty (unfinished_at sys c channel.D)) && (is_grant m.opcode && asks_for j (before m.source)))
-    granted j = came-so (comes_granting j before) (message.D m) (beat.D (d_beat_of m next.k)) (unfinished_at sys c channel.D) ms queue
+    granted : (j : ℕ) → comes_granting j before (unfinished_at sys c channel.D)
+        ≡ (not (is_empty (unfinished_at sys c channel.D)) && (is_grant m.opcode && asks_for j (before m.source)))
+    granted j = came-so (comes_granting j before) (message.D m) (beat.D (d_beat_of m next.k))
+        (unfinished_at sys c channel.D) ms queue
         (is_grant m.opcode && asks_for j (before m.source)) next_y refl (λ i. refl)
 
-    grants : (asked' : ℕ → Option (BeatA w)) (j : ℕ) → comes_granting j asked' (rest' channel.D) ≡ (not b && (is_grant m.opcode && asks_for j (asked' m.source)))
+    grants : (asked' : ℕ → Option (BeatA w)) (j : ℕ)
+        → comes_granting j asked' (rest' channel.D) ≡ (not b && (is_grant m.opcode && asks_for j (asked' m.source)))
     grants asked' j =
-        ap (comes_granting j asked') (rests_y channel.D) ∙ comes-so (comes_granting j asked') (beat.D (d_beat_of m next.k)) (unfinished_at sys c channel.D)
+        ap (comes_granting j asked') (rests_y channel.D) ∙ comes-so (comes_granting j asked')
+        (beat.D (d_beat_of m next.k)) (unfinished_at sys c channel.D)
         (is_grant m.opcode && asks_for j (asked' m.source)) refl refl
         ∙ ap (λ (z : Bool). not z && (is_grant m.opcode && asks_for j (asked' m.source))) last_y
 
@@ -109,13 +109,19 @@ module _ {w : ℕ} (config : Config) (log : Log w) (h : AbstractState w) (sys : 
     ends_y = ap (completes (beat.D (d_beat_of m next.k))) (flowed.rest_is channel.D) ∙ last_y
 
     -- nothing comes of a message that is no Grant
-    none_came : is_grant m.opcode ≡ false → (i : ℕ) → comes_in_grant i (rest' channel.D) ≡ comes_in_grant i (unfinished_at sys c channel.D)
-    none_came e i = comes i ∙ with_false (not b) (is_grant m.opcode && (m.sink == i)) (first_false (is_grant m.opcode) (m.sink == i) e)
-        ∙ sym (came i ∙ with_false (not (is_empty (unfinished_at sys c channel.D))) (is_grant m.opcode && (m.sink == i)) (first_false (is_grant m.opcode) (m.sink == i) e))
+    none_came : is_grant m.opcode ≡ false → (i : ℕ) → comes_in_grant i (rest' channel.D) ≡ comes_in_grant i
+        (unfinished_at sys c channel.D)
+    none_came e i = comes i ∙ with_false (not b) (is_grant m.opcode && (m.sink == i))
+        (first_false (is_grant m.opcode) (m.sink == i) e)
+        ∙ sym (came i ∙ with_false (not (is_empty (unfinished_at sys c channel.D))) (is_grant m.opcode && (m.sink == i))
+        (first_false (is_grant m.opcode) (m.sink == i) e))
 
-    none_granted : is_grant m.opcode ≡ false → (asked' : ℕ → Option (BeatA w)) (j : ℕ) → comes_granting j asked' (rest' channel.D) ≡ comes_granting j before (unfinished_at sys c channel.D)
-    none_granted e asked' j = grants asked' j ∙ with_false (not b) (is_grant m.opcode && asks_for j (asked' m.source)) (first_false (is_grant m.opcode) (asks_for j (asked' m.source)) e)
-        ∙ sym (granted j ∙ with_false (not (is_empty (unfinished_at sys c channel.D))) (is_grant m.opcode && asks_for j (before m.source))
+    none_granted : is_grant m.opcode ≡ false → (asked' : ℕ → Option (BeatA w)) (j : ℕ)
+        → comes_granting j asked' (rest' channel.D) ≡ comes_granting j before (unfinished_at sys c channel.D)
+    none_granted e asked' j = grants asked' j ∙ with_false (not b) (is_grant m.opcode && asks_for j (asked' m.source))
+        (first_false (is_grant m.opcode) (asks_for j (asked' m.source)) e)
+        ∙ sym (granted j ∙ with_false (not (is_empty (unfinished_at sys c channel.D)))
+        (is_grant m.opcode && asks_for j (before m.source))
         (first_false (is_grant m.opcode) (asks_for j (before m.source)) e))
 
   -- ---- an answer
@@ -123,21 +129,29 @@ module _ {w : ℕ} (config : Config) (log : Log w) (h : AbstractState w) (sys : 
   abbrev answered_if : ℕ → Bool → State (List ℕ)
   answered_if source b = if b then answer_taken c source toks h.state else h.state
 
-  answer_uses : (source : ℕ) (b : Bool) (i j : ℕ) → j ≡ source → (answered_if source b).uses c i ≡ (if b && (j == i) then SourceFree else s.uses c i)
+  answer_uses : (source : ℕ) (b : Bool) (i j : ℕ) → j ≡ source
+      → (answered_if source b).uses c i ≡ (if b && (j == i) then SourceFree else s.uses c i)
   answer_uses source true i j e = set_at-if c source i SourceFree s.uses j e
   answer_uses source false i j e = refl
 
-  answer_asks : (source : ℕ) (b : Bool) (i j : ℕ) → j ≡ source → (b && (j == i)) ≡ false → asked_by h.mail (answered_if source b) c i ≡ before i
+  answer_asks : (source : ℕ) (b : Bool) (i j : ℕ) → j ≡ source → (b && (j == i)) ≡ false
+      → asked_by h.mail (answered_if source b) c i ≡ before i
   answer_asks source true i j e f = asks-same c i h.mail h.mail s (answer_taken c source toks s) refl
-      (inl (set_at-else c source i SourceFree s.uses (apart_numbers i source (sym (ap (λ (k : ℕ). k == i) e) ∙ f)) c)) (λ n used. refl) (λ n used. refl)
+      (inl (set_at-else c source i SourceFree s.uses (apart_numbers i source (sym (ap (λ (k : ℕ). k == i) e) ∙ f)) c))
+      (λ n used. refl) (λ n used. refl)
   answer_asks source false i j e f = refl
 
-  pub own-answer : (source : ℕ) → (s.link c).d ≡ packet Answer source ∷ toks → (x : Beat w) (ms : List (Message w)) (queue : List (Beat w))
-      → IsNext x (unfinished_at sys c channel.D) (h.mail.answer c source) ms queue → AreRests x (unfinished_at sys c) rest'
-      → (b : Bool) → completes x (unfinished_at sys c channel.D) ≡ b → MonitorRelation (asked_by h.mail (answered_if source b) c) rest' c (answered_if source b) (x ∷ t)
+  pub own-answer : (source : ℕ) → (s.link c).d ≡ packet Answer source ∷ toks
+      → (x : Beat w) (ms : List (Message w)) (queue : List (Beat w))
+      → IsNext x (unfinished_at sys c channel.D) (h.mail.answer c source) ms queue
+      → AreRests x (unfinished_at sys c) rest'
+      → (b : Bool) → completes x (unfinished_at sys c channel.D) ≡ b
+      → MonitorRelation (asked_by h.mail (answered_if source b) c) rest' c (answered_if source b) (x ∷ t)
   own-answer source tokens x ms queue next rests b last =
-      subst (λ (z : Beat w). MonitorRelation (asked_by h.mail (answered_if source b) c) rest' c (answered_if source b) (z ∷ t)) (sym here.beat_is)
-      (flowed-answer c (d_beat_of due.answer here.k) (is_empty (unfinished_at sys c channel.D)) b before (asked_by h.mail (answered_if source b) c)
+      subst (λ (z : Beat w). MonitorRelation (asked_by h.mail (answered_if source b) c) rest' c (answered_if source b)
+      (z ∷ t)) (sym here.beat_is)
+      (flowed-answer c (d_beat_of due.answer here.k) (is_empty (unfinished_at sys c channel.D)) b before
+      (asked_by h.mail (answered_if source b) c)
       (unfinished_at sys c) rest' s (answered_if source b) t (begins_y due.answer x ms queue here rests b last)
       (ends_y due.answer x ms queue here rests b last)
       (rests_y due.answer x ms queue here rests b last) (record {
@@ -175,12 +189,16 @@ module _ {w : ℕ} (config : Config) (log : Log w) (h : AbstractState w) (sys : 
 
   -- ---- a ReleaseAck
 
-  pub own-release_ack : (n : ℕ) → (s.link c).d ≡ packet ReleaseAck n ∷ toks → (x : Beat w) (ms : List (Message w)) (queue : List (Beat w))
-      → IsNext x (unfinished_at sys c channel.D) (block_message ReleaseAck c n (s.block n)) ms queue → AreRests x (unfinished_at sys c) rest'
-      → (asked' : ℕ → Option (BeatA w)) → ((i : ℕ) → asked' i ≡ before i) → MonitorRelation asked' rest' c (release_ack_taken c n toks s) (x ∷ t)
+  pub own-release_ack : (n : ℕ) → (s.link c).d ≡ packet ReleaseAck n ∷ toks
+      → (x : Beat w) (ms : List (Message w)) (queue : List (Beat w))
+      → IsNext x (unfinished_at sys c channel.D) (block_message ReleaseAck c n (s.block n)) ms queue
+      → AreRests x (unfinished_at sys c) rest'
+      → (asked' : ℕ → Option (BeatA w)) → ((i : ℕ) → asked' i ≡ before i)
+      → MonitorRelation asked' rest' c (release_ack_taken c n toks s) (x ∷ t)
   own-release_ack n tokens x ms queue next rests asked' asks =
       subst (λ (z : Beat w). MonitorRelation asked' rest' c (release_ack_taken c n toks s) (z ∷ t)) (sym here.beat_is)
-      (flowed-let_go c n (d_beat_of m here.k) before asked' (unfinished_at sys c) rest' s (release_ack_taken c n toks s) t
+      (flowed-let_go c n (d_beat_of m here.k) before asked' (unfinished_at sys c) rest' s (release_ack_taken c n toks s)
+      t
       (begins_y m x ms queue here rests true one.2 ∙ ap is_empty one.1) (ends_y m x ms queue here rests true one.2)
       (rests_y m x ms queue here rests true one.2)
       (λ i k. is.invariant.named.releases c i k) (record {
@@ -196,7 +214,8 @@ module _ {w : ℕ} (config : Config) (log : Log w) (h : AbstractState w) (sys : 
         uses = λ i. refl;
         lets = λ i. set_at-if c ((s.block n).release_source c) i None s.lets ((s.block n).release_source c) refl;
         tracked = λ i. refl;
-        held_is = ap (held_by c) now ∙ ap (λ (p : ClientBlock). if is_granting (view (s.block n).service c) then p.held else p.recorded) pair;
+        held_is = ap (held_by c) now ∙ ap (λ (p : ClientBlock). if is_granting (view (s.block n).service c) then p.held
+            else p.recorded) pair;
         service = ap (λ (z : Block (List ℕ)). z.service) now;
         tracker = ap (λ (z : Block (List ℕ)). z.tracker) now;
         acquiring = ap (λ (z : Block (List ℕ)). (z.pair c).acquiring) now ∙ ap (λ (p : ClientBlock). p.acquiring) pair;
@@ -227,26 +246,36 @@ module _ {w : ℕ} (config : Config) (log : Log w) (h : AbstractState w) (sys : 
   abbrev granted_if : ℕ → Bool → Bool → Cap → Bool → State (List ℕ)
   granted_if n whole d k b = if b then grant_taken c n whole d k toks h.state else h.state
 
-  grant_asks : (n : ℕ) (whole d : Bool) (k : Cap) (b : Bool) (i : ℕ) → (b && ((s.block n).source c == i)) ≡ false → asked_by h.mail (granted_if n whole d k b) c i ≡ before i
+  grant_asks : (n : ℕ) (whole d : Bool) (k : Cap) (b : Bool) (i : ℕ) → (b && ((s.block n).source c == i)) ≡ false
+      → asked_by h.mail (granted_if n whole d k b) c i ≡ before i
   grant_asks n whole d k false i e = refl
   grant_asks n whole d k true i e =
-      asks-same c i h.mail h.mail s (grant_taken c n whole d k toks s) refl (inl (set_at-else c ((s.block n).source c) i SourceFree s.uses (apart_numbers i ((s.block n).source c) e) c))
-      (λ j used. ap (λ (z : Block (List ℕ)). (z.pair c).acquiring) (set-other n j (taken_block c whole d k (s.block n)) s.block (apart j used)))
-      (λ j used. ap (λ (z : Block (List ℕ)). z.source c) (set-other n j (taken_block c whole d k (s.block n)) s.block (apart j used)))
+      asks-same c i h.mail h.mail s (grant_taken c n whole d k toks s) refl
+      (inl (set_at-else c ((s.block n).source c) i SourceFree s.uses (apart_numbers i ((s.block n).source c) e) c))
+      (λ j used. ap (λ (z : Block (List ℕ)). (z.pair c).acquiring) (set-other n j (taken_block c whole d k (s.block n))
+      s.block (apart j used)))
+      (λ j used. ap (λ (z : Block (List ℕ)). z.source c) (set-other n j (taken_block c whole d k (s.block n)) s.block
+      (apart j used)))
     where
       apart : (j : ℕ) → s.uses c i ≡ Acquires j → j ≡ n → ⊥
       apart j used same =
-          let no : acquires_of n (Acquires n) ≡ false = sym (ap (acquires_of n) (used ∙ ap Acquires same)) ∙ unused-else c n i s is.invariant.named e in
+          let no : acquires_of n (Acquires n) ≡ false = sym (ap (acquires_of n) (used ∙ ap Acquires same)) ∙ unused-else
+          c n i s is.invariant.named e in
           let yes : true ≡ false = sym (same_number n) ∙ no in cc
 
   pub own-grant : (n : ℕ) → (s.link c).d ≡ packet Grant n ∷ toks → (due : IsGrantDue c n s) → (whole : Bool)
-      → (x : Beat w) (ms : List (Message w)) (queue : List (Beat w)) → IsNext x (unfinished_at sys c channel.D) (block_message Grant c n (s.block n)) ms queue
+      → (x : Beat w) (ms : List (Message w)) (queue : List (Beat w))
+      → IsNext x (unfinished_at sys c channel.D) (block_message Grant c n (s.block n)) ms queue
       → AreRests x (unfinished_at sys c) rest'
-      → (b : Bool) → completes x (unfinished_at sys c channel.D) ≡ b → MonitorRelation (asked_by h.mail (granted_if n whole due.data_too due.k b) c) rest' c (granted_if n whole due.data_too due.k b) (x ∷ t)
+      → (b : Bool) → completes x (unfinished_at sys c channel.D) ≡ b
+      → MonitorRelation (asked_by h.mail (granted_if n whole due.data_too due.k b) c) rest' c
+      (granted_if n whole due.data_too due.k b) (x ∷ t)
   own-grant n tokens due whole x ms queue next rests b last =
       subst (λ (z : Beat w). MonitorRelation (asked_by h.mail (s_if b) c) rest' c (s_if b) (z ∷ t)) (sym here.beat_is)
-      (flowed-grant c n due.data_too due.k (d_beat_of m here.k) (is_empty (unfinished_at sys c channel.D)) b before (asked_by h.mail (s_if b) c)
-      (unfinished_at sys c) rest' s (s_if b) t (begins_y m x ms queue here rests b last) (ends_y m x ms queue here rests b last)
+      (flowed-grant c n due.data_too due.k (d_beat_of m here.k) (is_empty (unfinished_at sys c channel.D)) b before
+      (asked_by h.mail (s_if b) c)
+      (unfinished_at sys c) rest' s (s_if b) t (begins_y m x ms queue here rests b last)
+      (ends_y m x ms queue here rests b last)
       (rests_y m x ms queue here rests b last) (record {
         grant = grants-so due.data_too;
         ack = no_ack_grant due.data_too;
@@ -257,16 +286,23 @@ module _ {w : ℕ} (config : Config) (log : Log w) (h : AbstractState w) (sys : 
         quiet = grant_quiet (is_caching config) c n s is.invariant due;
         use_is = λ i e. ap (s.uses c) (sym (eqb-true ((s.block n).source c) i e)) ∙ due.used;
         no_use = λ i e. unused-else c n i s is.invariant.named e;
-        tracks = λ i e. ap s.tracked (sym (eqb-true (s.block n).tracker i e)) ∙ grant_tracked (is_caching config) c n s is.invariant due;
-        tracks_not = λ i e. is.invariant.named.trackers i n ∙ with_false (is_busy (s.block n).service) (i == (s.block n).tracker) (swapped i (s.block n).tracker e);
+        tracks = λ i e. ap s.tracked (sym (eqb-true (s.block n).tracker i e)) ∙ grant_tracked (is_caching config) c n s
+            is.invariant due;
+        tracks_not = λ i e. is.invariant.named.trackers i n ∙ with_false (is_busy (s.block n).service)
+            (i == (s.block n).tracker) (swapped i (s.block n).tracker e);
         asks = asks;
-        came = λ i. came m x ms queue here rests b last i ∙ ap (λ (z : Bool). not (is_empty (unfinished_at sys c channel.D)) && (z && ((s.block n).tracker == i))) (grants-so due.data_too);
-        comes = λ i. comes m x ms queue here rests b last i ∙ ap (λ (z : Bool). not b && (z && ((s.block n).tracker == i))) (grants-so due.data_too);
+        came = λ i. came m x ms queue here rests b last i ∙ ap
+            (λ (z : Bool). not (is_empty (unfinished_at sys c channel.D)) && (z && ((s.block n).tracker == i)))
+            (grants-so due.data_too);
+        comes = λ i. comes m x ms queue here rests b last i ∙ ap
+            (λ (z : Bool). not b && (z && ((s.block n).tracker == i))) (grants-so due.data_too);
         granted = λ j. granted m x ms queue here rests b last j
-            ∙ ap (λ (z : Bool). not (is_empty (unfinished_at sys c channel.D)) && (z && asks_for j (before ((s.block n).source c)))) (grants-so due.data_too)
+            ∙ ap (λ (z : Bool). not (is_empty (unfinished_at sys c channel.D))
+            && (z && asks_for j (before ((s.block n).source c)))) (grants-so due.data_too)
             ∙ ap (λ (z : Bool). not (is_empty (unfinished_at sys c channel.D)) && z) (asks j);
         grants = λ j. grants m x ms queue here rests b last (asked_by h.mail (s_if b) c) j
-            ∙ ap (λ (z : Bool). not b && (z && asks_for j (asked_by h.mail (s_if b) c ((s.block n).source c)))) (grants-so due.data_too) ∙ asks_now b j;
+            ∙ ap (λ (z : Bool). not b && (z && asks_for j (asked_by h.mail (s_if b) c ((s.block n).source c))))
+            (grants-so due.data_too) ∙ asks_now b j;
         asked_is = grant_asks n whole due.data_too due.k b;
         elsewhere = elsewhere b;
         uses = uses b;
@@ -285,7 +321,8 @@ module _ {w : ℕ} (config : Config) (log : Log w) (h : AbstractState w) (sys : 
       m = grant_message due.data_too due.k ((s.block n).source c) (s.block n).tracker (s.block n).truth
 
       here : IsNext x (unfinished_at sys c channel.D) (message.D m) ms queue
-      here = subst (λ (i : Message w). IsNext x (unfinished_at sys c channel.D) i ms queue) (grant-rendered c n s due) next
+      here = subst (λ (i : Message w). IsNext x (unfinished_at sys c channel.D) i ms queue) (grant-rendered c n s due)
+          next
 
       s_if : Bool → State (List ℕ)
       s_if z = granted_if n whole due.data_too due.k z
@@ -303,12 +340,15 @@ module _ {w : ℕ} (config : Config) (log : Log w) (h : AbstractState w) (sys : 
       even = sym (same_perms ((s.block n).pair c).recorded (cap_right due.k)
           (and_right (is_unreleased ((s.block n).pair c).letting) _
           (and_right (is_unprobed ((s.block n).pair c).probing) _
-          (granting_alone due.data_too due.k ((s.block n).pair c) (view (s.block n).service c) ((is.invariant.blocks n).phases c) seen))))
+          (granting_alone due.data_too due.k ((s.block n).pair c) (view (s.block n).service c)
+          ((is.invariant.blocks n).phases c) seen))))
 
       asks : (j : ℕ) → asks_for j (before ((s.block n).source c)) ≡ (n == j)
-      asks j = ap (asks_for j) (asks-acquire c ((s.block n).source c) n ((s.block n).source c) due.whole due.g h.mail s due.used due.wants refl) ∙ ap (λ (i : ℕ). i == j) (same_block n)
+      asks j = ap (asks_for j) (asks-acquire c ((s.block n).source c) n ((s.block n).source c) due.whole due.g h.mail s
+          due.used due.wants refl) ∙ ap (λ (i : ℕ). i == j) (same_block n)
 
-      asks_now : (z : Bool) (j : ℕ) → (not z && (true && asks_for j (asked_by h.mail (s_if z) c ((s.block n).source c)))) ≡ (not z && (n == j))
+      asks_now : (z : Bool) (j : ℕ)
+          → (not z && (true && asks_for j (asked_by h.mail (s_if z) c ((s.block n).source c)))) ≡ (not z && (n == j))
       asks_now true j = refl
       asks_now false j = asks j
 
@@ -325,7 +365,8 @@ module _ {w : ℕ} (config : Config) (log : Log w) (h : AbstractState w) (sys : 
       elsewhere true k ne = set-other n k new s.block ne
       elsewhere false k ne = refl
 
-      uses : (z : Bool) (i : ℕ) → (s_if z).uses c i ≡ (if z && ((s.block n).source c == i) then SourceFree else s.uses c i)
+      uses : (z : Bool) (i : ℕ)
+          → (s_if z).uses c i ≡ (if z && ((s.block n).source c == i) then SourceFree else s.uses c i)
       uses true i = set_at-if c ((s.block n).source c) i SourceFree s.uses ((s.block n).source c) refl
       uses false i = refl
 
@@ -342,7 +383,8 @@ module _ {w : ℕ} (config : Config) (log : Log w) (h : AbstractState w) (sys : 
       seen_is false = seen
 
       held_is : (z : Bool) → held_by c ((s_if z).block n) ≡ (if z then cap_right due.k else held_by c (s.block n))
-      held_is true = ap (held_by c) (now true) ∙ ap (λ (v : View). if is_granting v then (new.pair c).held else (new.pair c).recorded) (seen_is true) ∙ ap (λ (p : ClientBlock). p.recorded) pair ∙ even
+      held_is true = ap (held_by c) (now true) ∙ ap (λ (v : View). if is_granting v then (new.pair c).held else
+          (new.pair c).recorded) (seen_is true) ∙ ap (λ (p : ClientBlock). p.recorded) pair ∙ even
       held_is false = refl
 
       wants_is : (z : Bool) → is_wanting ((block_if z).pair c).acquiring ≡ not z

@@ -1,25 +1,20 @@
--- What is delivered on a link, as a Probe or a GrantAck is: messages of one beat, which leave requests and Releases alone.
-use Rattle.std.proofs.Common.{◌≡◌, ℕ, Bool, true, false, not, ◌&&◌, ◌||◌, ◌∷◌, Option, Some, None, refl, sym, ◌∙◌, ap, List, ◌⊎◌, inl, inr}
+-- What is delivered on a link, as a Probe or a GrantAck is: messages of one beat, which leave requests and Releases
+-- alone.
+use Rattle.tl_coherence.proofs.flow.Imports.{Beat, BeatA, BeatE, Channel, History, on, grown, Cap, comes_in_grant}
+use Rattle.tl_coherence.proofs.flow.Imports.{begins, ends, block_at, release_of, probe_of, grant_sink, MonitorRelation}
+use Rattle.tl_coherence.proofs.flow.Imports.{is_requested, is_let_by, is_sunk, is_of, is_busy, comes_granting, View}
+use Rattle.tl_coherence.proofs.flow.Imports.{Own, Acknowledging, Other, Service, Free, Waits, GrantSent, GrantTaken}
+use Rattle.tl_coherence.proofs.flow.Imports.{Block, State, view, is_granting, is_acknowledging, is_answered, is_wanting}
+use Rattle.tl_coherence.proofs.flow.Imports.{is_unserved, grant_ack_taken, freed_block, probe_beat, cap_waited, Packet}
+use Rattle.tl_coherence.proofs.flow.Imports.{set}
+use Rattle.std.proofs.Common.{◌≡◌, ℕ, Bool, true, false, not, ◌&&◌, ◌||◌, ◌∷◌, Option, Some, None, refl, sym, ◌∙◌, ap}
+use Rattle.std.proofs.Common.{List, ◌⊎◌, inl, inr}
 use Rattle.std.specs.Prelude.{◌==◌, if◌then◌else◌, option_map}
 use Rattle.std.proofs.lemmas.Bool.{cases_eq, ne_eqb, eqb-true}
-use Rattle.tl_beat.specs.declared.beat.Beat.{Beat}
 use Rattle.tl_beat.specs.declared.beat.Beat.TheVariants as beat
-use Rattle.tl_beat.specs.declared.beat.BeatA.{BeatA}
-use Rattle.tl_beat.specs.declared.beat.BeatE.{BeatE}
-use Rattle.tl_beat.specs.declared.channel.Channel.{Channel}
 use Rattle.tl_beat.specs.declared.channel.Channel.TheVariants as channel
-use Rattle.tl_burst.specs.statement.Messages.{History, on, grown}
-use Rattle.tl_params.specs.declared.param.Cap.{Cap}
-use Rattle.tl_rules.specs.statement.Conformance.{comes_in_grant}
-use Rattle.tl_rules.specs.statement.History.{begins, ends, block_at, release_of, probe_of, grant_sink, is_sink}
-use Rattle.tl_coherence.specs.refinement.MonitorRelation.{MonitorRelation, is_requested, is_let_by, is_sunk}
-use Rattle.tl_coherence.specs.protocol.Invariant.{AreNamed, is_of, is_busy}
-use Rattle.tl_coherence.specs.refinement.ClientRelation.{comes_granting}
-use Rattle.tl_coherence.specs.protocol.Phase.{View, Own, Acknowledging, Other}
-use Rattle.tl_coherence.specs.protocol.Protocol.{Service, Free, Waits, GrantSent, GrantTaken, Block, State, view, is_granting, is_acknowledging, is_answered, is_wanting, is_unserved, grant_ack_taken, freed_block}
-use Rattle.tl_coherence.specs.refinement.PacketMessages.{probe_beat}
-use Rattle.tl_coherence.specs.refinement.SourceRelation.{cap_waited}
-use Rattle.tl_coherence.specs.protocol.Packet.{Packet, set}
+use Rattle.tl_rules.specs.statement.History.{is_sink}
+use Rattle.tl_coherence.specs.protocol.Invariant.{AreNamed}
 use Rattle.tl_coherence.proofs.flow.FlowAside.{IsComing, requested-blocks, let_by-same}
 use Rattle.tl_coherence.proofs.flow.FlowStep.{flowed-next, held_by, acquired_by, let_of, granted_by, step}
 use Rattle.tl_coherence.proofs.queues.Tokens.{same_number, set-same, set-other, set-each, set-part}
@@ -46,26 +41,37 @@ no_coming g true e f = let h : g ≡ true = f refl in let i : false ≡ true = s
 other_sink : (i j : ℕ) (o : Option ℕ) → o ≡ Some j → (j ≡ i → ⊥) → is_sink i o ≡ false
 other_sink i j o e ne = rw e (ne_eqb j i ne)
 
-pub flowed-grant_ack : {w : ℕ} {X : Type 0} (c n : ℕ) (toks : List Packet) (y : BeatE) (asked asked' : ℕ → Option (BeatA w)) (rest rest' : Channel → List (Beat w)) (s : State X) (t : History w)
-    → begins (beat.E y) t ≡ true → ends (beat.E y) t ≡ true → AreRests (beat.E y) rest rest' → ((i : ℕ) → asked' i ≡ asked i) → y.sink ≡ (s.block n).tracker
+pub flowed-grant_ack : {w : ℕ} {X : Type 0} (c n : ℕ) (toks : List Packet) (y : BeatE) (asked asked' : ℕ
+    → Option (BeatA w)) (rest rest' : Channel → List (Beat w)) (s : State X) (t : History w)
+    → begins (beat.E y) t ≡ true → ends (beat.E y) t ≡ true → AreRests (beat.E y) rest rest'
+    → ((i : ℕ) → asked' i ≡ asked i) → y.sink ≡ (s.block n).tracker
     → view (s.block n).service c ≡ Acknowledging
-    → AreNamed s → is_busy (s.block n).service ≡ true → ((m : ℕ) → is_acknowledging (view (s.block m).service c) ≡ true → is_busy (s.block m).service ≡ true)
+    → AreNamed s → is_busy (s.block n).service ≡ true → ((m : ℕ) → is_acknowledging (view (s.block m).service c) ≡ true
+    → is_busy (s.block m).service ≡ true)
     → ((m : ℕ) → is_granting (view (s.block m).service c) ≡ true → is_busy (s.block m).service ≡ true)
-    → IsComing asked (rest channel.D) c s → ((m : ℕ) → comes_granting m asked' (rest channel.D) ≡ comes_granting m asked (rest channel.D))
+    → IsComing asked (rest channel.D) c s
+    → ((m : ℕ) → comes_granting m asked' (rest channel.D) ≡ comes_granting m asked (rest channel.D))
     → MonitorRelation asked rest c s t → MonitorRelation asked' rest' c (grant_ack_taken c n toks s) (beat.E y ∷ t)
-flowed-grant_ack {w} {X} c n toks y asked asked' rest rest' s t first last rests asks sink seen named busy busy_a busy_g coming comes before =
+flowed-grant_ack {w} {X} c n toks y asked asked' rest rest' s t first last rests asks sink seen named busy busy_a busy_g
+    coming comes before =
     flowed-next (beat.E y) true true asked asked' rest rest' c s s' t (record {
       first_is = first;
       last_is = last;
       rests = rests;
-      held_is = set-part (held_by c) n new s.block (sym (ap (λ (v : View). if is_granting v then (b.pair c).held else (b.pair c).recorded) seen));
+      held_is = set-part (held_by c) n new s.block
+          (sym (ap (λ (v : View). if is_granting v then (b.pair c).held else (b.pair c).recorded) seen));
       requests = requests;
-      asked_is = λ i e. request_of-e i y t ∙ before.asked_is i (before.requests i ∙ sym (requests i) ∙ e) ∙ sym (asks i);
-      acquires = set-part (acquired_by c) n new s.block (sym (ap (λ (v : View). is_wanting (b.pair c).acquiring && not (is_unserved v)) seen));
+      asked_is = λ i e. request_of-e i y t ∙ before.asked_is i (before.requests i ∙ sym (requests i) ∙ e) ∙ sym
+          (asks i);
+      acquires = set-part (acquired_by c) n new s.block
+          (sym (ap (λ (v : View). is_wanting (b.pair c).acquiring && not (is_unserved v)) seen));
       release_sources = lets;
-      released = λ i m e f. ap (option_map (λ z. block_at z.address)) (released-of i y t) ∙ before.released i m e (before.release_sources i ∙ sym (lets i) ∙ f);
-      sizes = λ i m e f. ap (option_map (λ z. z.size)) (released-of i y t) ∙ before.sizes i m e (before.release_sources i ∙ sym (lets i) ∙ f);
-      releases = λ m. ap (λ (r : List (Beat w)). let_of c r (s'.block m)) (rests channel.C) ∙ set-part (let_of c (rest channel.C)) n new s.block refl m;
+      released = λ i m e f. ap (option_map (λ z. block_at z.address)) (released-of i y t) ∙ before.released i m e
+          (before.release_sources i ∙ sym (lets i) ∙ f);
+      sizes = λ i m e f. ap (option_map (λ z. z.size)) (released-of i y t) ∙ before.sizes i m e
+          (before.release_sources i ∙ sym (lets i) ∙ f);
+      releases = λ m. ap (λ (r : List (Beat w)). let_of c r (s'.block m)) (rests channel.C) ∙ set-part
+          (let_of c (rest channel.C)) n new s.block refl m;
       sinks = sinks;
       grants = grants;
       probes = set-part (λ (z : Block X). is_answered (z.pair c).probing) n new s.block refl;
@@ -82,21 +88,28 @@ flowed-grant_ack {w} {X} c n toks y asked asked' rest rest' s t first last rests
     s' : State X
     s' = grant_ack_taken c n toks s
 
-    requests : (i : ℕ) → is_requested c i (rest' channel.A) (s'.uses c i) s' ≡ is_requested c i (rest channel.A) (s.uses c i) s
+    requests : (i : ℕ) → is_requested c i (rest' channel.A) (s'.uses c i) s' ≡ is_requested c i (rest channel.A)
+        (s.uses c i) s
     requests i =
         ap (λ (r : List (Beat w)). is_requested c i r (s.uses c i) s') (rests channel.A)
-        ∙ requested-blocks c i (rest channel.A) (s.uses c i) s s' (set-part (λ (z : Block X). is_unserved (view z.service c)) n new s.block (sym (ap is_unserved seen)))
+        ∙ requested-blocks c i (rest channel.A) (s.uses c i) s s'
+        (set-part (λ (z : Block X). is_unserved (view z.service c)) n new s.block (sym (ap is_unserved seen)))
 
     lets : (i : ℕ) → is_let_by c i (rest' channel.C) (s'.lets c i) s' ≡ is_let_by c i (rest channel.C) (s.lets c i) s
     lets i =
         ap (λ (r : List (Beat w)). is_let_by c i r (s.lets c i) s') (rests channel.C)
-        ∙ let_by-same c i (rest channel.C) (s.lets c i) s s' (set-part (λ (z : Block X). (z.pair c).letting) n new s.block refl)
+        ∙ let_by-same c i (rest channel.C) (s.lets c i) s s' (set-part (λ (z : Block X). (z.pair c).letting) n new
+        s.block refl)
 
-    answered_other : (m : ℕ) → is_answered ((s'.block m).pair c).probing ≡ true → is_answered ((s.block m).pair c).probing ≡ true
+    answered_other : (m : ℕ) → is_answered ((s'.block m).pair c).probing ≡ true
+        → is_answered ((s.block m).pair c).probing ≡ true
     answered_other m e = sym (set-part (λ (z : Block X). is_answered (z.pair c).probing) n new s.block refl m) ∙ e
 
-    probed : (m : ℕ) → is_answered ((s'.block m).pair c).probing ≡ true → probe_of m t ≡ Some (probe_beat m (cap_waited (s'.block m).service))
-    probed m e = before.probed m (answered_other m e) ∙ sym (ap (λ k. Some (probe_beat m k)) (set-part (λ (z : Block X). cap_waited z.service) n new s.block (no_cap b.service seen) m))
+    probed : (m : ℕ) → is_answered ((s'.block m).pair c).probing ≡ true
+        → probe_of m t ≡ Some (probe_beat m (cap_waited (s'.block m).service))
+    probed m e = before.probed m (answered_other m e) ∙ sym
+        (ap (λ k. Some (probe_beat m k)) (set-part (λ (z : Block X). cap_waited z.service) n new s.block
+        (no_cap b.service seen) m))
       where
         no_cap : (q : Service) → view q c ≡ Acknowledging → cap_waited Free ≡ cap_waited q
         no_cap Free f = refl
@@ -109,16 +122,19 @@ flowed-grant_ack {w} {X} c n toks y asked asked' rest rest' s t first last rests
             waits false j g = absurd cc
 
     of_block : (m : ℕ) → granted_by c m asked (rest channel.D) (s.block m) ≡ true → is_busy (s.block m).service ≡ true
-    of_block m e = go (is_acknowledging (view (s.block m).service c)) (comes_granting m asked (rest channel.D)) refl refl e
+    of_block m e = go (is_acknowledging (view (s.block m).service c)) (comes_granting m asked (rest channel.D)) refl
+        refl e
       where
-        go : (p q : Bool) → is_acknowledging (view (s.block m).service c) ≡ p → comes_granting m asked (rest channel.D) ≡ q → (p || q) ≡ true → is_busy (s.block m).service ≡ true
+        go : (p q : Bool) → is_acknowledging (view (s.block m).service c) ≡ p
+            → comes_granting m asked (rest channel.D) ≡ q → (p || q) ≡ true → is_busy (s.block m).service ≡ true
         go true q f g h = busy_a m f
         go false true f g h = busy_g m (coming m g)
         go false false f g h = absurd cc
 
     -- blocks in service have trackers of their own
     apart : (m : ℕ) → is_busy (s.block m).service ≡ true → (m ≡ n → ⊥) → (s.block m).tracker ≡ b.tracker → ⊥
-    apart m also ne same = ne (is_same (s.tracked b.tracker) (named.trackers b.tracker n ∙ rw (busy, same_number b.tracker) refl)
+    apart m also ne same = ne
+        (is_same (s.tracked b.tracker) (named.trackers b.tracker n ∙ rw (busy, same_number b.tracker) refl)
         (named.trackers b.tracker m ∙ rw (also, same, same_number b.tracker) refl))
       where
         is_same : (o : Option ℕ) → is_of n o ≡ true → is_of m o ≡ true → m ≡ n
@@ -126,7 +142,8 @@ flowed-grant_ack {w} {X} c n toks y asked asked' rest rest' s t first last rests
         is_same (Some i) f g = eqb-true m i g ∙ sym (eqb-true n i f)
 
     none_comes : comes_granting n asked (rest channel.D) ≡ false
-    none_comes = no_coming (is_granting (view b.service c)) (comes_granting n asked (rest channel.D)) (not_granting (view b.service c) seen) (coming n)
+    none_comes = no_coming (is_granting (view b.service c)) (comes_granting n asked (rest channel.D))
+        (not_granting (view b.service c) seen) (coming n)
 
     grants_rest : (m : ℕ) → comes_granting m asked' (rest' channel.D) ≡ comes_granting m asked (rest channel.D)
     grants_rest m = ap (comes_granting m asked') (rests channel.D) ∙ comes m
@@ -139,38 +156,56 @@ flowed-grant_ack {w} {X} c n toks y asked asked' rest rest' s t first last rests
     leaves_it p false h = refl
     leaves_it true true h = let g : true ≡ false = h refl in cc
 
-    other_closed : (m : ℕ) → (m ≡ n → ⊥) → granted_by c m asked (rest channel.D) (s.block m) ≡ true → is_sink y.sink (grant_sink m t) ≡ false
-    other_closed m ne e = rw sink (other_sink b.tracker (s.block m).tracker (grant_sink m t) (before.sunk m (before.grants m ∙ e)) (apart m (of_block m e) ne))
+    other_closed : (m : ℕ) → (m ≡ n → ⊥) → granted_by c m asked (rest channel.D) (s.block m) ≡ true
+        → is_sink y.sink (grant_sink m t) ≡ false
+    other_closed m ne e = rw sink (other_sink b.tracker (s.block m).tracker (grant_sink m t)
+        (before.sunk m (before.grants m ∙ e)) (apart m (of_block m e) ne))
 
     acks_here : granted_by c n asked (rest channel.D) b ≡ true
     acks_here = ap (λ (v : View). is_acknowledging v || comes_granting n asked (rest channel.D)) seen
 
-    grants : (m : ℕ) → granted_by c m asked' (rest' channel.D) (s'.block m) ≡ step true true false (is_sink y.sink (grant_sink m t)) (granted_by c m asked (rest channel.D) (s.block m))
-    grants = set-each (λ m z. granted_by c m asked' (rest' channel.D) z ≡ step true true false (is_sink y.sink (grant_sink m t)) (granted_by c m asked (rest channel.D) (s.block m))) n new s.block
-        (grants_rest n ∙ none_comes ∙ sym (closes_it (granted_by c n asked (rest channel.D) b) (is_sink y.sink (grant_sink n t))
+    grants : (m : ℕ) → granted_by c m asked' (rest' channel.D) (s'.block m) ≡ step true true false
+        (is_sink y.sink (grant_sink m t)) (granted_by c m asked (rest channel.D) (s.block m))
+    grants = set-each (λ m z. granted_by c m asked' (rest' channel.D) z ≡ step true true false
+        (is_sink y.sink (grant_sink m t)) (granted_by c m asked (rest channel.D) (s.block m))) n new s.block
+        (grants_rest n ∙ none_comes ∙ sym (closes_it (granted_by c n asked (rest channel.D) b)
+        (is_sink y.sink (grant_sink n t))
         (rw sink (is_own_sink b.tracker (grant_sink n t) (before.sunk n (before.grants n ∙ acks_here))))))
         (λ m ne. ap (λ (z : Bool). is_acknowledging (view (s.block m).service c) || z) (grants_rest m)
-        ∙ sym (leaves_it (granted_by c m asked (rest channel.D) (s.block m)) (is_sink y.sink (grant_sink m t)) (other_closed m ne)))
+        ∙ sym (leaves_it (granted_by c m asked (rest channel.D) (s.block m)) (is_sink y.sink (grant_sink m t))
+        (other_closed m ne)))
 
-    tracked : (m : ℕ) → granted_by c m asked' (rest' channel.D) (s'.block m) ≡ true → grant_sink m t ≡ Some (s'.block m).tracker
-    tracked = set-each (λ m z. granted_by c m asked' (rest' channel.D) z ≡ true → grant_sink m t ≡ Some z.tracker) n new s.block
+    tracked : (m : ℕ) → granted_by c m asked' (rest' channel.D) (s'.block m) ≡ true
+        → grant_sink m t ≡ Some (s'.block m).tracker
+    tracked = set-each (λ m z. granted_by c m asked' (rest' channel.D) z ≡ true → grant_sink m t ≡ Some z.tracker) n new
+        s.block
         (λ e. absurd (let f : false ≡ true = sym (grants_rest n ∙ none_comes) ∙ e in cc))
-        (λ m ne e. before.sunk m (before.grants m ∙ sym (ap (λ (z : Bool). is_acknowledging (view (s.block m).service c) || z) (grants_rest m)) ∙ e))
+        (λ m ne e. before.sunk m
+        (before.grants m ∙ sym (ap (λ (z : Bool). is_acknowledging (view (s.block m).service c) || z)
+        (grants_rest m)) ∙ e))
 
-    sinks : (i : ℕ) → is_sunk c i (rest' channel.D) (s'.tracked i) s' ≡ step true true false (y.sink == i) (is_sunk c i (rest channel.D) (s.tracked i) s)
+    sinks : (i : ℕ) → is_sunk c i (rest' channel.D) (s'.tracked i) s' ≡ step true true false (y.sink == i)
+        (is_sunk c i (rest channel.D) (s.tracked i) s)
     sinks i = ap (λ (r : List (Beat w)). is_sunk c i r (s'.tracked i) s') (rests channel.D) ∙ go (cases_eq i b.tracker)
       where
-        others : (o : Option ℕ) → is_of n o ≡ false → is_sunk c i (rest channel.D) o s' ≡ is_sunk c i (rest channel.D) o s
+        others : (o : Option ℕ) → is_of n o ≡ false → is_sunk c i (rest channel.D) o s' ≡ is_sunk c i (rest channel.D) o
+            s
         others None f = refl
-        others (Some m) f = ap (λ (z : Block X). is_sunk_with z) (set-other n m new s.block (λ e. let g : true ≡ false = sym (rw e (same_number n)) ∙ f in cc))
+        others (Some m) f = ap (λ (z : Block X). is_sunk_with z) (set-other n m new s.block (λ e. let g : true ≡ false =
+            sym (rw e (same_number n)) ∙ f in cc))
           where
             is_sunk_with : Block X → Bool
-            is_sunk_with z = is_acknowledging (view z.service c) || (is_granting (view z.service c) && comes_in_grant i (rest channel.D))
+            is_sunk_with z = is_acknowledging (view z.service c) || (is_granting (view z.service c) && comes_in_grant i
+                (rest channel.D))
 
-        go : (i ≡ b.tracker) ⊎ (i ≡ b.tracker → ⊥) → is_sunk c i (rest channel.D) (s'.tracked i) s' ≡ step true true false (y.sink == i) (is_sunk c i (rest channel.D) (s.tracked i) s)
-        go (inl same) = ap (λ (o : Option ℕ). is_sunk c i (rest channel.D) o s') (ap (set b.tracker None s.tracked) same ∙ set-same b.tracker None s.tracked)
-            ∙ sym (closes_it (is_sunk c i (rest channel.D) (s.tracked i) s) (y.sink == i) (rw (sink, same) (same_number b.tracker)))
+        go : (i ≡ b.tracker) ⊎ (i ≡ b.tracker → ⊥) → is_sunk c i (rest channel.D) (s'.tracked i) s' ≡ step true true
+            false (y.sink == i) (is_sunk c i (rest channel.D) (s.tracked i) s)
+        go (inl same) = ap (λ (o : Option ℕ). is_sunk c i (rest channel.D) o s')
+            (ap (set b.tracker None s.tracked) same ∙ set-same b.tracker None s.tracked)
+            ∙ sym (closes_it (is_sunk c i (rest channel.D) (s.tracked i) s) (y.sink == i)
+            (rw (sink, same) (same_number b.tracker)))
         go (inr other) =
             ap (λ (o : Option ℕ). is_sunk c i (rest channel.D) o s') (set-other b.tracker i None s.tracked other)
             ∙ others (s.tracked i) (named.trackers i n ∙ rw (busy, ne_eqb i b.tracker other) refl)
-            ∙ sym (leaves_it (is_sunk c i (rest channel.D) (s.tracked i) s) (y.sink == i) (λ e. rw sink (ne_eqb b.tracker i (λ f. other (sym f)))))
+            ∙ sym (leaves_it (is_sunk c i (rest channel.D) (s.tracked i) s) (y.sink == i)
+            (λ e. rw sink (ne_eqb b.tracker i (λ f. other (sym f)))))

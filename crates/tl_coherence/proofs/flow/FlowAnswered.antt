@@ -1,28 +1,21 @@
 -- What is delivered on a link, as a beat of an access's answer or a ReleaseAck is.
-use Rattle.std.proofs.Common.{◌≡◌, ℕ, Bool, true, false, not, ◌&&◌, ◌||◌, ◌∷◌, Option, Some, None, refl, sym, ◌∙◌, ap, List}
+use Rattle.tl_coherence.proofs.flow.Imports.{Beat, BeatA, BeatC, BeatD, Channel, History, ReleaseSource, Perm}
+use Rattle.tl_coherence.proofs.flow.Imports.{comes_in_grant, begins, ends, block_at, pending, is_grant, is_release_ack}
+use Rattle.tl_coherence.proofs.flow.Imports.{asks_for, request_of, release_of, probe_of, grant_sink, MonitorRelation}
+use Rattle.tl_coherence.proofs.flow.Imports.{is_requested, is_let, is_let_by, is_sunk, is_of, comes_granting, NoRelease}
+use Rattle.tl_coherence.proofs.flow.Imports.{ReleaseAcked, AcquirePhase, Service, Block, State, SourceState, SourceFree}
+use Rattle.tl_coherence.proofs.flow.Imports.{view, is_granting, is_acknowledging, is_answered, is_wanting, is_unserved}
+use Rattle.tl_coherence.proofs.flow.Imports.{probe_beat, cap_waited}
+use Rattle.std.proofs.Common.{◌≡◌, ℕ, Bool, true, false, not, ◌&&◌, ◌||◌, ◌∷◌, Option, Some, None, refl, sym, ◌∙◌, ap}
+use Rattle.std.proofs.Common.{List}
 use Rattle.std.specs.Prelude.{◌==◌, if◌then◌else◌, option_map, unwrap_or}
 use Rattle.std.proofs.lemmas.Bool.{ne_eqb, eqb-true}
-use Rattle.tl_beat.specs.declared.beat.Beat.{Beat}
 use Rattle.tl_beat.specs.declared.beat.Beat.TheVariants as beat
-use Rattle.tl_beat.specs.declared.beat.BeatA.{BeatA}
-use Rattle.tl_beat.specs.declared.beat.BeatC.{BeatC}
-use Rattle.tl_beat.specs.declared.beat.BeatD.{BeatD}
-use Rattle.tl_beat.specs.declared.channel.Channel.{Channel}
 use Rattle.tl_beat.specs.declared.channel.Channel.TheVariants as channel
-use Rattle.tl_burst.specs.statement.Messages.{History}
-use Rattle.tl_params.specs.declared.key.Key.TheVariants.{ReleaseSource}
-use Rattle.tl_params.specs.declared.perm.Perm.{Perm}
-use Rattle.tl_rules.specs.statement.Conformance.{comes_in_grant}
-use Rattle.tl_rules.specs.statement.History.{begins, ends, block_at, pending, is_grant, is_release_ack, asks_for, request_of, release_of, probe_of, grant_sink, releases, capped}
+use Rattle.tl_rules.specs.statement.History.{releases, capped}
 use Rattle.tl_client.proofs.Opens.{request_of-d}
 use Rattle.tl_client.proofs.AccountedResponse.{release_of-d}
-use Rattle.tl_coherence.specs.refinement.MonitorRelation.{MonitorRelation, is_requested, is_let, is_let_by, is_sunk}
-use Rattle.tl_coherence.specs.protocol.Invariant.{is_of, releases_with}
-use Rattle.tl_coherence.specs.refinement.ClientRelation.{comes_granting}
-use Rattle.tl_coherence.specs.protocol.Phase.{NoRelease, ReleaseAcked, AcquirePhase}
-use Rattle.tl_coherence.specs.protocol.Protocol.{Service, Block, State, SourceState, SourceFree, view, is_granting, is_acknowledging, is_answered, is_wanting, is_unserved}
-use Rattle.tl_coherence.specs.refinement.PacketMessages.{probe_beat}
-use Rattle.tl_coherence.specs.refinement.SourceRelation.{cap_waited}
+use Rattle.tl_coherence.specs.protocol.Invariant.{releases_with}
 use Rattle.tl_coherence.proofs.flow.FlowAlone.{AreRests}
 use Rattle.tl_coherence.proofs.flow.FlowAside.{requested-blocks, let_by-same}
 use Rattle.tl_coherence.proofs.flow.FlowReleased.{AreElsewhere, each-block, part-block}
@@ -35,7 +28,8 @@ pub probed-of : {w : ℕ} (n : ℕ) (y : BeatD w) (t : History w) → probe_of n
 unfolding probe_of
 probed-of n y t = refl
 
-sunk-of : {w : ℕ} (n : ℕ) (y : BeatD w) (t : History w) → is_grant y.opcode ≡ false → grant_sink n (beat.D y ∷ t) ≡ grant_sink n t
+sunk-of : {w : ℕ} (n : ℕ) (y : BeatD w) (t : History w) → is_grant y.opcode ≡ false
+    → grant_sink n (beat.D y ∷ t) ≡ grant_sink n t
 unfolding grant_sink
 sunk-of {w} n y t e = go (begins (beat.D y) t) (is_grant y.opcode) (asks_for n (request_of y.source t)) e
   where
@@ -48,7 +42,8 @@ sunk-of {w} n y t e = go (begins (beat.D y) t) (is_grant y.opcode) (asks_for n (
 pub unclosed : (first last g q p : Bool) → g ≡ false → step first last false (g && q) p ≡ p
 unclosed first last g q p e = rw e (step_quiet first last p)
 
-pub unsaid : (last g q : Bool) (v p : Perm) → g ≡ false → (if last then unwrap_or (if g && q then Some v else None) p else p) ≡ p
+pub unsaid : (last g q : Bool) (v p : Perm) → g ≡ false
+    → (if last then unwrap_or (if g && q then Some v else None) p else p) ≡ p
 unsaid true g q v p e = rw e refl
 unsaid false g q v p e = refl
 
@@ -61,7 +56,8 @@ closes_last false false p = refl
 -- ---- the answer of an access
 
 -- a beat of the answer to client c's access with its source
-pub record IsAnswering {w : ℕ} {X : Type 0} (c : ℕ) (y : BeatD w) (last : Bool) (asked asked' : ℕ → Option (BeatA w)) (rest rest' : Channel → List (Beat w)) (s s' : State X) : Type 0 where
+pub record IsAnswering {w : ℕ} {X : Type 0} (c : ℕ) (y : BeatD w) (last : Bool) (asked asked' : ℕ → Option (BeatA w))
+    (rest rest' : Channel → List (Beat w)) (s s' : State X) : Type 0 where
   pub grant : is_grant y.opcode ≡ false
   pub ack : is_release_ack y.opcode ≡ false
   pub comes : (i : ℕ) → comes_in_grant i (rest' channel.D) ≡ comes_in_grant i (rest channel.D)
@@ -72,72 +68,110 @@ pub record IsAnswering {w : ℕ} {X : Type 0} (c : ℕ) (y : BeatD w) (last : Bo
   pub tracked : (i : ℕ) → s'.tracked i ≡ s.tracked i
   pub asked_is : (i : ℕ) → (last && (y.source == i)) ≡ false → asked' i ≡ asked i
 
-pub flowed-answer : {w : ℕ} {X : Type 0} (c : ℕ) (y : BeatD w) (first last : Bool) (asked asked' : ℕ → Option (BeatA w)) (rest rest' : Channel → List (Beat w)) (s s' : State X) (t : History w)
-    → begins (beat.D y) t ≡ first → ends (beat.D y) t ≡ last → AreRests (beat.D y) rest rest' → IsAnswering c y last asked asked' rest rest' s s'
+pub flowed-answer : {w : ℕ} {X : Type 0} (c : ℕ) (y : BeatD w) (first last : Bool) (asked asked' : ℕ → Option (BeatA w))
+    (rest rest' : Channel → List (Beat w)) (s s' : State X) (t : History w)
+    → begins (beat.D y) t ≡ first → ends (beat.D y) t ≡ last → AreRests (beat.D y) rest rest'
+    → IsAnswering c y last asked asked' rest rest' s s'
     → MonitorRelation asked rest c s t → MonitorRelation asked' rest' c s' (beat.D y ∷ t)
 flowed-answer {w} {X} c y first last asked asked' rest rest' s s' t first_is last_is rests is before =
     flowed-next (beat.D y) first last asked asked' rest rest' c s s' t (record {
       first_is = first_is;
       last_is = last_is;
       rests = rests;
-      held_is = λ m. ap (held_by c) (is.blocks m) ∙ sym (unsaid last (is_grant y.opcode) (asks_for m (request_of y.source t)) (capped y.param) (held_by c (s.block m)) is.grant);
-      requests = λ i. ap (λ (l : List (Beat w)). is_requested c i l (s'.uses c i) s') (rests channel.A) ∙ ap (λ (u : SourceState). is_requested c i (rest channel.A) u s') (is.uses i)
+      held_is = λ m. ap (held_by c) (is.blocks m) ∙ sym
+          (unsaid last (is_grant y.opcode) (asks_for m (request_of y.source t)) (capped y.param) (held_by c (s.block m))
+          is.grant);
+      requests = λ i. ap (λ (l : List (Beat w)). is_requested c i l (s'.uses c i) s') (rests channel.A) ∙ ap
+          (λ (u : SourceState). is_requested c i (rest channel.A) u s') (is.uses i)
           ∙ requests i last (y.source == i)
-          ∙ sym (ap (λ (z : Bool). step first last false (not z && (y.source == i)) (is_requested c i (rest channel.A) (s.uses c i) s)) is.ack);
+          ∙ sym (ap (λ (z : Bool). step first last false (not z && (y.source == i))
+          (is_requested c i (rest channel.A) (s.uses c i) s)) is.ack);
       asked_is = λ i e. asked_still i e (last && (y.source == i)) refl;
-      acquires = λ m. ap (acquired_by c) (is.blocks m) ∙ sym (unclosed first last (is_grant y.opcode) (asks_for m (request_of y.source t)) (acquired_by c (s.block m)) is.grant);
-      release_sources = λ i. lets i ∙ sym (unclosed first last (is_release_ack y.opcode) (y.source == i) (is_let_by c i (rest channel.C) (s.lets c i) s) is.ack);
-      released = λ i m e f. ap (option_map (λ z. block_at z.address)) (release_of-d i y t) ∙ before.released i m (sym (is.lets i) ∙ e) (before.release_sources i ∙ sym (lets i) ∙ f);
-      sizes = λ i m e f. ap (option_map (λ z. z.size)) (release_of-d i y t) ∙ before.sizes i m (sym (is.lets i) ∙ e) (before.release_sources i ∙ sym (lets i) ∙ f);
-      releases = λ m. ap (λ (l : List (Beat w)). let_of c l (s'.block m)) (rests channel.C) ∙ ap (let_of c (rest channel.C)) (is.blocks m)
-          ∙ sym (unclosed first last (is_release_ack y.opcode) (releases m (release_of y.source t)) (let_of c (rest channel.C) (s.block m)) is.ack);
+      acquires = λ m. ap (acquired_by c) (is.blocks m) ∙ sym
+          (unclosed first last (is_grant y.opcode) (asks_for m (request_of y.source t)) (acquired_by c (s.block m))
+          is.grant);
+      release_sources = λ i. lets i ∙ sym (unclosed first last (is_release_ack y.opcode) (y.source == i)
+          (is_let_by c i (rest channel.C) (s.lets c i) s) is.ack);
+      released = λ i m e f. ap (option_map (λ z. block_at z.address)) (release_of-d i y t) ∙ before.released i m
+          (sym (is.lets i) ∙ e) (before.release_sources i ∙ sym (lets i) ∙ f);
+      sizes = λ i m e f. ap (option_map (λ z. z.size)) (release_of-d i y t) ∙ before.sizes i m (sym (is.lets i) ∙ e)
+          (before.release_sources i ∙ sym (lets i) ∙ f);
+      releases = λ m. ap (λ (l : List (Beat w)). let_of c l (s'.block m)) (rests channel.C) ∙ ap
+          (let_of c (rest channel.C)) (is.blocks m)
+          ∙ sym (unclosed first last (is_release_ack y.opcode) (releases m (release_of y.source t))
+          (let_of c (rest channel.C) (s.block m)) is.ack);
       sinks = λ i. ap (λ (o : Option ℕ). is_sunk c i (rest' channel.D) o s') (is.tracked i) ∙ sinks i (s.tracked i)
-          ∙ sym (unopened first last (is_grant y.opcode) (y.sink == i) (is_sunk c i (rest channel.D) (s.tracked i) s) is.grant);
-      grants = λ m. grants m ∙ sym (unopened first last (is_grant y.opcode) (asks_for m (request_of y.source t)) (granted_by c m asked (rest channel.D) (s.block m)) is.grant);
-      probes = λ m. ap (λ (z : Block X). is_answered (z.pair c).probing) (is.blocks m) ∙ sym (step_quiet first last (is_answered ((s.block m).pair c).probing));
-      probed = λ m e. probed-of m y t ∙ before.probed m (sym (ap (λ (z : Block X). is_answered (z.pair c).probing) (is.blocks m)) ∙ e)
+          ∙ sym (unopened first last (is_grant y.opcode) (y.sink == i) (is_sunk c i (rest channel.D) (s.tracked i) s)
+          is.grant);
+      grants = λ m. grants m ∙ sym (unopened first last (is_grant y.opcode) (asks_for m (request_of y.source t))
+          (granted_by c m asked (rest channel.D) (s.block m)) is.grant);
+      probes = λ m. ap (λ (z : Block X). is_answered (z.pair c).probing) (is.blocks m) ∙ sym
+          (step_quiet first last (is_answered ((s.block m).pair c).probing));
+      probed = λ m e. probed-of m y t ∙ before.probed m
+          (sym (ap (λ (z : Block X). is_answered (z.pair c).probing) (is.blocks m)) ∙ e)
           ∙ sym (ap (λ (z : Block X). Some (probe_beat m (cap_waited z.service))) (is.blocks m));
-      sunk = λ m e. sunk-of m y t is.grant ∙ before.sunk m (before.grants m ∙ sym (grants m) ∙ e) ∙ ap (λ (z : Block X). Some z.tracker) (sym (is.blocks m));
+      sunk = λ m e. sunk-of m y t is.grant ∙ before.sunk m (before.grants m ∙ sym (grants m) ∙ e) ∙ ap
+          (λ (z : Block X). Some z.tracker) (sym (is.blocks m));
     }) before
   where
-    same_requested : (i : ℕ) (u : SourceState) → is_requested c i (rest channel.A) u s' ≡ is_requested c i (rest channel.A) u s
-    same_requested i u = requested-blocks c i (rest channel.A) u s s' (λ m. ap (λ (z : Block X). is_unserved (view z.service c)) (is.blocks m))
+    same_requested : (i : ℕ) (u : SourceState) → is_requested c i (rest channel.A) u s' ≡ is_requested c i
+        (rest channel.A) u s
+    same_requested i u = requested-blocks c i (rest channel.A) u s s'
+        (λ m. ap (λ (z : Block X). is_unserved (view z.service c)) (is.blocks m))
 
-    requests : (i : ℕ) (z here : Bool) → is_requested c i (rest channel.A) (if z && here then SourceFree else s.uses c i) s' ≡ step first z false
+    requests : (i : ℕ) (z here : Bool)
+        → is_requested c i (rest channel.A) (if z && here then SourceFree else s.uses c i) s' ≡ step first z false
         (not false && here) (is_requested c i (rest channel.A) (s.uses c i) s)
     requests i true true = sym (closes_last first true (is_requested c i (rest channel.A) (s.uses c i) s))
-    requests i false true = same_requested i (s.uses c i) ∙ sym (closes_last first false (is_requested c i (rest channel.A) (s.uses c i) s))
-    requests i true false = same_requested i (s.uses c i) ∙ sym (step_quiet first true (is_requested c i (rest channel.A) (s.uses c i) s))
-    requests i false false = same_requested i (s.uses c i) ∙ sym (step_quiet first false (is_requested c i (rest channel.A) (s.uses c i) s))
+    requests i false true = same_requested i (s.uses c i) ∙ sym
+        (closes_last first false (is_requested c i (rest channel.A) (s.uses c i) s))
+    requests i true false = same_requested i (s.uses c i) ∙ sym
+        (step_quiet first true (is_requested c i (rest channel.A) (s.uses c i) s))
+    requests i false false =
+        same_requested i (s.uses c i) ∙ sym (step_quiet first false (is_requested c i (rest channel.A) (s.uses c i) s))
 
-    use_at : (i : ℕ) → is_requested c i (rest' channel.A) (s'.uses c i) s' ≡ is_requested c i (rest channel.A) (if last && (y.source == i) then SourceFree else s.uses c i) s'
-    use_at i = ap (λ (l : List (Beat w)). is_requested c i l (s'.uses c i) s') (rests channel.A) ∙ ap (λ (u : SourceState). is_requested c i (rest channel.A) u s') (is.uses i)
+    use_at : (i : ℕ) → is_requested c i (rest' channel.A) (s'.uses c i) s' ≡ is_requested c i (rest channel.A)
+        (if last && (y.source == i) then SourceFree else s.uses c i) s'
+    use_at i = ap (λ (l : List (Beat w)). is_requested c i l (s'.uses c i) s') (rests channel.A) ∙ ap
+        (λ (u : SourceState). is_requested c i (rest channel.A) u s') (is.uses i)
 
-    asked_still : (i : ℕ) → is_requested c i (rest' channel.A) (s'.uses c i) s' ≡ true → (z : Bool) → (last && (y.source == i)) ≡ z → request_of i (beat.D y ∷ t) ≡ asked' i
-    asked_still i e true f = absurd (let g : false ≡ true = sym (use_at i ∙ ap (λ (z : Bool). is_requested c i (rest channel.A) (if z then SourceFree else s.uses c i) s') f) ∙ e in cc)
+    asked_still : (i : ℕ) → is_requested c i (rest' channel.A) (s'.uses c i) s' ≡ true → (z : Bool)
+        → (last && (y.source == i)) ≡ z → request_of i (beat.D y ∷ t) ≡ asked' i
+    asked_still i e true f =
+        absurd (let g : false ≡ true =
+        sym (use_at i ∙ ap (λ (z : Bool). is_requested c i (rest channel.A) (if z then SourceFree else s.uses c i) s')
+        f) ∙ e in cc)
     asked_still i e false f =
         request_of-d i y t
         ∙ before.asked_is i (before.requests i ∙ sym (same_requested i (s.uses c i))
-        ∙ sym (use_at i ∙ ap (λ (z : Bool). is_requested c i (rest channel.A) (if z then SourceFree else s.uses c i) s') f) ∙ e)
+        ∙ sym (use_at i ∙ ap (λ (z : Bool). is_requested c i (rest channel.A) (if z then SourceFree else s.uses c i) s')
+        f) ∙ e)
         ∙ sym (is.asked_is i f)
 
     lets : (i : ℕ) → is_let_by c i (rest' channel.C) (s'.lets c i) s' ≡ is_let_by c i (rest channel.C) (s.lets c i) s
     lets i =
-        ap (λ (l : List (Beat w)). is_let_by c i l (s'.lets c i) s') (rests channel.C) ∙ ap (λ (o : Option ℕ). is_let_by c i (rest channel.C) o s') (is.lets i)
-        ∙ let_by-same c i (rest channel.C) (s.lets c i) s s' (λ m. ap (λ (z : Block X). (z.pair c).letting) (is.blocks m))
+        ap (λ (l : List (Beat w)). is_let_by c i l (s'.lets c i) s') (rests channel.C) ∙ ap
+        (λ (o : Option ℕ). is_let_by c i (rest channel.C) o s') (is.lets i)
+        ∙ let_by-same c i (rest channel.C) (s.lets c i) s s'
+        (λ m. ap (λ (z : Block X). (z.pair c).letting) (is.blocks m))
 
     sinks : (i : ℕ) (o : Option ℕ) → is_sunk c i (rest' channel.D) o s' ≡ is_sunk c i (rest channel.D) o s
     sinks i None = refl
-    sinks i (Some m) = ap (λ (z : Bool). is_acknowledging (view (s'.block m).service c) || (is_granting (view (s'.block m).service c) && z)) (is.comes i)
-        ∙ ap (λ (z : Block X). is_acknowledging (view z.service c) || (is_granting (view z.service c) && comes_in_grant i (rest channel.D))) (is.blocks m)
+    sinks i (Some m) = ap (λ (z : Bool). is_acknowledging (view (s'.block m).service c)
+        || (is_granting (view (s'.block m).service c) && z)) (is.comes i)
+        ∙ ap (λ (z : Block X). is_acknowledging (view z.service c) || (is_granting (view z.service c) && comes_in_grant
+        i (rest channel.D))) (is.blocks m)
 
-    grants : (m : ℕ) → granted_by c m asked' (rest' channel.D) (s'.block m) ≡ granted_by c m asked (rest channel.D) (s.block m)
-    grants m = ap (λ (z : Bool). is_acknowledging (view (s'.block m).service c) || z) (is.grants m) ∙ ap (granted_by c m asked (rest channel.D)) (is.blocks m)
+    grants : (m : ℕ) → granted_by c m asked' (rest' channel.D) (s'.block m) ≡ granted_by c m asked (rest channel.D)
+        (s.block m)
+    grants m = ap (λ (z : Bool). is_acknowledging (view (s'.block m).service c) || z) (is.grants m) ∙ ap
+        (granted_by c m asked (rest channel.D)) (is.blocks m)
 
 -- ---- a ReleaseAck
 
 -- the one beat of the ReleaseAck of block n to client c
-pub record IsLetGo {w : ℕ} {X : Type 0} (c n : ℕ) (y : BeatD w) (asked asked' : ℕ → Option (BeatA w)) (rest rest' : Channel → List (Beat w)) (s s' : State X) : Type 0 where
+pub record IsLetGo {w : ℕ} {X : Type 0} (c n : ℕ) (y : BeatD w) (asked asked' : ℕ → Option (BeatA w))
+    (rest rest' : Channel → List (Beat w)) (s s' : State X) : Type 0 where
   pub grant : is_grant y.opcode ≡ false
   pub ack : is_release_ack y.opcode ≡ true
   pub source : y.source ≡ (s.block n).release_source c
@@ -163,11 +197,13 @@ unclosed_by : (a q p : Bool) → q ≡ false → step true true false (a && q) p
 unclosed_by true q p e = rw e refl
 unclosed_by false q p e = refl
 
-of_releases : {w : ℕ} (n m : ℕ) (o : Option (BeatC w)) → option_map (λ x. block_at x.address) o ≡ Some n → releases m o ≡ (n == m)
+of_releases : {w : ℕ} (n m : ℕ) (o : Option (BeatC w)) → option_map (λ x. block_at x.address) o ≡ Some n
+    → releases m o ≡ (n == m)
 of_releases n m None e = absurd cc
 of_releases n m (Some x) e = let f : block_at x.address ≡ n = cc in ap (λ (z : ℕ). z == m) f
 
-pub flowed-let_go : {w : ℕ} {X : Type 0} (c n : ℕ) (y : BeatD w) (asked asked' : ℕ → Option (BeatA w)) (rest rest' : Channel → List (Beat w)) (s s' : State X) (t : History w)
+pub flowed-let_go : {w : ℕ} {X : Type 0} (c n : ℕ) (y : BeatD w) (asked asked' : ℕ → Option (BeatA w))
+    (rest rest' : Channel → List (Beat w)) (s s' : State X) (t : History w)
     → begins (beat.D y) t ≡ true → ends (beat.D y) t ≡ true → AreRests (beat.D y) rest rest'
     → ((i m : ℕ) → is_of m (s.lets c i) ≡ releases_with c i (s.block m)) → IsLetGo c n y asked asked' rest rest' s s'
     → MonitorRelation asked rest c s t → MonitorRelation asked' rest' c s' (beat.D y ∷ t)
@@ -177,47 +213,67 @@ flowed-let_go {w} {X} c n y asked asked' rest rest' s s' t first_is last_is rest
       last_is = last_is;
       rests = rests;
       held_is = λ m. part-block (held_by c) n s s' is.elsewhere is.held_is m
-          ∙ sym (unsaid true (is_grant y.opcode) (asks_for m (request_of y.source t)) (capped y.param) (held_by c (s.block m)) is.grant);
-      requests = λ i. requests i ∙ sym (ap (λ (z : Bool). step true true false (not z && (y.source == i)) (is_requested c i (rest channel.A) (s.uses c i) s)) is.ack);
-      asked_is = λ i e. request_of-d i y t ∙ before.asked_is i (before.requests i ∙ sym (requests i) ∙ e) ∙ sym (is.asked_is i);
-      acquires = λ m. acquires m ∙ sym (unclosed true true (is_grant y.opcode) (asks_for m (request_of y.source t)) (acquired_by c (s.block m)) is.grant);
+          ∙ sym (unsaid true (is_grant y.opcode) (asks_for m (request_of y.source t)) (capped y.param)
+          (held_by c (s.block m)) is.grant);
+      requests = λ i. requests i ∙ sym
+          (ap (λ (z : Bool). step true true false (not z && (y.source == i))
+          (is_requested c i (rest channel.A) (s.uses c i) s)) is.ack);
+      asked_is = λ i e. request_of-d i y t ∙ before.asked_is i (before.requests i ∙ sym (requests i) ∙ e) ∙ sym
+          (is.asked_is i);
+      acquires = λ m. acquires m ∙ sym (unclosed true true (is_grant y.opcode) (asks_for m (request_of y.source t))
+          (acquired_by c (s.block m)) is.grant);
       release_sources = λ i. lets i (y.source == i) refl;
-      released = λ i m e f. ap (option_map (λ z. block_at z.address)) (release_of-d i y t) ∙ before.released i m (is_another i m e (y.source == i) refl).1 (still_pending i m e f);
-      sizes = λ i m e f. ap (option_map (λ z. z.size)) (release_of-d i y t) ∙ before.sizes i m (is_another i m e (y.source == i) refl).1 (still_pending i m e f);
+      released = λ i m e f. ap (option_map (λ z. block_at z.address)) (release_of-d i y t) ∙ before.released i m
+          (is_another i m e (y.source == i) refl).1 (still_pending i m e f);
+      sizes = λ i m e f. ap (option_map (λ z. z.size)) (release_of-d i y t) ∙ before.sizes i m
+          (is_another i m e (y.source == i) refl).1 (still_pending i m e f);
       releases = λ m. ap (λ (l : List (Beat w)). let_of c l (s'.block m)) (rests channel.C) ∙ releases_at m;
       sinks = λ i. ap (λ (o : Option ℕ). is_sunk c i (rest' channel.D) o s') (is.tracked i) ∙ sinks i (s.tracked i)
-          ∙ sym (unopened true true (is_grant y.opcode) (y.sink == i) (is_sunk c i (rest channel.D) (s.tracked i) s) is.grant);
-      grants = λ m. grants m ∙ sym (unopened true true (is_grant y.opcode) (asks_for m (request_of y.source t)) (granted_by c m asked (rest channel.D) (s.block m)) is.grant);
+          ∙ sym (unopened true true (is_grant y.opcode) (y.sink == i) (is_sunk c i (rest channel.D) (s.tracked i) s)
+          is.grant);
+      grants = λ m. grants m ∙ sym (unopened true true (is_grant y.opcode) (asks_for m (request_of y.source t))
+          (granted_by c m asked (rest channel.D) (s.block m)) is.grant);
       probes = answered;
       probed = λ m e. probed-of m y t ∙ before.probed m (sym (answered m) ∙ e)
-          ∙ sym (ap (λ k. Some (probe_beat m k)) (part-block (λ (z : Block X). cap_waited z.service) n s s' is.elsewhere (ap cap_waited is.service) m));
-      sunk = λ m e. sunk-of m y t is.grant ∙ before.sunk m (before.grants m ∙ sym (grants m) ∙ e) ∙ ap Some (sym (part-block (λ (z : Block X). z.tracker) n s s' is.elsewhere is.tracker m));
+          ∙ sym (ap (λ k. Some (probe_beat m k)) (part-block (λ (z : Block X). cap_waited z.service) n s s' is.elsewhere
+          (ap cap_waited is.service) m));
+      sunk = λ m e. sunk-of m y t is.grant ∙ before.sunk m (before.grants m ∙ sym (grants m) ∙ e) ∙ ap Some
+          (sym (part-block (λ (z : Block X). z.tracker) n s s' is.elsewhere is.tracker m));
     }) before
   where
     b : Block X
     b = s.block n
 
     of_block : s.lets c y.source ≡ Some n
-    of_block = is_of-is n (s.lets c y.source) (named y.source n ∙ rw (is.letting, is.source) (same_number (b.release_source c)))
+    of_block = is_of-is n (s.lets c y.source)
+        (named y.source n ∙ rw (is.letting, is.source) (same_number (b.release_source c)))
 
     was_let : pending (ReleaseSource y.source) t ≡ true
-    was_let = before.release_sources y.source ∙ ap (λ (o : Option ℕ). is_let_by c y.source (rest channel.C) o s) of_block ∙ ap (is_let y.source (rest channel.C)) is.letting
+    was_let = before.release_sources y.source ∙ ap (λ (o : Option ℕ). is_let_by c y.source (rest channel.C) o s)
+        of_block ∙ ap (is_let y.source (rest channel.C)) is.letting
 
     names : (m : ℕ) → releases m (release_of y.source t) ≡ (n == m)
     names m = of_releases n m (release_of y.source t) (before.released y.source n of_block was_let)
 
-    releases_at : (m : ℕ) → let_of c (rest channel.C) (s'.block m) ≡ step true true false (is_release_ack y.opcode && releases m (release_of y.source t)) (let_of c (rest channel.C) (s.block m))
-    releases_at = each-block (λ m z. let_of c (rest channel.C) z ≡ step true true false (is_release_ack y.opcode && releases m (release_of y.source t))
+    releases_at : (m : ℕ) → let_of c (rest channel.C) (s'.block m) ≡ step true true false
+        (is_release_ack y.opcode && releases m (release_of y.source t)) (let_of c (rest channel.C) (s.block m))
+    releases_at = each-block (λ m z. let_of c (rest channel.C) z ≡ step true true false
+        (is_release_ack y.opcode && releases m (release_of y.source t))
         (let_of c (rest channel.C) (s.block m))) n s s' is.elsewhere
         (ap (is_let ((s'.block n).release_source c) (rest channel.C)) is.letting_is
-        ∙ sym (closed (is_release_ack y.opcode) (releases n (release_of y.source t)) (let_of c (rest channel.C) b) is.ack (names n ∙ same_number n)))
-        (λ m ne. sym (unclosed_by (is_release_ack y.opcode) (releases m (release_of y.source t)) (let_of c (rest channel.C) (s.block m)) (names m ∙ ne_eqb n m (λ e. ne (sym e)))))
+        ∙ sym (closed (is_release_ack y.opcode) (releases n (release_of y.source t)) (let_of c (rest channel.C) b)
+        is.ack (names n ∙ same_number n)))
+        (λ m ne. sym (unclosed_by (is_release_ack y.opcode) (releases m (release_of y.source t))
+        (let_of c (rest channel.C) (s.block m)) (names m ∙ ne_eqb n m (λ e. ne (sym e)))))
 
-    requests : (i : ℕ) → is_requested c i (rest' channel.A) (s'.uses c i) s' ≡ is_requested c i (rest channel.A) (s.uses c i) s
+    requests : (i : ℕ) → is_requested c i (rest' channel.A) (s'.uses c i) s' ≡ is_requested c i (rest channel.A)
+        (s.uses c i) s
     requests i =
-        ap (λ (l : List (Beat w)). is_requested c i l (s'.uses c i) s') (rests channel.A) ∙ ap (λ (u : SourceState). is_requested c i (rest channel.A) u s') (is.uses i)
+        ap (λ (l : List (Beat w)). is_requested c i l (s'.uses c i) s') (rests channel.A) ∙ ap
+        (λ (u : SourceState). is_requested c i (rest channel.A) u s') (is.uses i)
         ∙ requested-blocks c i (rest channel.A) (s.uses c i) s s'
-        (part-block (λ (z : Block X). is_unserved (view z.service c)) n s s' is.elsewhere (ap (λ (q : Service). is_unserved (view q c)) is.service))
+        (part-block (λ (z : Block X). is_unserved (view z.service c)) n s s' is.elsewhere
+        (ap (λ (q : Service). is_unserved (view q c)) is.service))
 
     acquires : (m : ℕ) → acquired_by c (s'.block m) ≡ acquired_by c (s.block m)
     acquires = part-block (acquired_by c) n s s' is.elsewhere
@@ -225,17 +281,22 @@ flowed-let_go {w} {X} c n y asked asked' rest rest' s s' t first_is last_is rest
         ∙ ap (λ (q : Service). is_wanting (b.pair c).acquiring && not (is_unserved (view q c))) is.service)
 
     answered : (m : ℕ) → is_answered ((s'.block m).pair c).probing ≡ is_answered ((s.block m).pair c).probing
-    answered = part-block (λ (z : Block X). is_answered (z.pair c).probing) n s s' is.elsewhere (ap is_answered is.probing)
+    answered = part-block (λ (z : Block X). is_answered (z.pair c).probing) n s s' is.elsewhere
+        (ap is_answered is.probing)
 
     sinks : (i : ℕ) (o : Option ℕ) → is_sunk c i (rest' channel.D) o s' ≡ is_sunk c i (rest channel.D) o s
     sinks i None = refl
-    sinks i (Some m) = ap (λ (z : Bool). is_acknowledging (view (s'.block m).service c) || (is_granting (view (s'.block m).service c) && z)) (is.comes i)
-        ∙ ap (λ (q : Service). is_acknowledging (view q c) || (is_granting (view q c) && comes_in_grant i (rest channel.D))) (part-block (λ (z : Block X). z.service) n s s' is.elsewhere is.service m)
+    sinks i (Some m) = ap (λ (z : Bool). is_acknowledging (view (s'.block m).service c)
+        || (is_granting (view (s'.block m).service c) && z)) (is.comes i)
+        ∙ ap (λ (q : Service). is_acknowledging (view q c) || (is_granting (view q c) && comes_in_grant i
+        (rest channel.D))) (part-block (λ (z : Block X). z.service) n s s' is.elsewhere is.service m)
 
-    grants : (m : ℕ) → granted_by c m asked' (rest' channel.D) (s'.block m) ≡ granted_by c m asked (rest channel.D) (s.block m)
+    grants : (m : ℕ) → granted_by c m asked' (rest' channel.D) (s'.block m) ≡ granted_by c m asked (rest channel.D)
+        (s.block m)
     grants m =
         ap (λ (z : Bool). is_acknowledging (view (s'.block m).service c) || z) (is.grants m)
-        ∙ part-block (granted_by c m asked (rest channel.D)) n s s' is.elsewhere (ap (λ (q : Service). is_acknowledging (view q c) || comes_granting m asked (rest channel.D)) is.service) m
+        ∙ part-block (granted_by c m asked (rest channel.D)) n s s' is.elsewhere
+        (ap (λ (q : Service). is_acknowledging (view q c) || comes_granting m asked (rest channel.D)) is.service) m
 
     -- an open Release with another source is of another block
     other_source : (i m : ℕ) → s.lets c i ≡ Some m → (y.source == i) ≡ false → m ≡ n → ⊥
@@ -243,28 +304,39 @@ flowed-let_go {w} {X} c n y asked asked' rest rest' s s' t first_is last_is rest
         let g : is_of n (s.lets c i) ≡ true = rw (e, same) (same_number n) in
         let h : releases_with c i b ≡ true = sym (named i n) ∙ g in
         let k : (i == b.release_source c) ≡ true = sym (rw is.letting refl) ∙ h in
-        let l : (y.source == i) ≡ true = rw (is.source, eqb-true i (b.release_source c) k) (same_number (b.release_source c)) in
+        let l : (y.source == i) ≡ true =
+        rw (is.source, eqb-true i (b.release_source c) k) (same_number (b.release_source c)) in
         let u : true ≡ false = sym l ∙ f in cc
 
-    rest_same : (i : ℕ) (o : Option ℕ) → s.lets c i ≡ o → (y.source == i) ≡ false → is_let_by c i (rest' channel.C) o s' ≡ is_let_by c i (rest channel.C) o s
+    rest_same : (i : ℕ) (o : Option ℕ) → s.lets c i ≡ o → (y.source == i) ≡ false
+        → is_let_by c i (rest' channel.C) o s' ≡ is_let_by c i (rest channel.C) o s
     rest_same i None e f = refl
     rest_same i (Some m) e f = ap (λ (l : List (Beat w)). is_let i l ((s'.block m).pair c).letting) (rests channel.C)
         ∙ ap (λ (z : Block X). is_let i (rest channel.C) (z.pair c).letting) (is.elsewhere m (other_source i m e f))
 
-    lets : (i : ℕ) (z : Bool) → (y.source == i) ≡ z → is_let_by c i (rest' channel.C) (s'.lets c i) s' ≡ step true true false
+    lets : (i : ℕ) (z : Bool) → (y.source == i) ≡ z → is_let_by c i (rest' channel.C) (s'.lets c i) s' ≡ step true true
+        false
         (is_release_ack y.opcode && (y.source == i)) (is_let_by c i (rest channel.C) (s.lets c i) s)
     lets i true e =
-        ap (λ (o : Option ℕ). is_let_by c i (rest' channel.C) o s') (is.lets i ∙ ap (λ (z : Bool). if z then None else s.lets c i) e)
-        ∙ sym (closed (is_release_ack y.opcode) (y.source == i) (is_let_by c i (rest channel.C) (s.lets c i) s) is.ack e)
+        ap (λ (o : Option ℕ). is_let_by c i (rest' channel.C) o s')
+        (is.lets i ∙ ap (λ (z : Bool). if z then None else s.lets c i) e)
+        ∙ sym (closed (is_release_ack y.opcode) (y.source == i) (is_let_by c i (rest channel.C) (s.lets c i) s) is.ack
+        e)
     lets i false e =
-        ap (λ (o : Option ℕ). is_let_by c i (rest' channel.C) o s') (is.lets i ∙ ap (λ (z : Bool). if z then None else s.lets c i) e)
-        ∙ rest_same i (s.lets c i) refl e ∙ sym (unclosed_by (is_release_ack y.opcode) (y.source == i) (is_let_by c i (rest channel.C) (s.lets c i) s) e)
+        ap (λ (o : Option ℕ). is_let_by c i (rest' channel.C) o s')
+        (is.lets i ∙ ap (λ (z : Bool). if z then None else s.lets c i) e)
+        ∙ rest_same i (s.lets c i) refl e ∙ sym (unclosed_by (is_release_ack y.opcode) (y.source == i)
+        (is_let_by c i (rest channel.C) (s.lets c i) s) e)
 
-    is_another : (i m : ℕ) → s'.lets c i ≡ Some m → (z : Bool) → (y.source == i) ≡ z → ((y.source == i) ≡ false) × (s.lets c i ≡ Some m)
-    is_another i m e true f = absurd (let g : None ≡ Some m = sym (is.lets i ∙ ap (λ (z : Bool). if z then None else s.lets c i) f) ∙ e in cc)
+    is_another : (i m : ℕ) → s'.lets c i ≡ Some m → (z : Bool) → (y.source == i) ≡ z → ((y.source == i) ≡ false)
+        × (s.lets c i ≡ Some m)
+    is_another i m e true f =
+        absurd (let g : None ≡ Some m = sym (is.lets i ∙ ap (λ (z : Bool). if z then None else s.lets c i) f) ∙ e in cc)
     is_another i m e false f = (f, sym (is.lets i ∙ ap (λ (z : Bool). if z then None else s.lets c i) f) ∙ e)
 
-    still_pending : (i m : ℕ) → s'.lets c i ≡ Some m → is_let_by c i (rest' channel.C) (s'.lets c i) s' ≡ true → pending (ReleaseSource i) t ≡ true
+    still_pending : (i m : ℕ) → s'.lets c i ≡ Some m → is_let_by c i (rest' channel.C) (s'.lets c i) s' ≡ true
+        → pending (ReleaseSource i) t ≡ true
     still_pending i m e f = before.release_sources i ∙ sym
-        (unclosed_by (is_release_ack y.opcode) (y.source == i) (is_let_by c i (rest channel.C) (s.lets c i) s) (is_another i m e (y.source == i) refl).0)
+        (unclosed_by (is_release_ack y.opcode) (y.source == i) (is_let_by c i (rest channel.C) (s.lets c i) s)
+        (is_another i m e (y.source == i) refl).0)
         ∙ sym (lets i (y.source == i) refl) ∙ f

@@ -1,39 +1,38 @@
 -- What an event leaves of what is delivered on a link: each value is as before, where the event isn't of the link, or
 -- comes of a beat of it that is accounted for.
-use Rattle.std.proofs.Common.{◌≡◌, subst, ℕ, Bool, true, false, ◌&&◌, ◌||◌, Option, Some, None, refl, sym, ◌∙◌, ap, List, ◌⊎◌, inl, inr}
+use Rattle.tl_coherence.proofs.flow.Imports.{Beat, BeatA, Channel, Cap, Grow, Prune, Report, comes_in_grant, is_sunk}
+use Rattle.tl_coherence.proofs.flow.Imports.{View, Own, Other, Granting, GrantedOther, is_unprobed, after_report}
+use Rattle.tl_coherence.proofs.flow.Imports.{Service, Free, Waits, GrantSent, GrantTaken, Block, State, SourceState}
+use Rattle.tl_coherence.proofs.flow.Imports.{InService, Replied, Acquires, view, is_granting, is_acknowledging}
+use Rattle.tl_coherence.proofs.flow.Imports.{is_answered, acquiring_block, acquire_asked, access_asked, releasing_block}
+use Rattle.tl_coherence.proofs.flow.Imports.{release_asked, granted_at_once, acquire_granted, served_block}
+use Rattle.tl_coherence.proofs.flow.Imports.{probed_block, probe_taken, reported_block, report_taken, let_block}
+use Rattle.tl_coherence.proofs.flow.Imports.{release_taken, taken_block, let_go_block, release_ack_taken, freed_block}
+use Rattle.tl_coherence.proofs.flow.Imports.{grant_ack_taken, Packet, set, set_at}
+use Rattle.std.proofs.Common.{◌≡◌, subst, ℕ, Bool, true, false, ◌&&◌, ◌||◌, Option, Some, None, refl, sym, ◌∙◌, ap}
+use Rattle.std.proofs.Common.{List, ◌⊎◌, inl, inr}
 use Rattle.std.specs.Prelude.{◌==◌, if◌then◌else◌}
 use Rattle.std.proofs.lemmas.Bool.{cases_eq}
-use Rattle.tl_beat.specs.declared.beat.Beat.{Beat}
-use Rattle.tl_beat.specs.declared.beat.BeatA.{BeatA}
-use Rattle.tl_beat.specs.declared.channel.Channel.{Channel}
 use Rattle.tl_beat.specs.declared.channel.Channel.TheVariants as channel
-use Rattle.tl_params.specs.declared.param.Cap.{Cap}
-use Rattle.tl_params.specs.declared.param.Grow.{Grow}
-use Rattle.tl_params.specs.declared.param.Prune.{Prune}
-use Rattle.tl_params.specs.declared.param.Report.{Report}
-use Rattle.tl_rules.specs.statement.Conformance.{comes_in_grant}
-use Rattle.tl_coherence.specs.refinement.MonitorRelation.{is_sunk}
-use Rattle.tl_coherence.specs.protocol.Phase.{View, Own, Other, Granting, GrantedOther, is_unprobed}
-use Rattle.tl_coherence.specs.protocol.PhaseSteps.{after_report}
-use Rattle.tl_coherence.specs.protocol.Protocol.{Service, Free, Waits, GrantSent, GrantTaken, Block, State, SourceState, InService, Replied, Acquires, view, is_granting}
-use Rattle.tl_coherence.specs.protocol.Protocol.{is_acknowledging, is_answered, acquiring_block, acquire_asked, access_asked, releasing_block, release_asked, stored_block}
-use Rattle.tl_coherence.specs.protocol.Protocol.{block_stored, performed_block, access_answered, granted_at_once, acquire_granted, served_block, access_served, probed_block}
-use Rattle.tl_coherence.specs.protocol.Protocol.{probe_taken, reported_block, report_taken, ended_block, report_answers, granted_block, report_grants, let_block}
-use Rattle.tl_coherence.specs.protocol.Protocol.{release_taken, answer_taken, taken_block, grant_taken, let_go_block, release_ack_taken, freed_block, grant_ack_taken}
-use Rattle.tl_coherence.specs.protocol.Packet.{Packet, set, set_at}
+use Rattle.tl_coherence.specs.protocol.Protocol.{stored_block, block_stored, performed_block, access_answered}
+use Rattle.tl_coherence.specs.protocol.Protocol.{access_served, ended_block, report_answers, granted_block}
+use Rattle.tl_coherence.specs.protocol.Protocol.{report_grants, answer_taken, grant_taken}
 use Rattle.tl_coherence.proofs.client.Aside.{set_at-other, set_at-else}
 use Rattle.tl_coherence.proofs.flow.FlowAside.{IsSameBlock, same-block, is_heard, IsSameUse, IsComing, IsAside}
-use Rattle.tl_coherence.proofs.flow.FlowOthers.{is_outside, outside-waits, outside-sent, outside-taken, same-performed, same-served, same-granted_at_once, same-probed}
-use Rattle.tl_coherence.proofs.flow.FlowOthers.{same-reported, same-settled, same-granted, same-given, same-let, same-let_go, same-taken, same-freed, same-acquiring}
-use Rattle.tl_coherence.proofs.flow.FlowOthers.{same-releasing, same-stored}
-use Rattle.tl_coherence.proofs.flow.FlowSunk.{sunk_in, sunk-as, IsWithin, sunk-elsewhere, tracked-new, tracked-free, outside-unsunk}
+use Rattle.tl_coherence.proofs.flow.FlowOthers.{is_outside, outside-waits, outside-sent, outside-taken, same-performed}
+use Rattle.tl_coherence.proofs.flow.FlowOthers.{same-served, same-granted_at_once, same-probed, same-reported}
+use Rattle.tl_coherence.proofs.flow.FlowOthers.{same-settled, same-granted, same-given, same-let, same-let_go}
+use Rattle.tl_coherence.proofs.flow.FlowOthers.{same-taken, same-freed, same-acquiring, same-releasing, same-stored}
+use Rattle.tl_coherence.proofs.flow.FlowSunk.{sunk_in, sunk-as, IsWithin, sunk-elsewhere, tracked-new, tracked-free}
+use Rattle.tl_coherence.proofs.flow.FlowSunk.{outside-unsunk}
 use Rattle.tl_coherence.proofs.queues.Tokens.{set-same, set-other, set-each, set-part, set_at-same}
 
 -- the access with this source is answered, as far as its link is concerned
 abbrev pub replied : {X : Type 0} → ℕ → ℕ → State X → State X
 replied c source s = record s { uses = set_at c source Replied s.uses }
 
-uses-heard : (c source : ℕ) (u v : SourceState) (uses : ℕ → ℕ → SourceState) → is_heard u ≡ true → is_heard v ≡ true → (d i : ℕ) → IsSameUse (set_at c source u uses d i) (set_at c source v uses d i)
+uses-heard : (c source : ℕ) (u v : SourceState) (uses : ℕ → ℕ → SourceState) → is_heard u ≡ true → is_heard v ≡ true
+    → (d i : ℕ) → IsSameUse (set_at c source u uses d i) (set_at c source v uses d i)
 uses-heard c source u v uses was is d i = elim (cases_eq i source) [
   | inl same ↦ elim (cases_eq d c) [
     | inl here ↦ inr (rw (here, same, set_at-same c source u uses) was, rw (here, same, set_at-same c source v uses) is)
@@ -49,7 +48,8 @@ set-again n y z f m = elim (cases_eq m n) [
   | inr other ↦ rw (set-other n m z f other, set-other n m z (set n y f) other) (sym (set-other n m y f other))
 ]
 
-module _ {w : ℕ} {X : Type 0} (d : ℕ) (asked asked' : ℕ → Option (BeatA w)) (rest : Channel → List (Beat w)) (s : State X) (asks : (i : ℕ) → asked' i ≡ asked i)
+module _ {w : ℕ} {X : Type 0} (d : ℕ) (asked asked' : ℕ → Option (BeatA w)) (rest : Channel → List (Beat w))
+    (s : State X) (asks : (i : ℕ) → asked' i ≡ asked i)
     (coming : IsComing asked (rest channel.D) d s) where
   -- ---- a state that differs in block n alone
 
@@ -61,12 +61,15 @@ module _ {w : ℕ} {X : Type 0} (d : ℕ) (asked asked' : ℕ → Option (BeatA 
   IsChanged n b s' = (m : ℕ) → s'.block m ≡ set n b s.block m
 
   abbrev AreSameSinks : State X → Type 0
-  AreSameSinks s' = (i : ℕ) → is_sunk d i (rest channel.D) (s'.tracked i) s' ≡ is_sunk d i (rest channel.D) (s.tracked i) s
+  AreSameSinks s' = (i : ℕ) → is_sunk d i (rest channel.D) (s'.tracked i) s' ≡ is_sunk d i (rest channel.D)
+      (s.tracked i) s
 
-  apart-at : (n : ℕ) (b : Block X) (s' : State X) → IsChanged n b s' → IsSameBlock d (s.block n) b → ((i : ℕ) → IsSameUse (s.uses d i) (s'.uses d i))
+  apart-at : (n : ℕ) (b : Block X) (s' : State X) → IsChanged n b s' → IsSameBlock d (s.block n) b
+      → ((i : ℕ) → IsSameUse (s.uses d i) (s'.uses d i))
       → ((i : ℕ) → s'.lets d i ≡ s.lets d i) → AreSameSinks s' → IsLeft s'
   apart-at n b s' changed same uses lets sinks = record {
-    blocks = λ m. subst (λ (z : Block X). IsSameBlock d (s.block m) z) (sym (changed m)) (set-each (λ j z. IsSameBlock d (s.block j) z) n b s.block same (λ j ne. same-block d (s.block j)) m);
+    blocks = λ m. subst (λ (z : Block X). IsSameBlock d (s.block m) z) (sym (changed m))
+        (set-each (λ j z. IsSameBlock d (s.block j) z) n b s.block same (λ j ne. same-block d (s.block j)) m);
     uses = uses;
     lets = lets;
     sinks = sinks;
@@ -74,18 +77,25 @@ module _ {w : ℕ} {X : Type 0} (d : ℕ) (asked asked' : ℕ → Option (BeatA 
     coming = coming;
   }
 
-  sinks-same : (n : ℕ) (b : Block X) (s' : State X) → IsChanged n b s' → b.service ≡ (s.block n).service → ((i : ℕ) → s'.tracked i ≡ s.tracked i) → AreSameSinks s'
+  sinks-same : (n : ℕ) (b : Block X) (s' : State X) → IsChanged n b s' → b.service ≡ (s.block n).service
+      → ((i : ℕ) → s'.tracked i ≡ s.tracked i) → AreSameSinks s'
   sinks-same n b s' changed same tracked i =
       ap (λ (o : Option ℕ). is_sunk d i (rest channel.D) o s') (tracked i)
       ∙ sunk-as d i (rest channel.D) (s.tracked i) s s' (λ m. ap (sunk_in d i (rest channel.D)) (changed m)
-      ∙ set-part (sunk_in d i (rest channel.D)) n b s.block (ap (λ (q : Service). is_acknowledging (view q d) || (is_granting (view q d) && comes_in_grant i (rest channel.D))) same) m)
+      ∙ set-part (sunk_in d i (rest channel.D)) n b s.block
+      (ap (λ (q : Service). is_acknowledging (view q d) || (is_granting (view q d) && comes_in_grant i
+      (rest channel.D))) same) m)
 
-  sinks-outside : (n : ℕ) (b : Block X) (s' : State X) → IsChanged n b s' → is_outside (view (s.block n).service d) ≡ true → is_outside (view b.service d) ≡ true
-      → ((i : ℕ) → (s'.tracked i ≡ s.tracked i) ⊎ (IsWithin n (s.tracked i) × IsWithin n (s'.tracked i))) → AreSameSinks s'
+  sinks-outside : (n : ℕ) (b : Block X) (s' : State X) → IsChanged n b s'
+      → is_outside (view (s.block n).service d) ≡ true → is_outside (view b.service d) ≡ true
+      → ((i : ℕ) → (s'.tracked i ≡ s.tracked i) ⊎ (IsWithin n (s.tracked i) × IsWithin n (s'.tracked i)))
+      → AreSameSinks s'
   sinks-outside n b s' changed was now tracked i =
-      sunk-elsewhere d i n (rest channel.D) (s.tracked i) (s'.tracked i) s s' (λ m ne. changed m ∙ set-other n m b s.block ne) (tracked i)
+      sunk-elsewhere d i n (rest channel.D) (s.tracked i) (s'.tracked i) s s'
+      (λ m ne. changed m ∙ set-other n m b s.block ne) (tracked i)
       (λ e. outside-unsunk (view (s.block n).service d) (comes_in_grant i (rest channel.D)) was)
-      (λ e. ap (sunk_in d i (rest channel.D)) (changed n ∙ set-same n b s.block) ∙ outside-unsunk (view b.service d) (comes_in_grant i (rest channel.D)) now)
+      (λ e. ap (sunk_in d i (rest channel.D)) (changed n ∙ set-same n b s.block) ∙ outside-unsunk (view b.service d)
+      (comes_in_grant i (rest channel.D)) now)
 
   free-outside : (n : ℕ) → (s.block n).service ≡ Free → is_outside (view (s.block n).service d) ≡ true
   free-outside n free = ap (λ (q : Service). is_outside (view q d)) free
@@ -102,21 +112,28 @@ module _ {w : ℕ} {X : Type 0} (d : ℕ) (asked asked' : ℕ → Option (BeatA 
     coming = coming;
   }
 
-  pub left-acquire_asked : (c n source : ℕ) (whole : Bool) (g : Grow) (bytes : X) → (d ≡ c → ⊥) → IsLeft (acquire_asked c n source whole g bytes s)
+  pub left-acquire_asked : (c n source : ℕ) (whole : Bool) (g : Grow) (bytes : X) → (d ≡ c → ⊥)
+      → IsLeft (acquire_asked c n source whole g bytes s)
   left-acquire_asked c n source whole g bytes ne =
-      apart-at n (acquiring_block c source whole g bytes (s.block n)) (acquire_asked c n source whole g bytes s) (λ m. refl)
-      (same-acquiring d c source whole g bytes (s.block n) ne) (λ i. inl (set_at-other c d source i (Acquires n) s.uses ne)) (λ i. refl)
-      (sinks-same n (acquiring_block c source whole g bytes (s.block n)) (acquire_asked c n source whole g bytes s) (λ m. refl) refl (λ i. refl))
+      apart-at n (acquiring_block c source whole g bytes (s.block n)) (acquire_asked c n source whole g bytes s)
+      (λ m. refl)
+      (same-acquiring d c source whole g bytes (s.block n) ne)
+      (λ i. inl (set_at-other c d source i (Acquires n) s.uses ne)) (λ i. refl)
+      (sinks-same n (acquiring_block c source whole g bytes (s.block n)) (acquire_asked c n source whole g bytes s)
+      (λ m. refl) refl (λ i. refl))
 
   pub left-release_asked : (c n source : ℕ) (r : Prune) → (d ≡ c → ⊥) → IsLeft (release_asked c n source r s)
   left-release_asked c n source r ne =
-      apart-at n (releasing_block c source r (s.block n)) (release_asked c n source r s) (λ m. refl) (same-releasing d c source r (s.block n) ne)
+      apart-at n (releasing_block c source r (s.block n)) (release_asked c n source r s) (λ m. refl)
+      (same-releasing d c source r (s.block n) ne)
       (λ i. inl refl) (λ i. set_at-other c d source i (Some n) s.lets ne)
-      (sinks-same n (releasing_block c source r (s.block n)) (release_asked c n source r s) (λ m. refl) refl (λ i. refl))
+      (sinks-same n (releasing_block c source r (s.block n)) (release_asked c n source r s) (λ m. refl) refl
+      (λ i. refl))
 
   pub left-block_stored : (c n : ℕ) (bytes : X) → IsLeft (block_stored c n bytes s)
   left-block_stored c n bytes =
-      apart-at n (stored_block c bytes (s.block n)) (block_stored c n bytes s) (λ m. refl) (same-stored d c bytes (s.block n)) (λ i. inl refl) (λ i. refl)
+      apart-at n (stored_block c bytes (s.block n)) (block_stored c n bytes s) (λ m. refl)
+      (same-stored d c bytes (s.block n)) (λ i. inl refl) (λ i. refl)
       (sinks-same n (stored_block c bytes (s.block n)) (block_stored c n bytes s) (λ m. refl) refl (λ i. refl))
 
   -- ---- a request is taken
@@ -131,14 +148,18 @@ module _ {w : ℕ} {X : Type 0} (d : ℕ) (asked asked' : ℕ → Option (BeatA 
     coming = coming;
   }
 
-  left-performed : (n : ℕ) (f : X → X) (s' : State X) → IsChanged n (performed_block f (s.block n)) s' → ((i : ℕ) → IsSameUse (s.uses d i) (s'.uses d i))
+  left-performed : (n : ℕ) (f : X → X) (s' : State X) → IsChanged n (performed_block f (s.block n)) s'
+      → ((i : ℕ) → IsSameUse (s.uses d i) (s'.uses d i))
       → ((i : ℕ) → s'.lets d i ≡ s.lets d i) → ((i : ℕ) → s'.tracked i ≡ s.tracked i) → IsLeft s'
   left-performed n f s' changed uses lets tracked =
-      apart-at n (performed_block f (s.block n)) s' changed (same-performed d f (s.block n)) uses lets (sinks-same n (performed_block f (s.block n)) s' changed refl tracked)
+      apart-at n (performed_block f (s.block n)) s' changed (same-performed d f (s.block n)) uses lets
+      (sinks-same n (performed_block f (s.block n)) s' changed refl tracked)
 
-  pub left-served : (r n source tracker : ℕ) (own : Bool) (k : Cap) (s' : State X) → IsChanged n (served_block r own source tracker k (s.block n)) s'
+  pub left-served : (r n source tracker : ℕ) (own : Bool) (k : Cap) (s' : State X)
+      → IsChanged n (served_block r own source tracker k (s.block n)) s'
       → (own && (d == r)) ≡ false → (s.block n).service ≡ Free → is_unprobed ((s.block n).pair d).probing ≡ true
-      → ((i : ℕ) → IsSameUse (s.uses d i) (s'.uses d i)) → ((i : ℕ) → s'.lets d i ≡ s.lets d i) → s.tracked tracker ≡ None → ((i : ℕ) → s'.tracked i ≡ set tracker (Some n) s.tracked i) → IsLeft s'
+      → ((i : ℕ) → IsSameUse (s.uses d i) (s'.uses d i)) → ((i : ℕ) → s'.lets d i ≡ s.lets d i)
+      → s.tracked tracker ≡ None → ((i : ℕ) → s'.tracked i ≡ set tracker (Some n) s.tracked i) → IsLeft s'
   left-served r n source tracker own k s' changed other free quiet uses lets unused tracked =
       apart-at n new s' changed (same-served d r source tracker own k (s.block n) other free quiet) uses lets
       (sinks-outside n new s' changed (free-outside n free) (outside-waits d r source own k other)
@@ -148,11 +169,15 @@ module _ {w : ℕ} {X : Type 0} (d : ℕ) (asked asked' : ℕ → Option (BeatA 
       new : Block X
       new = served_block r own source tracker k (s.block n)
 
-  pub left-acquire_granted : (r n tracker : ℕ) (x : Bool) (k : Cap) (toks : List Packet) → (d ≡ r → ⊥) → (s.block n).service ≡ Free
-      → is_answered ((s.block n).pair d).probing ≡ false → s.tracked tracker ≡ None → IsLeft (acquire_granted r n tracker x k toks s)
+  pub left-acquire_granted : (r n tracker : ℕ) (x : Bool) (k : Cap) (toks : List Packet) → (d ≡ r → ⊥)
+      → (s.block n).service ≡ Free
+      → is_answered ((s.block n).pair d).probing ≡ false → s.tracked tracker ≡ None
+      → IsLeft (acquire_granted r n tracker x k toks s)
   left-acquire_granted r n tracker x k toks ne free quiet unused =
-      apart-at n new (acquire_granted r n tracker x k toks s) (λ m. refl) (same-granted_at_once d r tracker x k (s.block n) ne free quiet) (λ i. inl refl) (λ i. refl)
-      (sinks-outside n new (acquire_granted r n tracker x k toks s) (λ m. refl) (free-outside n free) (outside-sent d r x k ne) (tracked-new n tracker s.tracked unused))
+      apart-at n new (acquire_granted r n tracker x k toks s) (λ m. refl)
+      (same-granted_at_once d r tracker x k (s.block n) ne free quiet) (λ i. inl refl) (λ i. refl)
+      (sinks-outside n new (acquire_granted r n tracker x k toks s) (λ m. refl) (free-outside n free)
+      (outside-sent d r x k ne) (tracked-new n tracker s.tracked unused))
     where
       new : Block X
       new = granted_at_once r tracker x k (s.block n)
@@ -161,17 +186,21 @@ module _ {w : ℕ} {X : Type 0} (d : ℕ) (asked asked' : ℕ → Option (BeatA 
 
   pub left-probe_taken : (c n : ℕ) (k : Cap) (toks : List Packet) → (d ≡ c → ⊥) → IsLeft (probe_taken c n k toks s)
   left-probe_taken c n k toks ne =
-      apart-at n (probed_block c k (s.block n)) (probe_taken c n k toks s) (λ m. refl) (same-probed d c k (s.block n) ne) (λ i. inl refl) (λ i. refl)
+      apart-at n (probed_block c k (s.block n)) (probe_taken c n k toks s) (λ m. refl)
+      (same-probed d c k (s.block n) ne) (λ i. inl refl) (λ i. refl)
       (sinks-same n (probed_block c k (s.block n)) (probe_taken c n k toks s) (λ m. refl) refl (λ i. refl))
 
   pub left-report_taken : (c n : ℕ) (r : Report) (toks : List Packet) → (d ≡ c → ⊥) → IsLeft (report_taken c n r toks s)
   left-report_taken c n r toks ne =
-      apart-at n (reported_block c r (s.block n)) (report_taken c n r toks s) (λ m. refl) (same-reported d c r (s.block n) ne) (λ i. inl refl) (λ i. refl)
+      apart-at n (reported_block c r (s.block n)) (report_taken c n r toks s) (λ m. refl)
+      (same-reported d c r (s.block n) ne) (λ i. inl refl) (λ i. refl)
       (sinks-same n (reported_block c r (s.block n)) (report_taken c n r toks s) (λ m. refl) refl (λ i. refl))
 
-  pub left-release_taken : (c n : ℕ) (r : Prune) (toks : List Packet) → (d ≡ c → ⊥) → IsLeft (release_taken c n r toks s)
+  pub left-release_taken : (c n : ℕ) (r : Prune) (toks : List Packet) → (d ≡ c → ⊥)
+      → IsLeft (release_taken c n r toks s)
   left-release_taken c n r toks ne =
-      apart-at n (let_block c r (s.block n)) (release_taken c n r toks s) (λ m. refl) (same-let d c r (s.block n) ne) (λ i. inl refl) (λ i. refl)
+      apart-at n (let_block c r (s.block n)) (release_taken c n r toks s) (λ m. refl) (same-let d c r (s.block n) ne)
+      (λ i. inl refl) (λ i. refl)
       (sinks-same n (let_block c r (s.block n)) (release_taken c n r toks s) (λ m. refl) refl (λ i. refl))
 
   -- ---- responses and GrantAcks
@@ -186,38 +215,52 @@ module _ {w : ℕ} {X : Type 0} (d : ℕ) (asked asked' : ℕ → Option (BeatA 
     coming = coming;
   }
 
-  pub left-grant_taken : (c n : ℕ) (whole x : Bool) (k : Cap) (toks : List Packet) → (d ≡ c → ⊥) → (s.block n).service ≡ GrantSent c x k → IsLeft (grant_taken c n whole x k toks s)
+  pub left-grant_taken : (c n : ℕ) (whole x : Bool) (k : Cap) (toks : List Packet) → (d ≡ c → ⊥)
+      → (s.block n).service ≡ GrantSent c x k → IsLeft (grant_taken c n whole x k toks s)
   left-grant_taken c n whole x k toks ne sent =
-      apart-at n (taken_block c whole x k (s.block n)) (grant_taken c n whole x k toks s) (λ m. refl) (same-taken d c whole x k (s.block n) ne sent)
+      apart-at n (taken_block c whole x k (s.block n)) (grant_taken c n whole x k toks s) (λ m. refl)
+      (same-taken d c whole x k (s.block n) ne sent)
       (λ i. inl (set_at-other c d ((s.block n).source c) i _ s.uses ne)) (λ i. refl)
       (sinks-outside n (taken_block c whole x k (s.block n)) (grant_taken c n whole x k toks s) (λ m. refl)
-      (ap (λ (q : Service). is_outside (view q d)) sent ∙ outside-sent d c x k ne) (outside-taken d c ne) (λ i. inl refl))
+      (ap (λ (q : Service). is_outside (view q d)) sent ∙ outside-sent d c x k ne) (outside-taken d c ne)
+      (λ i. inl refl))
 
   pub left-release_ack_taken : (c n : ℕ) (toks : List Packet) → (d ≡ c → ⊥) → IsLeft (release_ack_taken c n toks s)
   left-release_ack_taken c n toks ne =
-      apart-at n (let_go_block c (s.block n)) (release_ack_taken c n toks s) (λ m. refl) (same-let_go d c (s.block n) ne) (λ i. inl refl)
+      apart-at n (let_go_block c (s.block n)) (release_ack_taken c n toks s) (λ m. refl)
+      (same-let_go d c (s.block n) ne) (λ i. inl refl)
       (λ i. set_at-other c d ((s.block n).release_source c) i None s.lets ne)
       (sinks-same n (let_go_block c (s.block n)) (release_ack_taken c n toks s) (λ m. refl) refl (λ i. refl))
 
-  pub left-grant_ack_taken : (c n : ℕ) (toks : List Packet) → (d ≡ c → ⊥) → (s.block n).service ≡ GrantTaken c → s.tracked (s.block n).tracker ≡ Some n → IsLeft (grant_ack_taken c n toks s)
+  pub left-grant_ack_taken : (c n : ℕ) (toks : List Packet) → (d ≡ c → ⊥) → (s.block n).service ≡ GrantTaken c
+      → s.tracked (s.block n).tracker ≡ Some n → IsLeft (grant_ack_taken c n toks s)
   left-grant_ack_taken c n toks ne taken tracks =
-      apart-at n (freed_block (s.block n)) (grant_ack_taken c n toks s) (λ m. refl) (same-freed d c (s.block n) ne taken) (λ i. inl refl) (λ i. refl)
+      apart-at n (freed_block (s.block n)) (grant_ack_taken c n toks s) (λ m. refl)
+      (same-freed d c (s.block n) ne taken) (λ i. inl refl) (λ i. refl)
       (sinks-outside n (freed_block (s.block n)) (grant_ack_taken c n toks s) (λ m. refl)
-      (ap (λ (q : Service). is_outside (view q d)) taken ∙ outside-taken d c ne) refl (tracked-free n (s.block n).tracker s.tracked tracks))
+      (ap (λ (q : Service). is_outside (view q d)) taken ∙ outside-taken d c ne) refl
+      (tracked-free n (s.block n).tracker s.tracked tracks))
 
 -- ---- an access, after its last beat
 
-module _ {w : ℕ} {X : Type 0} (d : ℕ) (asked asked' : ℕ → Option (BeatA w)) (rest : Channel → List (Beat w)) (s : State X) (asks : (i : ℕ) → asked' i ≡ asked i)
+module _ {w : ℕ} {X : Type 0} (d : ℕ) (asked asked' : ℕ → Option (BeatA w)) (rest : Channel → List (Beat w))
+    (s : State X) (asks : (i : ℕ) → asked' i ≡ asked i)
     (coming : IsComing asked (rest channel.D) d s) where
-  pub left-access_answered : (c n source : ℕ) (f : X → X) (toks : List Packet) → IsAside asked asked' rest d (replied c source s) (access_answered c n source f toks s)
-  left-access_answered c n source f toks = left-performed d asked asked' rest (replied c source s) asks coming n f (access_answered c n source f toks s)
+  pub left-access_answered : (c n source : ℕ) (f : X → X) (toks : List Packet)
+      → IsAside asked asked' rest d (replied c source s) (access_answered c n source f toks s)
+  left-access_answered c n source f toks = left-performed d asked asked' rest (replied c source s) asks coming n f
+      (access_answered c n source f toks s)
       (λ m. refl) (λ i. inl refl) (λ i. refl) (λ i. refl)
 
-  pub left-access_served : (c n source tracker : ℕ) (k : Cap) (toks : List Packet) → (s.block n).service ≡ Free → is_unprobed ((s.block n).pair d).probing ≡ true
-      → s.tracked tracker ≡ None → IsAside asked asked' rest d (replied c source s) (access_served c n source tracker k toks s)
+  pub left-access_served : (c n source tracker : ℕ) (k : Cap) (toks : List Packet) → (s.block n).service ≡ Free
+      → is_unprobed ((s.block n).pair d).probing ≡ true
+      → s.tracked tracker ≡ None → IsAside asked asked' rest d (replied c source s)
+      (access_served c n source tracker k toks s)
   left-access_served c n source tracker k toks free quiet unused =
-      left-served d asked asked' rest (replied c source s) asks coming c n source tracker false k (access_served c n source tracker k toks s)
-      (λ m. refl) refl free quiet (uses-heard c source Replied (InService n) s.uses refl refl d) (λ i. refl) unused (λ i. refl)
+      left-served d asked asked' rest (replied c source s) asks coming c n source tracker false k
+      (access_served c n source tracker k toks s)
+      (λ m. refl) refl free quiet (uses-heard c source Replied (InService n) s.uses refl refl d) (λ i. refl) unused
+      (λ i. refl)
 
   -- ---- a ProbeAck that is the last one, after its last beat
 
@@ -229,9 +272,11 @@ module _ {w : ℕ} {X : Type 0} (d : ℕ) (asked asked' : ℕ → Option (BeatA 
     new_is = set-same n (reported_block c r (s.block n)) s.block
 
     coming_still : IsComing asked (rest channel.D) d between
-    coming_still m e = set-part (λ (z : Block X). is_granting (view z.service d)) n (reported_block c r (s.block n)) s.block refl m ∙ coming m e
+    coming_still m e = set-part (λ (z : Block X). is_granting (view z.service d)) n (reported_block c r (s.block n))
+        s.block refl m ∙ coming m e
 
-    unanswered : ((i : ℕ) → (i ≡ c → ⊥) → is_answered ((s.block n).pair i).probing ≡ false) → is_answered ((reported_block c r (s.block n)).pair d).probing ≡ false
+    unanswered : ((i : ℕ) → (i ≡ c → ⊥) → is_answered ((s.block n).pair i).probing ≡ false)
+        → is_answered ((reported_block c r (s.block n)).pair d).probing ≡ false
     unanswered quiet = elim (cases_eq d c) [
       | inl here ↦ rw (here, set-same c (after_report r ((s.block n).pair c)) (s.block n).pair) refl
       | inr other ↦ rw (set-other c d (after_report r ((s.block n).pair c)) (s.block n).pair other) (quiet d other)
@@ -241,16 +286,22 @@ module _ {w : ℕ} {X : Type 0} (d : ℕ) (asked asked' : ℕ → Option (BeatA 
     seen q e = ap (λ (z : Block X). view z.service d) new_is ∙ ap (λ (i : Service). view i d) e
 
     pub left-report_answers : (q source : ℕ) (k : Cap) (f : X → X) → (s.block n).service ≡ Waits q false source k
-        → ((i : ℕ) → (i ≡ c → ⊥) → is_answered ((s.block n).pair i).probing ≡ false) → s.tracked (s.block n).tracker ≡ Some n
-        → is_heard (s.uses q source) ≡ true → IsAside asked asked' rest d (report_taken c n r toks s) (report_answers c q n source r f toks s)
+        → ((i : ℕ) → (i ≡ c → ⊥) → is_answered ((s.block n).pair i).probing ≡ false)
+        → s.tracked (s.block n).tracker ≡ Some n
+        → is_heard (s.uses q source) ≡ true → IsAside asked asked' rest d (report_taken c n r toks s)
+        (report_answers c q n source r f toks s)
     left-report_answers q source k f waits quiet tracks heard =
-        apart-at d asked asked' rest between asks coming_still n (ended_block c r f (s.block n)) (report_answers c q n source r f toks s)
+        apart-at d asked asked' rest between asks coming_still n (ended_block c r f (s.block n))
+        (report_answers c q n source r f toks s)
         (set-again n (reported_block c r (s.block n)) (ended_block c r f (s.block n)) s.block)
-        (subst (λ (z : Block X). IsSameBlock d z (ended_block c r f (s.block n))) (sym new_is) (same-settled d c q source r k f (s.block n) waits (unanswered quiet)))
+        (subst (λ (z : Block X). IsSameBlock d z (ended_block c r f (s.block n))) (sym new_is)
+        (same-settled d c q source r k f (s.block n) waits (unanswered quiet)))
         uses (λ i. refl)
-        (sinks-outside d asked asked' rest between asks coming_still n (ended_block c r f (s.block n)) (report_answers c q n source r f toks s)
+        (sinks-outside d asked asked' rest between asks coming_still n (ended_block c r f (s.block n))
+        (report_answers c q n source r f toks s)
         (set-again n (reported_block c r (s.block n)) (ended_block c r f (s.block n)) s.block)
-        (ap is_outside (seen (Waits q false source k) waits) ∙ outside-waits d q source false k refl) refl (tracked-free n (s.block n).tracker s.tracked tracks))
+        (ap is_outside (seen (Waits q false source k) waits) ∙ outside-waits d q source false k refl) refl
+        (tracked-free n (s.block n).tracker s.tracked tracks))
       where
         uses : (i : ℕ) → IsSameUse (s.uses d i) (set_at q source Replied s.uses d i)
         uses i = elim (cases_eq i source) [
@@ -262,8 +313,10 @@ module _ {w : ℕ} {X : Type 0} (d : ℕ) (asked asked' : ℕ → Option (BeatA 
         ]
 
     pub left-report_grants : (q source : ℕ) (j k : Cap) (x : Bool) → (s.block n).service ≡ Waits q true source j
-        → ((i : ℕ) → (i ≡ c → ⊥) → is_answered ((s.block n).pair i).probing ≡ false) → (q ≡ c → ⊥) → ((s.block n).pair q).held ≡ ((s.block n).pair q).recorded
-        → ((i : ℕ) → s.tracked i ≡ Some n → comes_in_grant i (rest channel.D) ≡ false) → IsAside asked asked' rest d (report_taken c n r toks s) (report_grants c q n r x k toks s)
+        → ((i : ℕ) → (i ≡ c → ⊥) → is_answered ((s.block n).pair i).probing ≡ false) → (q ≡ c → ⊥)
+        → ((s.block n).pair q).held ≡ ((s.block n).pair q).recorded
+        → ((i : ℕ) → s.tracked i ≡ Some n → comes_in_grant i (rest channel.D) ≡ false)
+        → IsAside asked asked' rest d (report_taken c n r toks s) (report_grants c q n r x k toks s)
     left-report_grants q source j k x waits quiet apart even none =
         apart-at d asked asked' rest between asks coming_still n new (report_grants c q n r x k toks s) changed
         (subst (λ (z : Block X). IsSameBlock d z new) (sym new_is) same) (λ i. inl refl) (λ i. refl) sinks
@@ -282,22 +335,29 @@ module _ {w : ℕ} {X : Type 0} (d : ℕ) (asked asked' : ℕ → Option (BeatA 
 
         unsunk_now : (i : ℕ) → s.tracked i ≡ Some n → sunk_in d i (rest channel.D) new ≡ false
         unsunk_now i e = elim (cases_eq d q) [
-          | inl here ↦ ap (λ (z : Bool). is_acknowledging (view new.service d) || (is_granting (view new.service d) && z)) (none i e) ∙ granted (d == q)
-          | inr other ↦ outside-unsunk (view new.service d) (comes_in_grant i (rest channel.D)) (outside-sent d q x k other)
+          | inl here ↦ ap (λ (z : Bool). is_acknowledging (view new.service d)
+              || (is_granting (view new.service d) && z)) (none i e) ∙ granted (d == q)
+          | inr other ↦ outside-unsunk (view new.service d) (comes_in_grant i (rest channel.D))
+              (outside-sent d q x k other)
         ]
           where
-            granted : (z : Bool) → (is_acknowledging (if z then Granting x k else GrantedOther) || (is_granting (if z then Granting x k else GrantedOther) && false)) ≡ false
+            granted : (z : Bool) → (is_acknowledging (if z then Granting x k else GrantedOther)
+                || (is_granting (if z then Granting x k else GrantedOther) && false)) ≡ false
             granted true = refl
             granted false = refl
 
         unsunk_then : (i : ℕ) → sunk_in d i (rest channel.D) (between.block n) ≡ false
-        unsunk_then i = ap (λ (z : View). is_acknowledging z || (is_granting z && comes_in_grant i (rest channel.D))) (seen (Waits q true source j) waits) ∙ waiting (d == q)
+        unsunk_then i = ap (λ (z : View). is_acknowledging z || (is_granting z && comes_in_grant i (rest channel.D)))
+            (seen (Waits q true source j) waits) ∙ waiting (d == q)
           where
-            waiting : (z : Bool) → (is_acknowledging (if true && z then Own else Other j) || (is_granting (if true && z then Own else Other j) && comes_in_grant i (rest channel.D))) ≡ false
+            waiting : (z : Bool) → (is_acknowledging (if true && z then Own else Other j)
+                || (is_granting (if true && z then Own else Other j) && comes_in_grant i (rest channel.D))) ≡ false
             waiting true = refl
             waiting false = refl
 
-        sinks : (i : ℕ) → is_sunk d i (rest channel.D) (s.tracked i) (report_grants c q n r x k toks s) ≡ is_sunk d i (rest channel.D) (s.tracked i) between
-        sinks i = sunk-elsewhere d i n (rest channel.D) (s.tracked i) (s.tracked i) between (report_grants c q n r x k toks s)
+        sinks : (i : ℕ) → is_sunk d i (rest channel.D) (s.tracked i) (report_grants c q n r x k toks s) ≡ is_sunk d i
+            (rest channel.D) (s.tracked i) between
+        sinks i = sunk-elsewhere d i n (rest channel.D) (s.tracked i) (s.tracked i) between
+            (report_grants c q n r x k toks s)
             (λ m ne. changed m ∙ set-other n m new between.block ne) (inl refl) (λ e. unsunk_then i)
             (λ e. ap (sunk_in d i (rest channel.D)) (set-same n new s.block) ∙ unsunk_now i e)

@@ -1,17 +1,13 @@
 -- What is delivered on a link, as an event leaves it alone: each value of it is as before.
-use Rattle.std.proofs.Common.{◌≡◌, ℕ, Bool, true, false, not, ◌&&◌, ◌||◌, [], ◌∷◌, Option, Some, None, refl, sym, ◌∙◌, ap, List, ◌⊎◌, inl, inr}
-use Rattle.tl_beat.specs.declared.beat.Beat.{Beat}
+use Rattle.tl_coherence.proofs.flow.Imports.{Beat, BeatA, Channel, History, is_grant, asks_for, MonitorRelation}
+use Rattle.tl_coherence.proofs.flow.Imports.{is_requested, is_let, is_let_by, is_sunk, comes_granting, ReleasePhase}
+use Rattle.tl_coherence.proofs.flow.Imports.{Block, State, SourceState, SourceFree, Asked, InService, Replied, Acquires}
+use Rattle.tl_coherence.proofs.flow.Imports.{view, is_granting, is_acknowledging, is_answered, is_wanting, is_unserved}
+use Rattle.tl_coherence.proofs.flow.Imports.{cap_waited}
+use Rattle.std.proofs.Common.{◌≡◌, ℕ, Bool, true, false, not, ◌&&◌, ◌||◌, [], ◌∷◌, Option, Some, None, refl, sym, ◌∙◌}
+use Rattle.std.proofs.Common.{ap, List, ◌⊎◌, inl, inr}
 use Rattle.tl_beat.specs.declared.beat.Beat.TheVariants as beat
-use Rattle.tl_beat.specs.declared.beat.BeatA.{BeatA}
-use Rattle.tl_beat.specs.declared.channel.Channel.{Channel}
 use Rattle.tl_beat.specs.declared.channel.Channel.TheVariants as channel
-use Rattle.tl_burst.specs.statement.Messages.{History}
-use Rattle.tl_rules.specs.statement.History.{is_grant, asks_for}
-use Rattle.tl_coherence.specs.refinement.MonitorRelation.{MonitorRelation, is_requested, is_let, is_let_by, is_sunk}
-use Rattle.tl_coherence.specs.refinement.ClientRelation.{comes_granting}
-use Rattle.tl_coherence.specs.protocol.Phase.{ReleasePhase}
-use Rattle.tl_coherence.specs.protocol.Protocol.{Block, State, SourceState, SourceFree, Asked, InService, Replied, Acquires, view, is_granting, is_acknowledging, is_answered, is_wanting, is_unserved}
-use Rattle.tl_coherence.specs.refinement.SourceRelation.{cap_waited}
 use Rattle.tl_coherence.proofs.flow.FlowSame.{flowed-untouched}
 use Rattle.tl_coherence.proofs.flow.FlowStep.{held_by, granted_by}
 
@@ -25,10 +21,22 @@ pub record IsSameBlock {X : Type 0} (d : ℕ) (b b' : Block X) : Type 0 where
   pub acknowledging : is_acknowledging (view b'.service d) ≡ is_acknowledging (view b.service d)
   pub answered : is_answered (b'.pair d).probing ≡ is_answered (b.pair d).probing
   pub cap : is_answered (b'.pair d).probing ≡ true → cap_waited b'.service ≡ cap_waited b.service
-  pub tracker : (b'.tracker ≡ b.tracker) ⊎ ((is_acknowledging (view b.service d) || is_granting (view b.service d)) ≡ false)
+  pub tracker : (b'.tracker ≡ b.tracker)
+      ⊎ ((is_acknowledging (view b.service d) || is_granting (view b.service d)) ≡ false)
 
 pub same-block : {X : Type 0} (d : ℕ) (b : Block X) → IsSameBlock d b b
-same-block d b = record { held = refl; wanting = refl; unserved = refl; letting = refl; source = refl; acknowledging = refl; answered = refl; cap = λ e. refl; tracker = inl refl }
+same-block d b = record {
+  held = refl;
+  wanting = refl;
+  unserved = refl;
+  letting = refl;
+  source = refl;
+  acknowledging =
+      refl;
+  answered = refl;
+  cap = λ e. refl;
+  tracker = inl refl;
+}
 
 abbrev pub AreSame : {X : Type 0} → ℕ → State X → State X → Type 0
 AreSame d s s' = (n : ℕ) → IsSameBlock d (s.block n) (s'.block n)
@@ -44,7 +52,8 @@ is_heard _ = false
 abbrev pub IsSameUse : SourceState → SourceState → Type 0
 IsSameUse u u' = (u' ≡ u) ⊎ ((is_heard u ≡ true) × (is_heard u' ≡ true))
 
-heard_requested : {w : ℕ} {X : Type 0} (c i : ℕ) (rest : List (Beat w)) (u : SourceState) (s : State X) → is_heard u ≡ true → is_requested c i rest u s ≡ true
+heard_requested : {w : ℕ} {X : Type 0} (c i : ℕ) (rest : List (Beat w)) (u : SourceState) (s : State X)
+    → is_heard u ≡ true → is_requested c i rest u s ≡ true
 heard_requested c i rest (InService n) s e = refl
 heard_requested c i rest Replied s e = refl
 heard_requested c i rest SourceFree s e = absurd cc
@@ -61,13 +70,17 @@ requested-blocks c i rest Replied s s' h = refl
 requested-blocks c i rest (Acquires n) s s' h = ap not (h n)
 
 requested-same : {w : ℕ} {X : Type 0} (c i : ℕ) (rest : List (Beat w)) (s s' : State X)
-    → ((n : ℕ) → is_unserved (view (s'.block n).service c) ≡ is_unserved (view (s.block n).service c)) → IsSameUse (s.uses c i) (s'.uses c i)
+    → ((n : ℕ) → is_unserved (view (s'.block n).service c) ≡ is_unserved (view (s.block n).service c))
+    → IsSameUse (s.uses c i) (s'.uses c i)
     → is_requested c i rest (s'.uses c i) s' ≡ is_requested c i rest (s.uses c i) s
-requested-same c i rest s s' h (inl same) = ap (λ (u : SourceState). is_requested c i rest u s') same ∙ requested-blocks c i rest (s.uses c i) s s' h
-requested-same c i rest s s' h (inr both) = heard_requested c i rest (s'.uses c i) s' both.1 ∙ sym (heard_requested c i rest (s.uses c i) s both.0)
+requested-same c i rest s s' h (inl same) = ap (λ (u : SourceState). is_requested c i rest u s') same ∙ requested-blocks
+    c i rest (s.uses c i) s s' h
+requested-same c i rest s s' h (inr both) = heard_requested c i rest (s'.uses c i) s' both.1 ∙ sym
+    (heard_requested c i rest (s.uses c i) s both.0)
 
 pub let_by-same : {w : ℕ} {X : Type 0} (c i : ℕ) (rest : List (Beat w)) (o : Option ℕ) (s s' : State X)
-    → ((n : ℕ) → ((s'.block n).pair c).letting ≡ ((s.block n).pair c).letting) → is_let_by c i rest o s' ≡ is_let_by c i rest o s
+    → ((n : ℕ) → ((s'.block n).pair c).letting ≡ ((s.block n).pair c).letting)
+    → is_let_by c i rest o s' ≡ is_let_by c i rest o s
 let_by-same c i rest None s s' h = refl
 let_by-same c i rest (Some n) s s' h = ap (is_let i rest) (h n)
 
@@ -75,17 +88,20 @@ let_by-same c i rest (Some n) s s' h = ap (is_let i rest) (h n)
 abbrev pub IsComing : {w : ℕ} {X : Type 0} → (ℕ → Option (BeatA w)) → List (Beat w) → ℕ → State X → Type 0
 IsComing asked rest c s = (n : ℕ) → comes_granting n asked rest ≡ true → is_granting (view (s.block n).service c) ≡ true
 
-pub comes-same : {w : ℕ} (n : ℕ) (asked asked' : ℕ → Option (BeatA w)) (rest : List (Beat w)) → ((i : ℕ) → asked' i ≡ asked i) → comes_granting n asked' rest ≡ comes_granting n asked rest
+pub comes-same : {w : ℕ} (n : ℕ) (asked asked' : ℕ → Option (BeatA w)) (rest : List (Beat w))
+    → ((i : ℕ) → asked' i ≡ asked i) → comes_granting n asked' rest ≡ comes_granting n asked rest
 comes-same n asked asked' [] h = refl
 comes-same n asked asked' (beat.A x ∷ rest) h = refl
 comes-same n asked asked' (beat.B x ∷ rest) h = refl
 comes-same n asked asked' (beat.C x ∷ rest) h = refl
-comes-same n asked asked' (beat.D x ∷ rest) h = ap (λ (o : Option (BeatA _)). is_grant x.opcode && asks_for n o) (h x.source)
+comes-same n asked asked' (beat.D x ∷ rest) h = ap (λ (o : Option (BeatA _)). is_grant x.opcode && asks_for n o)
+    (h x.source)
 comes-same n asked asked' (beat.E x ∷ rest) h = refl
 
 -- ---- all values
 
-pub record IsAside {w : ℕ} {X : Type 0} (asked asked' : ℕ → Option (BeatA w)) (rest : Channel → List (Beat w)) (d : ℕ) (s s' : State X) : Type 0 where
+pub record IsAside {w : ℕ} {X : Type 0} (asked asked' : ℕ → Option (BeatA w)) (rest : Channel → List (Beat w)) (d : ℕ)
+    (s s' : State X) : Type 0 where
   pub blocks : AreSame d s s'
   pub uses : (i : ℕ) → IsSameUse (s.uses d i) (s'.uses d i)
   pub lets : (i : ℕ) → s'.lets d i ≡ s.lets d i
@@ -98,14 +114,16 @@ either_is true b g e f h = absurd cc
 either_is false true g e f h = let p : g ≡ true = f refl in let q : true ≡ false = sym p ∙ h in cc
 either_is false false g e f h = absurd cc
 
-pub flowed-aside : {w : ℕ} {X : Type 0} (asked asked' : ℕ → Option (BeatA w)) (rest : Channel → List (Beat w)) (d : ℕ) (s s' : State X) (t : History w)
+pub flowed-aside : {w : ℕ} {X : Type 0} (asked asked' : ℕ → Option (BeatA w)) (rest : Channel → List (Beat w)) (d : ℕ)
+    (s s' : State X) (t : History w)
     → IsAside asked asked' rest d s s' → MonitorRelation asked rest d s t → MonitorRelation asked' rest d s' t
 flowed-aside {w} {X} asked asked' rest d s s' t is = flowed-untouched asked asked' rest d s s' t (record {
   held_is = λ n. (is.blocks n).held;
   requests = λ i. requested-same d i (rest channel.A) s s' (λ n. (is.blocks n).unserved) (is.uses i);
   asked_is = λ i e. is.asked_is i;
   acquires = λ n. both_same (is.blocks n).wanting (is.blocks n).unserved;
-  release_sources = λ i. ap (λ (o : Option ℕ). is_let_by d i (rest channel.C) o s') (is.lets i) ∙ let_by-same d i (rest channel.C) (s.lets d i) s s' (λ n. (is.blocks n).letting);
+  release_sources = λ i. ap (λ (o : Option ℕ). is_let_by d i (rest channel.C) o s') (is.lets i) ∙ let_by-same d i
+      (rest channel.C) (s.lets d i) s s' (λ n. (is.blocks n).letting);
   lets = λ i n e f. sym (is.lets i) ∙ f;
   releases = λ n. ap (λ (i : ℕ). is_let i (rest channel.C) ((s'.block n).pair d).letting) (is.blocks n).source
       ∙ ap (λ (l : ReleasePhase). is_let ((s.block n).release_source d) (rest channel.C) l) (is.blocks n).letting;
@@ -122,14 +140,18 @@ flowed-aside {w} {X} asked asked' rest d s s' t is = flowed-untouched asked aske
     either_same : {a b a' b' : Bool} → a' ≡ a → b' ≡ b → (a' || b') ≡ (a || b)
     either_same e f = rw (e, f) refl
 
-    tracked : (n : ℕ) → granted_by d n asked (rest channel.D) (s.block n) ≡ true → ((s'.block n).tracker ≡ (s.block n).tracker)
-        ⊎ ((is_acknowledging (view (s.block n).service d) || is_granting (view (s.block n).service d)) ≡ false) → (s'.block n).tracker ≡ (s.block n).tracker
+    tracked : (n : ℕ) → granted_by d n asked (rest channel.D) (s.block n) ≡ true
+        → ((s'.block n).tracker ≡ (s.block n).tracker)
+        ⊎ ((is_acknowledging (view (s.block n).service d) || is_granting (view (s.block n).service d)) ≡ false)
+        → (s'.block n).tracker ≡ (s.block n).tracker
     tracked n e (inl same) = same
-    tracked n e (inr none) = absurd (either_is (is_acknowledging (view (s.block n).service d)) (comes_granting n asked (rest channel.D))
+    tracked n e (inr none) =
+        absurd (either_is (is_acknowledging (view (s.block n).service d)) (comes_granting n asked (rest channel.D))
         (is_granting (view (s.block n).service d)) e (is.coming n) none)
 
 -- where the same requests are given in another way, nothing changes
-pub flowed-asks : {w : ℕ} {X : Type 0} (asked asked' : ℕ → Option (BeatA w)) (rest : Channel → List (Beat w)) (d : ℕ) (s : State X) (t : History w)
+pub flowed-asks : {w : ℕ} {X : Type 0} (asked asked' : ℕ → Option (BeatA w)) (rest : Channel → List (Beat w)) (d : ℕ)
+    (s : State X) (t : History w)
     → ((i : ℕ) → asked' i ≡ asked i) → MonitorRelation asked rest d s t → MonitorRelation asked' rest d s t
 flowed-asks asked asked' rest d s t asks = flowed-untouched asked asked' rest d s s t (record {
   held_is = λ n. refl;
@@ -140,7 +162,8 @@ flowed-asks asked asked' rest d s t asks = flowed-untouched asked asked' rest d 
   lets = λ i n e f. f;
   releases = λ n. refl;
   sinks = λ i. refl;
-  grants = λ n. ap (λ (z : Bool). is_acknowledging (view (s.block n).service d) || z) (comes-same n asked asked' (rest channel.D) asks);
+  grants = λ n. ap (λ (z : Bool). is_acknowledging (view (s.block n).service d) || z)
+      (comes-same n asked asked' (rest channel.D) asks);
   probes = λ n. refl;
   caps = λ n e. refl;
   trackers = λ n e. refl;

@@ -1,25 +1,21 @@
 -- What of a message was delivered before and after one of its beats.
-use Rattle.std.proofs.Common.{◌≡◌, ℕ, zero, suc, Bool, true, false, not, ◌&&◌, List, [], ◌∷◌, refl, sym, ◌∙◌, ap, inl, inr}
+use Rattle.tl_coherence.proofs.flow.Imports.{Beat, Message, begun, grown, is_empty, completes, Perm, same_perm}
+use Rattle.tl_coherence.proofs.flow.Imports.{acquires_of, State, is_wanting, set_at}
+use Rattle.std.proofs.Common.{◌≡◌, ℕ, zero, suc, Bool, true, false, not, ◌&&◌, List, [], ◌∷◌, refl, sym, ◌∙◌, ap, inl}
+use Rattle.std.proofs.Common.{inr}
 use Rattle.std.specs.Prelude.{◌==◌, if◌then◌else◌}
 use Rattle.std.proofs.lemmas.Bool.{cases_eq, ne_eqb, and_right}
-use Rattle.tl_beat.specs.declared.beat.Beat.{Beat}
-use Rattle.tl_burst.specs.declared.message.Message.{Message}
-use Rattle.tl_burst.specs.statement.Burst.{beats_of, begun}
-use Rattle.tl_burst.specs.statement.Messages.{grown}
-use Rattle.tl_burst.specs.statement.Part.{is_empty, completes}
-use Rattle.tl_params.specs.declared.perm.Perm.{Perm}
+use Rattle.tl_burst.specs.statement.Burst.{beats_of}
 use Rattle.tl_params.specs.declared.perm.Perm.TheVariants as perm
-use Rattle.tl_rules.specs.statement.Conformance.{same_perm}
-use Rattle.tl_coherence.specs.protocol.Invariant.{AreNamed, acquires_of}
-use Rattle.tl_coherence.specs.protocol.Protocol.{State, is_wanting}
-use Rattle.tl_coherence.specs.protocol.Packet.{set_at}
+use Rattle.tl_coherence.specs.protocol.Invariant.{AreNamed}
 use Rattle.tl_coherence.proofs.client.Aside.{set_at-else}
 use Rattle.tl_coherence.proofs.queues.Carried.{IsNext}
 use Rattle.tl_coherence.proofs.queues.Tokens.{same_number, set_at-same}
 use Rattle.tl_coherence.proofs.client.ProbeDelivered.{first_beat}
 
 -- a test of what was delivered, which no beats pass, and all beginnings of the message alike
-pub came-so : {w : ℕ} (f : List (Beat w) → Bool) (m : Message w) (x : Beat w) (rest : List (Beat w)) (ms : List (Message w)) (queue : List (Beat w)) (v : Bool)
+pub came-so : {w : ℕ} (f : List (Beat w) → Bool) (m : Message w) (x : Beat w) (rest : List (Beat w))
+    (ms : List (Message w)) (queue : List (Beat w)) (v : Bool)
     → IsNext x rest m ms queue → f [] ≡ false → ((j : ℕ) → f (begun m (suc j)) ≡ v)
     → f rest ≡ (not (is_empty rest) && v)
 came-so {w} f m x rest ms queue v next none some = rw next.rest_is (go next.k)
@@ -28,7 +24,8 @@ came-so {w} f m x rest ms queue v next none some = rw next.rest_is (go next.k)
     go zero = none
     go (suc j) = some j
 
-pub comes-so : {w : ℕ} (f : List (Beat w) → Bool) (x : Beat w) (rest : List (Beat w)) (v : Bool) → f [] ≡ false → f (x ∷ rest) ≡ v → f (grown x rest) ≡ (not (completes x rest) && v)
+pub comes-so : {w : ℕ} (f : List (Beat w) → Bool) (x : Beat w) (rest : List (Beat w)) (v : Bool) → f [] ≡ false
+    → f (x ∷ rest) ≡ v → f (grown x rest) ≡ (not (completes x rest) && v)
 comes-so {w} f x rest v none here = go (completes x rest)
   where
     go : (b : Bool) → f (if b then [] else x ∷ rest) ≡ (not b && v)
@@ -36,7 +33,8 @@ comes-so {w} f x rest v none here = go (completes x rest)
     go false = here
 
 -- the first beat is beat 0
-pub first-zero : {w : ℕ} (m : Message w) (x : Beat w) (rest : List (Beat w)) (ms : List (Message w)) (queue : List (Beat w)) → (next : IsNext x rest m ms queue) → is_empty rest ≡ true → next.k ≡ 0
+pub first-zero : {w : ℕ} (m : Message w) (x : Beat w) (rest : List (Beat w)) (ms : List (Message w))
+    (queue : List (Beat w)) → (next : IsNext x rest m ms queue) → is_empty rest ≡ true → next.k ≡ 0
 first-zero {w} m x rest ms queue next e = go next.k (sym (ap is_empty next.rest_is) ∙ e)
   where
     go : (k : ℕ) → is_empty (begun m k) ≡ true → k ≡ 0
@@ -44,7 +42,8 @@ first-zero {w} m x rest ms queue next e = go next.k (sym (ap is_empty next.rest_
     go (suc j) f = absurd cc
 
 -- a message of one beat
-pub one-beat : {w : ℕ} (m : Message w) (x : Beat w) (rest : List (Beat w)) (ms : List (Message w)) (queue : List (Beat w)) → (next : IsNext x rest m ms queue)
+pub one-beat : {w : ℕ} (m : Message w) (x : Beat w) (rest : List (Beat w)) (ms : List (Message w))
+    (queue : List (Beat w)) → (next : IsNext x rest m ms queue)
     → beats_of m ≡ 1 → (next.k ≡ 0) × (rest ≡ []) × (completes x rest ≡ true)
 one-beat m x rest ms queue next one =
     let zeroth : next.k ≡ 0 = first_beat next.k (beats_of m) next.within one in
@@ -53,7 +52,8 @@ one-beat m x rest ms queue next one =
 -- ---- small facts
 
 -- an entry of one source is another
-pub set_at-if : {Y : Type 0} (c source i : ℕ) (y : Y) (f : ℕ → ℕ → Y) (j : ℕ) → j ≡ source → set_at c source y f c i ≡ (if j == i then y else f c i)
+pub set_at-if : {Y : Type 0} (c source i : ℕ) (y : Y) (f : ℕ → ℕ → Y) (j : ℕ) → j ≡ source
+    → set_at c source y f c i ≡ (if j == i then y else f c i)
 set_at-if c source i y f j e = elim (cases_eq i source) [
   | inl same ↦ rw (e, same, same_number source) (set_at-same c source y f)
   | inr other ↦ set_at-else c source i y f other c ∙ sym (rw (e, ne_eqb source i (λ g. other (sym g))) refl)
@@ -74,8 +74,11 @@ pub first_false : (p q : Bool) → p ≡ false → (p && q) ≡ false
 first_false p q e = rw e refl
 
 -- the source of a client's Acquire of a block is of no other
-pub unused-else : {X : Type 0} (c n i : ℕ) (s : State X) → AreNamed s → ((s.block n).source c == i) ≡ false → acquires_of n (s.uses c i) ≡ false
-unused-else c n i s named e = named.acquires c i n ∙ and_right (is_wanting ((s.block n).pair c).acquiring) (i == (s.block n).source c) (ne_eqb i ((s.block n).source c) apart)
+pub unused-else : {X : Type 0} (c n i : ℕ) (s : State X) → AreNamed s → ((s.block n).source c == i) ≡ false
+    → acquires_of n (s.uses c i) ≡ false
+unused-else c n i s named e = named.acquires c i n ∙ and_right (is_wanting ((s.block n).pair c).acquiring)
+    (i == (s.block n).source c) (ne_eqb i ((s.block n).source c) apart)
   where
     apart : i ≡ (s.block n).source c → ⊥
-    apart same = let no : ((s.block n).source c == (s.block n).source c) ≡ false = rw same at e in let yes : true ≡ false = sym (same_number ((s.block n).source c)) ∙ no in cc
+    apart same = let no : ((s.block n).source c == (s.block n).source c) ≡ false = rw same at e in
+        let yes : true ≡ false = sym (same_number ((s.block n).source c)) ∙ no in cc

@@ -1,35 +1,23 @@
 -- What was delivered in part on a link: of which Grant, and of which Release.
-use Rattle.std.proofs.Common.{◌≡◌, ℕ, zero, suc, ◌*◌, Bool, true, false, ◌&&◌, List, [], ◌∷◌, Option, Some, None, refl, sym, ◌∙◌, ap, subst}
+use Rattle.tl_coherence.proofs.flow.Imports.{IsWidth, Beat, BeatA, BeatC, BeatD, Message, MessageA, MessageC, MessageD}
+use Rattle.tl_coherence.proofs.flow.Imports.{begun, unfinished, Config, on_link, comes_in_release, comes_in_grant}
+use Rattle.tl_coherence.proofs.flow.Imports.{block_at, is_grant, is_release, asks_for, same_block, IsCarried}
+use Rattle.tl_coherence.proofs.flow.Imports.{comes_granting, Log, State, Acquires, packet, shown, view, is_on}
+use Rattle.tl_coherence.proofs.flow.Imports.{is_granting, AccessMessages, message_of, message_of_kind, report_told}
+use Rattle.tl_coherence.proofs.flow.Imports.{prune_told, block_message, System, Kind, Request, Acquire, Probe, ProbeAck}
+use Rattle.tl_coherence.proofs.flow.Imports.{Release, Answer, Grant, ReleaseAck, GrantAck, Packet, SimulationRelation}
+use Rattle.tl_coherence.proofs.flow.Imports.{is_caching, asked_by}
+use Rattle.std.proofs.Common.{◌≡◌, ℕ, zero, suc, ◌*◌, Bool, true, false, ◌&&◌, List, [], ◌∷◌, Option, Some, None, refl}
+use Rattle.std.proofs.Common.{sym, ◌∙◌, ap, subst}
 use Rattle.std.specs.Prelude.{◌==◌, map}
 use Rattle.std.proofs.lemmas.Bool.{eqb-true}
-use Rattle.tl_beat.specs.statement.Width.{IsWidth}
-use Rattle.tl_beat.specs.declared.beat.Beat.{Beat}
 use Rattle.tl_beat.specs.declared.beat.Beat.TheVariants as beat
-use Rattle.tl_beat.specs.declared.beat.BeatA.{BeatA}
-use Rattle.tl_beat.specs.declared.beat.BeatC.{BeatC}
-use Rattle.tl_beat.specs.declared.beat.BeatD.{BeatD}
 use Rattle.tl_beat.specs.declared.channel.Channel.TheVariants as channel
-use Rattle.tl_burst.specs.declared.message.Message.{Message}
 use Rattle.tl_burst.specs.declared.message.Message.TheVariants as message
-use Rattle.tl_burst.specs.declared.message.MessageA.{MessageA}
-use Rattle.tl_burst.specs.declared.message.MessageC.{MessageC}
-use Rattle.tl_burst.specs.declared.message.MessageD.{MessageD}
-use Rattle.tl_burst.specs.statement.Burst.{begun}
-use Rattle.tl_burst.specs.statement.Messages.{unfinished}
-use Rattle.tl_params.specs.declared.config.Config.{Config}
-use Rattle.tl_rules.specs.statement.Conformance.{on_link, comes_in_release, comes_in_grant}
-use Rattle.tl_rules.specs.statement.History.{block_at, is_grant, is_release, asks_for}
-use Rattle.tl_client.proofs.HeldAfter.{same_block}
-use Rattle.tl_coherence.specs.refinement.Carried.{IsCarried}
-use Rattle.tl_coherence.specs.refinement.ClientRelation.{comes_granting}
-use Rattle.tl_coherence.specs.statement.Log.{Log}
-use Rattle.tl_coherence.specs.protocol.Protocol.{State, Acquires, packet, shown, view, is_on, is_granting, is_releasing}
-use Rattle.tl_coherence.specs.refinement.PacketMessages.{AccessMessages, message_of, message_of_kind, report_told, prune_told, block_message}
-use Rattle.tl_coherence.specs.statement.System.{System}
-use Rattle.tl_coherence.specs.protocol.Packet.{Kind, Request, Acquire, Probe, ProbeAck, Release, Answer, Grant, ReleaseAck, GrantAck, Packet}
-use Rattle.tl_coherence.specs.refinement.SimulationRelation.{SimulationRelation, is_caching, asked_by}
+use Rattle.tl_coherence.specs.protocol.Protocol.{is_releasing}
 use Rattle.tl_coherence.proofs.client.ClientEnd.{asks-acquire}
-use Rattle.tl_coherence.proofs.protocol.HeadOfD.{IsGrantDue, answer-due, grant-due, grant-rendered, grant_message, ack_message, own_view}
+use Rattle.tl_coherence.proofs.protocol.HeadOfD.{IsGrantDue, answer-due, grant-due, grant-rendered, grant_message}
+use Rattle.tl_coherence.proofs.protocol.HeadOfD.{ack_message, own_view}
 use Rattle.tl_coherence.proofs.queues.FirstToken.{own_kind}
 use Rattle.tl_coherence.proofs.flow.FlowAside.{IsComing}
 use Rattle.tl_coherence.proofs.manager.ManagedEndings.{tracker-of}
@@ -47,32 +35,44 @@ IsOfGrant {w} c s x = (n : ℕ) × IsGrantDue c n s × (x.source ≡ (s.block n)
 
 -- a beat of this message is, if it is one of a Grant
 IsGrantAlone : {w : ℕ} → ℕ → State (List ℕ) → Message w → Type 0
-IsGrantAlone {w} c s m = (y : MessageD w) × (m ≡ message.D y) × (is_grant y.opcode ≡ true → (n : ℕ) × IsGrantDue c n s × (y.source ≡ (s.block n).source c) × (y.sink ≡ (s.block n).tracker))
+IsGrantAlone {w} c s m = (y : MessageD w) × (m ≡ message.D y) × (is_grant y.opcode ≡ true → (n : ℕ) × IsGrantDue c n s
+    × (y.source ≡ (s.block n).source c) × (y.sink ≡ (s.block n).tracker))
 
 never_grant : {A : Type 0} (b : Bool) → b ≡ false → b ≡ true → A
 never_grant b e f = absurd (let no : false ≡ true = sym e ∙ f in cc)
 
-alone_answer : {w : ℕ} (config : Config) (log : Log w) (mail : AccessMessages w) (request : ℕ → MessageA w) (s : State (List ℕ)) (sys : System w) (c i : ℕ)
+alone_answer : {w : ℕ} (config : Config) (log : Log w) (mail : AccessMessages w) (request : ℕ → MessageA w)
+    (s : State (List ℕ)) (sys : System w) (c i : ℕ)
     (rest : List Packet) → SimulationRelation config log mail request s sys → (s.link c).d ≡ packet Answer i ∷ rest
     → IsGrantAlone c s (mail.answer c i)
 unfolding IsGrantAlone
 alone_answer config log mail request s sys c i rest h first =
-    let due = answer-due (is_caching config) c i rest mail s h.invariant (h.answered c i) first in
-    (due.answer, due.answer_is, never_grant (is_grant due.answer.opcode) (access_kind due.answer.opcode due.answers_access).0)
+    let due = answer-due (is_caching config) c i rest mail s h.invariant (h.answered c i) first in (
+      due.answer,
+      due.answer_is,
+      never_grant (is_grant due.answer.opcode)
+          (access_kind due.answer.opcode due.answers_access).0,
+    )
 
-alone_grant : {w : ℕ} (config : Config) (log : Log w) (mail : AccessMessages w) (request : ℕ → MessageA w) (s : State (List ℕ)) (sys : System w) (c n : ℕ)
+alone_grant : {w : ℕ} (config : Config) (log : Log w) (mail : AccessMessages w) (request : ℕ → MessageA w)
+    (s : State (List ℕ)) (sys : System w) (c n : ℕ)
     (rest : List Packet) → SimulationRelation config log mail request s sys → (s.link c).d ≡ packet Grant n ∷ rest
     → IsGrantAlone {w = w} c s (block_message Grant c n (s.block n))
 unfolding IsGrantAlone
 alone_grant config log mail request s sys c n rest h first =
-    let due = grant-due (is_caching config) c n rest s h.invariant first in
-    (grant_message due.data_too due.k ((s.block n).source c) (s.block n).tracker (s.block n).truth, grant-rendered c n s due, λ e. (n, due, refl, refl))
+    let due = grant-due (is_caching config) c n rest s h.invariant first in (
+      grant_message due.data_too due.k ((s.block n).source c) (s.block n).tracker (s.block n).truth,
+      grant-rendered c n s
+          due,
+      λ e. (n, due, refl, refl),
+    )
 
 alone_ack : (w : ℕ) (s : State (List ℕ)) (c n : ℕ) → IsGrantAlone {w = w} c s (block_message ReleaseAck c n (s.block n))
 unfolding IsGrantAlone block_message
 alone_ack w s c n = (ack_message ((s.block n).release_source c), refl, λ e. absurd cc)
 
-begun_alone : {w : ℕ} (c : ℕ) (s : State (List ℕ)) (m : Message w) (k : ℕ) (x : BeatD w) (more : List (Beat w)) → IsGrantAlone c s m
+begun_alone : {w : ℕ} (c : ℕ) (s : State (List ℕ)) (m : Message w) (k : ℕ) (x : BeatD w) (more : List (Beat w))
+    → IsGrantAlone c s m
     → beat.D x ∷ more ≡ begun m k → is_grant x.opcode ≡ true → IsOfGrant c s x
 unfolding IsGrantAlone
 begun_alone {w} c s m k x more is e grants = go k (e ∙ ap (λ (y : Message w). begun y k) is.1)
@@ -85,11 +85,13 @@ begun_alone {w} c s m k x more is e grants = go k (e ∙ ap (λ (y : Message w).
         let sink : x.sink ≡ is.0.sink = cc in
         told source sink (is.2 (sym (ap is_grant opcode) ∙ grants))
       where
-        told : x.source ≡ is.0.source → x.sink ≡ is.0.sink → (n : ℕ) × IsGrantDue c n s × (is.0.source ≡ (s.block n).source c) × (is.0.sink ≡ (s.block n).tracker) → IsOfGrant c s x
+        told : x.source ≡ is.0.source → x.sink ≡ is.0.sink → (n : ℕ) × IsGrantDue c n s
+            × (is.0.source ≡ (s.block n).source c) × (is.0.sink ≡ (s.block n).tracker) → IsOfGrant c s x
         told source sink (n, due, of_source, of_sink) = (n, due, source ∙ of_source, sink ∙ of_sink)
 
 -- a Grant that was delivered in part is due
-half-granted : {w : ℕ} (config : Config) (log : Log w) (mail : AccessMessages w) (request : ℕ → MessageA w) (s : State (List ℕ)) (sys : System w) (c : ℕ) (x : BeatD w)
+half-granted : {w : ℕ} (config : Config) (log : Log w) (mail : AccessMessages w) (request : ℕ → MessageA w)
+    (s : State (List ℕ)) (sys : System w) (c : ℕ) (x : BeatD w)
     (more : List (Beat w)) → SimulationRelation config log mail request s sys
     → unfinished channel.D (sys.clients c).past ≡ beat.D x ∷ more → is_grant x.opcode ≡ true → IsOfGrant c s x
 half-granted {w} config log mail request s sys c x more h is grants = go (s.link c).d refl (h.carried c channel.D)
@@ -97,7 +99,8 @@ half-granted {w} config log mail request s sys c x more h is grants = go (s.link
     rest_now : List (Beat w)
     rest_now = unfinished channel.D (sys.clients c).past
 
-    each : (k : Kind) (i : ℕ) (rest : List Packet) → (s.link c).d ≡ packet k i ∷ rest → is_on channel.D k ≡ true → IsGrantAlone c s (message_of_kind k mail s c i)
+    each : (k : Kind) (i : ℕ) (rest : List Packet) → (s.link c).d ≡ packet k i ∷ rest → is_on channel.D k ≡ true
+        → IsGrantAlone c s (message_of_kind k mail s c i)
     each Answer i rest first own = alone_answer config log mail request s sys c i rest h first
     each Grant i rest first own = alone_grant config log mail request s sys c i rest h first
     each ReleaseAck i rest first own = alone_ack w s c i
@@ -108,59 +111,81 @@ half-granted {w} config log mail request s sys c x more h is grants = go (s.link
     each Release i rest first own = absurd cc
     each GrantAck i rest first own = absurd cc
 
-    go : (xs : List Packet) → (s.link c).d ≡ xs → IsCarried rest_now (map (message_of mail s c) (s.link c).d) (sys.channels c channel.D) → IsOfGrant c s x
+    go : (xs : List Packet) → (s.link c).d ≡ xs → IsCarried rest_now (map (message_of mail s c) (s.link c).d)
+        (sys.channels c channel.D) → IsOfGrant c s x
     go [] first carried =
-        let none : IsCarried rest_now [] (sys.channels c channel.D) = subst (λ (ms : List (Message w)). IsCarried rest_now ms (sys.channels c channel.D))
+        let none : IsCarried rest_now [] (sys.channels c channel.D) =
+        subst (λ (ms : List (Message w)). IsCarried rest_now ms (sys.channels c channel.D))
         (ap (map (message_of mail s c)) first) carried in
         absurd (let no : [] ≡ beat.D x ∷ more = sym none.0 ∙ is in cc)
     go (y ∷ ys) first carried =
-        let some : IsCarried rest_now (message_of mail s c y ∷ map (message_of mail s c) ys) (sys.channels c channel.D) =
-        subst (λ (ms : List (Message w)). IsCarried rest_now ms (sys.channels c channel.D)) (ap (map (message_of mail s c)) first) carried in
-        begun_alone c s (message_of mail s c y) some.0 x more (each y.kind y.number ys first (own_kind (is_caching config) s c channel.D y.kind y.number ys h.invariant first)) (sym is ∙ some.2) grants
+        let some : IsCarried rest_now (message_of mail s c y ∷ map (message_of mail s c) ys)
+        (sys.channels c channel.D) =
+        subst (λ (ms : List (Message w)). IsCarried rest_now ms (sys.channels c channel.D))
+        (ap (map (message_of mail s c)) first) carried in
+        begun_alone c s (message_of mail s c y) some.0 x more
+        (each y.kind y.number ys first (own_kind (is_caching config) s c channel.D y.kind y.number ys h.invariant
+        first)) (sym is ∙ some.2) grants
 
 -- the block of a Grant with this sink that was delivered in part
-pub coming-sink : {w : ℕ} (config : Config) (log : Log w) (mail : AccessMessages w) (request : ℕ → MessageA w) (s : State (List ℕ)) (sys : System w) (c i : ℕ) → SimulationRelation config log mail request s sys
-    → comes_in_grant i (unfinished channel.D (sys.clients c).past) ≡ true → (n : ℕ) × IsGrantDue c n s × (s.tracked i ≡ Some n)
+pub coming-sink : {w : ℕ} (config : Config) (log : Log w) (mail : AccessMessages w) (request : ℕ → MessageA w)
+    (s : State (List ℕ)) (sys : System w) (c i : ℕ) → SimulationRelation config log mail request s sys
+    → comes_in_grant i (unfinished channel.D (sys.clients c).past) ≡ true → (n : ℕ) × IsGrantDue c n s
+    × (s.tracked i ≡ Some n)
 coming-sink {w} config log mail request s sys c i h = go (unfinished channel.D (sys.clients c).past) refl
   where
-    go : (beats : List (Beat w)) → unfinished channel.D (sys.clients c).past ≡ beats → comes_in_grant i beats ≡ true → (n : ℕ) × IsGrantDue c n s × (s.tracked i ≡ Some n)
+    go : (beats : List (Beat w)) → unfinished channel.D (sys.clients c).past ≡ beats → comes_in_grant i beats ≡ true
+        → (n : ℕ) × IsGrantDue c n s × (s.tracked i ≡ Some n)
     go [] e f = absurd cc
     go (beat.A x ∷ more) e f = absurd cc
     go (beat.B x ∷ more) e f = absurd cc
     go (beat.C x ∷ more) e f = absurd cc
     go (beat.E x ∷ more) e f = absurd cc
     go (beat.D x ∷ more) e f =
-        let of = half-granted config log mail request s sys c x more h e (and_left (is_grant x.opcode) (x.sink == i) f) in
-        let same : i ≡ (s.block of.0).tracker = sym (eqb-true x.sink i (and_right (is_grant x.opcode) (x.sink == i) f)) ∙ of.3 in
+        let of = half-granted config log mail request s sys c x more h e (and_left (is_grant x.opcode) (x.sink == i) f)
+        in
+        let same : i ≡ (s.block of.0).tracker = sym (eqb-true x.sink i (and_right (is_grant x.opcode) (x.sink == i) f))
+        ∙ of.3 in
         (of.0, of.1, ap s.tracked same ∙ tracker-of of.0 s h.invariant.named (rw of.1.service refl))
 
 -- a Grant of a block that was delivered in part is due
-pub coming-granting : {w : ℕ} (config : Config) (log : Log w) (mail : AccessMessages w) (request : ℕ → MessageA w) (s : State (List ℕ)) (sys : System w) (c : ℕ)
-    → SimulationRelation config log mail request s sys → IsComing (asked_by mail s c) (unfinished channel.D (sys.clients c).past) c s
+pub coming-granting : {w : ℕ} (config : Config) (log : Log w) (mail : AccessMessages w) (request : ℕ → MessageA w)
+    (s : State (List ℕ)) (sys : System w) (c : ℕ)
+    → SimulationRelation config log mail request s sys
+    → IsComing (asked_by mail s c) (unfinished channel.D (sys.clients c).past) c s
 coming-granting {w} config log mail request s sys c h n = go (unfinished channel.D (sys.clients c).past) refl
   where
-    go : (beats : List (Beat w)) → unfinished channel.D (sys.clients c).past ≡ beats → comes_granting n (asked_by mail s c) beats ≡ true → is_granting (view (s.block n).service c) ≡ true
+    go : (beats : List (Beat w)) → unfinished channel.D (sys.clients c).past ≡ beats
+        → comes_granting n (asked_by mail s c) beats ≡ true → is_granting (view (s.block n).service c) ≡ true
     go [] e f = absurd cc
     go (beat.A x ∷ more) e f = absurd cc
     go (beat.B x ∷ more) e f = absurd cc
     go (beat.C x ∷ more) e f = absurd cc
     go (beat.E x ∷ more) e f = absurd cc
     go (beat.D x ∷ more) e f =
-        let of = half-granted config log mail request s sys c x more h e (and_left (is_grant x.opcode) (asks_for n (asked_by mail s c x.source)) f) in
-        let asks = asks-acquire c ((s.block of.0).source c) of.0 ((s.block of.0).source c) of.1.whole of.1.g mail s of.1.used of.1.wants refl in
-        let here : (block_at (64 * of.0) == n) ≡ true = sym (ap (λ (i : ℕ). asks_for n (asked_by mail s c i)) of.2 ∙ ap (asks_for n) asks)
+        let of = half-granted config log mail request s sys c x more h e
+        (and_left (is_grant x.opcode) (asks_for n (asked_by mail s c x.source)) f) in
+        let asks = asks-acquire c ((s.block of.0).source c) of.0 ((s.block of.0).source c) of.1.whole of.1.g mail s
+        of.1.used of.1.wants refl in
+        let here : (block_at (64 * of.0) == n) ≡ true =
+        sym (ap (λ (i : ℕ). asks_for n (asked_by mail s c i)) of.2 ∙ ap (asks_for n) asks)
         ∙ and_right (is_grant x.opcode) (asks_for n (asked_by mail s c x.source)) f in
         let same : of.0 ≡ n = sym (same_block of.0) ∙ eqb-true (block_at (64 * of.0)) n here in
-        ap (λ (i : ℕ). is_granting (view (s.block i).service c)) (sym same) ∙ ap is_granting (own_view c of.1.data_too of.1.k (s.block of.0).service of.1.service)
+        ap (λ (i : ℕ). is_granting (view (s.block i).service c)) (sym same) ∙ ap is_granting
+        (own_view c of.1.data_too of.1.k (s.block of.0).service of.1.service)
 
 -- requests that are asked with other first beats, but for sources that are open, change nothing of it
-pub coming-asked : {w : ℕ} (config : Config) (log : Log w) (mail : AccessMessages w) (request : ℕ → MessageA w) (s : State (List ℕ)) (sys : System w) (c m : ℕ)
+pub coming-asked : {w : ℕ} (config : Config) (log : Log w) (mail : AccessMessages w) (request : ℕ → MessageA w)
+    (s : State (List ℕ)) (sys : System w) (c m : ℕ)
     (asked asked' : ℕ → Option (BeatA w)) → SimulationRelation config log mail request s sys
     → ((i n : ℕ) → s.uses c i ≡ Acquires n → asked' i ≡ asked i)
-    → comes_granting m asked' (unfinished channel.D (sys.clients c).past) ≡ comes_granting m asked (unfinished channel.D (sys.clients c).past)
-coming-asked {w} config log mail request s sys c m asked asked' h same = go (unfinished channel.D (sys.clients c).past) refl
+    → comes_granting m asked' (unfinished channel.D (sys.clients c).past) ≡ comes_granting m asked
+    (unfinished channel.D (sys.clients c).past)
+coming-asked {w} config log mail request s sys c m asked asked' h same =
+    go (unfinished channel.D (sys.clients c).past) refl
   where
-    go : (beats : List (Beat w)) → unfinished channel.D (sys.clients c).past ≡ beats → comes_granting m asked' beats ≡ comes_granting m asked beats
+    go : (beats : List (Beat w)) → unfinished channel.D (sys.clients c).past ≡ beats
+        → comes_granting m asked' beats ≡ comes_granting m asked beats
     go [] e = refl
     go (beat.A x ∷ more) e = refl
     go (beat.B x ∷ more) e = refl
@@ -168,7 +193,8 @@ coming-asked {w} config log mail request s sys c m asked asked' h same = go (unf
     go (beat.E x ∷ more) e = refl
     go (beat.D x ∷ more) e = by (is_grant x.opcode) refl
       where
-        by : (b : Bool) → is_grant x.opcode ≡ b → (b && asks_for m (asked' x.source)) ≡ (b && asks_for m (asked x.source))
+        by : (b : Bool) → is_grant x.opcode ≡ b
+            → (b && asks_for m (asked' x.source)) ≡ (b && asks_for m (asked x.source))
         by false f = refl
         by true f =
             let of = half-granted config log mail request s sys c x more h e f in
@@ -179,44 +205,55 @@ coming-asked {w} config log mail request s sys c m asked asked' h same = go (unf
 -- a beat of this message, if it is one of a Release, has the source of one that isn't answered
 IsReleaseAlone : {w : ℕ} → ℕ → State (List ℕ) → Message w → Type 0
 IsReleaseAlone {w} c s m = (y : MessageC w) × (m ≡ message.C y)
-    × (is_release y.opcode ≡ true → (n : ℕ) × (is_releasing ((s.block n).pair c).letting ≡ true) × (y.source ≡ (s.block n).release_source c))
+    × (is_release y.opcode ≡ true → (n : ℕ) × (is_releasing ((s.block n).pair c).letting ≡ true)
+    × (y.source ≡ (s.block n).release_source c))
 
-alone_report : {w : ℕ} (c n : ℕ) (s : State (List ℕ)) (width : IsWidth w) (config : Config) (log : Log w) (mail : AccessMessages w) (request : ℕ → MessageA w)
-    (sys : System w) → SimulationRelation config log mail request s sys → IsReleaseAlone {w = w} c s (block_message ProbeAck c n (s.block n))
+alone_report : {w : ℕ} (c n : ℕ) (s : State (List ℕ)) (width : IsWidth w) (config : Config) (log : Log w)
+    (mail : AccessMessages w) (request : ℕ → MessageA w)
+    (sys : System w) → SimulationRelation config log mail request s sys
+    → IsReleaseAlone {w = w} c s (block_message ProbeAck c n (s.block n))
 unfolding IsReleaseAlone block_message
 alone_report c n s width config log mail request sys h =
     let about = report-about (report_told ((s.block n).pair c).probing) n (s.block n).truth width (h.sized n).truth in
     (about.0, about.1, never_grant (is_release about.0.opcode) about.2.releases)
 
-alone_release : {w : ℕ} (c n : ℕ) (s : State (List ℕ)) (width : IsWidth w) (config : Config) (log : Log w) (mail : AccessMessages w) (request : ℕ → MessageA w)
-    (sys : System w) → SimulationRelation config log mail request s sys → is_releasing ((s.block n).pair c).letting ≡ true
+alone_release : {w : ℕ} (c n : ℕ) (s : State (List ℕ)) (width : IsWidth w) (config : Config) (log : Log w)
+    (mail : AccessMessages w) (request : ℕ → MessageA w)
+    (sys : System w) → SimulationRelation config log mail request s sys
+    → is_releasing ((s.block n).pair c).letting ≡ true
     → IsReleaseAlone {w = w} c s (block_message Release c n (s.block n))
 unfolding IsReleaseAlone block_message
 alone_release c n s width config log mail request sys h shows =
-    let about = release-about (prune_told ((s.block n).pair c).letting) ((s.block n).release_source c) n (s.block n).truth width (h.sized n).truth in
+    let about = release-about (prune_told ((s.block n).pair c).letting) ((s.block n).release_source c) n
+    (s.block n).truth width (h.sized n).truth in
     (about.0, about.1, λ e. (n, shows, about.3))
 
-begun_release : {w : ℕ} (c : ℕ) (s : State (List ℕ)) (m : Message w) (k : ℕ) (x : BeatC w) (more : List (Beat w)) → IsReleaseAlone c s m → beat.C x ∷ more ≡ begun m k → is_release x.opcode ≡ true
+begun_release : {w : ℕ} (c : ℕ) (s : State (List ℕ)) (m : Message w) (k : ℕ) (x : BeatC w) (more : List (Beat w))
+    → IsReleaseAlone c s m → beat.C x ∷ more ≡ begun m k → is_release x.opcode ≡ true
     → (n : ℕ) × (is_releasing ((s.block n).pair c).letting ≡ true) × (x.source ≡ (s.block n).release_source c)
 unfolding IsReleaseAlone
 begun_release {w} c s m k x more is e releases = go k (e ∙ ap (λ (y : Message w). begun y k) is.1)
   where
-    go : (i : ℕ) → beat.C x ∷ more ≡ begun (message.C is.0) i → (n : ℕ) × (is_releasing ((s.block n).pair c).letting ≡ true) × (x.source ≡ (s.block n).release_source c)
+    go : (i : ℕ) → beat.C x ∷ more ≡ begun (message.C is.0) i
+        → (n : ℕ) × (is_releasing ((s.block n).pair c).letting ≡ true) × (x.source ≡ (s.block n).release_source c)
     go zero f = absurd cc
     go (suc i) f =
         let opcode : x.opcode ≡ is.0.opcode = cc in
         let source : x.source ≡ is.0.source = cc in
         told source (is.2 (sym (ap is_release opcode) ∙ releases))
       where
-        told : x.source ≡ is.0.source → (n : ℕ) × (is_releasing ((s.block n).pair c).letting ≡ true) × (is.0.source ≡ (s.block n).release_source c)
+        told : x.source ≡ is.0.source → (n : ℕ) × (is_releasing ((s.block n).pair c).letting ≡ true)
+            × (is.0.source ≡ (s.block n).release_source c)
             → (n : ℕ) × (is_releasing ((s.block n).pair c).letting ≡ true) × (x.source ≡ (s.block n).release_source c)
         told source (n, releasing, of_source) = (n, releasing, source ∙ of_source)
 
-half-released : {w : ℕ} (config : Config) (log : Log w) (mail : AccessMessages w) (request : ℕ → MessageA w) (s : State (List ℕ)) (sys : System w) (c : ℕ) (x : BeatC w)
+half-released : {w : ℕ} (config : Config) (log : Log w) (mail : AccessMessages w) (request : ℕ → MessageA w)
+    (s : State (List ℕ)) (sys : System w) (c : ℕ) (x : BeatC w)
     (more : List (Beat w)) → IsWidth w → SimulationRelation config log mail request s sys
     → unfinished channel.C (on_link c sys.manager.trace) ≡ beat.C x ∷ more → is_release x.opcode ≡ true → (n : ℕ)
     × (is_releasing ((s.block n).pair c).letting ≡ true) × (x.source ≡ (s.block n).release_source c)
-half-released {w} config log mail request s sys c x more width h is releases = go (s.link c).c refl (h.carried c channel.C)
+half-released {w} config log mail request s sys c x more width h is releases =
+    go (s.link c).c refl (h.carried c channel.C)
   where
     Here : Type 0
     Here = (n : ℕ) × (is_releasing ((s.block n).pair c).letting ≡ true) × (x.source ≡ (s.block n).release_source c)
@@ -224,10 +261,12 @@ half-released {w} config log mail request s sys c x more width h is releases = g
     rest_now : List (Beat w)
     rest_now = unfinished channel.C (on_link c sys.manager.trace)
 
-    each : (k : Kind) (i : ℕ) (rest : List Packet) → (s.link c).c ≡ packet k i ∷ rest → is_on channel.C k ≡ true → IsReleaseAlone c s (message_of_kind k mail s c i)
+    each : (k : Kind) (i : ℕ) (rest : List Packet) → (s.link c).c ≡ packet k i ∷ rest → is_on channel.C k ≡ true
+        → IsReleaseAlone c s (message_of_kind k mail s c i)
     each ProbeAck i rest first own = alone_report c i s width config log mail request sys h
     each Release i rest first own = alone_release c i s width config log mail request sys h
-        (holds-first Release (s.link c).c rest (packet Release i) (λ j. shown Release c (s.block j)) first refl (h.invariant.transfers c Release refl))
+        (holds-first Release (s.link c).c rest (packet Release i) (λ j. shown Release c (s.block j)) first refl
+        (h.invariant.transfers c Release refl))
     each Request i rest first own = absurd cc
     each Acquire i rest first own = absurd cc
     each Probe i rest first own = absurd cc
@@ -236,24 +275,32 @@ half-released {w} config log mail request s sys c x more width h is releases = g
     each ReleaseAck i rest first own = absurd cc
     each GrantAck i rest first own = absurd cc
 
-    go : (xs : List Packet) → (s.link c).c ≡ xs → IsCarried rest_now (map (message_of mail s c) (s.link c).c) (sys.channels c channel.C) → Here
+    go : (xs : List Packet) → (s.link c).c ≡ xs → IsCarried rest_now (map (message_of mail s c) (s.link c).c)
+        (sys.channels c channel.C) → Here
     go [] first carried =
-        let none : IsCarried rest_now [] (sys.channels c channel.C) = subst (λ (ms : List (Message w)). IsCarried rest_now ms (sys.channels c channel.C))
+        let none : IsCarried rest_now [] (sys.channels c channel.C) =
+        subst (λ (ms : List (Message w)). IsCarried rest_now ms (sys.channels c channel.C))
         (ap (map (message_of mail s c)) first) carried in
         absurd (let no : [] ≡ beat.C x ∷ more = sym none.0 ∙ is in cc)
     go (y ∷ ys) first carried =
-        let some : IsCarried rest_now (message_of mail s c y ∷ map (message_of mail s c) ys) (sys.channels c channel.C) =
-        subst (λ (ms : List (Message w)). IsCarried rest_now ms (sys.channels c channel.C)) (ap (map (message_of mail s c)) first) carried in
+        let some : IsCarried rest_now (message_of mail s c y ∷ map (message_of mail s c) ys)
+        (sys.channels c channel.C) =
+        subst (λ (ms : List (Message w)). IsCarried rest_now ms (sys.channels c channel.C))
+        (ap (map (message_of mail s c)) first) carried in
         begun_release c s (message_of mail s c y) some.0 x more
-        (each y.kind y.number ys first (own_kind (is_caching config) s c channel.C y.kind y.number ys h.invariant first)) (sym is ∙ some.2) releases
+        (each y.kind y.number ys first (own_kind (is_caching config) s c channel.C y.kind y.number ys h.invariant
+        first)) (sym is ∙ some.2) releases
 
 -- no Release is half delivered with a source that is free
-pub coming-free : {w : ℕ} (config : Config) (log : Log w) (mail : AccessMessages w) (request : ℕ → MessageA w) (s : State (List ℕ)) (sys : System w) (c source : ℕ)
+pub coming-free : {w : ℕ} (config : Config) (log : Log w) (mail : AccessMessages w) (request : ℕ → MessageA w)
+    (s : State (List ℕ)) (sys : System w) (c source : ℕ)
     → IsWidth w → SimulationRelation config log mail request s sys → s.lets c source ≡ None
     → comes_in_release source (unfinished channel.C (on_link c sys.manager.trace)) ≡ false
-coming-free {w} config log mail request s sys c source width h free = go (unfinished channel.C (on_link c sys.manager.trace)) refl
+coming-free {w} config log mail request s sys c source width h free =
+    go (unfinished channel.C (on_link c sys.manager.trace)) refl
   where
-    go : (beats : List (Beat w)) → unfinished channel.C (on_link c sys.manager.trace) ≡ beats → comes_in_release source beats ≡ false
+    go : (beats : List (Beat w)) → unfinished channel.C (on_link c sys.manager.trace) ≡ beats
+        → comes_in_release source beats ≡ false
     go [] e = refl
     go (beat.A x ∷ more) e = refl
     go (beat.B x ∷ more) e = refl
@@ -264,9 +311,13 @@ coming-free {w} config log mail request s sys c source width h free = go (unfini
         by : (b : Bool) → (is_release x.opcode && (x.source == source)) ≡ b → b ≡ false
         by false f = refl
         by true f =
-            let of = half-released config log mail request s sys c x more width h e (and_left (is_release x.opcode) (x.source == source) f) in
-            let same : source ≡ (s.block of.0).release_source c = sym (eqb-true x.source source (and_right (is_release x.opcode) (x.source == source) f)) ∙ of.2 in
+            let of = half-released config log mail request s sys c x more width h e
+            (and_left (is_release x.opcode) (x.source == source) f) in
+            let same : source ≡ (s.block of.0).release_source c =
+            sym (eqb-true x.source source (and_right (is_release x.opcode) (x.source == source) f)) ∙ of.2 in
             let letting = releasing-is ((s.block of.0).pair c).letting of.1 in
-            let used : s.lets c ((s.block of.0).release_source c) ≡ Some of.0 = is_of-is of.0 (s.lets c ((s.block of.0).release_source c))
-            (h.invariant.named.releases c ((s.block of.0).release_source c) of.0 ∙ rw (letting, same_number ((s.block of.0).release_source c)) refl) in
+            let used : s.lets c ((s.block of.0).release_source c) ≡ Some of.0 =
+            is_of-is of.0 (s.lets c ((s.block of.0).release_source c))
+            (h.invariant.named.releases c ((s.block of.0).release_source c) of.0 ∙ rw
+            (letting, same_number ((s.block of.0).release_source c)) refl) in
             absurd (let no : None ≡ Some of.0 = sym free ∙ ap (s.lets c) same ∙ used in cc)

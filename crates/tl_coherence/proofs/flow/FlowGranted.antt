@@ -1,29 +1,22 @@
 -- What is delivered on a link, as a beat of a Grant is.
-use Rattle.std.proofs.Common.{◌≡◌, ℕ, Bool, true, false, not, ◌&&◌, ◌||◌, ◌∷◌, Option, Some, None, refl, sym, ◌∙◌, ap, List}
+use Rattle.tl_coherence.proofs.flow.Imports.{Beat, BeatA, BeatD, Channel, History, RequestSource, Cap, Perm}
+use Rattle.tl_coherence.proofs.flow.Imports.{comes_in_request, comes_in_grant, begins, ends, block_at, pending}
+use Rattle.tl_coherence.proofs.flow.Imports.{is_grant, is_release_ack, asks_for, request_of, release_of, probe_of}
+use Rattle.tl_coherence.proofs.flow.Imports.{grant_sink, MonitorRelation, is_requested, is_let_by, is_sunk, is_of}
+use Rattle.tl_coherence.proofs.flow.Imports.{acquires_of, comes_granting, View, Granting, Acknowledging, Block, State}
+use Rattle.tl_coherence.proofs.flow.Imports.{SourceState, SourceFree, Asked, InService, Replied, Acquires, view}
+use Rattle.tl_coherence.proofs.flow.Imports.{is_granting, is_acknowledging, is_answered, is_wanting, is_unserved}
+use Rattle.tl_coherence.proofs.flow.Imports.{probe_beat, cap_waited}
+use Rattle.std.proofs.Common.{◌≡◌, ℕ, Bool, true, false, not, ◌&&◌, ◌||◌, ◌∷◌, Option, Some, None, refl, sym, ◌∙◌, ap}
+use Rattle.std.proofs.Common.{List}
 use Rattle.std.specs.Prelude.{◌==◌, if◌then◌else◌, option_map, unwrap_or}
 use Rattle.std.proofs.lemmas.Bool.{ne_eqb, and_right}
-use Rattle.tl_beat.specs.declared.beat.Beat.{Beat}
 use Rattle.tl_beat.specs.declared.beat.Beat.TheVariants as beat
-use Rattle.tl_beat.specs.declared.beat.BeatA.{BeatA}
-use Rattle.tl_beat.specs.declared.beat.BeatD.{BeatD}
-use Rattle.tl_beat.specs.declared.channel.Channel.{Channel}
 use Rattle.tl_beat.specs.declared.channel.Channel.TheVariants as channel
-use Rattle.tl_burst.specs.statement.Messages.{History}
-use Rattle.tl_params.specs.declared.key.Key.TheVariants.{RequestSource}
-use Rattle.tl_params.specs.declared.param.Cap.{Cap}
-use Rattle.tl_params.specs.declared.perm.Perm.{Perm}
 use Rattle.tl_params.specs.statement.Param.{cap_right}
-use Rattle.tl_rules.specs.statement.Conformance.{comes_in_request, comes_in_grant}
-use Rattle.tl_rules.specs.statement.History.{begins, ends, block_at, pending, is_grant, is_release_ack, asks_for, request_of, release_of, probe_of, grant_sink, releases, capped}
+use Rattle.tl_rules.specs.statement.History.{releases, capped}
 use Rattle.tl_client.proofs.Opens.{request_of-d}
 use Rattle.tl_client.proofs.AccountedResponse.{release_of-d}
-use Rattle.tl_coherence.specs.refinement.MonitorRelation.{MonitorRelation, is_requested, is_let_by, is_sunk}
-use Rattle.tl_coherence.specs.protocol.Invariant.{is_of, acquires_of}
-use Rattle.tl_coherence.specs.refinement.ClientRelation.{comes_granting}
-use Rattle.tl_coherence.specs.protocol.Phase.{View, Granting, Acknowledging}
-use Rattle.tl_coherence.specs.protocol.Protocol.{Block, State, SourceState, SourceFree, Asked, InService, Replied, Acquires, view, is_granting, is_acknowledging, is_answered, is_wanting, is_unserved}
-use Rattle.tl_coherence.specs.refinement.PacketMessages.{probe_beat}
-use Rattle.tl_coherence.specs.refinement.SourceRelation.{cap_waited}
 use Rattle.tl_coherence.proofs.flow.FlowAlone.{AreRests}
 use Rattle.tl_coherence.proofs.flow.FlowAnswered.{probed-of, unclosed, closes_last}
 use Rattle.tl_coherence.proofs.flow.FlowAside.{let_by-same}
@@ -37,7 +30,8 @@ seen_after true d k = Acknowledging
 seen_after false d k = Granting d k
 
 -- a beat of the Grant of block n to client c
-pub record IsGranting {w : ℕ} {X : Type 0} (c n : ℕ) (d : Bool) (k : Cap) (y : BeatD w) (first last : Bool) (asked asked' : ℕ → Option (BeatA w))
+pub record IsGranting {w : ℕ} {X : Type 0} (c n : ℕ) (d : Bool) (k : Cap) (y : BeatD w) (first last : Bool)
+    (asked asked' : ℕ → Option (BeatA w))
     (rest rest' : Channel → List (Beat w)) (s s' : State X) : Type 0 where
   pub grant : is_grant y.opcode ≡ true
   pub ack : is_release_ack y.opcode ≡ false
@@ -68,7 +62,8 @@ pub record IsGranting {w : ℕ} {X : Type 0} (c n : ℕ) (d : Bool) (k : Cap) (y
   pub tracker : (s'.block n).tracker ≡ (s.block n).tracker
   pub answered : is_answered ((s'.block n).pair c).probing ≡ is_answered ((s.block n).pair c).probing
 
-said : (last g : Bool) (v p : Perm) → g ≡ true → (if last then unwrap_or (if g then Some v else None) p else p) ≡ (if last then v else p)
+said : (last g : Bool) (v p : Perm) → g ≡ true → (if last then unwrap_or (if g then Some v else None) p else p)
+    ≡ (if last then v else p)
 said true g v p e = rw e refl
 said false g v p e = refl
 
@@ -99,13 +94,15 @@ unbegun first last g p e = rw e (step_quiet first last p)
 
 -- the sink of the last Grant of the block of the beat, and of another one
 of_block : {w : ℕ} (m : ℕ) (y : BeatD w) (t : History w) (first : Bool) (v : ℕ) → begins (beat.D y) t ≡ first
-    → (is_grant y.opcode && asks_for m (request_of y.source t)) ≡ true → y.sink ≡ v → (first ≡ false → grant_sink m t ≡ Some v)
+    → (is_grant y.opcode && asks_for m (request_of y.source t)) ≡ true → y.sink ≡ v
+    → (first ≡ false → grant_sink m t ≡ Some v)
     → grant_sink m (beat.D y ∷ t) ≡ Some v
 unfolding grant_sink
 of_block m y t true v e f g before = rw (e, f) (ap Some g)
 of_block m y t false v e f g before = rw e (before refl)
 
-of_other : {w : ℕ} (m : ℕ) (y : BeatD w) (t : History w) → (is_grant y.opcode && asks_for m (request_of y.source t)) ≡ false → grant_sink m (beat.D y ∷ t) ≡ grant_sink m t
+of_other : {w : ℕ} (m : ℕ) (y : BeatD w) (t : History w)
+    → (is_grant y.opcode && asks_for m (request_of y.source t)) ≡ false → grant_sink m (beat.D y ∷ t) ≡ grant_sink m t
 unfolding grant_sink
 of_other {w} m y t e = go (begins (beat.D y) t) (is_grant y.opcode && asks_for m (request_of y.source t)) e
   where
@@ -114,34 +111,43 @@ of_other {w} m y t e = go (begins (beat.D y) t) (is_grant y.opcode && asks_for m
     go false q f = refl
 
 -- a use that isn't of the block in which the states differ
-pub requested-apart : {w : ℕ} {X : Type 0} (c i n : ℕ) (rest rest' : List (Beat w)) (u : SourceState) (s s' : State X) → AreElsewhere n s s'
-    → comes_in_request i rest' ≡ comes_in_request i rest → acquires_of n u ≡ false → is_requested c i rest' u s' ≡ is_requested c i rest u s
+pub requested-apart : {w : ℕ} {X : Type 0} (c i n : ℕ) (rest rest' : List (Beat w)) (u : SourceState) (s s' : State X)
+    → AreElsewhere n s s'
+    → comes_in_request i rest' ≡ comes_in_request i rest → acquires_of n u ≡ false
+    → is_requested c i rest' u s' ≡ is_requested c i rest u s
 requested-apart c i n rest rest' SourceFree s s' same comes e = refl
 requested-apart c i n rest rest' Asked s s' same comes e = comes
 requested-apart c i n rest rest' (InService m) s s' same comes e = refl
 requested-apart c i n rest rest' Replied s s' same comes e = refl
 requested-apart {w} {X} c i n rest rest' (Acquires m) s s' same comes e =
-    ap (λ (z : Block X). not (is_unserved (view z.service c))) (same m (λ f. let g : (n == n) ≡ false = rw f at e in let h : true ≡ false = sym (same_number n) ∙ g in cc))
+    ap (λ (z : Block X). not (is_unserved (view z.service c))) (same m (λ f. let g : (n == n) ≡ false = rw f at e in
+    let h : true ≡ false = sym (same_number n) ∙ g in cc))
 
-now_requested : (last d : Bool) (k : Cap) (v : View) → v ≡ seen_after last d k → last ≡ false → not (is_unserved v) ≡ true
+now_requested : (last d : Bool) (k : Cap) (v : View) → v ≡ seen_after last d k → last ≡ false
+    → not (is_unserved v) ≡ true
 now_requested true d k v e f = absurd cc
 now_requested false d k v e f = ap (λ (u : View). not (is_unserved u)) e
 
-now_acquired : (last d : Bool) (k : Cap) (v : View) (a : Bool) → v ≡ seen_after last d k → a ≡ not last → (a && not (is_unserved v)) ≡ not last
+now_acquired : (last d : Bool) (k : Cap) (v : View) (a : Bool) → v ≡ seen_after last d k → a ≡ not last
+    → (a && not (is_unserved v)) ≡ not last
 now_acquired true d k v a e f = rw f refl
 now_acquired false d k v a e f = rw (f, e) refl
 
-now_granted : (last d : Bool) (k : Cap) (v : View) (a : Bool) → v ≡ seen_after last d k → a ≡ not last → (is_acknowledging v || a) ≡ true
+now_granted : (last d : Bool) (k : Cap) (v : View) (a : Bool) → v ≡ seen_after last d k → a ≡ not last
+    → (is_acknowledging v || a) ≡ true
 now_granted true d k v a e f = rw e refl
 now_granted false d k v a e f = rw (f, e) refl
 
-now_sunk : (last d : Bool) (k : Cap) (v : View) (a : Bool) → v ≡ seen_after last d k → a ≡ not last → (is_acknowledging v || (is_granting v && a)) ≡ true
+now_sunk : (last d : Bool) (k : Cap) (v : View) (a : Bool) → v ≡ seen_after last d k → a ≡ not last
+    → (is_acknowledging v || (is_granting v && a)) ≡ true
 now_sunk true d k v a e f = rw e refl
 now_sunk false d k v a e f = rw (f, e) refl
 
-pub flowed-grant : {w : ℕ} {X : Type 0} (c n : ℕ) (d : Bool) (k : Cap) (y : BeatD w) (first last : Bool) (asked asked' : ℕ → Option (BeatA w))
+pub flowed-grant : {w : ℕ} {X : Type 0} (c n : ℕ) (d : Bool) (k : Cap) (y : BeatD w) (first last : Bool)
+    (asked asked' : ℕ → Option (BeatA w))
     (rest rest' : Channel → List (Beat w)) (s s' : State X) (t : History w)
-    → begins (beat.D y) t ≡ first → ends (beat.D y) t ≡ last → AreRests (beat.D y) rest rest' → IsGranting c n d k y first last asked asked' rest rest' s s'
+    → begins (beat.D y) t ≡ first → ends (beat.D y) t ≡ last → AreRests (beat.D y) rest rest'
+    → IsGranting c n d k y first last asked asked' rest rest' s s'
     → MonitorRelation asked rest c s t → MonitorRelation asked' rest' c s' (beat.D y ∷ t)
 flowed-grant {w} {X} c n d k y first last asked asked' rest rest' s s' t first_is last_is rests is before =
     flowed-next (beat.D y) first last asked asked' rest rest' c s s' t (record {
@@ -149,31 +155,44 @@ flowed-grant {w} {X} c n d k y first last asked asked' rest rest' s s' t first_i
       last_is = last_is;
       rests = rests;
       held_is = each-block (λ m z. held_by c z ≡ (if last then unwrap_or
-          (if is_grant y.opcode && asks_for m (request_of y.source t) then Some (capped y.param) else None) (held_by c (s.block m)) else held_by c
+          (if is_grant y.opcode && asks_for m (request_of y.source t) then Some (capped y.param) else None)
+          (held_by c (s.block m)) else held_by c
           (s.block m))) n s s' is.elsewhere
-          (is.held_is ∙ ap (λ (q : Perm). if last then q else held_by c b) (sym is.says) ∙ sym (said last (grants_at n) (capped y.param) (held_by c b) (names n ∙ same_number n)))
+          (is.held_is ∙ ap (λ (q : Perm). if last then q else held_by c b) (sym is.says) ∙ sym
+          (said last (grants_at n) (capped y.param) (held_by c b) (names n ∙ same_number n)))
           (λ m ne. sym (unsaid last (grants_at m) (capped y.param) (held_by c (s.block m)) (apart m ne)));
       requests = λ i. use_at i ∙ requests i last (y.source == i) refl refl;
       asked_is = λ i e. asked_still i e (last && (y.source == i)) refl;
-      acquires = each-block (λ m z. acquired_by c z ≡ step first last false (is_grant y.opcode && asks_for m (request_of y.source t)) (acquired_by c (s.block m))) n s s' is.elsewhere
+      acquires = each-block (λ m z. acquired_by c z ≡ step first last false
+          (is_grant y.opcode && asks_for m (request_of y.source t)) (acquired_by c (s.block m))) n s s' is.elsewhere
           (now_acquired last d k (view new.service c) (is_wanting (new.pair c).acquiring) is.seen_is is.wants_is
-          ∙ sym (ended first last (grants_at n) (acquired_by c b) (names n ∙ same_number n) (rw (is.wants, is.seen) refl)))
+          ∙ sym (ended first last (grants_at n) (acquired_by c b) (names n ∙ same_number n)
+          (rw (is.wants, is.seen) refl)))
           (λ m ne. sym (unended first last (grants_at m) (acquired_by c (s.block m)) (apart m ne)));
-      release_sources = λ i. lets i ∙ sym (unclosed first last (is_release_ack y.opcode) (y.source == i) (is_let_by c i (rest channel.C) (s.lets c i) s) is.ack);
-      released = λ i m e f. ap (option_map (λ z. block_at z.address)) (release_of-d i y t) ∙ before.released i m (sym (is.lets i) ∙ e) (before.release_sources i ∙ sym (lets i) ∙ f);
-      sizes = λ i m e f. ap (option_map (λ z. z.size)) (release_of-d i y t) ∙ before.sizes i m (sym (is.lets i) ∙ e) (before.release_sources i ∙ sym (lets i) ∙ f);
+      release_sources = λ i. lets i ∙ sym (unclosed first last (is_release_ack y.opcode) (y.source == i)
+          (is_let_by c i (rest channel.C) (s.lets c i) s) is.ack);
+      released = λ i m e f. ap (option_map (λ z. block_at z.address)) (release_of-d i y t) ∙ before.released i m
+          (sym (is.lets i) ∙ e) (before.release_sources i ∙ sym (lets i) ∙ f);
+      sizes = λ i m e f. ap (option_map (λ z. z.size)) (release_of-d i y t) ∙ before.sizes i m (sym (is.lets i) ∙ e)
+          (before.release_sources i ∙ sym (lets i) ∙ f);
       releases = λ m. ap (λ (l : List (Beat w)). let_of c l (s'.block m)) (rests channel.C) ∙ let_same m
-          ∙ sym (unclosed first last (is_release_ack y.opcode) (releases m (release_of y.source t)) (let_of c (rest channel.C) (s.block m)) is.ack);
-      sinks = λ i. ap (λ (o : Option ℕ). is_sunk c i (rest' channel.D) o s') (is.tracked i) ∙ sinks i (y.sink == i) (s.tracked i) refl refl;
-      grants = each-block (λ m z. granted_by c m asked' (rest' channel.D) z ≡ step first last (is_grant y.opcode && asks_for m (request_of y.source t)) false
+          ∙ sym (unclosed first last (is_release_ack y.opcode) (releases m (release_of y.source t))
+          (let_of c (rest channel.C) (s.block m)) is.ack);
+      sinks = λ i. ap (λ (o : Option ℕ). is_sunk c i (rest' channel.D) o s') (is.tracked i) ∙ sinks i (y.sink == i)
+          (s.tracked i) refl refl;
+      grants = each-block (λ m z. granted_by c m asked' (rest' channel.D) z ≡ step first last
+          (is_grant y.opcode && asks_for m (request_of y.source t)) false
           (granted_by c m asked (rest channel.D) (s.block m))) n s s' is.elsewhere
           (now_granted last d k (view new.service c) (comes_granting n asked' (rest' channel.D)) is.seen_is
           (is.grants n ∙ with_true (not last) (n == n) (same_number n))
-          ∙ sym (begun first last (grants_at n) (granted_by c n asked (rest channel.D) b) (names n ∙ same_number n) granted_then))
-          (λ m ne. grants_other m ne ∙ sym (unbegun first last (grants_at m) (granted_by c m asked (rest channel.D) (s.block m)) (apart m ne)));
+          ∙ sym (begun first last (grants_at n) (granted_by c n asked (rest channel.D) b) (names n ∙ same_number n)
+          granted_then))
+          (λ m ne. grants_other m ne ∙ sym
+          (unbegun first last (grants_at m) (granted_by c m asked (rest channel.D) (s.block m)) (apart m ne)));
       probes = λ m. answered m ∙ sym (step_quiet first last (is_answered ((s.block m).pair c).probing));
       probed = λ m e. probed-of m y t ∙ probed m e;
-      sunk = each-block (λ m z. granted_by c m asked' (rest' channel.D) z ≡ true → grant_sink m (beat.D y ∷ t) ≡ Some z.tracker) n s s' is.elsewhere
+      sunk = each-block (λ m z. granted_by c m asked' (rest' channel.D) z ≡ true
+          → grant_sink m (beat.D y ∷ t) ≡ Some z.tracker) n s s' is.elsewhere
           (λ e. of_block n y t first new.tracker first_is (names n ∙ same_number n) (is.sink ∙ sym is.tracker)
           (λ f. before.sunk n (before.grants n ∙ granted_then ∙ ap not f) ∙ ap Some (sym is.tracker)))
           (λ m ne e. of_other m y t (apart m ne) ∙ before.sunk m (before.grants m ∙ sym (grants_other m ne) ∙ e));
@@ -189,83 +208,121 @@ flowed-grant {w} {X} c n d k y first last asked asked' rest rest' s s' t first_i
     grants_at m = is_grant y.opcode && asks_for m (request_of y.source t)
 
     was_requested : (i : ℕ) → (y.source == i) ≡ true → is_requested c i (rest channel.A) (s.uses c i) s ≡ true
-    was_requested i e = ap (λ (u : SourceState). is_requested c i (rest channel.A) u s) (is.use_is i e) ∙ ap (λ (v : View). not (is_unserved v)) is.seen
+    was_requested i e = ap (λ (u : SourceState). is_requested c i (rest channel.A) u s) (is.use_is i e) ∙ ap
+        (λ (v : View). not (is_unserved v)) is.seen
 
     names : (m : ℕ) → (is_grant y.opcode && asks_for m (request_of y.source t)) ≡ (n == m)
     names m = ap (λ (z : Bool). z && asks_for m (request_of y.source t)) is.grant
-        ∙ ap (asks_for m) (before.asked_is y.source (before.requests y.source ∙ was_requested y.source (same_number y.source))) ∙ is.asks m
+        ∙ ap (asks_for m) (before.asked_is y.source (before.requests y.source ∙ was_requested y.source
+        (same_number y.source))) ∙ is.asks m
 
     apart : (m : ℕ) → (m ≡ n → ⊥) → (is_grant y.opcode && asks_for m (request_of y.source t)) ≡ false
     apart m ne = names m ∙ ne_eqb n m (λ e. ne (sym e))
 
     granted_then : granted_by c n asked (rest channel.D) b ≡ not first
-    granted_then = ap (λ (v : View). is_acknowledging v || comes_granting n asked (rest channel.D)) is.seen ∙ is.granted n ∙ with_true (not first) (n == n) (same_number n)
+    granted_then = ap (λ (v : View). is_acknowledging v || comes_granting n asked (rest channel.D)) is.seen ∙ is.granted
+        n ∙ with_true (not first) (n == n) (same_number n)
 
-    grants_other : (m : ℕ) → (m ≡ n → ⊥) → granted_by c m asked' (rest' channel.D) (s.block m) ≡ granted_by c m asked (rest channel.D) (s.block m)
+    grants_other : (m : ℕ) → (m ≡ n → ⊥) → granted_by c m asked' (rest' channel.D) (s.block m) ≡ granted_by c m asked
+        (rest channel.D) (s.block m)
     grants_other m ne =
         ap (λ (z : Bool). is_acknowledging (view (s.block m).service c) || z)
-        (is.grants m ∙ and_right (not last) (n == m) (ne_eqb n m (λ e. ne (sym e))) ∙ sym (is.granted m ∙ and_right (not first) (n == m) (ne_eqb n m (λ e. ne (sym e)))))
+        (is.grants m ∙ and_right (not last) (n == m) (ne_eqb n m (λ e. ne (sym e))) ∙ sym
+        (is.granted m ∙ and_right (not first) (n == m) (ne_eqb n m (λ e. ne (sym e)))))
 
-    use_at : (i : ℕ) → is_requested c i (rest' channel.A) (s'.uses c i) s' ≡ is_requested c i (rest channel.A) (if last && (y.source == i) then SourceFree else s.uses c i) s'
-    use_at i = ap (λ (l : List (Beat w)). is_requested c i l (s'.uses c i) s') (rests channel.A) ∙ ap (λ (u : SourceState). is_requested c i (rest channel.A) u s') (is.uses i)
+    use_at : (i : ℕ) → is_requested c i (rest' channel.A) (s'.uses c i) s' ≡ is_requested c i (rest channel.A)
+        (if last && (y.source == i) then SourceFree else s.uses c i) s'
+    use_at i = ap (λ (l : List (Beat w)). is_requested c i l (s'.uses c i) s') (rests channel.A) ∙ ap
+        (λ (u : SourceState). is_requested c i (rest channel.A) u s') (is.uses i)
 
     requests : (i : ℕ) (z here : Bool) → last ≡ z → (y.source == i) ≡ here
         → is_requested c i (rest channel.A) (if z && here then SourceFree else s.uses c i) s' ≡ step first last false
         (not (is_release_ack y.opcode) && (y.source == i)) (is_requested c i (rest channel.A) (s.uses c i) s)
-    requests i true true e f = ap not (sym e) ∙ sym (closed first last (is_release_ack y.opcode) (y.source == i) (is_requested c i (rest channel.A) (s.uses c i) s) is.ack f (was_requested i f))
+    requests i true true e f =
+        ap not (sym e) ∙ sym (closed first last (is_release_ack y.opcode) (y.source == i)
+        (is_requested c i (rest channel.A) (s.uses c i) s) is.ack f (was_requested i f))
     requests i false true e f =
-        ap (λ (u : SourceState). is_requested c i (rest channel.A) u s') (is.use_is i f) ∙ now_requested last d k (view new.service c) is.seen_is e ∙ ap not (sym e)
-        ∙ sym (closed first last (is_release_ack y.opcode) (y.source == i) (is_requested c i (rest channel.A) (s.uses c i) s) is.ack f (was_requested i f))
-    requests i true false e f = requested-apart c i n (rest channel.A) (rest channel.A) (s.uses c i) s s' is.elsewhere refl (is.no_use i f)
-        ∙ sym (unclosed_by first last (not (is_release_ack y.opcode)) (y.source == i) (is_requested c i (rest channel.A) (s.uses c i) s) f)
-    requests i false false e f = requested-apart c i n (rest channel.A) (rest channel.A) (s.uses c i) s s' is.elsewhere refl (is.no_use i f)
-        ∙ sym (unclosed_by first last (not (is_release_ack y.opcode)) (y.source == i) (is_requested c i (rest channel.A) (s.uses c i) s) f)
+        ap (λ (u : SourceState). is_requested c i (rest channel.A) u s') (is.use_is i f) ∙ now_requested last d k
+        (view new.service c) is.seen_is e ∙ ap not (sym e)
+        ∙ sym (closed first last (is_release_ack y.opcode) (y.source == i)
+        (is_requested c i (rest channel.A) (s.uses c i) s) is.ack f (was_requested i f))
+    requests i true false e f = requested-apart c i n (rest channel.A) (rest channel.A) (s.uses c i) s s' is.elsewhere
+        refl (is.no_use i f)
+        ∙ sym (unclosed_by first last (not (is_release_ack y.opcode)) (y.source == i)
+        (is_requested c i (rest channel.A) (s.uses c i) s) f)
+    requests i false false e f = requested-apart c i n (rest channel.A) (rest channel.A) (s.uses c i) s s' is.elsewhere
+        refl (is.no_use i f)
+        ∙ sym (unclosed_by first last (not (is_release_ack y.opcode)) (y.source == i)
+        (is_requested c i (rest channel.A) (s.uses c i) s) f)
 
-    was_pending : (i : ℕ) → is_requested c i (rest channel.A) (s.uses c i) s' ≡ true → (here : Bool) → (y.source == i) ≡ here → pending (RequestSource i) t ≡ true
+    was_pending : (i : ℕ) → is_requested c i (rest channel.A) (s.uses c i) s' ≡ true → (here : Bool)
+        → (y.source == i) ≡ here → pending (RequestSource i) t ≡ true
     was_pending i e true f = before.requests i ∙ was_requested i f
-    was_pending i e false f = before.requests i ∙ sym (requested-apart c i n (rest channel.A) (rest channel.A) (s.uses c i) s s' is.elsewhere refl (is.no_use i f)) ∙ e
+    was_pending i e false f =
+        before.requests i ∙ sym (requested-apart c i n (rest channel.A) (rest channel.A) (s.uses c i) s s' is.elsewhere
+        refl (is.no_use i f)) ∙ e
 
-    asked_still : (i : ℕ) → is_requested c i (rest' channel.A) (s'.uses c i) s' ≡ true → (z : Bool) → (last && (y.source == i)) ≡ z → request_of i (beat.D y ∷ t) ≡ asked' i
-    asked_still i e true f = absurd (let g : false ≡ true = sym (use_at i ∙ ap (λ (z : Bool). is_requested c i (rest channel.A) (if z then SourceFree else s.uses c i) s') f) ∙ e in cc)
+    asked_still : (i : ℕ) → is_requested c i (rest' channel.A) (s'.uses c i) s' ≡ true → (z : Bool)
+        → (last && (y.source == i)) ≡ z → request_of i (beat.D y ∷ t) ≡ asked' i
+    asked_still i e true f =
+        absurd (let g : false ≡ true =
+        sym (use_at i ∙ ap (λ (z : Bool). is_requested c i (rest channel.A) (if z then SourceFree else s.uses c i) s')
+        f) ∙ e in cc)
     asked_still i e false f =
         request_of-d i y t
-        ∙ before.asked_is i (was_pending i (sym (use_at i ∙ ap (λ (z : Bool). is_requested c i (rest channel.A) (if z then SourceFree else s.uses c i) s') f) ∙ e) (y.source == i) refl)
+        ∙ before.asked_is i (was_pending i
+        (sym (use_at i ∙ ap (λ (z : Bool). is_requested c i (rest channel.A) (if z then SourceFree else s.uses c i)
+        s') f) ∙ e) (y.source == i) refl)
         ∙ sym (is.asked_is i f)
 
     lets : (i : ℕ) → is_let_by c i (rest' channel.C) (s'.lets c i) s' ≡ is_let_by c i (rest channel.C) (s.lets c i) s
     lets i =
-        ap (λ (l : List (Beat w)). is_let_by c i l (s'.lets c i) s') (rests channel.C) ∙ ap (λ (o : Option ℕ). is_let_by c i (rest channel.C) o s') (is.lets i)
-        ∙ let_by-same c i (rest channel.C) (s.lets c i) s s' (part-block (λ (z : Block X). (z.pair c).letting) n s s' is.elsewhere is.letting_is)
+        ap (λ (l : List (Beat w)). is_let_by c i l (s'.lets c i) s') (rests channel.C) ∙ ap
+        (λ (o : Option ℕ). is_let_by c i (rest channel.C) o s') (is.lets i)
+        ∙ let_by-same c i (rest channel.C) (s.lets c i) s s' (part-block (λ (z : Block X). (z.pair c).letting) n s s'
+        is.elsewhere is.letting_is)
 
     let_same : (m : ℕ) → let_of c (rest channel.C) (s'.block m) ≡ let_of c (rest channel.C) (s.block m)
     let_same = part-block (let_of c (rest channel.C)) n s s' is.elsewhere (rw (is.release_source, is.letting_is) refl)
 
     sinks : (i : ℕ) (z : Bool) (o : Option ℕ) → (y.sink == i) ≡ z → s.tracked i ≡ o
-        → is_sunk c i (rest' channel.D) o s' ≡ step first last (is_grant y.opcode && (y.sink == i)) false (is_sunk c i (rest channel.D) o s)
+        → is_sunk c i (rest' channel.D) o s' ≡ step first last (is_grant y.opcode && (y.sink == i)) false
+        (is_sunk c i (rest channel.D) o s)
     sinks i true o e f =
         ap (λ (p : Option ℕ). is_sunk c i (rest' channel.D) p s') at_n
-        ∙ now_sunk last d k (view new.service c) (comes_in_grant i (rest' channel.D)) is.seen_is (is.comes i ∙ with_true (not last) (y.sink == i) e)
-        ∙ sym (opened first last (is_grant y.opcode) (y.sink == i) (is_sunk c i (rest channel.D) o s) is.grant e then_sunk)
+        ∙ now_sunk last d k (view new.service c) (comes_in_grant i (rest' channel.D)) is.seen_is
+        (is.comes i ∙ with_true (not last) (y.sink == i) e)
+        ∙ sym (opened first last (is_grant y.opcode) (y.sink == i) (is_sunk c i (rest channel.D) o s) is.grant e
+        then_sunk)
       where
         at_n : o ≡ Some n
         at_n = sym f ∙ is.tracks i e
 
         then_sunk : is_sunk c i (rest channel.D) o s ≡ not first
         then_sunk = ap (λ (p : Option ℕ). is_sunk c i (rest channel.D) p s) at_n
-            ∙ ap (λ (v : View). is_acknowledging v || (is_granting v && comes_in_grant i (rest channel.D))) is.seen ∙ is.came i
+            ∙ ap (λ (v : View). is_acknowledging v || (is_granting v && comes_in_grant i (rest channel.D)))
+            is.seen ∙ is.came i
             ∙ with_true (not first) (y.sink == i) e
-    sinks i false None e f = sym (unbegun first last (is_grant y.opcode && (y.sink == i)) false (and_right (is_grant y.opcode) (y.sink == i) e))
+    sinks i false None e f =
+        sym (unbegun first last (is_grant y.opcode && (y.sink == i)) false
+        (and_right (is_grant y.opcode) (y.sink == i) e))
     sinks i false (Some m) e f =
-        ap (λ (z : Block X). is_acknowledging (view z.service c) || (is_granting (view z.service c) && comes_in_grant i (rest' channel.D)))
-        (is.elsewhere m (λ g. let h : (n == n) ≡ false = sym (rw (f, g) refl) ∙ is.tracks_not i e in let j : true ≡ false = sym (same_number n) ∙ h in cc))
-        ∙ ap (λ (z : Bool). is_acknowledging (view (s.block m).service c) || (is_granting (view (s.block m).service c) && z))
+        ap (λ (z : Block X). is_acknowledging (view z.service c) || (is_granting (view z.service c) && comes_in_grant i
+        (rest' channel.D)))
+        (is.elsewhere m (λ g. let h : (n == n) ≡ false = sym (rw (f, g) refl) ∙ is.tracks_not i e in
+        let j : true ≡ false = sym (same_number n) ∙ h in cc))
+        ∙ ap (λ (z : Bool). is_acknowledging (view (s.block m).service c)
+        || (is_granting (view (s.block m).service c) && z))
         (is.comes i ∙ and_right (not last) (y.sink == i) e ∙ sym (is.came i ∙ and_right (not first) (y.sink == i) e))
-        ∙ sym (unbegun first last (is_grant y.opcode && (y.sink == i)) (is_sunk c i (rest channel.D) (Some m) s) (and_right (is_grant y.opcode) (y.sink == i) e))
+        ∙ sym (unbegun first last (is_grant y.opcode && (y.sink == i)) (is_sunk c i (rest channel.D) (Some m) s)
+        (and_right (is_grant y.opcode) (y.sink == i) e))
 
     answered : (m : ℕ) → is_answered ((s'.block m).pair c).probing ≡ is_answered ((s.block m).pair c).probing
     answered = part-block (λ (z : Block X). is_answered (z.pair c).probing) n s s' is.elsewhere is.answered
 
-    probed : (m : ℕ) → is_answered ((s'.block m).pair c).probing ≡ true → probe_of m t ≡ Some (probe_beat m (cap_waited (s'.block m).service))
-    probed = each-block (λ m z. is_answered (z.pair c).probing ≡ true → probe_of m t ≡ Some (probe_beat m (cap_waited z.service))) n s s' is.elsewhere
+    probed : (m : ℕ) → is_answered ((s'.block m).pair c).probing ≡ true
+        → probe_of m t ≡ Some (probe_beat m (cap_waited (s'.block m).service))
+    probed = each-block (λ m z. is_answered (z.pair c).probing ≡ true
+        → probe_of m t ≡ Some (probe_beat m (cap_waited z.service))) n s s' is.elsewhere
         (λ e. absurd (let f : false ≡ true = sym is.quiet ∙ sym is.answered ∙ e in cc))
         (λ m ne e. before.probed m e)

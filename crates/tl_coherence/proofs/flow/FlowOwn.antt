@@ -1,33 +1,23 @@
 -- What is delivered on a link, as a beat of it is: each value of it is that of the protocol afterwards.
+use Rattle.tl_coherence.proofs.flow.Imports.{IsWidth, Beat, Channel, Message, MessageA, MessageC, beat_of, History, on}
+use Rattle.tl_coherence.proofs.flow.Imports.{grown, completes, Config, Cap, block_at, MonitorRelation, AbstractState}
+use Rattle.tl_coherence.proofs.flow.Imports.{kind_taken, Log, ClientBlock, AcquirePhase, AcquireOpen, after_probe}
+use Rattle.tl_coherence.proofs.flow.Imports.{after_release_ack, Service, Block, State, packet, is_on, probed_block}
+use Rattle.tl_coherence.proofs.flow.Imports.{probe_taken, let_go_block, release_ack_taken, release_taken}
+use Rattle.tl_coherence.proofs.flow.Imports.{acquire_served, acquire_granted, cap_sent, prune_told, block_message}
+use Rattle.tl_coherence.proofs.flow.Imports.{message_of_kind, System, Kind, Request, Acquire, Probe, ProbeAck, Release}
+use Rattle.tl_coherence.proofs.flow.Imports.{Answer, Grant, ReleaseAck, GrantAck, Packet, SimulationRelation}
+use Rattle.tl_coherence.proofs.flow.Imports.{is_caching, asked_by}
 use Rattle.std.proofs.Common.{◌≡◌, subst, ℕ, Bool, true, false, List, [], ◌∷◌, length, refl, sym, ◌∙◌, ap, inl}
 use Rattle.std.specs.Prelude.{if◌then◌else◌}
-use Rattle.tl_beat.specs.statement.Width.{IsWidth}
-use Rattle.tl_beat.specs.declared.beat.Beat.{Beat}
-use Rattle.tl_beat.specs.declared.channel.Channel.{Channel}
 use Rattle.tl_beat.specs.declared.channel.Channel.TheVariants as channel
-use Rattle.tl_burst.specs.declared.message.Message.{Message}
 use Rattle.tl_burst.specs.declared.message.Message.TheVariants as message
-use Rattle.tl_burst.specs.declared.message.MessageA.{MessageA}
-use Rattle.tl_burst.specs.declared.message.MessageC.{MessageC}
 use Rattle.tl_burst.specs.declared.message.MessageE.{MessageE}
-use Rattle.tl_burst.specs.statement.Burst.{beat_of}
-use Rattle.tl_burst.specs.statement.Messages.{History, on, grown}
-use Rattle.tl_burst.specs.statement.Part.{completes}
-use Rattle.tl_params.specs.declared.config.Config.{Config}
-use Rattle.tl_params.specs.declared.param.Cap.{Cap}
-use Rattle.tl_rules.specs.statement.History.{block_at}
-use Rattle.tl_coherence.specs.refinement.MonitorRelation.{MonitorRelation}
-use Rattle.tl_coherence.specs.refinement.AbstractStep.{AbstractState, with_state, some_below, request_taken, is_unheld, gift, acquire_taken, is_whole, taken_by_client, kind_taken}
+use Rattle.tl_coherence.specs.refinement.AbstractStep.{with_state, some_below, request_taken, is_unheld, gift}
+use Rattle.tl_coherence.specs.refinement.AbstractStep.{acquire_taken, is_whole, taken_by_client}
 use Rattle.tl_coherence.specs.protocol.Invariant.{cap_asked}
-use Rattle.tl_coherence.specs.statement.Log.{Log}
-use Rattle.tl_coherence.specs.protocol.Phase.{ClientBlock, AcquirePhase, AcquireOpen}
-use Rattle.tl_coherence.specs.protocol.PhaseSteps.{after_probe, after_release_ack, is_granted_data}
-use Rattle.tl_coherence.specs.protocol.Protocol.{Service, Block, State, packet, packets_on, is_on, is_probed, probed_block, probe_taken, let_go_block, release_ack_taken}
-use Rattle.tl_coherence.specs.protocol.Protocol.{release_taken, acquire_served, acquire_granted}
-use Rattle.tl_coherence.specs.refinement.PacketMessages.{cap_sent, prune_told, block_message, message_of_kind}
-use Rattle.tl_coherence.specs.statement.System.{System}
-use Rattle.tl_coherence.specs.protocol.Packet.{Kind, Request, Acquire, Probe, ProbeAck, Release, Answer, Grant, ReleaseAck, GrantAck, Packet}
-use Rattle.tl_coherence.specs.refinement.SimulationRelation.{SimulationRelation, is_caching, asked_by}
+use Rattle.tl_coherence.specs.protocol.PhaseSteps.{is_granted_data}
+use Rattle.tl_coherence.specs.protocol.Protocol.{packets_on, is_probed}
 use Rattle.tl_coherence.proofs.client.AsideAll.{Leaves, leaves-at_manager}
 use Rattle.tl_coherence.proofs.queues.Carried.{IsNext}
 use Rattle.tl_coherence.proofs.client.ClientDelivered.{ack_next}
@@ -51,7 +41,8 @@ use Rattle.tl_coherence.proofs.simulation.Popped.{unfinished_at}
 
 module _ {w : ℕ} (config : Config) (log : Log w) (h : AbstractState w) (sys : System w) (c : ℕ) (width : IsWidth w)
     (is : SimulationRelation config log h.mail h.request h.state sys) (tracker : ℕ) (t : History w)
-    (flowed : MonitorRelation (asked_by h.mail h.state c) (unfinished_at sys c) c h.state t) (rest' : Channel → List (Beat w)) where
+    (flowed : MonitorRelation (asked_by h.mail h.state c) (unfinished_at sys c) c h.state t) (rest' : Channel
+    → List (Beat w)) where
   abbrev s : State (List ℕ)
   s = h.state
 
@@ -59,11 +50,13 @@ module _ {w : ℕ} (config : Config) (log : Log w) (h : AbstractState w) (sys : 
   abbrev pub FlowsWith : Beat w → AbstractState w → Type 0
   FlowsWith x z = MonitorRelation (asked_by z.mail z.state c) rest' c z.state (x ∷ t)
 
-  module _ (i : ℕ) (toks : List Packet) (x : Beat w) (ms : List (Message w)) (queue : List (Beat w)) (rests : AreRests x (unfinished_at sys c) rest') where
+  module _ (i : ℕ) (toks : List Packet) (x : Beat w) (ms : List (Message w)) (queue : List (Beat w))
+      (rests : AreRests x (unfinished_at sys c) rest') where
     -- after the beat, which was the last of its message or not
     abbrev Goes : Channel → Kind → Type 0
     Goes ch k =
-        packets_on ch (h.state.link c) ≡ packet k i ∷ toks → IsNext x (unfinished_at sys c ch) (message_of_kind k h.mail h.state c i) ms queue → (b : Bool)
+        packets_on ch (h.state.link c) ≡ packet k i ∷ toks
+        → IsNext x (unfinished_at sys c ch) (message_of_kind k h.mail h.state c i) ms queue → (b : Bool)
         → completes x (unfinished_at sys c ch) ≡ b → (b ≡ true → IsReady tracker c k i h)
         → FlowsWith x (if b then kind_taken config tracker c k i toks h else h)
 
@@ -71,8 +64,11 @@ module _ {w : ℕ} (config : Config) (log : Log w) (h : AbstractState w) (sys : 
     contrary b e f = absurd (let no : true ≡ false = sym e ∙ f in cc)
 
     -- what of channel D's first message was delivered stays
-    d_same : (m : Message w) (k : ℕ) → x ≡ beat_of m k → on channel.D (beat_of m k) ≡ false → rest' channel.D ≡ unfinished_at sys c channel.D
-    d_same m k e off = rests channel.D ∙ ap (λ (z : Beat w). if on channel.D z then grown x (unfinished_at sys c channel.D) else unfinished_at sys c channel.D)
+    d_same : (m : Message w) (k : ℕ) → x ≡ beat_of m k → on channel.D (beat_of m k) ≡ false
+        → rest' channel.D ≡ unfinished_at sys c channel.D
+    d_same m k e off = rests channel.D ∙ ap
+        (λ (z : Beat w). if on channel.D z then grown x (unfinished_at sys c channel.D) else unfinished_at sys c
+        channel.D)
         e ∙ ap (λ (b : Bool). if b then grown x (unfinished_at sys c channel.D) else unfinished_at sys c channel.D) off
 
     -- ---- channel A
@@ -86,16 +82,22 @@ module _ {w : ℕ} (config : Config) (log : Log w) (h : AbstractState w) (sys : 
         here : IsNext x (unfinished_at sys c channel.A) (message.A asked.request) ms queue
         here = subst (λ (m : Message w). IsNext x (unfinished_at sys c channel.A) m ms queue) asked.is_it next
 
-        go : (z : Bool) → completes x (unfinished_at sys c channel.A) ≡ z → (z ≡ true → IsReady tracker c Request i h) → FlowsWith x (if z then kind_taken config tracker c Request i toks h else h)
+        go : (z : Bool) → completes x (unfinished_at sys c channel.A) ≡ z → (z ≡ true → IsReady tracker c Request i h)
+            → FlowsWith x (if z then kind_taken config tracker c Request i toks h else h)
         go false e r = own-access config log h sys c is t flowed rest' i asked x ms queue here rests false e
         go true e r =
             let told = r refl in
-            let same : told.0 ≡ asked.request = (let both : message.A told.0 ≡ message.A asked.request = sym told.1 ∙ asked.is_it in cc) in
-            let left : Leaves c h (request_taken (length config.clients.items) c i (message.A asked.request) tracker toks h) =
-            subst (λ (m : Message w). Leaves c h (request_taken (length config.clients.items) c i m tracker toks h)) asked.is_it
+            let same : told.0 ≡ asked.request = (let both : message.A told.0 ≡ message.A asked.request =
+            sym told.1 ∙ asked.is_it in cc) in
+            let left : Leaves c h (request_taken (length config.clients.items) c i (message.A asked.request) tracker
+            toks h) =
+            subst (λ (m : Message w). Leaves c h (request_taken (length config.clients.items) c i m tracker toks h))
+            asked.is_it
             (leaves-at_manager (is_caching config) config tracker c Request i toks h c refl is.invariant tokens) in
-            subst (λ (m : Message w). FlowsWith x (request_taken (length config.clients.items) c i m tracker toks h)) (sym asked.is_it)
-            (settled-request config log h sys c is tracker c rest' (d_same (message.A asked.request) here.k here.beat_is refl) (x ∷ t) i asked.request toks
+            subst (λ (m : Message w). FlowsWith x (request_taken (length config.clients.items) c i m tracker toks h))
+            (sym asked.is_it)
+            (settled-request config log h sys c is tracker c rest' (d_same (message.A asked.request) here.k here.beat_is
+            refl) (x ∷ t) i asked.request toks
             (ap (λ (m : MessageA w). (s.block (block_at m.address)).service) (sym same) ∙ told.3) told.4 left
             (own-access config log h sys c is t flowed rest' i asked x ms queue here rests true e))
 
@@ -112,35 +114,52 @@ module _ {w : ℕ} (config : Config) (log : Log w) (h : AbstractState w) (sys : 
         here = subst (λ (z : Message w). IsNext x (unfinished_at sys c channel.A) z ms queue) wanted.renders next
 
         one : completes x (unfinished_at sys c channel.A) ≡ true
-        one = (one-beat (message.A m) x (unfinished_at sys c channel.A) ms queue here (acquisition_beats w wanted.whole wanted.grow ((s.block i).source c) i)).2
+        one = (one-beat (message.A m) x (unfinished_at sys c channel.A) ms queue here
+            (acquisition_beats w wanted.whole wanted.grow ((s.block i).source c) i)).2
 
         taken : IsReady tracker c Acquire i h → Leaves c h
-            (acquire_taken (length config.clients.items) config.profile c i (AcquireOpen wanted.whole wanted.grow) tracker toks h)
-            → FlowsWith x (acquire_taken (length config.clients.items) config.profile c i (AcquireOpen wanted.whole wanted.grow) tracker toks h)
-        taken r = either (some_below (length config.clients.items) (λ d. is_probed c true (cap_asked (AcquireOpen wanted.whole wanted.grow)) ((s.block i).pair d).recorded d))
+            (acquire_taken (length config.clients.items) config.profile c i (AcquireOpen wanted.whole wanted.grow)
+            tracker toks h)
+            → FlowsWith x (acquire_taken (length config.clients.items) config.profile c i
+            (AcquireOpen wanted.whole wanted.grow) tracker toks h)
+        taken r = either (some_below (length config.clients.items)
+            (λ d. is_probed c true (cap_asked (AcquireOpen wanted.whole wanted.grow)) ((s.block i).pair d).recorded d))
           where
             served : State (List ℕ)
-            served = acquire_served c i ((s.block i).source c) tracker (cap_asked (AcquireOpen wanted.whole wanted.grow)) toks s
+            served = acquire_served c i ((s.block i).source c) tracker
+                (cap_asked (AcquireOpen wanted.whole wanted.grow)) toks s
 
             granted : State (List ℕ)
-            granted = acquire_granted c i tracker (is_granted_data wanted.whole wanted.grow ((s.block i).pair c).recorded)
-                (gift config.profile wanted.whole wanted.grow (is_unheld (length config.clients.items) (s.block i).pair)) toks s
+            granted = acquire_granted c i tracker
+                (is_granted_data wanted.whole wanted.grow ((s.block i).pair c).recorded)
+                (gift config.profile wanted.whole wanted.grow
+                (is_unheld (length config.clients.items) (s.block i).pair)) toks s
 
-            either : (z : Bool) → Leaves c h (with_state (if z then served else granted) h) → FlowsWith x (with_state (if z then served else granted) h)
+            either : (z : Bool) → Leaves c h (with_state (if z then served else granted) h)
+                → FlowsWith x (with_state (if z then served else granted) h)
             either true l =
-                own-acquire_served config log h sys c is t flowed rest' i wanted r.0 tracker r.1 (asked_by h.mail served c)
-                (asks-left c h (with_state served h) l) (cap_asked (AcquireOpen wanted.whole wanted.grow)) toks x ms queue here rests
+                own-acquire_served config log h sys c is t flowed rest' i wanted r.0 tracker r.1
+                (asked_by h.mail served c)
+                (asks-left c h (with_state served h) l) (cap_asked (AcquireOpen wanted.whole wanted.grow)) toks x ms
+                queue here rests
             either false l =
-                own-acquire_granted config log h sys c is t flowed rest' i wanted r.0 tracker r.1 (asked_by h.mail granted c)
-                (asks-left c h (with_state granted h) l) (is_granted_data wanted.whole wanted.grow ((s.block i).pair c).recorded)
-                (gift config.profile wanted.whole wanted.grow (is_unheld (length config.clients.items) (s.block i).pair)) toks x ms queue here rests
+                own-acquire_granted config log h sys c is t flowed rest' i wanted r.0 tracker r.1
+                (asked_by h.mail granted c)
+                (asks-left c h (with_state granted h) l)
+                (is_granted_data wanted.whole wanted.grow ((s.block i).pair c).recorded)
+                (gift config.profile wanted.whole wanted.grow
+                (is_unheld (length config.clients.items) (s.block i).pair)) toks x ms queue here rests
 
-        go : (z : Bool) → completes x (unfinished_at sys c channel.A) ≡ z → (z ≡ true → IsReady tracker c Acquire i h) → FlowsWith x (if z then kind_taken config tracker c Acquire i toks h else h)
+        go : (z : Bool) → completes x (unfinished_at sys c channel.A) ≡ z → (z ≡ true → IsReady tracker c Acquire i h)
+            → FlowsWith x (if z then kind_taken config tracker c Acquire i toks h else h)
         go false e r = contrary (completes x (unfinished_at sys c channel.A)) one e
         go true e r =
-            subst (λ (a : AcquirePhase). FlowsWith x (acquire_taken (length config.clients.items) config.profile c i a tracker toks h)) (sym wanted.wants)
-            (taken (r refl) (subst (λ (a : AcquirePhase). Leaves c h (acquire_taken (length config.clients.items) config.profile c i a tracker toks h))
-            wanted.wants (leaves-at_manager (is_caching config) config tracker c Acquire i toks h c refl is.invariant tokens)))
+            subst (λ (a : AcquirePhase). FlowsWith x (acquire_taken (length config.clients.items) config.profile c i a
+            tracker toks h)) (sym wanted.wants)
+            (taken (r refl) (subst (λ (a : AcquirePhase). Leaves c h
+            (acquire_taken (length config.clients.items) config.profile c i a tracker toks h))
+            wanted.wants (leaves-at_manager (is_caching config) config tracker c Acquire i toks h c refl is.invariant
+            tokens)))
 
     -- ---- channel B
 
@@ -151,19 +170,24 @@ module _ {w : ℕ} (config : Config) (log : Log w) (h : AbstractState w) (sys : 
         k = cap_sent ((s.block i).pair c).probing
 
         one : completes x (unfinished_at sys c channel.B) ≡ true
-        one = ap (completes x) (is.kept c).b_whole ∙ ap (λ (z : Beat w). completes z []) (probe-beat c i s x (unfinished_at sys c channel.B) ms queue next)
+        one = ap (completes x) (is.kept c).b_whole ∙ ap (λ (z : Beat w). completes z [])
+            (probe-beat c i s x (unfinished_at sys c channel.B) ms queue next)
 
         new : Block (List ℕ)
         new = probed_block c k (s.block i)
 
         asks : (j : ℕ) → asked_by h.mail (probe_taken c i k toks s) c j ≡ asked_by h.mail s c j
         asks j = asks-same c j h.mail h.mail s (probe_taken c i k toks s) refl (inl refl)
-            (λ n used. set-part (λ (z : Block (List ℕ)). (z.pair c).acquiring) i new s.block (ap (λ (p : ClientBlock). p.acquiring) (set-same c (after_probe k ((s.block i).pair c)) (s.block i).pair)) n)
+            (λ n used. set-part (λ (z : Block (List ℕ)). (z.pair c).acquiring) i new s.block
+            (ap (λ (p : ClientBlock). p.acquiring)
+            (set-same c (after_probe k ((s.block i).pair c)) (s.block i).pair)) n)
             (λ n used. set-part (λ (z : Block (List ℕ)). z.source c) i new s.block refl n)
 
-        go : (z : Bool) → completes x (unfinished_at sys c channel.B) ≡ z → FlowsWith x (if z then kind_taken config tracker c Probe i toks h else h)
+        go : (z : Bool) → completes x (unfinished_at sys c channel.B) ≡ z
+            → FlowsWith x (if z then kind_taken config tracker c Probe i toks h else h)
         go false e = contrary (completes x (unfinished_at sys c channel.B)) one e
-        go true e = own-probe config log h sys c is t flowed rest' toks i tokens x ms queue next rests (asked_by h.mail (probe_taken c i k toks s) c) asks
+        go true e = own-probe config log h sys c is t flowed rest' toks i tokens x ms queue next rests
+            (asked_by h.mail (probe_taken c i k toks s) c) asks
 
     -- ---- channel C
 
@@ -176,10 +200,12 @@ module _ {w : ℕ} (config : Config) (log : Log w) (h : AbstractState w) (sys : 
         here : IsNext x (unfinished_at sys c channel.C) (message.C about.0) ms queue
         here = subst (λ (m : Message w). IsNext x (unfinished_at sys c channel.C) m ms queue) about.1 next
 
-        go : (z : Bool) → completes x (unfinished_at sys c channel.C) ≡ z → FlowsWith x (if z then kind_taken config tracker c ProbeAck i toks h else h)
+        go : (z : Bool) → completes x (unfinished_at sys c channel.C) ≡ z
+            → FlowsWith x (if z then kind_taken config tracker c ProbeAck i toks h else h)
         go false e = own-report config log h sys c width is t flowed rest' i toks tokens x ms queue next rests false e
         go true e =
-            settled-report config log h sys c is tracker c rest' (d_same (message.C about.0) here.k here.beat_is refl) (x ∷ t) i toks tokens
+            settled-report config log h sys c is tracker c rest' (d_same (message.C about.0) here.k here.beat_is refl)
+            (x ∷ t) i toks tokens
             (leaves-at_manager (is_caching config) config tracker c ProbeAck i toks h c refl is.invariant tokens)
             (own-report config log h sys c width is t flowed rest' i toks tokens x ms queue next rests true e)
 
@@ -189,11 +215,13 @@ module _ {w : ℕ} (config : Config) (log : Log w) (h : AbstractState w) (sys : 
         after : State (List ℕ)
         after = release_taken c i (prune_told ((s.block i).pair c).letting) toks s
 
-        go : (z : Bool) → completes x (unfinished_at sys c channel.C) ≡ z → FlowsWith x (if z then kind_taken config tracker c Release i toks h else h)
+        go : (z : Bool) → completes x (unfinished_at sys c channel.C) ≡ z
+            → FlowsWith x (if z then kind_taken config tracker c Release i toks h else h)
         go false e = own-release config log h sys c width is t flowed rest' i toks tokens x ms queue next rests false e
         go true e =
             flowed-asks (asked_by h.mail s c) (asked_by h.mail after c) rest' c after (x ∷ t)
-            (asks-left c h (with_state after h) (leaves-at_manager (is_caching config) config tracker c Release i toks h c refl is.invariant tokens))
+            (asks-left c h (with_state after h) (leaves-at_manager (is_caching config) config tracker c Release i toks h
+            c refl is.invariant tokens))
             (own-release config log h sys c width is t flowed rest' i toks tokens x ms queue next rests true e)
 
     -- ---- channel D
@@ -201,7 +229,8 @@ module _ {w : ℕ} (config : Config) (log : Log w) (h : AbstractState w) (sys : 
     goes-answer : Goes channel.D Answer
     goes-answer tokens next b last ready = go b last
       where
-        go : (z : Bool) → completes x (unfinished_at sys c channel.D) ≡ z → FlowsWith x (if z then kind_taken config tracker c Answer i toks h else h)
+        go : (z : Bool) → completes x (unfinished_at sys c channel.D) ≡ z
+            → FlowsWith x (if z then kind_taken config tracker c Answer i toks h else h)
         go false e = own-answer config log h sys c is t flowed rest' toks i tokens x ms queue next rests false e
         go true e = own-answer config log h sys c is t flowed rest' toks i tokens x ms queue next rests true e
 
@@ -211,29 +240,37 @@ module _ {w : ℕ} (config : Config) (log : Log w) (h : AbstractState w) (sys : 
         due : IsGrantDue c i s
         due = grant-due (is_caching config) c i toks s is.invariant tokens
 
-        go : (z : Bool) → completes x (unfinished_at sys c channel.D) ≡ z → FlowsWith x (if z then kind_taken config tracker c Grant i toks h else h)
-        go false e = own-grant config log h sys c is t flowed rest' toks i tokens due (is_whole ((s.block i).pair c).acquiring) x ms queue next rests false e
+        go : (z : Bool) → completes x (unfinished_at sys c channel.D) ≡ z
+            → FlowsWith x (if z then kind_taken config tracker c Grant i toks h else h)
+        go false e = own-grant config log h sys c is t flowed rest' toks i tokens due
+            (is_whole ((s.block i).pair c).acquiring) x ms queue next rests false e
         go true e =
             subst (λ (q : Service). FlowsWith x (taken_by_client c i q toks h)) (sym due.service)
-            (own-grant config log h sys c is t flowed rest' toks i tokens due (is_whole ((s.block i).pair c).acquiring) x ms queue next rests true e)
+            (own-grant config log h sys c is t flowed rest' toks i tokens due (is_whole ((s.block i).pair c).acquiring)
+            x ms queue next rests true e)
 
     goes-release_ack : Goes channel.D ReleaseAck
     goes-release_ack tokens next b last ready = go b last
       where
         one : completes x (unfinished_at sys c channel.D) ≡ true
-        one = (one-beat (message.D (ack_message ((s.block i).release_source c))) x (unfinished_at sys c channel.D) ms queue (ack_next c i s x (unfinished_at sys c channel.D) ms queue next) refl).2
+        one = (one-beat (message.D (ack_message ((s.block i).release_source c))) x (unfinished_at sys c channel.D) ms
+            queue (ack_next c i s x (unfinished_at sys c channel.D) ms queue next) refl).2
 
         new : Block (List ℕ)
         new = let_go_block c (s.block i)
 
         asks : (j : ℕ) → asked_by h.mail (release_ack_taken c i toks s) c j ≡ asked_by h.mail s c j
         asks j = asks-same c j h.mail h.mail s (release_ack_taken c i toks s) refl (inl refl)
-            (λ n used. set-part (λ (z : Block (List ℕ)). (z.pair c).acquiring) i new s.block (ap (λ (p : ClientBlock). p.acquiring) (set-same c (after_release_ack ((s.block i).pair c)) (s.block i).pair)) n)
+            (λ n used. set-part (λ (z : Block (List ℕ)). (z.pair c).acquiring) i new s.block
+            (ap (λ (p : ClientBlock). p.acquiring) (set-same c (after_release_ack ((s.block i).pair c))
+            (s.block i).pair)) n)
             (λ n used. set-part (λ (z : Block (List ℕ)). z.source c) i new s.block refl n)
 
-        go : (z : Bool) → completes x (unfinished_at sys c channel.D) ≡ z → FlowsWith x (if z then kind_taken config tracker c ReleaseAck i toks h else h)
+        go : (z : Bool) → completes x (unfinished_at sys c channel.D) ≡ z
+            → FlowsWith x (if z then kind_taken config tracker c ReleaseAck i toks h else h)
         go false e = contrary (completes x (unfinished_at sys c channel.D)) one e
-        go true e = own-release_ack config log h sys c is t flowed rest' toks i tokens x ms queue next rests (asked_by h.mail (release_ack_taken c i toks s) c) asks
+        go true e = own-release_ack config log h sys c is t flowed rest' toks i tokens x ms queue next rests
+            (asked_by h.mail (release_ack_taken c i toks s) c) asks
 
     -- ---- channel E
 
@@ -245,14 +282,18 @@ module _ {w : ℕ} (config : Config) (log : Log w) (h : AbstractState w) (sys : 
 
         one : completes x (unfinished_at sys c channel.E) ≡ true
         one = (one-beat (message.E m) x (unfinished_at sys c channel.E) ms queue
-            (subst (λ (z : Message w). IsNext x (unfinished_at sys c channel.E) z ms queue) (ack_rendered c i (s.block i)) next) refl).2
+            (subst (λ (z : Message w). IsNext x (unfinished_at sys c channel.E) z ms queue)
+            (ack_rendered c i (s.block i)) next) refl).2
 
-        go : (z : Bool) → completes x (unfinished_at sys c channel.E) ≡ z → FlowsWith x (if z then kind_taken config tracker c GrantAck i toks h else h)
+        go : (z : Bool) → completes x (unfinished_at sys c channel.E) ≡ z
+            → FlowsWith x (if z then kind_taken config tracker c GrantAck i toks h else h)
         go false e = contrary (completes x (unfinished_at sys c channel.E)) one e
         go true e =
             let after = kind_taken config tracker c GrantAck i toks h in
-            own-grant_ack config log h sys c width is t flowed rest' i toks tokens x ms queue next rests (asked_by after.mail after.state c)
-            (asks-left c h after (leaves-at_manager (is_caching config) config tracker c GrantAck i toks h c refl is.invariant tokens))
+            own-grant_ack config log h sys c width is t flowed rest' i toks tokens x ms queue next rests
+            (asked_by after.mail after.state c)
+            (asks-left c h after (leaves-at_manager (is_caching config) config tracker c GrantAck i toks h c refl
+            is.invariant tokens))
 
     -- ---- each kind on its channel
 

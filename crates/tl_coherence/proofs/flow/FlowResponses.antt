@@ -1,58 +1,44 @@
 -- A response that is delivered breaks no rule of order after what was delivered on its link.
-use Rattle.std.proofs.Common.{◌≡◌, subst, ℕ, zero, suc, Bool, true, false, not, ◌&&◌, ◌||◌, List, [], ◌∷◌, Option, Some, None, refl, sym, ◌∙◌, ap}
+use Rattle.tl_coherence.proofs.flow.Imports.{IsWidth, Beat, BeatA, Message, MessageA, MessageC, MessageD, a_beat_of}
+use Rattle.tl_coherence.proofs.flow.Imports.{beat_of, begun, unfinished, History, channel_of, Config, Level, Profile}
+use Rattle.tl_coherence.proofs.flow.Imports.{illegal, level_of, RequestSource, ReleaseSource, Prune, Report, Perm}
+use Rattle.tl_coherence.proofs.flow.Imports.{prune_code, report_code, report_left, on_link, comes_in_request}
+use Rattle.tl_coherence.proofs.flow.Imports.{comes_in_release, comes_in_grant, broken_in_order, same_perm, broken_after}
+use Rattle.tl_coherence.proofs.flow.Imports.{is_release, held, pending, request_of, same_block, IsCarried, flow}
+use Rattle.tl_coherence.proofs.flow.Imports.{is_requested, is_sunk, is_let, is_let_by, is_busy, Log, View, ReleasePhase}
+use Rattle.tl_coherence.proofs.flow.Imports.{NoRelease, ReleaseSent, ReleaseAcked, AcquirePhase, AcquireOpen}
+use Rattle.tl_coherence.proofs.flow.Imports.{is_unreleased, Service, GrantSent, is_answered, is_acked, is_granting}
+use Rattle.tl_coherence.proofs.flow.Imports.{is_acknowledging, State, SourceState, Asked, Acquires, view, packet, shown}
+use Rattle.tl_coherence.proofs.flow.Imports.{is_on, is_unserved, is_wanting, AccessMessages, report_told, prune_told}
+use Rattle.tl_coherence.proofs.flow.Imports.{block_message, message_of, message_of_kind, System, Kind, Request, Acquire}
+use Rattle.tl_coherence.proofs.flow.Imports.{Probe, ProbeAck, Release, Answer, Grant, ReleaseAck, GrantAck, Packet}
+use Rattle.tl_coherence.proofs.flow.Imports.{SimulationRelation, MonitorRelations, is_caching, asked_by}
+use Rattle.std.proofs.Common.{◌≡◌, subst, ℕ, zero, suc, Bool, true, false, not, ◌&&◌, ◌||◌, List, [], ◌∷◌, Option, Some}
+use Rattle.std.proofs.Common.{None, refl, sym, ◌∙◌, ap}
 use Rattle.std.specs.Prelude.{◌==◌, if◌then◌else◌, map}
 use Rattle.std.proofs.lemmas.Bool.{eqb-true, and_from}
 use Rattle.std.proofs.lemmas.Option.{same_Some}
-use Rattle.tl_beat.specs.statement.Width.{IsWidth}
-use Rattle.tl_beat.specs.declared.beat.Beat.{Beat}
-use Rattle.tl_beat.specs.declared.beat.BeatA.{BeatA}
 use Rattle.tl_beat.specs.declared.channel.Channel.TheVariants as channel
 use Rattle.tl_beat.specs.declared.opcode.OpB.TheVariants as opb
 use Rattle.tl_beat.specs.declared.opcode.OpC.TheVariants as opc
-use Rattle.tl_burst.specs.declared.message.Message.{Message}
 use Rattle.tl_burst.specs.declared.message.Message.TheVariants as message
-use Rattle.tl_burst.specs.declared.message.MessageA.{MessageA}
-use Rattle.tl_burst.specs.declared.message.MessageC.{MessageC}
-use Rattle.tl_burst.specs.declared.message.MessageD.{MessageD}
-use Rattle.tl_burst.specs.statement.Burst.{a_beat_of, d_beat_of, beat_of, begun}
-use Rattle.tl_burst.specs.statement.Messages.{unfinished, History, channel_of}
-use Rattle.tl_params.specs.declared.config.Config.{Config}
-use Rattle.tl_params.specs.declared.level.Level.{Level}
-use Rattle.tl_params.specs.declared.profile.Profile.{Profile}
-use Rattle.tl_rules.specs.statement.Legality.{illegal}
-use Rattle.tl_manager.specs.statement.Offer.{level_of}
-use Rattle.tl_params.specs.declared.key.Key.TheVariants.{RequestSource, ReleaseSource}
-use Rattle.tl_params.specs.declared.param.Prune.{Prune}
+use Rattle.tl_burst.specs.statement.Burst.{d_beat_of}
 use Rattle.tl_params.specs.declared.param.Prune.TheVariants as prune
-use Rattle.tl_params.specs.declared.param.Report.{Report}
-use Rattle.tl_params.specs.declared.perm.Perm.{Perm}
 use Rattle.tl_params.specs.declared.perm.Perm.TheVariants as perm
-use Rattle.tl_params.specs.statement.Param.{prune_code, report_code, report_left}
 use Rattle.tl_rules.specs.statement.Conformance as rules
-use Rattle.tl_rules.specs.statement.Conformance.{on_link, comes_in_request, comes_in_release, comes_in_grant, broken_in_order, same_perm, broken_after}
-use Rattle.tl_rules.specs.statement.History.{is_release, held, pending, request_of}
 use Rattle.tl_client.specs.statement.Endpoint.{zeros}
 use Rattle.tl_client.specs.statement.Send.{acquisition, about, release, probe_ack}
 use Rattle.tl_manager.specs.statement.Handing.{grant_opcode}
-use Rattle.tl_client.proofs.HeldAfter.{same_block}
-use Rattle.tl_coherence.specs.refinement.Carried.{IsCarried}
-use Rattle.tl_coherence.specs.statement.Flow.{flow}
-use Rattle.tl_coherence.specs.refinement.MonitorRelation.{is_requested, is_sunk, is_let, is_let_by}
 use Rattle.tl_coherence.specs.refinement.AbstractStep.{acquire_opcode}
-use Rattle.tl_coherence.specs.protocol.Invariant.{is_busy, IsInvariant}
-use Rattle.tl_coherence.specs.statement.Log.{Log}
-use Rattle.tl_coherence.specs.protocol.Phase.{View, ReleasePhase, NoRelease, ReleaseSent, ReleaseAcked, AcquirePhase, AcquireOpen, is_unreleased}
-use Rattle.tl_coherence.specs.protocol.Protocol.{Service, GrantSent, is_answered, is_acked, is_releasing, is_granting, is_acknowledging, State, SourceState, Asked, Acquires, view}
-use Rattle.tl_coherence.specs.protocol.Protocol.{packet, shown, is_on, is_unserved, is_wanting}
-use Rattle.tl_coherence.specs.refinement.PacketMessages.{AccessMessages, report_told, prune_told, block_message, message_of, message_of_kind}
-use Rattle.tl_coherence.specs.statement.System.{System}
-use Rattle.tl_coherence.specs.protocol.Packet.{Kind, Request, Acquire, Probe, ProbeAck, Release, Answer, Grant, ReleaseAck, GrantAck, Packet}
-use Rattle.tl_coherence.specs.refinement.SimulationRelation.{SimulationRelation, MonitorRelations, IsGivenAsked, gives_asked, is_caching, asked_by}
+use Rattle.tl_coherence.specs.protocol.Invariant.{IsInvariant}
+use Rattle.tl_coherence.specs.protocol.Protocol.{is_releasing}
+use Rattle.tl_coherence.specs.refinement.SimulationRelation.{IsGivenAsked, gives_asked}
 use Rattle.tl_coherence.proofs.queues.Carried.{IsNext}
 use Rattle.tl_coherence.proofs.client.ClientDelivered.{ack_next}
 use Rattle.tl_coherence.proofs.client.ClientEnd.{is_access, asks-access, asks-acquire}
 use Rattle.tl_coherence.proofs.client.ClientTakes.{answers_acquire, fits_asked, fitting, has_data, next-legal}
-use Rattle.tl_coherence.proofs.protocol.HeadOfD.{IsAnswerDue, answer-due, IsGrantDue, grant-due, grant-rendered, ack-due, acquire-used, grant_message, ack_message, own_view}
+use Rattle.tl_coherence.proofs.protocol.HeadOfD.{IsAnswerDue, answer-due, IsGrantDue, grant-due, grant-rendered}
+use Rattle.tl_coherence.proofs.protocol.HeadOfD.{ack-due, acquire-used, grant_message, ack_message, own_view}
 use Rattle.tl_coherence.proofs.queues.Facts.{granting_alone}
 use Rattle.tl_coherence.proofs.queues.FirstToken.{IsFirst, first-token, own_kind}
 use Rattle.tl_coherence.proofs.protocol.Heads.{asked-first, rendered-acquire}
@@ -76,21 +62,28 @@ waits_on_a c _ s = false
 IsWaiting : {w : ℕ} → ℕ → State (List ℕ) → Message w → Type 0
 IsWaiting {w} c s m = (r : MessageA w) × (m ≡ message.A r) × (waits_on_a c (s.uses c r.source) s ≡ true)
 
-waiting_request : {w : ℕ} (config : Config) (log : Log w) (mail : AccessMessages w) (request : ℕ → MessageA w) (s : State (List ℕ)) (sys : System w) (c i : ℕ)
+waiting_request : {w : ℕ} (config : Config) (log : Log w) (mail : AccessMessages w) (request : ℕ → MessageA w)
+    (s : State (List ℕ)) (sys : System w) (c i : ℕ)
     (rest : List Packet) → SimulationRelation config log mail request s sys
     → (s.link c).a ≡ packet Request i ∷ rest → IsWaiting c s (mail.request c i)
 unfolding IsWaiting
 waiting_request config log mail request s sys c i rest h first =
-    let asked = asked-first config log mail request s sys c i rest h first in
-    (asked.request, asked.is_it, ap (λ (j : ℕ). waits_on_a c (s.uses c j) s) asked.source_is ∙ ap (λ (u : SourceState). waits_on_a c u s) asked.used)
+    let asked = asked-first config log mail request s sys c i rest h first in (
+      asked.request,
+      asked.is_it,
+      ap (λ (j : ℕ). waits_on_a c (s.uses c j) s) asked.source_is ∙ ap
+          (λ (u : SourceState). waits_on_a c u s) asked.used,
+    )
 
-waiting_acquire : {w : ℕ} (config : Config) (log : Log w) (mail : AccessMessages w) (request : ℕ → MessageA w) (s : State (List ℕ)) (sys : System w) (c n : ℕ)
+waiting_acquire : {w : ℕ} (config : Config) (log : Log w) (mail : AccessMessages w) (request : ℕ → MessageA w)
+    (s : State (List ℕ)) (sys : System w) (c n : ℕ)
     (rest : List Packet) → SimulationRelation config log mail request s sys
     → (s.link c).a ≡ packet Acquire n ∷ rest → IsWaiting {w = w} c s (block_message Acquire c n (s.block n))
 unfolding IsWaiting
 waiting_acquire {w} config log mail request s sys c n rest h first =
     let shows : (is_wanting ((s.block n).pair c).acquiring && is_unserved (view (s.block n).service c)) ≡ true =
-    holds-first Acquire (s.link c).a rest (packet Acquire n) (λ i. shown Acquire c (s.block i)) first refl (h.invariant.transfers c Acquire refl) in
+    holds-first Acquire (s.link c).a rest (packet Acquire n) (λ i. shown Acquire c (s.block i)) first refl
+    (h.invariant.transfers c Acquire refl) in
     let wants = and_left (is_wanting ((s.block n).pair c).acquiring) (is_unserved (view (s.block n).service c)) shows in
     let asks = wanting-is ((s.block n).pair c).acquiring wants in (
       acquisition (acquire_opcode asks.0) asks.1 ((s.block n).source c) n,
@@ -99,21 +92,25 @@ waiting_acquire {w} config log mail request s sys c n rest h first =
           ∙ and_right (is_wanting ((s.block n).pair c).acquiring) (is_unserved (view (s.block n).service c)) shows,
     )
 
-comes_not : {w : ℕ} (c source : ℕ) (s : State (List ℕ)) (m : Message w) (k : ℕ) (rest : List (Beat w)) → rest ≡ begun m k → IsWaiting c s m
+comes_not : {w : ℕ} (c source : ℕ) (s : State (List ℕ)) (m : Message w) (k : ℕ) (rest : List (Beat w))
+    → rest ≡ begun m k → IsWaiting c s m
     → waits_on_a c (s.uses c source) s ≡ false → comes_in_request source rest ≡ false
 unfolding IsWaiting
-comes_not {w} c source s m k rest e is none = ap (comes_in_request source) e ∙ ap (λ (y : Message w). comes_in_request source (begun y k)) is.1 ∙ go k
+comes_not {w} c source s m k rest e is none =
+    ap (comes_in_request source) e ∙ ap (λ (y : Message w). comes_in_request source (begun y k)) is.1 ∙ go k
   where
     differ : (b : Bool) → (is.0.source == source) ≡ b → b ≡ false
     differ false f = refl
-    differ true f = absurd (let no : true ≡ false = sym is.2 ∙ ap (λ (j : ℕ). waits_on_a c (s.uses c j) s) (eqb-true is.0.source source f) ∙ none in cc)
+    differ true f = absurd (let no : true ≡ false = sym is.2 ∙ ap (λ (j : ℕ). waits_on_a c (s.uses c j) s)
+        (eqb-true is.0.source source f) ∙ none in cc)
 
     go : (i : ℕ) → comes_in_request source (begun (message.A is.0) i) ≡ false
     go zero = refl
     go (suc i) = differ (is.0.source == source) refl
 
 -- no request is half taken whose source waits for an answer
-pub not-coming_a : {w : ℕ} (config : Config) (log : Log w) (mail : AccessMessages w) (request : ℕ → MessageA w) (s : State (List ℕ)) (sys : System w) (c source : ℕ)
+pub not-coming_a : {w : ℕ} (config : Config) (log : Log w) (mail : AccessMessages w) (request : ℕ → MessageA w)
+    (s : State (List ℕ)) (sys : System w) (c source : ℕ)
     → SimulationRelation config log mail request s sys → waits_on_a c (s.uses c source) s ≡ false
     → comes_in_request source (unfinished channel.A (on_link c sys.manager.trace)) ≡ false
 not-coming_a {w} config log mail request s sys c source h none = go (s.link c).a refl (h.carried c channel.A)
@@ -121,7 +118,8 @@ not-coming_a {w} config log mail request s sys c source h none = go (s.link c).a
     rest_now : List (Beat w)
     rest_now = unfinished channel.A (on_link c sys.manager.trace)
 
-    each : (k : Kind) (i : ℕ) (rest : List Packet) → (s.link c).a ≡ packet k i ∷ rest → is_on channel.A k ≡ true → IsWaiting c s (message_of_kind k mail s c i)
+    each : (k : Kind) (i : ℕ) (rest : List Packet) → (s.link c).a ≡ packet k i ∷ rest → is_on channel.A k ≡ true
+        → IsWaiting c s (message_of_kind k mail s c i)
     each Request i rest first own = waiting_request config log mail request s sys c i rest h first
     each Acquire i rest first own = waiting_acquire config log mail request s sys c i rest h first
     each Probe i rest first own = absurd cc
@@ -132,25 +130,37 @@ not-coming_a {w} config log mail request s sys c source h none = go (s.link c).a
     each ReleaseAck i rest first own = absurd cc
     each GrantAck i rest first own = absurd cc
 
-    go : (xs : List Packet) → (s.link c).a ≡ xs → IsCarried rest_now (map (message_of mail s c) (s.link c).a) (sys.channels c channel.A) → comes_in_request source rest_now ≡ false
+    go : (xs : List Packet) → (s.link c).a ≡ xs → IsCarried rest_now (map (message_of mail s c) (s.link c).a)
+        (sys.channels c channel.A) → comes_in_request source rest_now ≡ false
     go [] first carried =
-        let nothing : IsCarried rest_now [] (sys.channels c channel.A) = subst (λ (ms : List (Message w)). IsCarried rest_now ms (sys.channels c channel.A))
+        let nothing : IsCarried rest_now [] (sys.channels c channel.A) =
+        subst (λ (ms : List (Message w)). IsCarried rest_now ms (sys.channels c channel.A))
         (ap (map (message_of mail s c)) first) carried in
         ap (comes_in_request source) nothing.0
     go (x ∷ xs) first carried =
-        let some : IsCarried rest_now (message_of mail s c x ∷ map (message_of mail s c) xs) (sys.channels c channel.A) =
-        subst (λ (ms : List (Message w)). IsCarried rest_now ms (sys.channels c channel.A)) (ap (map (message_of mail s c)) first) carried in
-        comes_not c source s (message_of mail s c x) some.0 rest_now some.2 (each x.kind x.number xs first (own_kind (is_caching config) s c channel.A x.kind x.number xs h.invariant first)) none
+        let some : IsCarried rest_now (message_of mail s c x ∷ map (message_of mail s c) xs)
+        (sys.channels c channel.A) =
+        subst (λ (ms : List (Message w)). IsCarried rest_now ms (sys.channels c channel.A))
+        (ap (map (message_of mail s c)) first) carried in
+        comes_not c source s (message_of mail s c x) some.0 rest_now some.2
+        (each x.kind x.number xs first (own_kind (is_caching config) s c channel.A x.kind x.number xs h.invariant
+        first)) none
 
 -- ---- an answer
 
-flow-answer : {w : ℕ} (config : Config) (log : Log w) (mail : AccessMessages w) (request : ℕ → MessageA w) (s : State (List ℕ)) (sys : System w) (c source : ℕ)
-    → SimulationRelation config log mail request s sys → MonitorRelations log mail s sys → (due : IsAnswerDue c source mail s)
-    → unfinished channel.D (sys.clients c).past ≡ [] → broken_in_order config.profile (beat_of (message.D due.answer) 0) (flow c log) ≡ None
+flow-answer : {w : ℕ} (config : Config) (log : Log w) (mail : AccessMessages w) (request : ℕ → MessageA w)
+    (s : State (List ℕ)) (sys : System w) (c source : ℕ)
+    → SimulationRelation config log mail request s sys → MonitorRelations log mail s sys
+    → (due : IsAnswerDue c source mail s)
+    → unfinished channel.D (sys.clients c).past ≡ [] → broken_in_order config.profile (beat_of (message.D due.answer) 0)
+    (flow c log) ≡ None
 flow-answer {w} config log mail request s sys c source h flowed due whole =
     let kind = access_kind due.answer.opcode due.answers_access in
-    let asks : asked_by mail s c source ≡ Some (a_beat_of due.request 0) = asks-access c source due.request mail s (ap is_access due.used) due.request_is in
-    let live = (flowed c).requests source ∙ ap (λ (u : SourceState). is_requested c source (unfinished channel.A (on_link c sys.manager.trace)) u s) due.used in
+    let asks : asked_by mail s c source ≡ Some (a_beat_of due.request 0) =
+    asks-access c source due.request mail s (ap is_access due.used) due.request_is in
+    let live = (flowed c).requests source ∙ ap
+    (λ (u : SourceState). is_requested c source (unfinished channel.A (on_link c sys.manager.trace)) u s) due.used
+    in
     answer-legal config.profile (d_beat_of due.answer 0) (a_beat_of due.request 0) (flow c log) (record {
       whole = (flowed c).rest_is channel.D ∙ whole;
       complete = ap (λ (b : List (Beat w)). comes_in_request due.answer.source b) ((flowed c).rest_is channel.A)
@@ -169,44 +179,59 @@ abbrev none_of : (w : ℕ) → List (Beat w)
 none_of w = []
 
 -- what the client of a Grant has of its block
-pub grant_quiet : (caching : ℕ → Bool) (c n : ℕ) (s : State (List ℕ)) → IsInvariant caching s → (due : IsGrantDue c n s) → is_answered ((s.block n).pair c).probing ≡ false
+pub grant_quiet : (caching : ℕ → Bool) (c n : ℕ) (s : State (List ℕ)) → IsInvariant caching s → (due : IsGrantDue c n s)
+    → is_answered ((s.block n).pair c).probing ≡ false
 grant_quiet caching c n s inv due =
     let mine = own_view c due.data_too due.k (s.block n).service due.service in
-    let alone = granting_alone due.data_too due.k ((s.block n).pair c) (view (s.block n).service c) ((inv.blocks n).phases c) mine in
+    let alone = granting_alone due.data_too due.k ((s.block n).pair c) (view (s.block n).service c)
+    ((inv.blocks n).phases c) mine in
     quiet_unanswered ((s.block n).pair c).probing (and_left _ _ alone)
 
 -- the tracker of a Grant is of its block
-pub grant_tracked : (caching : ℕ → Bool) (c n : ℕ) (s : State (List ℕ)) → IsInvariant caching s → IsGrantDue c n s → s.tracked (s.block n).tracker ≡ Some n
+pub grant_tracked : (caching : ℕ → Bool) (c n : ℕ) (s : State (List ℕ)) → IsInvariant caching s → IsGrantDue c n s
+    → s.tracked (s.block n).tracker ≡ Some n
 grant_tracked caching c n s inv due =
     is_of-is n (s.tracked (s.block n).tracker) (inv.named.trackers (s.block n).tracker n
-    ∙ ap (λ (x : Service). is_busy x && ((s.block n).tracker == (s.block n).tracker)) due.service ∙ same_number (s.block n).tracker)
+    ∙ ap (λ (x : Service). is_busy x && ((s.block n).tracker == (s.block n).tracker)) due.service ∙ same_number
+    (s.block n).tracker)
 
-flow-grant : {w : ℕ} (config : Config) (log : Log w) (mail : AccessMessages w) (request : ℕ → MessageA w) (s : State (List ℕ)) (sys : System w) (c n : ℕ)
+flow-grant : {w : ℕ} (config : Config) (log : Log w) (mail : AccessMessages w) (request : ℕ → MessageA w)
+    (s : State (List ℕ)) (sys : System w) (c n : ℕ)
     → SimulationRelation config log mail request s sys → MonitorRelations log mail s sys → (due : IsGrantDue c n s)
-    → gives_asked config.profile (AcquireOpen due.whole due.g) due.k ≡ true → unfinished channel.D (sys.clients c).past ≡ []
-    → broken_in_order config.profile (beat_of (message.D (grant_message due.data_too due.k ((s.block n).source c) (s.block n).tracker (s.block n).truth)) 0) (flow c log) ≡ None
+    → gives_asked config.profile (AcquireOpen due.whole due.g) due.k ≡ true
+    → unfinished channel.D (sys.clients c).past ≡ []
+    → broken_in_order config.profile
+    (beat_of (message.D (grant_message due.data_too due.k ((s.block n).source c) (s.block n).tracker
+    (s.block n).truth)) 0) (flow c log) ≡ None
 flow-grant {w} config log mail request s sys c n h flowed due given whole =
     let source = (s.block n).source c in
     let sink = (s.block n).tracker in
     let r : BeatA w = a_beat_of (acquisition (acquire_opcode due.whole) due.g source n) 0 in
-    let fits = fitting ((s.block n).pair c).recorded ((s.block n).pair c).held due.data_too due.k due.whole due.g due.fits in
-    let asks : asked_by mail s c source ≡ Some r = asks-acquire c source n source due.whole due.g mail s due.used due.wants refl in
+    let fits = fitting ((s.block n).pair c).recorded ((s.block n).pair c).held due.data_too due.k due.whole due.g
+    due.fits in
+    let asks : asked_by mail s c source ≡ Some r = asks-acquire c source n source due.whole due.g mail s due.used
+    due.wants refl in
     let mine = own_view c due.data_too due.k (s.block n).service due.service in
     let live : pending (RequestSource source) (flow c log) ≡ true =
-    (flowed c).requests source ∙ ap (λ (u : SourceState). is_requested c source (unfinished channel.A (on_link c sys.manager.trace)) u s) due.used ∙ ap (λ (v : View). not (is_unserved v)) mine in
+    (flowed c).requests source ∙ ap
+    (λ (u : SourceState). is_requested c source (unfinished channel.A (on_link c sys.manager.trace)) u s)
+    due.used ∙ ap (λ (v : View). not (is_unserved v)) mine in
     let held_now : held n (flow c log) ≡ ((s.block n).pair c).held = (flowed c).held_is n
     ∙ ap (λ (v : View). if is_granting v then ((s.block n).pair c).held else ((s.block n).pair c).recorded) mine in
-    grant-legal config.profile n (d_beat_of (grant_message due.data_too due.k source sink (s.block n).truth) 0) r (flow c log) (record {
+    grant-legal config.profile n (d_beat_of (grant_message due.data_too due.k source sink (s.block n).truth) 0) r
+    (flow c log) (record {
       whole = (flowed c).rest_is channel.D ∙ whole;
       complete = ap (λ (b : List (Beat w)). comes_in_request source b) ((flowed c).rest_is channel.A)
-          ∙ not-coming_a config log mail request s sys c source h (ap (λ (u : SourceState). waits_on_a c u s) due.used ∙ ap is_unserved mine);
+          ∙ not-coming_a config log mail request s sys c source h
+          (ap (λ (u : SourceState). waits_on_a c u s) due.used ∙ ap is_unserved mine);
       other = no_ack_grant due.data_too;
       live = live;
       request = (flowed c).asked_is source live ∙ asks;
       admits = answers_acquire due.whole due.data_too fits.bare;
       size = refl;
     }) (same_block n) (fits_asked config.profile due.whole due.g due.k fits.cap_is given)
-    (ap (λ (q : Perm). rules.is_grant_without_data (grant_opcode due.data_too) && (rules.is_acquire_block (acquire_opcode due.whole) && not (same_perm q perm.Branch))) held_now
+    (ap (λ (q : Perm). rules.is_grant_without_data (grant_opcode due.data_too)
+    && (rules.is_acquire_block (acquire_opcode due.whole) && not (same_perm q perm.Branch))) held_now
     ∙ has_data due.whole due.data_too ((s.block n).pair c).held fits.carried)
     ((flowed c).probes n ∙ grant_quiet (is_caching config) c n s h.invariant due)
     ((flowed c).sinks sink ∙ ap (λ (b : List (Beat w)). is_sunk c sink b (s.tracked sink) s) whole
@@ -217,40 +242,51 @@ flow-grant {w} config log mail request s sys c n h flowed due given whole =
 
 -- the message is no Release with this source
 IsUnreleased : {w : ℕ} → ℕ → Message w → Type 0
-IsUnreleased {w} source m = (r : MessageC w) × (m ≡ message.C r) × ((is_release r.opcode && (r.source == source)) ≡ false)
+IsUnreleased {w} source m = (r : MessageC w) × (m ≡ message.C r)
+    × ((is_release r.opcode && (r.source == source)) ≡ false)
 
-unreleased : {w : ℕ} (source : ℕ) (m : Message w) (k : ℕ) (rest : List (Beat w)) → rest ≡ begun m k → IsUnreleased source m → comes_in_release source rest ≡ false
+unreleased : {w : ℕ} (source : ℕ) (m : Message w) (k : ℕ) (rest : List (Beat w)) → rest ≡ begun m k
+    → IsUnreleased source m → comes_in_release source rest ≡ false
 unfolding IsUnreleased
-unreleased {w} source m k rest e is = ap (comes_in_release source) e ∙ ap (λ (y : Message w). comes_in_release source (begun y k)) is.1 ∙ go k
+unreleased {w} source m k rest e is =
+    ap (comes_in_release source) e ∙ ap (λ (y : Message w). comes_in_release source (begun y k)) is.1 ∙ go k
   where
     go : (i : ℕ) → comes_in_release source (begun (message.C is.0) i) ≡ false
     go zero = refl
     go (suc i) = is.2
 
-unreleased_report : (w : ℕ) (source : ℕ) (p : Perm) (r : Report) (n : ℕ) (copy : List ℕ) → IsUnreleased {w = w} source (probe_ack opb.ProbeBlock p r n copy)
+unreleased_report : (w : ℕ) (source : ℕ) (p : Perm) (r : Report) (n : ℕ) (copy : List ℕ)
+    → IsUnreleased {w = w} source (probe_ack opb.ProbeBlock p r n copy)
 unfolding IsUnreleased
 unreleased_report w source perm.Trunk r n copy = (about opc.ProbeAckData (report_code r) 0 n copy, refl, refl)
 unreleased_report w source perm.Branch r n copy = (about opc.ProbeAck (report_code r) 0 n zeros, refl, refl)
 unreleased_report w source perm.None r n copy = (about opc.ProbeAck (report_code r) 0 n zeros, refl, refl)
 
-unreleased_prune : (w : ℕ) (source : ℕ) (p : Prune) (i n : ℕ) (copy : List ℕ) → (i == source) ≡ false → IsUnreleased {w = w} source (release p i n copy)
+unreleased_prune : (w : ℕ) (source : ℕ) (p : Prune) (i n : ℕ) (copy : List ℕ) → (i == source) ≡ false
+    → IsUnreleased {w = w} source (release p i n copy)
 unfolding IsUnreleased
 unreleased_prune w source prune.TtoB i n copy e = (about opc.ReleaseData (prune_code prune.TtoB) i n copy, refl, e)
 unreleased_prune w source prune.TtoN i n copy e = (about opc.ReleaseData (prune_code prune.TtoN) i n copy, refl, e)
 unreleased_prune w source prune.BtoN i n copy e = (about opc.Release (prune_code prune.BtoN) i n zeros, refl, e)
 
-rendered_report : (w : ℕ) (c n source : ℕ) (s : State (List ℕ)) → IsUnreleased {w = w} source (block_message ProbeAck c n (s.block n))
+rendered_report : (w : ℕ) (c n source : ℕ) (s : State (List ℕ))
+    → IsUnreleased {w = w} source (block_message ProbeAck c n (s.block n))
 unfolding block_message
-rendered_report w c n source s = unreleased_report w source (report_left (report_told ((s.block n).pair c).probing)) (report_told ((s.block n).pair c).probing) n (s.block n).truth
+rendered_report w c n source s = unreleased_report w source (report_left (report_told ((s.block n).pair c).probing))
+    (report_told ((s.block n).pair c).probing) n (s.block n).truth
 
-rendered_release : (w : ℕ) (c n source : ℕ) (s : State (List ℕ)) → ((s.block n).release_source c == source) ≡ false → IsUnreleased {w = w} source (block_message Release c n (s.block n))
+rendered_release : (w : ℕ) (c n source : ℕ) (s : State (List ℕ)) → ((s.block n).release_source c == source) ≡ false
+    → IsUnreleased {w = w} source (block_message Release c n (s.block n))
 unfolding block_message
-rendered_release w c n source s e = unreleased_prune w source (prune_told ((s.block n).pair c).letting) ((s.block n).release_source c) n (s.block n).truth e
+rendered_release w c n source s e = unreleased_prune w source (prune_told ((s.block n).pair c).letting)
+    ((s.block n).release_source c) n (s.block n).truth e
 
 -- no Release is half taken with the source of one that was acknowledged
-not-coming_c : {w : ℕ} (config : Config) (log : Log w) (mail : AccessMessages w) (request : ℕ → MessageA w) (s : State (List ℕ)) (sys : System w) (c n : ℕ)
+not-coming_c : {w : ℕ} (config : Config) (log : Log w) (mail : AccessMessages w) (request : ℕ → MessageA w)
+    (s : State (List ℕ)) (sys : System w) (c n : ℕ)
     → SimulationRelation config log mail request s sys → s.lets c ((s.block n).release_source c) ≡ Some n
-    → is_acked ((s.block n).pair c).letting ≡ true → comes_in_release ((s.block n).release_source c) (unfinished channel.C (on_link c sys.manager.trace)) ≡ false
+    → is_acked ((s.block n).pair c).letting ≡ true
+    → comes_in_release ((s.block n).release_source c) (unfinished channel.C (on_link c sys.manager.trace)) ≡ false
 not-coming_c {w} config log mail request s sys c n h let_ acked = go (s.link c).c refl (h.carried c channel.C)
   where
     source : ℕ
@@ -269,22 +305,29 @@ not-coming_c {w} config log mail request s sys c n h let_ acked = go (s.link c).
     open_release NoRelease e = absurd cc
     open_release ReleaseAcked e = absurd cc
 
-    differ : (i : ℕ) → is_releasing ((s.block i).pair c).letting ≡ true → (b : Bool) → ((s.block i).release_source c == source) ≡ b → b ≡ false
+    differ : (i : ℕ) → is_releasing ((s.block i).pair c).letting ≡ true → (b : Bool)
+        → ((s.block i).release_source c == source) ≡ b → b ≡ false
     differ i releasing false e = refl
     differ i releasing true e =
         let open_ = open_release ((s.block i).pair c).letting releasing in
-        let lets : s.lets c ((s.block i).release_source c) ≡ Some i = is_of-is i (s.lets c ((s.block i).release_source c))
+        let lets : s.lets c ((s.block i).release_source c) ≡ Some i =
+        is_of-is i (s.lets c ((s.block i).release_source c))
         (h.invariant.named.releases c ((s.block i).release_source c) i
-        ∙ and_from (not (is_unreleased ((s.block i).pair c).letting)) ((s.block i).release_source c == (s.block i).release_source c) open_
+        ∙ and_from (not (is_unreleased ((s.block i).pair c).letting))
+        ((s.block i).release_source c == (s.block i).release_source c) open_
         (same_number ((s.block i).release_source c))) in
-        let same : i ≡ n = same_Some i n (sym lets ∙ ap (s.lets c) (eqb-true ((s.block i).release_source c) source e) ∙ let_) in
-        absurd (apart ((s.block n).pair c).letting acked (sym (ap (λ (j : ℕ). is_releasing ((s.block j).pair c).letting) same) ∙ releasing))
+        let same : i ≡ n = same_Some i n (sym lets ∙ ap (s.lets c) (eqb-true ((s.block i).release_source c) source e)
+        ∙ let_) in
+        absurd (apart ((s.block n).pair c).letting acked
+        (sym (ap (λ (j : ℕ). is_releasing ((s.block j).pair c).letting) same) ∙ releasing))
 
-    each : (k : Kind) (i : ℕ) (rest : List Packet) → (s.link c).c ≡ packet k i ∷ rest → is_on channel.C k ≡ true → IsUnreleased source (message_of_kind k mail s c i)
+    each : (k : Kind) (i : ℕ) (rest : List Packet) → (s.link c).c ≡ packet k i ∷ rest → is_on channel.C k ≡ true
+        → IsUnreleased source (message_of_kind k mail s c i)
     each ProbeAck i rest first own = rendered_report w c i source s
     each Release i rest first own =
         rendered_release w c i source s
-        (differ i (holds-first Release (s.link c).c rest (packet Release i) (λ j. shown Release c (s.block j)) first refl (h.invariant.transfers c Release refl))
+        (differ i (holds-first Release (s.link c).c rest (packet Release i) (λ j. shown Release c (s.block j)) first
+        refl (h.invariant.transfers c Release refl))
         ((s.block i).release_source c == source) refl)
     each Request i rest first own = absurd cc
     each Acquire i rest first own = absurd cc
@@ -294,28 +337,38 @@ not-coming_c {w} config log mail request s sys c n h let_ acked = go (s.link c).
     each ReleaseAck i rest first own = absurd cc
     each GrantAck i rest first own = absurd cc
 
-    go : (xs : List Packet) → (s.link c).c ≡ xs → IsCarried rest_now (map (message_of mail s c) (s.link c).c) (sys.channels c channel.C) → comes_in_release source rest_now ≡ false
+    go : (xs : List Packet) → (s.link c).c ≡ xs → IsCarried rest_now (map (message_of mail s c) (s.link c).c)
+        (sys.channels c channel.C) → comes_in_release source rest_now ≡ false
     go [] first carried =
-        let nothing : IsCarried rest_now [] (sys.channels c channel.C) = subst (λ (ms : List (Message w)). IsCarried rest_now ms (sys.channels c channel.C))
+        let nothing : IsCarried rest_now [] (sys.channels c channel.C) =
+        subst (λ (ms : List (Message w)). IsCarried rest_now ms (sys.channels c channel.C))
         (ap (map (message_of mail s c)) first) carried in
         ap (comes_in_release source) nothing.0
     go (x ∷ xs) first carried =
-        let some : IsCarried rest_now (message_of mail s c x ∷ map (message_of mail s c) xs) (sys.channels c channel.C) =
-        subst (λ (ms : List (Message w)). IsCarried rest_now ms (sys.channels c channel.C)) (ap (map (message_of mail s c)) first) carried in
-        unreleased source (message_of mail s c x) some.0 rest_now some.2 (each x.kind x.number xs first (own_kind (is_caching config) s c channel.C x.kind x.number xs h.invariant first))
+        let some : IsCarried rest_now (message_of mail s c x ∷ map (message_of mail s c) xs)
+        (sys.channels c channel.C) =
+        subst (λ (ms : List (Message w)). IsCarried rest_now ms (sys.channels c channel.C))
+        (ap (map (message_of mail s c)) first) carried in
+        unreleased source (message_of mail s c x) some.0 rest_now some.2
+        (each x.kind x.number xs first (own_kind (is_caching config) s c channel.C x.kind x.number xs h.invariant
+        first))
 
-flow-ack : {w : ℕ} (config : Config) (log : Log w) (mail : AccessMessages w) (request : ℕ → MessageA w) (s : State (List ℕ)) (sys : System w) (c n : ℕ)
+flow-ack : {w : ℕ} (config : Config) (log : Log w) (mail : AccessMessages w) (request : ℕ → MessageA w)
+    (s : State (List ℕ)) (sys : System w) (c n : ℕ)
     → SimulationRelation config log mail request s sys → MonitorRelations log mail s sys
     → s.lets c ((s.block n).release_source c) ≡ Some n → is_acked ((s.block n).pair c).letting ≡ true
     → unfinished channel.D (sys.clients c).past ≡ []
-    → broken_in_order config.profile (beat_of (message.D (ack_message ((s.block n).release_source c))) 0) (flow c log) ≡ None
+    → broken_in_order config.profile (beat_of (message.D (ack_message ((s.block n).release_source c))) 0) (flow c log)
+    ≡ None
 flow-ack {w} config log mail request s sys c n h flowed let_ acked whole =
     let source = (s.block n).release_source c in
     let rest = unfinished channel.C (on_link c sys.manager.trace) in
     let live : pending (ReleaseSource source) (flow c log) ≡ true =
-    (flowed c).release_sources source ∙ ap (λ (o : Option ℕ). is_let_by c source rest o s) let_ ∙ let_acked ((s.block n).pair c).letting source rest acked in
+    (flowed c).release_sources source ∙ ap (λ (o : Option ℕ). is_let_by c source rest o s) let_ ∙ let_acked
+    ((s.block n).pair c).letting source rest acked in
     ack-legal config.profile (d_beat_of (ack_message source) 0) (flow c log) ((flowed c).rest_is channel.D ∙ whole)
-    (ap (λ (b : List (Beat w)). comes_in_release source b) ((flowed c).rest_is channel.C) ∙ not-coming_c config log mail request s sys c n h let_ acked)
+    (ap (λ (b : List (Beat w)). comes_in_release source b) ((flowed c).rest_is channel.C) ∙ not-coming_c config log mail
+    request s sys c n h let_ acked)
     refl live
     ((flowed c).sizes source n let_ live)
   where
@@ -327,18 +380,25 @@ flow-ack {w} config log mail request s sys c n h flowed let_ acked whole =
 -- ---- all of channel D
 
 -- each beat of a response, where its first breaks no rule
-legal_next : {w : ℕ} (config : Config) (log : Log w) (mail : AccessMessages w) (request : ℕ → MessageA w) (s : State (List ℕ)) (sys : System w) (c : ℕ) (m : MessageD w)
+legal_next : {w : ℕ} (config : Config) (log : Log w) (mail : AccessMessages w) (request : ℕ → MessageA w)
+    (s : State (List ℕ)) (sys : System w) (c : ℕ) (m : MessageD w)
     (ms : List (Message w)) (x : Beat w) (queue : List (Beat w))
-    → SimulationRelation config log mail request s sys → MonitorRelations log mail s sys → IsNext x (unfinished channel.D (sys.clients c).past) (message.D m) ms queue
-    → (unfinished channel.D (sys.clients c).past ≡ [] → broken_in_order config.profile (beat_of (message.D m) 0) (flow c log) ≡ None) → broken_in_order config.profile x (flow c log) ≡ None
+    → SimulationRelation config log mail request s sys → MonitorRelations log mail s sys
+    → IsNext x (unfinished channel.D (sys.clients c).past) (message.D m) ms queue
+    → (unfinished channel.D (sys.clients c).past ≡ [] → broken_in_order config.profile (beat_of (message.D m) 0)
+    (flow c log) ≡ None) → broken_in_order config.profile x (flow c log) ≡ None
 legal_next {w} config log mail request s sys c m ms x queue h flowed next first =
     let rest_is = (flowed c).rest_is channel.D in
-    ap (λ (y : Beat w). broken_in_order config.profile y (flow c log)) next.beat_is ∙ next-legal config.profile m next.k (flow c log) (rest_is ∙ next.rest_is) (λ whole. first (sym rest_is ∙ whole))
+    ap (λ (y : Beat w). broken_in_order config.profile y (flow c log)) next.beat_is ∙ next-legal config.profile m next.k
+    (flow c log) (rest_is ∙ next.rest_is) (λ whole. first (sym rest_is ∙ whole))
 
-legal_d : {w : ℕ} (config : Config) (log : Log w) (mail : AccessMessages w) (request : ℕ → MessageA w) (s : State (List ℕ)) (sys : System w) (c : ℕ) (x : Beat w)
-    (queue : List (Beat w)) → IsWidth w → SimulationRelation config log mail request s sys → MonitorRelations log mail s sys
+legal_d : {w : ℕ} (config : Config) (log : Log w) (mail : AccessMessages w) (request : ℕ → MessageA w)
+    (s : State (List ℕ)) (sys : System w) (c : ℕ) (x : Beat w)
+    (queue : List (Beat w)) → IsWidth w → SimulationRelation config log mail request s sys
+    → MonitorRelations log mail s sys
     → sys.channels c channel.D ≡ x ∷ queue → broken_in_order config.profile x (flow c log) ≡ None
-legal_d {w} config log mail request s sys c x queue width h flowed beats = go first.kind first.number first.tokens first.own first.next
+legal_d {w} config log mail request s sys c x queue width h flowed beats =
+    go first.kind first.number first.tokens first.own first.next
   where
     first : IsFirst channel.D c mail s sys x queue
     first = first-token (is_caching config) channel.D c mail s sys x queue width h.invariant h.carried beats
@@ -351,28 +411,41 @@ legal_d {w} config log mail request s sys c x queue width h flowed beats = go fi
 
     given : (n : ℕ) (due : IsGrantDue c n s) → gives_asked config.profile (AcquireOpen due.whole due.g) due.k ≡ true
     given n due =
-        let all : IsGivenAsked config.profile (GrantSent c due.data_too due.k) (s.block n).pair = subst (λ (i : Service). IsGivenAsked config.profile i (s.block n).pair) due.service (h.given n) in
+        let all : IsGivenAsked config.profile (GrantSent c due.data_too due.k) (s.block n).pair =
+        subst (λ (i : Service). IsGivenAsked config.profile i (s.block n).pair) due.service (h.given n) in
         sym (ap (λ (i : AcquirePhase). gives_asked config.profile i due.k) due.wants) ∙ all
 
-    answer : (i : ℕ) → (s.link c).d ≡ packet Answer i ∷ first.rest → IsNext x rest_now (mail.answer c i) ms queue → broken_in_order config.profile x (flow c log) ≡ None
+    answer : (i : ℕ) → (s.link c).d ≡ packet Answer i ∷ first.rest → IsNext x rest_now (mail.answer c i) ms queue
+        → broken_in_order config.profile x (flow c log) ≡ None
     answer i tokens next =
         let due = answer-due (is_caching config) c i first.rest mail s h.invariant (h.answered c i) tokens in
-        legal_next config log mail request s sys c due.answer ms x queue h flowed (subst (λ (m : Message w). IsNext x rest_now m ms queue) due.answer_is next)
+        legal_next config log mail request s sys c due.answer ms x queue h flowed
+        (subst (λ (m : Message w). IsNext x rest_now m ms queue) due.answer_is next)
         (flow-answer config log mail request s sys c i h flowed due)
 
-    grant : (n : ℕ) → (s.link c).d ≡ packet Grant n ∷ first.rest → IsNext x rest_now (block_message Grant c n (s.block n)) ms queue → broken_in_order config.profile x (flow c log) ≡ None
+    grant : (n : ℕ) → (s.link c).d ≡ packet Grant n ∷ first.rest
+        → IsNext x rest_now (block_message Grant c n (s.block n)) ms queue
+        → broken_in_order config.profile x (flow c log) ≡ None
     grant n tokens next =
         let due = grant-due (is_caching config) c n first.rest s h.invariant tokens in
-        legal_next config log mail request s sys c (grant_message due.data_too due.k ((s.block n).source c) (s.block n).tracker (s.block n).truth) ms x queue h flowed
-        (subst (λ (m : Message w). IsNext x rest_now m ms queue) (grant-rendered c n s due) next) (flow-grant config log mail request s sys c n h flowed due (given n due))
+        legal_next config log mail request s sys c (grant_message due.data_too due.k ((s.block n).source c)
+        (s.block n).tracker (s.block n).truth) ms x queue h flowed
+        (subst (λ (m : Message w). IsNext x rest_now m ms queue) (grant-rendered c n s due) next)
+        (flow-grant config log mail request s sys c n h flowed due (given n due))
 
-    ack : (n : ℕ) → (s.link c).d ≡ packet ReleaseAck n ∷ first.rest → IsNext x rest_now (block_message ReleaseAck c n (s.block n)) ms queue → broken_in_order config.profile x (flow c log) ≡ None
+    ack : (n : ℕ) → (s.link c).d ≡ packet ReleaseAck n ∷ first.rest
+        → IsNext x rest_now (block_message ReleaseAck c n (s.block n)) ms queue
+        → broken_in_order config.profile x (flow c log) ≡ None
     ack n tokens next =
-        legal_next config log mail request s sys c (ack_message ((s.block n).release_source c)) ms x queue h flowed (ack_next c n s x rest_now ms queue next)
-        (flow-ack config log mail request s sys c n h flowed (ack-due (is_caching config) c n first.rest s h.invariant tokens)
-        (holds-first ReleaseAck (s.link c).d first.rest (packet ReleaseAck n) (λ i. shown ReleaseAck c (s.block i)) tokens refl (h.invariant.transfers c ReleaseAck refl)))
+        legal_next config log mail request s sys c (ack_message ((s.block n).release_source c)) ms x queue h flowed
+        (ack_next c n s x rest_now ms queue next)
+        (flow-ack config log mail request s sys c n h flowed (ack-due (is_caching config) c n first.rest s h.invariant
+        tokens)
+        (holds-first ReleaseAck (s.link c).d first.rest (packet ReleaseAck n) (λ i. shown ReleaseAck c (s.block i))
+        tokens refl (h.invariant.transfers c ReleaseAck refl)))
 
-    go : (k : Kind) (i : ℕ) → (s.link c).d ≡ packet k i ∷ first.rest → is_on channel.D k ≡ true → IsNext x rest_now (message_of_kind k mail s c i) ms queue
+    go : (k : Kind) (i : ℕ) → (s.link c).d ≡ packet k i ∷ first.rest → is_on channel.D k ≡ true
+        → IsNext x rest_now (message_of_kind k mail s c i) ms queue
         → broken_in_order config.profile x (flow c log) ≡ None
     go Answer i tokens own next = answer i tokens next
     go Grant i tokens own next = grant i tokens next
@@ -384,12 +457,17 @@ legal_d {w} config log mail request s sys c x queue width h flowed beats = go fi
     go Release i tokens own next = absurd cc
     go GrantAck i tokens own next = absurd cc
 
-in_order : {w : ℕ} (l : Level) (p : Profile) (x : Beat w) (t : History w) → illegal l (channel_of x) x ≡ None → broken_in_order p x t ≡ None → broken_after l p x t ≡ None
+in_order : {w : ℕ} (l : Level) (p : Profile) (x : Beat w) (t : History w) → illegal l (channel_of x) x ≡ None
+    → broken_in_order p x t ≡ None → broken_after l p x t ≡ None
 unfolding broken_after
 in_order l p x t lawful order = rw lawful order
 
-pub flows-d : {w : ℕ} (config : Config) (log : Log w) (mail : AccessMessages w) (request : ℕ → MessageA w) (s : State (List ℕ)) (sys : System w) (c : ℕ) (l : Level)
-    (x : Beat w) (queue : List (Beat w)) → IsWidth w → SimulationRelation config log mail request s sys → MonitorRelations log mail s sys
-    → sys.channels c channel.D ≡ x ∷ queue → level_of config c ≡ Some l → broken_after l config.profile x (flow c log) ≡ None
+pub flows-d : {w : ℕ} (config : Config) (log : Log w) (mail : AccessMessages w) (request : ℕ → MessageA w)
+    (s : State (List ℕ)) (sys : System w) (c : ℕ) (l : Level)
+    (x : Beat w) (queue : List (Beat w)) → IsWidth w → SimulationRelation config log mail request s sys
+    → MonitorRelations log mail s sys
+    → sys.channels c channel.D ≡ x ∷ queue → level_of config c ≡ Some l
+    → broken_after l config.profile x (flow c log) ≡ None
 flows-d config log mail request s sys c l x queue width h flowed beats level =
-    in_order l config.profile x (flow c log) (lawful-beat config log mail request s sys c channel.D l x queue h beats level) (legal_d config log mail request s sys c x queue width h flowed beats)
+    in_order l config.profile x (flow c log) (lawful-beat config log mail request s sys c channel.D l x queue h beats
+    level) (legal_d config log mail request s sys c x queue width h flowed beats)

@@ -1,36 +1,21 @@
 -- A beat of channel E that is delivered breaks no rule after what was delivered before it: no Grant with its sink is
 -- still coming.
-use Rattle.std.proofs.Common.{◌≡◌, ℕ, zero, suc, Bool, true, false, ◌&&◌, List, [], ◌∷◌, Some, None, refl, sym, ◌∙◌, ap, subst}
+use Rattle.tl_coherence.proofs.flow.Imports.{IsWidth, Beat, BeatE, Message, MessageA, MessageD, begun, unfinished}
+use Rattle.tl_coherence.proofs.flow.Imports.{channel_of, Config, Level, Cap, broken_after, comes_in_grant, on_link}
+use Rattle.tl_coherence.proofs.flow.Imports.{is_grant, illegal, level_of, IsCarried, flow, Log, receiver, Service}
+use Rattle.tl_coherence.proofs.flow.Imports.{GrantSent, GrantTaken, State, packet, shown, view, is_on, is_acknowledging}
+use Rattle.tl_coherence.proofs.flow.Imports.{AccessMessages, message_of, message_of_kind, block_message, System, Kind}
+use Rattle.tl_coherence.proofs.flow.Imports.{Request, Acquire, Probe, ProbeAck, Release, Answer, Grant, ReleaseAck}
+use Rattle.tl_coherence.proofs.flow.Imports.{GrantAck, Packet, SimulationRelation, MonitorRelations, is_caching}
+use Rattle.tl_coherence.proofs.flow.Imports.{asked_by}
+use Rattle.std.proofs.Common.{◌≡◌, ℕ, zero, suc, Bool, true, false, ◌&&◌, List, [], ◌∷◌, Some, None, refl, sym, ◌∙◌, ap}
+use Rattle.std.proofs.Common.{subst}
 use Rattle.std.specs.Prelude.{◌==◌, map}
 use Rattle.std.proofs.lemmas.Bool.{ne_eqb, and_right}
 use Rattle.std.proofs.lemmas.Option.{same_Some}
-use Rattle.tl_beat.specs.statement.Width.{IsWidth}
-use Rattle.tl_beat.specs.declared.beat.Beat.{Beat}
-use Rattle.tl_beat.specs.declared.beat.BeatE.{BeatE}
 use Rattle.tl_beat.specs.declared.channel.Channel.TheVariants as channel
-use Rattle.tl_burst.specs.declared.message.Message.{Message}
 use Rattle.tl_burst.specs.declared.message.Message.TheVariants as message
-use Rattle.tl_burst.specs.declared.message.MessageA.{MessageA}
-use Rattle.tl_burst.specs.declared.message.MessageD.{MessageD}
-use Rattle.tl_burst.specs.statement.Burst.{begun}
-use Rattle.tl_burst.specs.statement.Messages.{unfinished, channel_of}
-use Rattle.tl_params.specs.declared.config.Config.{Config}
-use Rattle.tl_params.specs.declared.level.Level.{Level}
-use Rattle.tl_params.specs.declared.param.Cap.{Cap}
 use Rattle.tl_manager.specs.statement.Handing.{grant_opcode}
-use Rattle.tl_rules.specs.statement.Conformance.{broken_after, comes_in_grant, on_link}
-use Rattle.tl_rules.specs.statement.History.{is_grant}
-use Rattle.tl_rules.specs.statement.Legality.{illegal}
-use Rattle.tl_manager.specs.statement.Offer.{level_of}
-use Rattle.tl_coherence.specs.refinement.Carried.{IsCarried}
-use Rattle.tl_coherence.specs.statement.Flow.{flow}
-use Rattle.tl_coherence.specs.statement.Log.{Log}
-use Rattle.tl_coherence.specs.refinement.ChannelRelation.{receiver}
-use Rattle.tl_coherence.specs.protocol.Protocol.{Service, GrantSent, GrantTaken, State, packet, shown, view, is_on, is_acknowledging}
-use Rattle.tl_coherence.specs.refinement.PacketMessages.{AccessMessages, message_of, message_of_kind, block_message}
-use Rattle.tl_coherence.specs.statement.System.{System}
-use Rattle.tl_coherence.specs.protocol.Packet.{Kind, Request, Acquire, Probe, ProbeAck, Release, Answer, Grant, ReleaseAck, GrantAck, Packet}
-use Rattle.tl_coherence.specs.refinement.SimulationRelation.{SimulationRelation, MonitorRelations, is_caching, asked_by}
 use Rattle.tl_coherence.proofs.queues.Carried.{IsNext}
 use Rattle.tl_coherence.proofs.protocol.HeadOfD.{ack_message, answer-due, grant-due, grant-rendered, grant_message}
 use Rattle.tl_coherence.proofs.queues.FirstToken.{first-token, own_kind}
@@ -47,7 +32,8 @@ use Rattle.tl_coherence.proofs.queues.Codes.{access_kind}
 IsElse : {w : ℕ} → ℕ → Message w → Type 0
 IsElse {w} sink m = (x : MessageD w) × (m ≡ message.D x) × ((is_grant x.opcode && (x.sink == sink)) ≡ false)
 
-comes_else : {w : ℕ} (sink : ℕ) (m : Message w) (k : ℕ) (rest : List (Beat w)) → rest ≡ begun m k → IsElse sink m → comes_in_grant sink rest ≡ false
+comes_else : {w : ℕ} (sink : ℕ) (m : Message w) (k : ℕ) (rest : List (Beat w)) → rest ≡ begun m k → IsElse sink m
+    → comes_in_grant sink rest ≡ false
 unfolding IsElse
 comes_else sink m k rest e is = ap (comes_in_grant sink) e ∙ ap (λ y. comes_in_grant sink (begun y k)) is.1 ∙ go k
   where
@@ -58,34 +44,46 @@ comes_else sink m k rest e is = ap (comes_in_grant sink) e ∙ ap (λ y. comes_i
 not_both : (c : ℕ) (d : Bool) (k : Cap) (q : Service) → q ≡ GrantSent c d k → q ≡ GrantTaken c → ⊥
 not_both c d k q e f = let g : GrantSent c d k ≡ GrantTaken c = sym e ∙ f in cc
 
-else_answer : {w : ℕ} (config : Config) (log : Log w) (mail : AccessMessages w) (request : ℕ → MessageA w) (s : State (List ℕ)) (sys : System w) (c sink i : ℕ)
-    (rest : List Packet) → SimulationRelation config log mail request s sys → (s.link c).d ≡ packet Answer i ∷ rest → IsElse sink (mail.answer c i)
+else_answer : {w : ℕ} (config : Config) (log : Log w) (mail : AccessMessages w) (request : ℕ → MessageA w)
+    (s : State (List ℕ)) (sys : System w) (c sink i : ℕ)
+    (rest : List Packet) → SimulationRelation config log mail request s sys → (s.link c).d ≡ packet Answer i ∷ rest
+    → IsElse sink (mail.answer c i)
 unfolding IsElse
 else_answer config log mail request s sys c sink i rest h first =
-    let due = answer-due (is_caching config) c i rest mail s h.invariant (h.answered c i) first in
-    (due.answer, due.answer_is, first_false (is_grant due.answer.opcode) (due.answer.sink == sink) (access_kind due.answer.opcode due.answers_access).0)
+    let due = answer-due (is_caching config) c i rest mail s h.invariant (h.answered c i) first in (
+      due.answer,
+      due.answer_is,
+      first_false (is_grant due.answer.opcode) (due.answer.sink == sink)
+          (access_kind due.answer.opcode due.answers_access).0,
+    )
 
 -- a Grant that is on its way has another block's tracker for its sink
-else_grant : {w : ℕ} (config : Config) (log : Log w) (mail : AccessMessages w) (request : ℕ → MessageA w) (s : State (List ℕ)) (sys : System w) (c n i : ℕ)
+else_grant : {w : ℕ} (config : Config) (log : Log w) (mail : AccessMessages w) (request : ℕ → MessageA w)
+    (s : State (List ℕ)) (sys : System w) (c n i : ℕ)
     (rest : List Packet) → SimulationRelation config log mail request s sys → (s.link c).d ≡ packet Grant i ∷ rest
-    → (s.block n).service ≡ GrantTaken c → IsElse {w = w} (s.block n).tracker (block_message {w = w} Grant c i (s.block i))
+    → (s.block n).service ≡ GrantTaken c
+    → IsElse {w = w} (s.block n).tracker (block_message {w = w} Grant c i (s.block i))
 unfolding IsElse
 else_grant {w} config log mail request s sys c n i rest h first taken =
     let due = grant-due (is_caching config) c i rest s h.invariant first in
     let mine : s.tracked (s.block i).tracker ≡ Some i = tracker-of i s h.invariant.named (rw due.service refl) in
     let theirs : s.tracked (s.block n).tracker ≡ Some n = tracker-of n s h.invariant.named (rw taken refl) in
     let apart : (s.block i).tracker ≡ (s.block n).tracker → ⊥ =
-    λ e. not_both c due.data_too due.k (s.block i).service due.service (ap (λ (j : ℕ). (s.block j).service) (same_Some i n (sym mine ∙ ap s.tracked e ∙ theirs)) ∙ taken) in (
+    λ e. not_both c due.data_too due.k (s.block i).service due.service
+    (ap (λ (j : ℕ). (s.block j).service) (same_Some i n (sym mine ∙ ap s.tracked e ∙ theirs)) ∙ taken) in (
       grant_message due.data_too due.k ((s.block i).source c) (s.block i).tracker (s.block i).truth,
       grant-rendered c i s due,
-      and_right (is_grant (grant_opcode due.data_too)) ((s.block i).tracker == (s.block n).tracker) (ne_eqb (s.block i).tracker (s.block n).tracker apart),
+      and_right (is_grant (grant_opcode due.data_too)) ((s.block i).tracker == (s.block n).tracker)
+          (ne_eqb (s.block i).tracker (s.block n).tracker apart),
     )
 
-else_ack : {w : ℕ} (mail : AccessMessages w) (s : State (List ℕ)) (c sink i : ℕ) → IsElse {w = w} sink (block_message {w = w} ReleaseAck c i (s.block i))
+else_ack : {w : ℕ} (mail : AccessMessages w) (s : State (List ℕ)) (c sink i : ℕ)
+    → IsElse {w = w} sink (block_message {w = w} ReleaseAck c i (s.block i))
 unfolding IsElse block_message
 else_ack mail s c sink i = (ack_message ((s.block i).release_source c), refl, refl)
 
-no_grant_coming : {w : ℕ} (config : Config) (log : Log w) (mail : AccessMessages w) (request : ℕ → MessageA w) (s : State (List ℕ)) (sys : System w) (c n : ℕ)
+no_grant_coming : {w : ℕ} (config : Config) (log : Log w) (mail : AccessMessages w) (request : ℕ → MessageA w)
+    (s : State (List ℕ)) (sys : System w) (c n : ℕ)
     → SimulationRelation config log mail request s sys → (s.block n).service ≡ GrantTaken c
     → comes_in_grant (s.block n).tracker (unfinished channel.D (sys.clients c).past) ≡ false
 no_grant_coming {w} config log mail request s sys c n h taken = go (s.link c).d refl (h.carried c channel.D)
@@ -96,7 +94,8 @@ no_grant_coming {w} config log mail request s sys c n h taken = go (s.link c).d 
     sink : ℕ
     sink = (s.block n).tracker
 
-    elses : (k : Kind) (i : ℕ) (rest : List Packet) → (s.link c).d ≡ packet k i ∷ rest → is_on channel.D k ≡ true → IsElse sink (message_of_kind k mail s c i)
+    elses : (k : Kind) (i : ℕ) (rest : List Packet) → (s.link c).d ≡ packet k i ∷ rest → is_on channel.D k ≡ true
+        → IsElse sink (message_of_kind k mail s c i)
     elses Answer i rest first own = else_answer config log mail request s sys c sink i rest h first
     elses Grant i rest first own = else_grant config log mail request s sys c n i rest h first taken
     elses ReleaseAck i rest first own = else_ack mail s c sink i
@@ -107,40 +106,58 @@ no_grant_coming {w} config log mail request s sys c n h taken = go (s.link c).d 
     elses Release i rest first own = absurd cc
     elses GrantAck i rest first own = absurd cc
 
-    go : (xs : List Packet) → (s.link c).d ≡ xs → IsCarried rest_now (map (message_of mail s c) (s.link c).d) (sys.channels c channel.D) → comes_in_grant sink rest_now ≡ false
+    go : (xs : List Packet) → (s.link c).d ≡ xs → IsCarried rest_now (map (message_of mail s c) (s.link c).d)
+        (sys.channels c channel.D) → comes_in_grant sink rest_now ≡ false
     go [] first carried =
-        let none : IsCarried rest_now [] (sys.channels c channel.D) = subst (λ (ms : List (Message w)). IsCarried rest_now ms (sys.channels c channel.D))
+        let none : IsCarried rest_now [] (sys.channels c channel.D) =
+        subst (λ (ms : List (Message w)). IsCarried rest_now ms (sys.channels c channel.D))
         (ap (map (message_of mail s c)) first) carried in
         ap (comes_in_grant sink) none.0
     go (x ∷ xs) first carried =
-        let some : IsCarried rest_now (message_of mail s c x ∷ map (message_of mail s c) xs) (sys.channels c channel.D) =
-        subst (λ (ms : List (Message w)). IsCarried rest_now ms (sys.channels c channel.D)) (ap (map (message_of mail s c)) first) carried in
-        comes_else sink (message_of mail s c x) some.0 rest_now some.2 (elses x.kind x.number xs first (own_kind (is_caching config) s c channel.D x.kind x.number xs h.invariant first))
+        let some : IsCarried rest_now (message_of mail s c x ∷ map (message_of mail s c) xs)
+        (sys.channels c channel.D) =
+        subst (λ (ms : List (Message w)). IsCarried rest_now ms (sys.channels c channel.D))
+        (ap (map (message_of mail s c)) first) carried in
+        comes_else sink (message_of mail s c x) some.0 rest_now some.2
+        (elses x.kind x.number xs first (own_kind (is_caching config) s c channel.D x.kind x.number xs h.invariant
+        first))
 
-ack-lawful : {w : ℕ} (config : Config) (log : Log w) (mail : AccessMessages w) (request : ℕ → MessageA w) (s : State (List ℕ)) (sys : System w) (c n : ℕ)
+ack-lawful : {w : ℕ} (config : Config) (log : Log w) (mail : AccessMessages w) (request : ℕ → MessageA w)
+    (s : State (List ℕ)) (sys : System w) (c n : ℕ)
     (toks : List Packet) (l : Level) (x : Beat w) (ms : List (Message w)) (queue : List (Beat w))
-    → SimulationRelation config log mail request s sys → MonitorRelations log mail s sys → illegal l (channel_of x) x ≡ None → (s.link c).e ≡ packet GrantAck n ∷ toks
+    → SimulationRelation config log mail request s sys → MonitorRelations log mail s sys
+    → illegal l (channel_of x) x ≡ None → (s.link c).e ≡ packet GrantAck n ∷ toks
     → IsNext x (unfinished channel.E (on_link c sys.manager.trace)) (block_message GrantAck c n (s.block n)) ms queue
     → broken_after l config.profile x (flow c log) ≡ None
 unfolding block_message
 ack-lawful {w} config log mail request s sys c n toks l x ms queue is flowed lawful tokens next =
-    next-flows l config.profile (block_message GrantAck c n (s.block n)) x (unfinished channel.E (on_link c sys.manager.trace)) ms queue (flow c log) lawful next ((flowed c).rest_is channel.E)
-    (λ none. grant_ack-flows config.profile c n y (asked_by mail s c) (λ ch. unfinished ch (receiver ch c sys)) s (flow c log) (flowed c) none
-    (tracker-of n s is.invariant.named (rw taken refl)) shows (no_grant_coming config log mail request s sys c n is taken))
+    next-flows l config.profile (block_message GrantAck c n (s.block n)) x
+    (unfinished channel.E (on_link c sys.manager.trace)) ms queue (flow c log) lawful next
+    ((flowed c).rest_is channel.E)
+    (λ none. grant_ack-flows config.profile c n y (asked_by mail s c) (λ ch. unfinished ch (receiver ch c sys)) s
+    (flow c log) (flowed c) none
+    (tracker-of n s is.invariant.named (rw taken refl)) shows (no_grant_coming config log mail request s sys c n is
+    taken))
   where
     y : BeatE
     y = record { sink = (s.block n).tracker }
 
     shows : is_acknowledging (view (s.block n).service c) ≡ true
-    shows = holds-first GrantAck (s.link c).e toks (packet GrantAck n) (λ i. shown GrantAck c (s.block i)) tokens refl (is.invariant.transfers c GrantAck refl)
+    shows = holds-first GrantAck (s.link c).e toks (packet GrantAck n) (λ i. shown GrantAck c (s.block i)) tokens refl
+        (is.invariant.transfers c GrantAck refl)
 
     taken : (s.block n).service ≡ GrantTaken c
     taken = acknowledging-is (s.block n).service c shows
 
-pub flows-e : {w : ℕ} (config : Config) (log : Log w) (mail : AccessMessages w) (request : ℕ → MessageA w) (s : State (List ℕ)) (sys : System w) (c : ℕ) (l : Level)
-    (x : Beat w) (queue : List (Beat w)) → IsWidth w → SimulationRelation config log mail request s sys → MonitorRelations log mail s sys
-    → sys.channels c channel.E ≡ x ∷ queue → level_of config c ≡ Some l → broken_after l config.profile x (flow c log) ≡ None
+pub flows-e : {w : ℕ} (config : Config) (log : Log w) (mail : AccessMessages w) (request : ℕ → MessageA w)
+    (s : State (List ℕ)) (sys : System w) (c : ℕ) (l : Level)
+    (x : Beat w) (queue : List (Beat w)) → IsWidth w → SimulationRelation config log mail request s sys
+    → MonitorRelations log mail s sys
+    → sys.channels c channel.E ≡ x ∷ queue → level_of config c ≡ Some l
+    → broken_after l config.profile x (flow c log) ≡ None
 flows-e {w} config log mail request s sys c l x queue width is flowed beats level =
-    by-first_e (λ i. broken_after l config.profile x (flow c log) ≡ None) c mail s sys x queue (first-token (is_caching config) channel.E c mail s sys x queue width is.invariant is.carried beats)
-    (λ n rest tokens next. ack-lawful config log mail request s sys c n rest l x (map (message_of mail s c) rest) queue is flowed
+    by-first_e (λ i. broken_after l config.profile x (flow c log) ≡ None) c mail s sys x queue
+    (first-token (is_caching config) channel.E c mail s sys x queue width is.invariant is.carried beats)
+    (λ n rest tokens next. ack-lawful config log mail request s sys c n rest l x (map (message_of mail s c) rest) queue
+    is flowed
     (lawful-beat config log mail request s sys c channel.E l x queue is beats level) tokens next)

@@ -1,20 +1,16 @@
 -- What is delivered on a link, with one more beat: each value of it is as the beat leaves it.
+use Rattle.tl_coherence.proofs.flow.Imports.{Beat, BeatA, Channel, History, unfinished, on, grown, RequestSource}
+use Rattle.tl_coherence.proofs.flow.Imports.{ReleaseSource, Perm, begins, ends, pending, held, block_at, request_of}
+use Rattle.tl_coherence.proofs.flow.Imports.{release_of, probe_of, grant_sink, MonitorRelation, is_requested, is_let}
+use Rattle.tl_coherence.proofs.flow.Imports.{is_let_by, is_sunk, comes_granting, Block, State, view, is_granting}
+use Rattle.tl_coherence.proofs.flow.Imports.{is_acknowledging, is_answered, is_wanting, is_unserved, probe_beat}
+use Rattle.tl_coherence.proofs.flow.Imports.{cap_waited}
 use Rattle.std.proofs.Common.{◌≡◌, ℕ, Bool, true, false, not, ◌&&◌, ◌||◌, ◌∷◌, Option, Some, refl, sym, ◌∙◌, ap, List}
 use Rattle.std.specs.Prelude.{if◌then◌else◌, option_map, unwrap_or}
-use Rattle.tl_beat.specs.declared.beat.Beat.{Beat}
-use Rattle.tl_beat.specs.declared.beat.BeatA.{BeatA}
-use Rattle.tl_beat.specs.declared.channel.Channel.{Channel}
 use Rattle.tl_beat.specs.declared.channel.Channel.TheVariants as channel
-use Rattle.tl_burst.specs.statement.Messages.{History, unfinished, on, grown}
 use Rattle.tl_params.specs.declared.key.Key.{Key}
-use Rattle.tl_params.specs.declared.key.Key.TheVariants.{RequestSource, ReleaseSource, AcquireOf, ReleaseOf, GrantSink, GrantAckOf, ProbeOf}
-use Rattle.tl_params.specs.declared.perm.Perm.{Perm}
-use Rattle.tl_rules.specs.statement.History.{begins, ends, opens, closes, pending, held, says_held, block_at, request_of, release_of, probe_of, grant_sink}
-use Rattle.tl_coherence.specs.refinement.MonitorRelation.{MonitorRelation, is_requested, is_let, is_let_by, is_sunk}
-use Rattle.tl_coherence.specs.refinement.ClientRelation.{comes_granting}
-use Rattle.tl_coherence.specs.protocol.Protocol.{Block, State, view, is_granting, is_acknowledging, is_answered, is_wanting, is_unserved}
-use Rattle.tl_coherence.specs.refinement.PacketMessages.{probe_beat}
-use Rattle.tl_coherence.specs.refinement.SourceRelation.{cap_waited}
+use Rattle.tl_params.specs.declared.key.Key.TheVariants.{AcquireOf, ReleaseOf, GrantSink, GrantAckOf, ProbeOf}
+use Rattle.tl_rules.specs.statement.History.{opens, closes, says_held}
 
 -- a key that was pending so, after a beat that begins and completes its message so and opens and closes the key so
 abbrev pub step : Bool → Bool → Bool → Bool → Bool → Bool
@@ -38,11 +34,13 @@ pending-next : {w : ℕ} (k : Key) (x : Beat w) (t : History w) (first last : Bo
 unfolding pending
 pending-next k x t first last e f = rw (e, f) refl
 
-held-next : {w : ℕ} (n : ℕ) (x : Beat w) (t : History w) (last : Bool) → ends x t ≡ last → held n (x ∷ t) ≡ (if last then unwrap_or (says_held n x t) (held n t) else held n t)
+held-next : {w : ℕ} (n : ℕ) (x : Beat w) (t : History w) (last : Bool) → ends x t ≡ last
+    → held n (x ∷ t) ≡ (if last then unwrap_or (says_held n x t) (held n t) else held n t)
 unfolding held
 held-next n x t last f = rw f refl
 
-unfinished-next : {w : ℕ} (ch : Channel) (x : Beat w) (t : History w) → unfinished ch (x ∷ t) ≡ (if on ch x then grown x (unfinished ch t) else unfinished ch t)
+unfinished-next : {w : ℕ} (ch : Channel) (x : Beat w) (t : History w)
+    → unfinished ch (x ∷ t) ≡ (if on ch x then grown x (unfinished ch t) else unfinished ch t)
 unfolding unfinished
 unfinished-next ch x t = refl
 
@@ -61,52 +59,75 @@ abbrev pub granted_by : {w : ℕ} {X : Type 0} → ℕ → ℕ → (ℕ → Opti
 granted_by c n asked rest b = is_acknowledging (view b.service c) || comes_granting n asked rest
 
 -- each value after the beat, given those before it
-pub record IsStepped {w : ℕ} {X : Type 0} (x : Beat w) (first last : Bool) (asked asked' : ℕ → Option (BeatA w)) (rest rest' : Channel → List (Beat w)) (c : ℕ)
+pub record IsStepped {w : ℕ} {X : Type 0} (x : Beat w) (first last : Bool) (asked asked' : ℕ → Option (BeatA w))
+    (rest rest' : Channel → List (Beat w)) (c : ℕ)
     (s s' : State X) (t : History w) : Type 0 where
   pub first_is : begins x t ≡ first
   pub last_is : ends x t ≡ last
   pub rests : (ch : Channel) → rest' ch ≡ (if on ch x then grown x (rest ch) else rest ch)
-  pub held_is : (n : ℕ) → held_by c (s'.block n) ≡ (if last then unwrap_or (says_held n x t) (held_by c (s.block n)) else held_by c (s.block n))
-  pub requests : (i : ℕ) → is_requested c i (rest' channel.A) (s'.uses c i) s' ≡ step first last (opens (RequestSource i) x t) (closes (RequestSource i) x t)
+  pub held_is : (n : ℕ) → held_by c (s'.block n) ≡ (if last then unwrap_or (says_held n x t) (held_by c (s.block n))
+      else held_by c (s.block n))
+  pub requests : (i : ℕ) → is_requested c i (rest' channel.A) (s'.uses c i) s' ≡ step first last
+      (opens (RequestSource i) x t) (closes (RequestSource i) x t)
       (is_requested c i (rest channel.A) (s.uses c i) s)
   pub asked_is : (i : ℕ) → is_requested c i (rest' channel.A) (s'.uses c i) s' ≡ true → request_of i (x ∷ t) ≡ asked' i
-  pub acquires : (n : ℕ) → acquired_by c (s'.block n) ≡ step first last (opens (AcquireOf n) x t) (closes (AcquireOf n) x t) (acquired_by c (s.block n))
-  pub release_sources : (i : ℕ) → is_let_by c i (rest' channel.C) (s'.lets c i) s' ≡ step first last (opens (ReleaseSource i) x t)
+  pub acquires : (n : ℕ) → acquired_by c (s'.block n) ≡ step first last (opens (AcquireOf n) x t)
+      (closes (AcquireOf n) x t) (acquired_by c (s.block n))
+  pub release_sources : (i : ℕ) → is_let_by c i (rest' channel.C) (s'.lets c i) s' ≡ step first last
+      (opens (ReleaseSource i) x t)
       (closes (ReleaseSource i) x t) (is_let_by c i (rest channel.C) (s.lets c i) s)
-  pub released : (i n : ℕ) → s'.lets c i ≡ Some n → is_let_by c i (rest' channel.C) (s'.lets c i) s' ≡ true → option_map (λ y. block_at y.address) (release_of i (x ∷ t)) ≡ Some n
-  pub sizes : (i n : ℕ) → s'.lets c i ≡ Some n → is_let_by c i (rest' channel.C) (s'.lets c i) s' ≡ true → option_map (λ y. y.size) (release_of i (x ∷ t)) ≡ Some 6
-  pub releases : (n : ℕ) → let_of c (rest' channel.C) (s'.block n) ≡ step first last (opens (ReleaseOf n) x t) (closes (ReleaseOf n) x t) (let_of c (rest channel.C) (s.block n))
-  pub sinks : (i : ℕ) → is_sunk c i (rest' channel.D) (s'.tracked i) s' ≡ step first last (opens (GrantSink i) x t) (closes (GrantSink i) x t) (is_sunk c i (rest channel.D) (s.tracked i) s)
-  pub grants : (n : ℕ) → granted_by c n asked' (rest' channel.D) (s'.block n) ≡ step first last (opens (GrantAckOf n) x t) (closes (GrantAckOf n) x t)
+  pub released : (i n : ℕ) → s'.lets c i ≡ Some n → is_let_by c i (rest' channel.C) (s'.lets c i) s' ≡ true
+      → option_map (λ y. block_at y.address) (release_of i (x ∷ t)) ≡ Some n
+  pub sizes : (i n : ℕ) → s'.lets c i ≡ Some n → is_let_by c i (rest' channel.C) (s'.lets c i) s' ≡ true
+      → option_map (λ y. y.size) (release_of i (x ∷ t)) ≡ Some 6
+  pub releases : (n : ℕ) → let_of c (rest' channel.C) (s'.block n) ≡ step first last (opens (ReleaseOf n) x t)
+      (closes (ReleaseOf n) x t) (let_of c (rest channel.C) (s.block n))
+  pub sinks : (i : ℕ) → is_sunk c i (rest' channel.D) (s'.tracked i) s' ≡ step first last (opens (GrantSink i) x t)
+      (closes (GrantSink i) x t) (is_sunk c i (rest channel.D) (s.tracked i) s)
+  pub grants : (n : ℕ) → granted_by c n asked' (rest' channel.D) (s'.block n) ≡ step first last
+      (opens (GrantAckOf n) x t) (closes (GrantAckOf n) x t)
       (granted_by c n asked (rest channel.D) (s.block n))
-  pub probes : (n : ℕ) → is_answered ((s'.block n).pair c).probing ≡ step first last (opens (ProbeOf n) x t) (closes (ProbeOf n) x t) (is_answered ((s.block n).pair c).probing)
-  pub probed : (n : ℕ) → is_answered ((s'.block n).pair c).probing ≡ true → probe_of n (x ∷ t) ≡ Some (probe_beat n (cap_waited (s'.block n).service))
-  pub sunk : (n : ℕ) → granted_by c n asked' (rest' channel.D) (s'.block n) ≡ true → grant_sink n (x ∷ t) ≡ Some (s'.block n).tracker
+  pub probes : (n : ℕ) → is_answered ((s'.block n).pair c).probing ≡ step first last (opens (ProbeOf n) x t)
+      (closes (ProbeOf n) x t) (is_answered ((s.block n).pair c).probing)
+  pub probed : (n : ℕ) → is_answered ((s'.block n).pair c).probing ≡ true
+      → probe_of n (x ∷ t) ≡ Some (probe_beat n (cap_waited (s'.block n).service))
+  pub sunk : (n : ℕ) → granted_by c n asked' (rest' channel.D) (s'.block n) ≡ true
+      → grant_sink n (x ∷ t) ≡ Some (s'.block n).tracker
 
-stepped : {w : ℕ} (k : Key) (x : Beat w) (t : History w) (first last p p' : Bool) → begins x t ≡ first → ends x t ≡ last → pending k t ≡ p
+stepped : {w : ℕ} (k : Key) (x : Beat w) (t : History w) (first last p p' : Bool) → begins x t ≡ first → ends x t ≡ last
+    → pending k t ≡ p
     → p' ≡ step first last (opens k x t) (closes k x t) p → pending k (x ∷ t) ≡ p'
-stepped k x t first last p p' e f before after = pending-next k x t first last e f ∙ ap (step first last (opens k x t) (closes k x t)) before ∙ sym after
+stepped k x t first last p p' e f before after =
+    pending-next k x t first last e f ∙ ap (step first last (opens k x t) (closes k x t)) before ∙ sym after
 
 held_stepped : {w : ℕ} (n : ℕ) (x : Beat w) (t : History w) (last : Bool) (p p' : Perm) → ends x t ≡ last → held n t ≡ p
     → p' ≡ (if last then unwrap_or (says_held n x t) p else p) → held n (x ∷ t) ≡ p'
-held_stepped n x t last p p' f before after = held-next n x t last f ∙ ap (λ (q : Perm). if last then unwrap_or (says_held n x t) q else q) before ∙ sym after
+held_stepped n x t last p p' f before after =
+    held-next n x t last f ∙ ap (λ (q : Perm). if last then unwrap_or (says_held n x t) q else q) before ∙ sym after
 
-pub flowed-next : {w : ℕ} {X : Type 0} (x : Beat w) (first last : Bool) (asked asked' : ℕ → Option (BeatA w)) (rest rest' : Channel → List (Beat w)) (c : ℕ) (s s' : State X) (t : History w)
-    → IsStepped x first last asked asked' rest rest' c s s' t → MonitorRelation asked rest c s t → MonitorRelation asked' rest' c s' (x ∷ t)
+pub flowed-next : {w : ℕ} {X : Type 0} (x : Beat w) (first last : Bool) (asked asked' : ℕ → Option (BeatA w))
+    (rest rest' : Channel → List (Beat w)) (c : ℕ) (s s' : State X) (t : History w)
+    → IsStepped x first last asked asked' rest rest' c s s' t → MonitorRelation asked rest c s t
+    → MonitorRelation asked' rest' c s' (x ∷ t)
 flowed-next {w} {X} x first last asked asked' rest rest' c s s' t is before = record {
-  rest_is = λ ch. unfinished-next ch x t ∙ ap (λ (r : List (Beat w)). if on ch x then grown x r else r) (before.rest_is ch) ∙ sym (is.rests ch);
-  held_is = λ n. held_stepped n x t last (held_by c (s.block n)) (held_by c (s'.block n)) is.last_is (before.held_is n) (is.held_is n);
+  rest_is = λ ch. unfinished-next ch x t ∙ ap (λ (r : List (Beat w)). if on ch x then grown x r else r)
+      (before.rest_is ch) ∙ sym (is.rests ch);
+  held_is = λ n. held_stepped n x t last (held_by c (s.block n)) (held_by c (s'.block n)) is.last_is (before.held_is n)
+      (is.held_is n);
   requests = requests;
   asked_is = λ i e. is.asked_is i (sym (requests i) ∙ e);
-  acquires = λ n. stepped (AcquireOf n) x t first last (acquired_by c (s.block n)) (acquired_by c (s'.block n)) is.first_is is.last_is (before.acquires n) (is.acquires n);
+  acquires = λ n. stepped (AcquireOf n) x t first last (acquired_by c (s.block n)) (acquired_by c (s'.block n))
+      is.first_is is.last_is (before.acquires n) (is.acquires n);
   release_sources = lets;
   released = λ i n e f. is.released i n e (sym (lets i) ∙ f);
   sizes = λ i n e f. is.sizes i n e (sym (lets i) ∙ f);
-  releases = λ n. stepped (ReleaseOf n) x t first last (let_of c (rest channel.C) (s.block n)) (let_of c (rest' channel.C) (s'.block n)) is.first_is is.last_is (before.releases n) (is.releases n);
+  releases = λ n. stepped (ReleaseOf n) x t first last (let_of c (rest channel.C) (s.block n))
+      (let_of c (rest' channel.C) (s'.block n)) is.first_is is.last_is (before.releases n) (is.releases n);
   sinks = λ i. stepped (GrantSink i) x t first last (is_sunk c i (rest channel.D) (s.tracked i) s)
       (is_sunk c i (rest' channel.D) (s'.tracked i) s') is.first_is is.last_is (before.sinks i) (is.sinks i);
   grants = grants;
-  probes = λ n. stepped (ProbeOf n) x t first last (is_answered ((s.block n).pair c).probing) (is_answered ((s'.block n).pair c).probing) is.first_is is.last_is (before.probes n) (is.probes n);
+  probes = λ n. stepped (ProbeOf n) x t first last (is_answered ((s.block n).pair c).probing)
+      (is_answered ((s'.block n).pair c).probing) is.first_is is.last_is (before.probes n) (is.probes n);
   probed = is.probed;
   sunk = λ n e. is.sunk n (sym (grants n) ∙ e);
 }
@@ -117,7 +138,8 @@ flowed-next {w} {X} x first last asked asked' rest rest' c s s' t is before = re
 
     lets : (i : ℕ) → pending (ReleaseSource i) (x ∷ t) ≡ is_let_by c i (rest' channel.C) (s'.lets c i) s'
     lets i = stepped (ReleaseSource i) x t first last (is_let_by c i (rest channel.C) (s.lets c i) s)
-        (is_let_by c i (rest' channel.C) (s'.lets c i) s') is.first_is is.last_is (before.release_sources i) (is.release_sources i)
+        (is_let_by c i (rest' channel.C) (s'.lets c i) s') is.first_is is.last_is (before.release_sources i)
+        (is.release_sources i)
 
     grants : (n : ℕ) → pending (GrantAckOf n) (x ∷ t) ≡ granted_by c n asked' (rest' channel.D) (s'.block n)
     grants n = stepped (GrantAckOf n) x t first last (granted_by c n asked (rest channel.D) (s.block n))

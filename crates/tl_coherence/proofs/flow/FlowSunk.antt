@@ -1,23 +1,23 @@
 -- Which sinks are those of Grants that were delivered, as an event changes one block and its tracker.
-use Rattle.std.proofs.Common.{◌≡◌, ℕ, Bool, true, false, ◌&&◌, ◌||◌, Option, Some, None, refl, sym, ◌∙◌, ap, List, ◌⊎◌, inl, inr}
+use Rattle.tl_coherence.proofs.flow.Imports.{Beat, comes_in_grant, is_sunk, View, Idle, Own, Other, Granting}
+use Rattle.tl_coherence.proofs.flow.Imports.{Acknowledging, GrantedOther, Block, State, view, is_granting}
+use Rattle.tl_coherence.proofs.flow.Imports.{is_acknowledging, set}
+use Rattle.std.proofs.Common.{◌≡◌, ℕ, Bool, true, false, ◌&&◌, ◌||◌, Option, Some, None, refl, sym, ◌∙◌, ap, List, ◌⊎◌}
+use Rattle.std.proofs.Common.{inl, inr}
 use Rattle.std.proofs.lemmas.Bool.{cases_eq}
-use Rattle.tl_beat.specs.declared.beat.Beat.{Beat}
-use Rattle.tl_rules.specs.statement.Conformance.{comes_in_grant}
-use Rattle.tl_coherence.specs.refinement.MonitorRelation.{is_sunk}
-use Rattle.tl_coherence.specs.protocol.Phase.{View, Idle, Own, Other, Granting, Acknowledging, GrantedOther}
-use Rattle.tl_coherence.specs.protocol.Protocol.{Block, State, view, is_granting, is_acknowledging}
-use Rattle.tl_coherence.specs.protocol.Packet.{set}
 use Rattle.tl_coherence.proofs.flow.FlowOthers.{is_outside}
 use Rattle.tl_coherence.proofs.flow.FlowReleased.{AreElsewhere}
 use Rattle.tl_coherence.proofs.queues.Tokens.{set-same, set-other}
 
 -- the Grant of the block, if it has this sink, was delivered to client c, and its GrantAck wasn't
 abbrev pub sunk_in : {w : ℕ} {X : Type 0} → ℕ → ℕ → List (Beat w) → Block X → Bool
-sunk_in c sink rest b = is_acknowledging (view b.service c) || (is_granting (view b.service c) && comes_in_grant sink rest)
+sunk_in c sink rest b = is_acknowledging (view b.service c) || (is_granting (view b.service c) && comes_in_grant sink
+    rest)
 
 -- each block is as before
 pub sunk-as : {w : ℕ} {X : Type 0} (c i : ℕ) (rest : List (Beat w)) (o : Option ℕ) (s s' : State X)
-    → ((n : ℕ) → sunk_in c i rest (s'.block n) ≡ sunk_in c i rest (s.block n)) → is_sunk c i rest o s' ≡ is_sunk c i rest o s
+    → ((n : ℕ) → sunk_in c i rest (s'.block n) ≡ sunk_in c i rest (s.block n))
+    → is_sunk c i rest o s' ≡ is_sunk c i rest o s
 sunk-as c i rest None s s' same = refl
 sunk-as c i rest (Some n) s s' same = same n
 
@@ -25,35 +25,52 @@ sunk-as c i rest (Some n) s s' same = same n
 abbrev pub IsWithin : ℕ → Option ℕ → Type 0
 IsWithin n o = (o ≡ None) ⊎ (o ≡ Some n)
 
-unsunk : {w : ℕ} {X : Type 0} (c i n : ℕ) (rest : List (Beat w)) (o : Option ℕ) (s : State X) → IsWithin n o → (o ≡ Some n → sunk_in c i rest (s.block n) ≡ false) → is_sunk c i rest o s ≡ false
+unsunk : {w : ℕ} {X : Type 0} (c i n : ℕ) (rest : List (Beat w)) (o : Option ℕ) (s : State X) → IsWithin n o
+    → (o ≡ Some n → sunk_in c i rest (s.block n) ≡ false) → is_sunk c i rest o s ≡ false
 unsunk c i n rest o s (inl e) none = ap (λ (p : Option ℕ). is_sunk c i rest p s) e
 unsunk c i n rest o s (inr e) none = ap (λ (p : Option ℕ). is_sunk c i rest p s) e ∙ none e
 
 -- block n isn't one of the client's Grants before, nor afterwards
-pub sunk-elsewhere : {w : ℕ} {X : Type 0} (c i n : ℕ) (rest : List (Beat w)) (o o' : Option ℕ) (s s' : State X) → AreElsewhere n s s' → (o' ≡ o) ⊎ (IsWithin n o × IsWithin n o')
-    → (o ≡ Some n → sunk_in c i rest (s.block n) ≡ false) → (o' ≡ Some n → sunk_in c i rest (s'.block n) ≡ false) → is_sunk c i rest o' s' ≡ is_sunk c i rest o s
-sunk-elsewhere c i n rest o o' s s' same (inr both) before now = unsunk c i n rest o' s' both.1 now ∙ sym (unsunk c i n rest o s both.0 before)
-sunk-elsewhere {w} {X} c i n rest o o' s s' same (inl e) before now = ap (λ (p : Option ℕ). is_sunk c i rest p s') e ∙ go o before (λ f. now (e ∙ f))
+pub sunk-elsewhere : {w : ℕ} {X : Type 0} (c i n : ℕ) (rest : List (Beat w)) (o o' : Option ℕ) (s s' : State X)
+    → AreElsewhere n s s' → (o' ≡ o) ⊎ (IsWithin n o × IsWithin n o')
+    → (o ≡ Some n → sunk_in c i rest (s.block n) ≡ false) → (o' ≡ Some n → sunk_in c i rest (s'.block n) ≡ false)
+    → is_sunk c i rest o' s' ≡ is_sunk c i rest o s
+sunk-elsewhere c i n rest o o' s s' same (inr both) before now =
+    unsunk c i n rest o' s' both.1 now ∙ sym (unsunk c i n rest o s both.0 before)
+sunk-elsewhere {w} {X} c i n rest o o' s s' same (inl e) before now =
+    ap (λ (p : Option ℕ). is_sunk c i rest p s') e ∙ go o before (λ f. now (e ∙ f))
   where
-    go : (p : Option ℕ) → (p ≡ Some n → sunk_in c i rest (s.block n) ≡ false) → (p ≡ Some n → sunk_in c i rest (s'.block n) ≡ false) → is_sunk c i rest p s' ≡ is_sunk c i rest p s
+    go : (p : Option ℕ) → (p ≡ Some n → sunk_in c i rest (s.block n) ≡ false)
+        → (p ≡ Some n → sunk_in c i rest (s'.block n) ≡ false) → is_sunk c i rest p s' ≡ is_sunk c i rest p s
     go None f g = refl
     go (Some m) f g = elim (cases_eq m n) [
-      | inl here ↦ ap (λ (j : ℕ). sunk_in c i rest (s'.block j)) here ∙ g (ap Some here) ∙ sym (ap (λ (j : ℕ). sunk_in c i rest (s.block j)) here ∙ f (ap Some here))
+      | inl here ↦ ap (λ (j : ℕ). sunk_in c i rest (s'.block j)) here ∙ g (ap Some here) ∙ sym
+          (ap (λ (j : ℕ). sunk_in c i rest (s.block j)) here ∙ f (ap Some here))
       | inr other ↦ ap (λ (b : Block X). sunk_in c i rest b) (same m other)
     ]
 
 -- a tracker that gets block n, or loses it
-pub tracked-new : (n tracker : ℕ) (tracked : ℕ → Option ℕ) → tracked tracker ≡ None → (i : ℕ) → (set tracker (Some n) tracked i ≡ tracked i)
+pub tracked-new : (n tracker : ℕ) (tracked : ℕ → Option ℕ) → tracked tracker ≡ None → (i : ℕ)
+    → (set tracker (Some n) tracked i ≡ tracked i)
     ⊎ (IsWithin n (tracked i) × IsWithin n (set tracker (Some n) tracked i))
 tracked-new n tracker tracked free i = elim (cases_eq i tracker) [
-  | inl same ↦ inr (inl (ap tracked same ∙ free), inr (ap (set tracker (Some n) tracked) same ∙ set-same tracker (Some n) tracked))
+  | inl same ↦ inr (
+    inl (ap tracked same ∙ free),
+    inr (ap (set tracker (Some n) tracked) same ∙ set-same tracker
+        (Some n) tracked),
+  )
   | inr other ↦ inl (set-other tracker i (Some n) tracked other)
 ]
 
-pub tracked-free : (n tracker : ℕ) (tracked : ℕ → Option ℕ) → tracked tracker ≡ Some n → (i : ℕ) → (set tracker None tracked i ≡ tracked i)
+pub tracked-free : (n tracker : ℕ) (tracked : ℕ → Option ℕ) → tracked tracker ≡ Some n → (i : ℕ)
+    → (set tracker None tracked i ≡ tracked i)
     ⊎ (IsWithin n (tracked i) × IsWithin n (set tracker None tracked i))
 tracked-free n tracker tracked used i = elim (cases_eq i tracker) [
-  | inl same ↦ inr (inr (ap tracked same ∙ used), inl (ap (set tracker None tracked) same ∙ set-same tracker None tracked))
+  | inl same ↦ inr (
+    inr (ap tracked same ∙ used),
+    inl (ap (set tracker None tracked) same ∙ set-same tracker None
+        tracked),
+  )
   | inr other ↦ inl (set-other tracker i None tracked other)
 ]
 

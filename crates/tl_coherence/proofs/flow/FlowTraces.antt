@@ -1,30 +1,26 @@
 -- What is delivered, on all links at once, has no first fault.
-use Rattle.std.proofs.Common.{◌≡◌, ℕ, Bool, true, false, ◌&&◌, List, [], ◌∷◌, ◌++◌, refl, sym, ◌∙◌, ap, subst, append_assoc}
+use Rattle.tl_coherence.proofs.flow.Imports.{Beat, Channel, History, Config, Level, Profile, broken_after, on_link}
+use Rattle.tl_coherence.proofs.flow.Imports.{level_of, flow, Log}
+use Rattle.std.proofs.Common.{◌≡◌, ℕ, Bool, true, false, ◌&&◌, List, [], ◌∷◌, ◌++◌, refl, sym, ◌∙◌, ap, subst}
+use Rattle.std.proofs.Common.{append_assoc}
 use Rattle.std.specs.Prelude.{◌==◌, if◌then◌else◌, Option, Some, None, is_none, reverse, slice_get, ⊤}
 use Rattle.std.proofs.lemmas.Bool.{eqb-false}
 use Rattle.std.proofs.lemmas.List.{append-nil, reverse-append, reverse-reverse}
 use Rattle.std.proofs.lemmas.Option.{slice_get-map}
-use Rattle.tl_beat.specs.declared.beat.Beat.{Beat}
 use Rattle.tl_beat.specs.declared.beat.Link.{Link}
-use Rattle.tl_beat.specs.declared.channel.Channel.{Channel}
-use Rattle.tl_burst.specs.statement.Messages.{History}
 use Rattle.tl_params.specs.declared.config.ClientConfig.{ClientConfig}
-use Rattle.tl_params.specs.declared.config.Config.{Config}
-use Rattle.tl_params.specs.declared.level.Level.{Level}
-use Rattle.tl_params.specs.declared.profile.Profile.{Profile}
 use Rattle.tl_params.specs.declared.rule.Rule.{Rule}
-use Rattle.tl_rules.specs.statement.Conformance.{Trace, broken_after, broken_at_level, broken_on_link, fault_from, is_legal, on_link}
+use Rattle.tl_rules.specs.statement.Conformance.{Trace, broken_at_level, broken_on_link, fault_from, is_legal}
 use Rattle.tl_client.specs.statement.Endpoint.{EndConfig}
-use Rattle.tl_manager.specs.statement.Offer.{level_of}
 use Rattle.tl_coherence.specs.declared.event.Event.{Event}
 use Rattle.tl_coherence.specs.declared.event.Event.TheVariants.{Ask, Deliver}
 use Rattle.tl_coherence.specs.declared.event.Outcome.{Outcome}
 use Rattle.tl_coherence.specs.declared.event.Outcome.TheVariants as outcome
 use Rattle.tl_coherence.specs.statement.Delivery.{Faultless, levels_of}
 use Rattle.tl_coherence.specs.statement.Draining.{is_moving}
-use Rattle.tl_coherence.specs.statement.Flow.{flow, taken_at, taken_on, trace_of}
+use Rattle.tl_coherence.specs.statement.Flow.{taken_at, taken_on, trace_of}
 use Rattle.tl_coherence.specs.statement.Headline.{IsGiven}
-use Rattle.tl_coherence.specs.statement.Log.{Log, IsLog, system_after}
+use Rattle.tl_coherence.specs.statement.Log.{IsLog, system_after}
 use Rattle.tl_coherence.specs.statement.System.{terms_at}
 use Rattle.tl_coherence.proofs.bound.Settling.{given-before}
 use Rattle.tl_coherence.proofs.flow.Flows.{flows}
@@ -33,7 +29,8 @@ use Rattle.tl_coherence.proofs.simulation.BeatsInFlight.{level-terms}
 
 -- ---- the beats of all links, and those of one
 
-on-link : {w : ℕ} (n : ℕ) (link : Link) (x : Beat w) (t : Trace w) → on_link n ((link, x) ∷ t) ≡ (if link.0 == n then x ∷ [] else []) ++ on_link n t
+on-link : {w : ℕ} (n : ℕ) (link : Link) (x : Beat w) (t : Trace w)
+    → on_link n ((link, x) ∷ t) ≡ (if link.0 == n then x ∷ [] else []) ++ on_link n t
 unfolding on_link
 on-link {w} n link x t = go (link.0 == n)
   where
@@ -41,7 +38,8 @@ on-link {w} n link x t = go (link.0 == n)
     go true = refl
     go false = refl
 
-taken-flows : {w : ℕ} (n : ℕ) (event : Event w) (o : Outcome w) (t : Trace w) → on_link n (taken_at event o ++ t) ≡ taken_on n event o ++ on_link n t
+taken-flows : {w : ℕ} (n : ℕ) (event : Event w) (o : Outcome w) (t : Trace w)
+    → on_link n (taken_at event o ++ t) ≡ taken_on n event o ++ on_link n t
 taken-flows n (Deliver link ch) (outcome.Moved x) t = on-link n link x t
 taken-flows n (Deliver link ch) (outcome.Done x source f) t = on-link n link x t
 taken-flows n (Deliver link ch) (outcome.Replied r) t = refl
@@ -53,7 +51,8 @@ taken-flows n (Ask client op) o t = refl
 trace-flows : {w : ℕ} (n : ℕ) (log : Log w) → on_link n (trace_of log) ≡ flow n log
 unfolding on_link flow trace_of
 trace-flows n [] = refl
-trace-flows n (x ∷ log) = taken-flows n x.0 x.1 (trace_of log) ∙ ap (λ (t : History _). taken_on n x.0 x.1 ++ t) (trace-flows n log)
+trace-flows n (x ∷ log) = taken-flows n x.0 x.1 (trace_of log) ∙ ap (λ (t : History _). taken_on n x.0 x.1 ++ t)
+    (trace-flows n log)
 
 -- what was taken on a link is first in its flow
 pub taken : {w : ℕ} (link : Link) (x : Beat w) (t : History w) → (if link.0 == link.0 then x ∷ [] else []) ++ t ≡ x ∷ t
@@ -71,7 +70,8 @@ pub record IsLevelled (config : Config) (link : ℕ) : Type 0 where
   pub of_link : level_of config link ≡ Some level
   pub in_levels : slice_get (levels_of config) link ≡ Some level
 
-pub levelled : {w : ℕ} (config : Config) (log : Log w) (link : Link) (ch : Channel) (o : Outcome w) → IsGiven config ((Deliver link ch, o) ∷ log) → is_moving o ≡ true
+pub levelled : {w : ℕ} (config : Config) (log : Log w) (link : Link) (ch : Channel) (o : Outcome w)
+    → IsGiven config ((Deliver link ch, o) ∷ log) → is_moving o ≡ true
     → IsLevelled config link.0
 unfolding IsLog
 levelled {w} config log link ch o given moving = record {
@@ -80,7 +80,8 @@ levelled {w} config log link ch o given moving = record {
   in_levels = slice_get-map (λ (c : ClientConfig). c.level) config.clients.items link.0 ∙ of_link;
 }
   where
-    first : (y : Beat w) × (queue : List (Beat w)) × (terms : EndConfig) × (((system_after config log).channels link.0 ch ≡ y ∷ queue) × (terms_at config link.0 ≡ Some terms))
+    first : (y : Beat w) × (queue : List (Beat w)) × (terms : EndConfig)
+        × (((system_after config log).channels link.0 ch ≡ y ∷ queue) × (terms_at config link.0 ≡ Some terms))
     first = first-moved config link ch (system_after config log) (ap is_moving (sym given.is_log.0) ∙ moving)
 
     of_link : level_of config link.0 ≡ Some first.2.level
@@ -90,17 +91,21 @@ unbroken : (o : Option Rule) (b : Bool) → (is_none o && b) ≡ true → o ≡ 
 unbroken None b e = refl
 unbroken (Some rule) b e = absurd cc
 
-pub delivered-unbroken : {w : ℕ} (config : Config) (log : Log w) (link : Link) (ch : Channel) (o : Outcome w) (x : Beat w) → IsGiven config ((Deliver link ch, o) ∷ log)
-    → is_moving o ≡ true → flow link.0 ((Deliver link ch, o) ∷ log) ≡ x ∷ flow link.0 log → broken_on_link (levels_of config) config.profile (link, x) (trace_of log) ≡ None
+pub delivered-unbroken : {w : ℕ} (config : Config) (log : Log w) (link : Link) (ch : Channel) (o : Outcome w)
+    (x : Beat w) → IsGiven config ((Deliver link ch, o) ∷ log)
+    → is_moving o ≡ true → flow link.0 ((Deliver link ch, o) ∷ log) ≡ x ∷ flow link.0 log
+    → broken_on_link (levels_of config) config.profile (link, x) (trace_of log) ≡ None
 unfolding is_legal
 delivered-unbroken {w} config log link ch o x given moving flowing =
     let whole : Log w = (Deliver link ch, o) ∷ log in
     let is = levelled config log link ch o given moving in
     let legal : is_legal is.level config.profile (x ∷ flow link.0 log) ≡ true =
-    subst (λ (t : History w). is_legal is.level config.profile t ≡ true) flowing (flows config whole given link.0 is.level is.of_link) in
+    subst (λ (t : History w). is_legal is.level config.profile t ≡ true) flowing
+    (flows config whole given link.0 is.level is.of_link) in
     ap (λ (l : Option Level). broken_at_level l config.profile x (on_link link.0 (trace_of log))) is.in_levels
     ∙ ap (λ (t : History w). broken_after is.level config.profile x t) (trace-flows link.0 log)
-    ∙ unbroken (broken_after is.level config.profile x (flow link.0 log)) (is_legal is.level config.profile (flow link.0 log)) legal
+    ∙ unbroken (broken_after is.level config.profile x (flow link.0 log))
+    (is_legal is.level config.profile (flow link.0 log)) legal
 
 -- ---- nor does any
 
@@ -109,12 +114,14 @@ unfoldable AreGood : {w : ℕ} → List Level → Profile → Trace w → Type 0
 AreGood levels p [] = ⊤
 AreGood levels p (x ∷ t) = (broken_on_link levels p x t ≡ None) × AreGood levels p t
 
-older-good : {w : ℕ} (levels : List Level) (p : Profile) (newer t : Trace w) → AreGood levels p (newer ++ t) → AreGood levels p t
+older-good : {w : ℕ} (levels : List Level) (p : Profile) (newer t : Trace w) → AreGood levels p (newer ++ t)
+    → AreGood levels p t
 unfolding AreGood
 older-good levels p [] t good = good
 older-good levels p (x ∷ newer) t good = older-good levels p newer t good.1
 
-no-fault : {w : ℕ} (levels : List Level) (p : Profile) (before trace : Trace w) → AreGood levels p (reverse trace ++ before) → fault_from levels p before trace ≡ None
+no-fault : {w : ℕ} (levels : List Level) (p : Profile) (before trace : Trace w)
+    → AreGood levels p (reverse trace ++ before) → fault_from levels p before trace ≡ None
 unfolding AreGood fault_from
 no-fault levels p before [] good = refl
 no-fault {w} levels p before (x ∷ trace) good =
@@ -123,10 +130,12 @@ no-fault {w} levels p before (x ∷ trace) good =
     let all : AreGood levels p (reverse trace ++ (x ∷ before)) = subst (AreGood levels p) turned good in
     rw (older-good levels p (reverse trace) (x ∷ before) all).0 (no-fault levels p (x ∷ before) trace all)
 
-all-good : {w : ℕ} (config : Config) (log : Log w) → IsGiven config log → AreGood (levels_of config) config.profile (trace_of log)
+all-good : {w : ℕ} (config : Config) (log : Log w) → IsGiven config log
+    → AreGood (levels_of config) config.profile (trace_of log)
 unfolding AreGood trace_of flow
 all-good config [] given = tt
-all-good config ((Ask client op, o) ∷ log) given = all-good config log (given-before config (Ask client op, o) log given)
+all-good config ((Ask client op, o) ∷ log) given =
+    all-good config log (given-before config (Ask client op, o) log given)
 all-good config ((Deliver link ch, outcome.Moved x) ∷ log) given = (
   delivered-unbroken config log link ch (outcome.Moved x) x given refl (taken link x (flow link.0 log)),
   all-good config log (given-before config (Deliver link ch, outcome.Moved x) log given),
@@ -135,12 +144,18 @@ all-good config ((Deliver link ch, outcome.Done x source f) ∷ log) given = (
   delivered-unbroken config log link ch (outcome.Done x source f) x given refl (taken link x (flow link.0 log)),
   all-good config log (given-before config (Deliver link ch, outcome.Done x source f) log given),
 )
-all-good config ((Deliver link ch, outcome.Replied r) ∷ log) given = all-good config log (given-before config (Deliver link ch, outcome.Replied r) log given)
-all-good config ((Deliver link ch, outcome.Empty) ∷ log) given = all-good config log (given-before config (Deliver link ch, outcome.Empty) log given)
-all-good config ((Deliver link ch, outcome.Stalled) ∷ log) given = all-good config log (given-before config (Deliver link ch, outcome.Stalled) log given)
-all-good config ((Deliver link ch, outcome.NoSuchClient) ∷ log) given = all-good config log (given-before config (Deliver link ch, outcome.NoSuchClient) log given)
+all-good config ((Deliver link ch, outcome.Replied r) ∷ log) given =
+    all-good config log (given-before config (Deliver link ch, outcome.Replied r) log given)
+all-good config ((Deliver link ch, outcome.Empty) ∷ log) given =
+    all-good config log (given-before config (Deliver link ch, outcome.Empty) log given)
+all-good config ((Deliver link ch, outcome.Stalled) ∷ log) given =
+    all-good config log (given-before config (Deliver link ch, outcome.Stalled) log given)
+all-good config ((Deliver link ch, outcome.NoSuchClient) ∷ log) given =
+    all-good config log (given-before config (Deliver link ch, outcome.NoSuchClient) log given)
 
 pub faultless : {w : ℕ} → Faultless w
 faultless {w} config log given =
     no-fault (levels_of config) config.profile [] (reverse (trace_of log))
-    (subst (AreGood (levels_of config) config.profile) (sym (append-nil (reverse (reverse (trace_of log))) ∙ reverse-reverse (trace_of log))) (all-good config log given))
+    (subst (AreGood (levels_of config) config.profile)
+    (sym (append-nil (reverse (reverse (trace_of log))) ∙ reverse-reverse (trace_of log)))
+    (all-good config log given))

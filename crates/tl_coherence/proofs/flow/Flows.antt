@@ -1,18 +1,15 @@
 -- What is delivered on each link has the values of the protocol after every event, and so breaks no rule.
-use Rattle.std.proofs.Common.{◌≡◌, subst, ℕ, Bool, true, false, ◌&&◌, List, [], ◌∷◌, Option, Some, None, refl, sym, ◌∙◌, ap, inl, inr}
+use Rattle.tl_coherence.proofs.flow.Imports.{IsWidth, Beat, Channel, History, grown, unfinished, completes, Config}
+use Rattle.tl_coherence.proofs.flow.Imports.{Level, Profile, on_link, broken_after, level_of, flow, MonitorRelation}
+use Rattle.tl_coherence.proofs.flow.Imports.{AbstractState, kind_taken, Log, receiver, packet, message_of, System}
+use Rattle.tl_coherence.proofs.flow.Imports.{Packet, SimulationRelation, MonitorRelations, is_caching, asked_by}
+use Rattle.std.proofs.Common.{◌≡◌, subst, ℕ, Bool, true, false, ◌&&◌, List, [], ◌∷◌, Option, Some, None, refl, sym, ◌∙◌}
+use Rattle.std.proofs.Common.{ap, inl, inr}
 use Rattle.std.specs.Prelude.{◌==◌, if◌then◌else◌, map}
 use Rattle.std.proofs.lemmas.Bool.{cases_eq, ne_eqb, eqb-true}
-use Rattle.tl_beat.specs.statement.Width.{IsWidth}
-use Rattle.tl_beat.specs.declared.beat.Beat.{Beat}
 use Rattle.tl_beat.specs.declared.beat.Link.{Link}
-use Rattle.tl_beat.specs.declared.channel.Channel.{Channel}
 use Rattle.tl_beat.specs.declared.channel.Channel.TheVariants as channel
-use Rattle.tl_burst.specs.statement.Messages.{History, grown, unfinished}
-use Rattle.tl_burst.specs.statement.Part.{completes}
-use Rattle.tl_params.specs.declared.config.Config.{Config}
-use Rattle.tl_params.specs.declared.level.Level.{Level}
-use Rattle.tl_params.specs.declared.profile.Profile.{Profile}
-use Rattle.tl_rules.specs.statement.Conformance.{on_link, broken_after, is_legal}
+use Rattle.tl_rules.specs.statement.Conformance.{is_legal}
 use Rattle.tl_client.specs.declared.operation.Op.{Op}
 use Rattle.tl_client.specs.statement.Ask as ask
 use Rattle.tl_client.specs.statement.Endpoint as client
@@ -23,25 +20,18 @@ use Rattle.tl_manager.specs.statement.Handing.{Handed}
 use Rattle.tl_manager.specs.statement.End as manager_end
 use Rattle.tl_manager.specs.statement.Offer as manager_offer
 use Rattle.tl_manager.specs.statement.Reaction.{reaction}
-use Rattle.tl_manager.specs.statement.Offer.{level_of}
 use Rattle.tl_coherence.specs.declared.event.Event.{Event}
 use Rattle.tl_coherence.specs.declared.event.Event.TheVariants.{Ask, Deliver}
 use Rattle.tl_coherence.specs.declared.event.Outcome.{Outcome}
 use Rattle.tl_coherence.specs.declared.event.Outcome.TheVariants as outcome
 use Rattle.tl_coherence.specs.statement.Draining.{is_moving}
-use Rattle.tl_coherence.specs.statement.Flow.{flow}
-use Rattle.tl_coherence.specs.refinement.MonitorRelation.{MonitorRelation}
-use Rattle.tl_coherence.specs.refinement.AbstractStep.{AbstractState, abstract_step, abstract_step_by, kind_taken, packet_taken, asked}
+use Rattle.tl_coherence.specs.refinement.AbstractStep.{abstract_step, abstract_step_by, packet_taken, asked}
 use Rattle.tl_coherence.specs.statement.Headline.{AreTyped, IsGiven}
-use Rattle.tl_coherence.specs.statement.Log.{Log, IsLog, system_after}
+use Rattle.tl_coherence.specs.statement.Log.{IsLog, system_after}
 use Rattle.tl_coherence.specs.statement.OneMemory.{one_memory_after}
-use Rattle.tl_coherence.specs.refinement.ChannelRelation.{receiver}
-use Rattle.tl_coherence.specs.protocol.Protocol.{packet, on}
-use Rattle.tl_coherence.specs.refinement.PacketMessages.{message_of}
+use Rattle.tl_coherence.specs.protocol.Protocol.{on}
 use Rattle.tl_coherence.specs.statement.Step.{Step, stepped, replied, outcome_of, is_to_client}
-use Rattle.tl_coherence.specs.statement.System.{System, terms_at, same_channel, with_manager, with_channel, with_messages}
-use Rattle.tl_coherence.specs.protocol.Packet.{Packet}
-use Rattle.tl_coherence.specs.refinement.SimulationRelation.{SimulationRelation, MonitorRelations, is_caching, asked_by}
+use Rattle.tl_coherence.specs.statement.System.{terms_at, same_channel, with_manager, with_channel, with_messages}
 use Rattle.tl_coherence.proofs.deliveries.AskedWell.{IsAskedWell, asked-well}
 use Rattle.tl_coherence.proofs.client.ClientStep.{on_same}
 use Rattle.tl_coherence.proofs.links.FifoOfChannels.{on_it, flow_moved, taken_at, flow_still}
@@ -75,36 +65,53 @@ use Rattle.tl_coherence.proofs.simulation.Popped.{unfinished_at}
 -- ---- what the receivers have after a delivery
 
 -- messages that are handed out change no receiver
-receiver_handed : {w : ℕ} (handed : Handed w) (sys : System w) (d : ℕ) (at : Channel) → receiver at d (with_messages handed sys) ≡ receiver at d sys
-receiver_handed handed sys d channel.A = ap (λ (m : manager_end.End _). on_link d m.trace) (manager-with_messages handed sys)
-receiver_handed handed sys d channel.B = ap (λ (f : ℕ → client.Endpoint _). (f d).past) (clients-with_messages handed sys)
-receiver_handed handed sys d channel.C = ap (λ (m : manager_end.End _). on_link d m.trace) (manager-with_messages handed sys)
-receiver_handed handed sys d channel.D = ap (λ (f : ℕ → client.Endpoint _). (f d).past) (clients-with_messages handed sys)
-receiver_handed handed sys d channel.E = ap (λ (m : manager_end.End _). on_link d m.trace) (manager-with_messages handed sys)
+receiver_handed : {w : ℕ} (handed : Handed w) (sys : System w) (d : ℕ) (at : Channel)
+    → receiver at d (with_messages handed sys) ≡ receiver at d sys
+receiver_handed handed sys d channel.A =
+    ap (λ (m : manager_end.End _). on_link d m.trace) (manager-with_messages handed sys)
+receiver_handed handed sys d channel.B =
+    ap (λ (f : ℕ → client.Endpoint _). (f d).past) (clients-with_messages handed sys)
+receiver_handed handed sys d channel.C =
+    ap (λ (m : manager_end.End _). on_link d m.trace) (manager-with_messages handed sys)
+receiver_handed handed sys d channel.D =
+    ap (λ (f : ℕ → client.Endpoint _). (f d).past) (clients-with_messages handed sys)
+receiver_handed handed sys d channel.E =
+    ap (λ (m : manager_end.End _). on_link d m.trace) (manager-with_messages handed sys)
 
 -- what is left of a beat that is moved on channel ch of client c's link: what was delivered, what receivers have, and
 -- what the protocol is
-pub record IsMovedOn {w : ℕ} (config : Config) (log : Log w) (link : Link) (ch : Channel) (h : AbstractState w) (x : Beat w) (queue : List (Beat w)) : Type 0 where
+pub record IsMovedOn {w : ℕ} (config : Config) (log : Log w) (link : Link) (ch : Channel) (h : AbstractState w)
+    (x : Beat w) (queue : List (Beat w)) : Type 0 where
   pub first : IsFirst ch link.0 h.mail h.state (system_after config log) x queue
   pub on_ch : IsOn ch x
-  pub delivered : (d : ℕ) → flow d ((Deliver link ch, (stepped config (Deliver link ch) (system_after config log)).outcome) ∷ log) ≡ (if link.0 == d then x ∷ flow d log else flow d log)
+  pub delivered : (d : ℕ) → flow d
+      ((Deliver link ch, (stepped config (Deliver link ch) (system_after config log)).outcome) ∷ log)
+      ≡ (if link.0 == d then x ∷ flow d log else flow d log)
   pub rests : (d : ℕ) (at : Channel)
       → unfinished_at (stepped config (Deliver link ch) (system_after config log)).after d at
-      ≡ (if (d == link.0) && same_channel at ch then grown x (unfinished_at (system_after config log) d at) else unfinished_at (system_after config log) d at)
+      ≡ (if (d == link.0) && same_channel at ch then grown x (unfinished_at (system_after config log) d at) else
+      unfinished_at (system_after config log) d at)
   pub follows : abstract_step config (Deliver link ch) (system_after config log) h
-      ≡ (if completes x (unfinished_at (system_after config log) link.0 ch) then kind_taken config (next_tracker (system_after config log)) link.0 first.kind first.number first.rest h else h)
+      ≡ (if completes x (unfinished_at (system_after config log) link.0 ch) then kind_taken config
+      (next_tracker (system_after config log)) link.0 first.kind first.number first.rest h else h)
 
-moved-to_manager : {w : ℕ} (config : Config) (log : Log w) (link : Link) (ch : Channel) (h : AbstractState w) (terms : EndConfig) (x : Beat w) (queue : List (Beat w))
+moved-to_manager : {w : ℕ} (config : Config) (log : Log w) (link : Link) (ch : Channel) (h : AbstractState w)
+    (terms : EndConfig) (x : Beat w) (queue : List (Beat w))
     → IsWidth w → SimulationRelation config log h.mail h.request h.state (system_after config log)
-    → terms_at config link.0 ≡ Some terms → is_to_client ch ≡ false → (system_after config log).channels link.0 ch ≡ x ∷ queue
-    → is_moving (stepped config (Deliver link ch) (system_after config log)).outcome ≡ true → IsMovedOn config log link ch h x queue
+    → terms_at config link.0 ≡ Some terms → is_to_client ch ≡ false
+    → (system_after config log).channels link.0 ch ≡ x ∷ queue
+    → is_moving (stepped config (Deliver link ch) (system_after config log)).outcome ≡ true
+    → IsMovedOn config log link ch h x queue
 unfolding with_messages
 moved-to_manager {w} config log link ch h terms x queue width is known down beats moving = record {
   first = at.first;
   on_ch = at.on_it;
-  delivered = λ d. ap (λ (y : Step w). flow d ((Deliver link ch, y.outcome) ∷ log)) at.step_is ∙ flow_moved link ch (outcome.Moved x) x log d refl;
-  rests = λ d i. ap (λ (y : Step w). unfinished_at y.after d i) at.step_is ∙ ap (unfinished i) (receiver_handed handed base d i)
-      ∙ (landed-manager link.0 ch x queue (λ k j. None) [] e sys down at.beats at.on_it at.heard (λ k j. refl)).rests d i;
+  delivered = λ d. ap (λ (y : Step w). flow d ((Deliver link ch, y.outcome) ∷ log)) at.step_is ∙ flow_moved link ch
+      (outcome.Moved x) x log d refl;
+  rests = λ d i. ap (λ (y : Step w). unfinished_at y.after d i) at.step_is ∙ ap (unfinished i)
+      (receiver_handed handed base d i)
+      ∙ (landed-manager link.0 ch x queue (λ k j. None) [] e sys down at.beats at.on_it at.heard (λ k j. refl)).rests d
+      i;
   follows = at.follows;
 }
   where
@@ -123,20 +130,26 @@ moved-to_manager {w} config log link ch h terms x queue width is known down beat
     base : System w
     base = with_manager e (with_channel link.0 ch queue sys)
 
-moved-to_client : {w : ℕ} (config : Config) (log : Log w) (link : Link) (ch : Channel) (h : AbstractState w) (terms : EndConfig) (x : Beat w) (queue : List (Beat w))
+moved-to_client : {w : ℕ} (config : Config) (log : Log w) (link : Link) (ch : Channel) (h : AbstractState w)
+    (terms : EndConfig) (x : Beat w) (queue : List (Beat w))
     → IsWidth w → SimulationRelation config log h.mail h.request h.state (system_after config log)
-    → terms_at config link.0 ≡ Some terms → is_to_client ch ≡ true → (system_after config log).channels link.0 ch ≡ x ∷ queue
-    → is_moving (stepped config (Deliver link ch) (system_after config log)).outcome ≡ true → IsMovedOn config log link ch h x queue
+    → terms_at config link.0 ≡ Some terms → is_to_client ch ≡ true
+    → (system_after config log).channels link.0 ch ≡ x ∷ queue
+    → is_moving (stepped config (Deliver link ch) (system_after config log)).outcome ≡ true
+    → IsMovedOn config log link ch h x queue
 moved-to_client {w} config log link ch h terms x queue width is known up beats moving = record {
   first = first;
   on_ch = on_ch;
   delivered = λ d. ap (λ (y : Step w). flow d ((Deliver link ch, y.outcome) ∷ log)) t.step_is
-      ∙ flow_moved link ch (outcome_of x t.verdict_is) x log d (taken_at link ch x t.verdict_is d (sym (ap (λ (y : Step w). is_moving y.outcome) t.step_is) ∙ moving));
+      ∙ flow_moved link ch (outcome_of x t.verdict_is) x log d
+      (taken_at link ch x t.verdict_is d (sym (ap (λ (y : Step w). is_moving y.outcome) t.step_is) ∙ moving));
   rests = λ d i. ap (λ (y : Step w). unfinished_at y.after d i) t.step_is
       ∙ (landed-client link.0 ch x queue t.message (offer.taken x (sys.clients link.0)).after sys up beats on_ch
-      (client-heard terms link.0 ch x queue sys (stepped config (Deliver link ch) sys) width (is.kept link.0) t)).rests d i;
+      (client-heard terms link.0 ch x queue sys (stepped config (Deliver link ch) sys) width (is.kept link.0) t)).rests
+      d i;
   follows = followed-moving config link ch sys h x queue moving beats
-      ∙ ap (λ (l : List Packet). if completes x (unfinished_at sys link.0 ch) then packet_taken config (next_tracker sys) link.0 l h else h) first.tokens;
+      ∙ ap (λ (l : List Packet). if completes x (unfinished_at sys link.0 ch) then packet_taken config
+      (next_tracker sys) link.0 l h else h) first.tokens;
 }
   where
     sys : System w
@@ -149,34 +162,46 @@ moved-to_client {w} config log link ch h terms x queue width is known up beats m
     first = first-token (is_caching config) ch link.0 h.mail h.state sys x queue width is.invariant is.carried beats
 
     on_ch : IsOn ch x
-    on_ch = subst (λ (i : Channel). IsOn i x) (first-of config log h link.0 terms ch x queue width is known beats).on (on_it x)
+    on_ch = subst (λ (i : Channel). IsOn i x) (first-of config log h link.0 terms ch x queue width is known beats).on
+        (on_it x)
 
-pub moved-on : {w : ℕ} (config : Config) (log : Log w) (link : Link) (ch : Channel) (h : AbstractState w) (x : Beat w) (queue : List (Beat w)) (terms : EndConfig)
+pub moved-on : {w : ℕ} (config : Config) (log : Log w) (link : Link) (ch : Channel) (h : AbstractState w) (x : Beat w)
+    (queue : List (Beat w)) (terms : EndConfig)
     → IsWidth w → SimulationRelation config log h.mail h.request h.state (system_after config log)
     → (system_after config log).channels link.0 ch ≡ x ∷ queue → terms_at config link.0 ≡ Some terms
-    → is_moving (stepped config (Deliver link ch) (system_after config log)).outcome ≡ true → (b : Bool) → is_to_client ch ≡ b
+    → is_moving (stepped config (Deliver link ch) (system_after config log)).outcome ≡ true → (b : Bool)
+    → is_to_client ch ≡ b
     → IsMovedOn config log link ch h x queue
-moved-on config log link ch h x queue terms width is beats known moving true e = moved-to_client config log link ch h terms x queue width is known e beats moving
-moved-on config log link ch h x queue terms width is beats known moving false e = moved-to_manager config log link ch h terms x queue width is known e beats moving
+moved-on config log link ch h x queue terms width is beats known moving true e =
+    moved-to_client config log link ch h terms x queue width is known e beats moving
+moved-on config log link ch h x queue terms width is beats known moving false e =
+    moved-to_manager config log link ch h terms x queue width is known e beats moving
 
 -- ---- what is delivered after a delivery
 
 -- each link's values are those of the protocol after this step
 abbrev AreFlowedAfter : {w : ℕ} → Config → Log w → Event w → AbstractState w → Type 0
 AreFlowedAfter config log event h =
-    MonitorRelations ((event, (stepped config event (system_after config log)).outcome) ∷ log) (abstract_step config event (system_after config log) h).mail
-    (abstract_step config event (system_after config log) h).state (stepped config event (system_after config log)).after
+    MonitorRelations ((event, (stepped config event (system_after config log)).outcome) ∷ log)
+    (abstract_step config event (system_after config log) h).mail
+    (abstract_step config event (system_after config log) h).state
+    (stepped config event (system_after config log)).after
 
-moved-flowed : {w : ℕ} (config : Config) (log : Log w) (link : Link) (ch : Channel) (h : AbstractState w) (x : Beat w) (queue : List (Beat w)) → IsWidth w
+moved-flowed : {w : ℕ} (config : Config) (log : Log w) (link : Link) (ch : Channel) (h : AbstractState w) (x : Beat w)
+    (queue : List (Beat w)) → IsWidth w
     → SimulationRelation config log h.mail h.request h.state (system_after config log)
-    → MonitorRelations log h.mail h.state (system_after config log) → (system_after config log).channels link.0 ch ≡ x ∷ queue
-    → is_moving (stepped config (Deliver link ch) (system_after config log)).outcome ≡ true → IsMovedOn config log link ch h x queue
+    → MonitorRelations log h.mail h.state (system_after config log)
+    → (system_after config log).channels link.0 ch ≡ x ∷ queue
+    → is_moving (stepped config (Deliver link ch) (system_after config log)).outcome ≡ true
+    → IsMovedOn config log link ch h x queue
     → AreFlowedAfter config log (Deliver link ch) h
 moved-flowed {w} config log link ch h x queue width is flowed beats moving at d =
-    subst (λ (z : AbstractState w). Here z (flow d ((Deliver link ch, (stepped config (Deliver link ch) sys).outcome) ∷ log))) (sym at.follows)
+    subst (λ (z : AbstractState w). Here z
+    (flow d ((Deliver link ch, (stepped config (Deliver link ch) sys).outcome) ∷ log))) (sym at.follows)
     (subst (λ (t : History w). Here h' t) (sym (at.delivered d))
     (elim (cases_eq d c) [
-      | inl same ↦ subst (λ (i : ℕ). MonitorRelation (asked_by h'.mail h'.state i) (unfinished_at sys' i) i h'.state (if c == i then x ∷ flow i log else flow i log)) (sym same) own
+      | inl same ↦ subst (λ (i : ℕ). MonitorRelation (asked_by h'.mail h'.state i) (unfinished_at sys' i) i h'.state
+          (if c == i then x ∷ flow i log else flow i log)) (sym same) own
       | inr other ↦ others other
     ]))
   where
@@ -199,59 +224,80 @@ moved-flowed {w} config log link ch h x queue width is flowed beats moving at d 
     Here z t = MonitorRelation (asked_by z.mail z.state d) (unfinished_at sys' d) d z.state t
 
     ready : last ≡ true → IsReady (next_tracker sys) c at.first.kind at.first.number h
-    ready e = ready-delivered config log h.mail h.request h.state sys link ch x queue width is (record { moves = moving; beats = beats; whole = e; first = at.first })
+    ready e = ready-delivered config log h.mail h.request h.state sys link ch x queue width is
+        (record { moves = moving; beats = beats; whole = e; first = at.first })
 
     on_kind : on at.first.kind (h.state.link c) ≡ packet at.first.kind at.first.number ∷ at.first.rest
     on_kind = on_same ch at.first.kind (h.state.link c) at.first.own ∙ at.first.tokens
 
-    own : MonitorRelation (asked_by h'.mail h'.state c) (unfinished_at sys' c) c h'.state (if c == c then x ∷ flow c log else flow c log)
+    own : MonitorRelation (asked_by h'.mail h'.state c) (unfinished_at sys' c) c h'.state
+        (if c == c then x ∷ flow c log else flow c log)
     own =
-        subst (λ (b : Bool). MonitorRelation (asked_by h'.mail h'.state c) (unfinished_at sys' c) c h'.state (if b then x ∷ flow c log else flow c log)) (sym (same_number c))
-        (own-kind config log h sys c width is (next_tracker sys) (flow c log) (flowed c) (unfinished_at sys' c) at.first.number at.first.rest x
-        (map (message_of h.mail h.state c) at.first.rest) queue rests ch at.first.kind at.first.own at.first.tokens at.first.next last refl ready)
+        subst (λ (b : Bool). MonitorRelation (asked_by h'.mail h'.state c) (unfinished_at sys' c) c h'.state
+        (if b then x ∷ flow c log else flow c log)) (sym (same_number c))
+        (own-kind config log h sys c width is (next_tracker sys) (flow c log) (flowed c) (unfinished_at sys' c)
+        at.first.number at.first.rest x
+        (map (message_of h.mail h.state c) at.first.rest) queue rests ch at.first.kind at.first.own at.first.tokens
+        at.first.next last refl ready)
       where
         rests : AreRests x (unfinished_at sys c) (unfinished_at sys' c)
         rests i =
-            at.rests c i ∙ ap (λ (b : Bool). if b && same_channel i ch then grown x (unfinished_at sys c i) else unfinished_at sys c i) (same_number c)
+            at.rests c i ∙ ap (λ (b : Bool). if b && same_channel i ch then grown x (unfinished_at sys c i) else
+            unfinished_at sys c i) (same_number c)
             ∙ ap (λ (b : Bool). if b then grown x (unfinished_at sys c i) else unfinished_at sys c i) (sym (at.on_ch i))
 
-    others : (d ≡ c → ⊥) → MonitorRelation (asked_by h'.mail h'.state d) (unfinished_at sys' d) d h'.state (if c == d then x ∷ flow d log else flow d log)
+    others : (d ≡ c → ⊥) → MonitorRelation (asked_by h'.mail h'.state d) (unfinished_at sys' d) d h'.state
+        (if c == d then x ∷ flow d log else flow d log)
     others ne =
-        subst (λ (b : Bool). MonitorRelation (asked_by h'.mail h'.state d) (unfinished_at sys' d) d h'.state (if b then x ∷ flow d log else flow d log)) (sym (ne_eqb c d (λ e. ne (sym e))))
-        (flowed-rests (asked_by h'.mail h'.state d) (unfinished_at sys d) (unfinished_at sys' d) d h'.state (flow d log) rests (either last refl))
+        subst (λ (b : Bool). MonitorRelation (asked_by h'.mail h'.state d) (unfinished_at sys' d) d h'.state
+        (if b then x ∷ flow d log else flow d log)) (sym (ne_eqb c d (λ e. ne (sym e))))
+        (flowed-rests (asked_by h'.mail h'.state d) (unfinished_at sys d) (unfinished_at sys' d) d h'.state (flow d log)
+        rests (either last refl))
       where
         rests : (i : Channel) → unfinished_at sys' d i ≡ unfinished_at sys d i
-        rests i = at.rests d i ∙ ap (λ (b : Bool). if b && same_channel i ch then grown x (unfinished_at sys d i) else unfinished_at sys d i) (ne_eqb d c ne)
+        rests i = at.rests d i ∙ ap (λ (b : Bool). if b && same_channel i ch then grown x (unfinished_at sys d i) else
+            unfinished_at sys d i) (ne_eqb d c ne)
 
         either : (b : Bool) → last ≡ b → FlowsAs config log h sys c is (next_tracker sys) d ne (flow d log)
             (if b then kind_taken config (next_tracker sys) c at.first.kind at.first.number at.first.rest h else h)
-        either true e = other-kind config log h sys c is (next_tracker sys) d ne (flow d log) at.first.kind at.first.number at.first.rest on_kind (ready e) (flowed d)
+        either true e = other-kind config log h sys c is (next_tracker sys) d ne (flow d log) at.first.kind
+            at.first.number at.first.rest on_kind (ready e) (flowed d)
         either false e = flowed d
 
-delivered-flowed : {w : ℕ} (config : Config) (log : Log w) (link : Link) (ch : Channel) (h : AbstractState w) → IsWidth w
-    → SimulationRelation config log h.mail h.request h.state (system_after config log) → MonitorRelations log h.mail h.state (system_after config log)
+delivered-flowed : {w : ℕ} (config : Config) (log : Log w) (link : Link) (ch : Channel) (h : AbstractState w)
+    → IsWidth w
+    → SimulationRelation config log h.mail h.request h.state (system_after config log)
+    → MonitorRelations log h.mail h.state (system_after config log)
     → AreFlowedAfter config log (Deliver link ch) h
-delivered-flowed {w} config log link ch h width is flowed = go (is_moving (stepped config (Deliver link ch) sys).outcome) refl
+delivered-flowed {w} config log link ch h width is flowed =
+    go (is_moving (stepped config (Deliver link ch) sys).outcome) refl
   where
     sys : System w
     sys = system_after config log
 
-    go : (b : Bool) → is_moving (stepped config (Deliver link ch) sys).outcome ≡ b → AreFlowedAfter config log (Deliver link ch) h
+    go : (b : Bool) → is_moving (stepped config (Deliver link ch) sys).outcome ≡ b
+        → AreFlowedAfter config log (Deliver link ch) h
     go true moving =
         let at = first-moved config link ch sys moving in
-        moved-flowed config log link ch h at.0 at.1 width is flowed at.3.0 moving (moved-on config log link ch h at.0 at.1 at.2 width is at.3.0 at.3.1 moving (is_to_client ch) refl)
+        moved-flowed config log link ch h at.0 at.1 width is flowed at.3.0 moving
+        (moved-on config log link ch h at.0 at.1 at.2 width is at.3.0 at.3.1 moving (is_to_client ch) refl)
     go false still =
-        λ d. subst (λ (z : AbstractState w). MonitorRelation (asked_by z.mail z.state d) (unfinished_at (stepped config (Deliver link ch) sys).after d) d z.state
-        (flow d ((Deliver link ch, (stepped config (Deliver link ch) sys).outcome) ∷ log))) (sym (followed-still config link ch sys h still))
-        (subst (λ (t : History w). MonitorRelation (asked_by h.mail h.state d) (unfinished_at (stepped config (Deliver link ch) sys).after d) d h.state t)
+        λ d. subst (λ (z : AbstractState w). MonitorRelation (asked_by z.mail z.state d)
+        (unfinished_at (stepped config (Deliver link ch) sys).after d) d z.state
+        (flow d ((Deliver link ch, (stepped config (Deliver link ch) sys).outcome) ∷ log)))
+        (sym (followed-still config link ch sys h still))
+        (subst (λ (t : History w). MonitorRelation (asked_by h.mail h.state d)
+        (unfinished_at (stepped config (Deliver link ch) sys).after d) d h.state t)
         (sym (flow_still (Deliver link ch) (stepped config (Deliver link ch) sys).outcome log d still))
-        (flowed-rests (asked_by h.mail h.state d) (unfinished_at sys d) (unfinished_at (stepped config (Deliver link ch) sys).after d) d h.state (flow d log)
+        (flowed-rests (asked_by h.mail h.state d) (unfinished_at sys d)
+        (unfinished_at (stepped config (Deliver link ch) sys).after d) d h.state (flow d log)
         (λ i. (unmoved config link ch sys still).rests d i) (flowed d)))
 
 -- ---- and after a client was asked
 
 asked-flowed : {w : ℕ} (config : Config) (log : Log w) (c : ℕ) (o : Op w) (h : AbstractState w) → IsWidth w
-    → SimulationRelation config log h.mail h.request h.state (system_after config log) → MonitorRelations log h.mail h.state (system_after config log)
+    → SimulationRelation config log h.mail h.request h.state (system_after config log)
+    → MonitorRelations log h.mail h.state (system_after config log)
     → AreFlowedAfter config log (Ask c o) h
 asked-flowed {w} config log c o h width is flowed = go (terms_at config c) refl
   where
@@ -259,16 +305,21 @@ asked-flowed {w} config log c o h width is flowed = go (terms_at config c) refl
     sys = system_after config log
 
     After : Step w → Type 0
-    After x = MonitorRelations ((Ask c o, x.outcome) ∷ log) (abstract_step_by config (Ask c o) x.outcome sys h).mail (abstract_step_by config (Ask c o) x.outcome sys h).state x.after
+    After x = MonitorRelations ((Ask c o, x.outcome) ∷ log) (abstract_step_by config (Ask c o) x.outcome sys h).mail
+        (abstract_step_by config (Ask c o) x.outcome sys h).state x.after
 
     go : (i : Option EndConfig) → terms_at config c ≡ i → After (stepped config (Ask c o) sys)
     go None none = subst After (sym (stepped-nobody config (Ask c o) sys none))
         (λ d. subst (λ (t : History w). MonitorRelation (asked_by h.mail h.state d) (unfinished_at sys d) d h.state t)
         (sym (flow_still (Ask c o) outcome.NoSuchClient log d refl)) (flowed d))
     go (Some terms) known = subst After (sym (stepped-asked config c o sys terms known)) (λ d.
-        subst (λ (t : History w). MonitorRelation (asked_by h'.mail h'.state d) (unfinished_at (replied c a sys).after d) d h'.state t) (sym (flow_still (Ask c o) (outcome.Replied a.reply) log d refl))
-        (flowed-rests (asked_by h'.mail h'.state d) (unfinished_at sys d) (unfinished_at (replied c a sys).after d) d h'.state (flow d log)
-        (λ i. (handed-client c a.message a.after sys (λ j. unfinished-asked terms o (sys.clients c) j width (is.kept c))).rests d i)
+        subst (λ (t : History w). MonitorRelation (asked_by h'.mail h'.state d)
+        (unfinished_at (replied c a sys).after d) d h'.state t)
+        (sym (flow_still (Ask c o) (outcome.Replied a.reply) log d refl))
+        (flowed-rests (asked_by h'.mail h'.state d) (unfinished_at sys d) (unfinished_at (replied c a sys).after d) d
+        h'.state (flow d log)
+        (λ i. (handed-client c a.message a.after sys (λ j. unfinished-asked terms o (sys.clients c) j width
+        (is.kept c))).rests d i)
         (flowed-asked config log h sys c width is d (flow d log) o a.reply well.reply well.may (flowed d))))
       where
         a : ask.Asked w
@@ -281,78 +332,111 @@ asked-flowed {w} config log c o h width is flowed = go (terms_at config c) refl
         well = asked-well config log h sys c terms o width is known
 
 flowed-event : {w : ℕ} (config : Config) (log : Log w) (event : Event w) (h : AbstractState w) → IsWidth w
-    → SimulationRelation config log h.mail h.request h.state (system_after config log) → MonitorRelations log h.mail h.state (system_after config log) → AreFlowedAfter config log event h
+    → SimulationRelation config log h.mail h.request h.state (system_after config log)
+    → MonitorRelations log h.mail h.state (system_after config log) → AreFlowedAfter config log event h
 flowed-event config log (Ask c o) h width is flowed = asked-flowed config log c o h width is flowed
 flowed-event config log (Deliver link ch) h width is flowed = delivered-flowed config log link ch h width is flowed
 
 -- what is delivered on each link has the values of the protocol after every log
-pub flowed : {w : ℕ} (config : Config) (log : Log w) → IsWidth w → AreTyped log → IsLog config log → MonitorRelations log (shadow config log).mail (shadow config log).state (system_after config log)
+pub flowed : {w : ℕ} (config : Config) (log : Log w) → IsWidth w → AreTyped log → IsLog config log
+    → MonitorRelations log (shadow config log).mail (shadow config log).state (system_after config log)
 unfolding shadow system_after AreTyped IsLog
 flowed config [] width typed is = fresh-flowed
 flowed {w} config (x ∷ log) width typed is =
     let sys : System w = system_after config log in
     let h : AbstractState w = shadow config log in
     let h' : AbstractState w = abstract_step config x.0 sys h in
-    subst (λ (o : Outcome w). MonitorRelations ((x.0, o) ∷ log) h'.mail h'.state (stepped config x.0 sys).after) (sym is.0)
+    subst (λ (o : Outcome w). MonitorRelations ((x.0, o) ∷ log) h'.mail h'.state (stepped config x.0 sys).after)
+    (sym is.0)
     (flowed-event config log x.0 h width (matched config log width typed.1 is.1) (flowed config log width typed.1 is.1))
 
 -- ---- no rule is broken
 
-legal_more : {w : ℕ} (l : Level) (p : Profile) (x : Beat w) (t : History w) → broken_after l p x t ≡ None → is_legal l p t ≡ true → is_legal l p (x ∷ t) ≡ true
+legal_more : {w : ℕ} (l : Level) (p : Profile) (x : Beat w) (t : History w) → broken_after l p x t ≡ None
+    → is_legal l p t ≡ true → is_legal l p (x ∷ t) ≡ true
 unfolding is_legal
 legal_more l p x t e f = rw (e, f) refl
 
 -- nor by a beat of any channel that is moved
-unbroken : {w : ℕ} (config : Config) (log : Log w) (h : AbstractState w) (link : Link) (ch : Channel) (l : Level) (x : Beat w) (queue : List (Beat w)) → IsWidth w
-    → SimulationRelation config log h.mail h.request h.state (system_after config log) → MonitorRelations log h.mail h.state (system_after config log)
-    → is_moving (stepped config (Deliver link ch) (system_after config log)).outcome ≡ true → (system_after config log).channels link.0 ch ≡ x ∷ queue
+unbroken : {w : ℕ} (config : Config) (log : Log w) (h : AbstractState w) (link : Link) (ch : Channel) (l : Level)
+    (x : Beat w) (queue : List (Beat w)) → IsWidth w
+    → SimulationRelation config log h.mail h.request h.state (system_after config log)
+    → MonitorRelations log h.mail h.state (system_after config log)
+    → is_moving (stepped config (Deliver link ch) (system_after config log)).outcome ≡ true
+    → (system_after config log).channels link.0 ch ≡ x ∷ queue
     → level_of config link.0 ≡ Some l → broken_after l config.profile x (flow link.0 log) ≡ None
 unbroken config log h link channel.A l x queue width is values moving beats level =
     flows-a config log h.mail h.request h.state (system_after config log) link.0 l x queue width is values beats level
-    (request-moves config log h.mail h.request h.state (system_after config log) link x queue is moving beats (arrival-first config log h (system_after config log) link.0 x queue width is beats))
-unbroken config log h link channel.B l x queue width is values moving beats level = flows-b config log h.mail h.request h.state (system_after config log) link.0 l x queue width is values beats level
-unbroken config log h link channel.C l x queue width is values moving beats level = flows-c config log h.mail h.request h.state (system_after config log) link.0 l x queue width is values beats level
-unbroken config log h link channel.D l x queue width is values moving beats level = flows-d config log h.mail h.request h.state (system_after config log) link.0 l x queue width is values beats level
-unbroken config log h link channel.E l x queue width is values moving beats level = flows-e config log h.mail h.request h.state (system_after config log) link.0 l x queue width is values beats level
+    (request-moves config log h.mail h.request h.state (system_after config log) link x queue is moving beats
+    (arrival-first config log h (system_after config log) link.0 x queue width is beats))
+unbroken config log h link channel.B l x queue width is values moving beats level =
+    flows-b config log h.mail h.request h.state (system_after config log) link.0 l x queue width is values beats level
+unbroken config log h link channel.C l x queue width is values moving beats level =
+    flows-c config log h.mail h.request h.state (system_after config log) link.0 l x queue width is values beats level
+unbroken config log h link channel.D l x queue width is values moving beats level =
+    flows-d config log h.mail h.request h.state (system_after config log) link.0 l x queue width is values beats level
+unbroken config log h link channel.E l x queue width is values moving beats level =
+    flows-e config log h.mail h.request h.state (system_after config log) link.0 l x queue width is values beats level
 
 -- who is asked moves no beat
-pub asked-still : {w : ℕ} (config : Config) (log : Log w) (c : ℕ) (o : Op w) → is_moving (stepped config (Ask c o) (system_after config log)).outcome ≡ false
+pub asked-still : {w : ℕ} (config : Config) (log : Log w) (c : ℕ) (o : Op w)
+    → is_moving (stepped config (Ask c o) (system_after config log)).outcome ≡ false
 asked-still {w} config log c o = go (terms_at config c) refl
   where
-    go : (i : Option EndConfig) → terms_at config c ≡ i → is_moving (stepped config (Ask c o) (system_after config log)).outcome ≡ false
-    go None none = ap (λ (x : Step w). is_moving x.outcome) (stepped-nobody config (Ask c o) (system_after config log) none)
-    go (Some terms) known = ap (λ (x : Step w). is_moving x.outcome) (stepped-asked config c o (system_after config log) terms known)
+    go : (i : Option EndConfig) → terms_at config c ≡ i
+        → is_moving (stepped config (Ask c o) (system_after config log)).outcome ≡ false
+    go None none = ap (λ (x : Step w). is_moving x.outcome) (stepped-nobody config (Ask c o) (system_after config log)
+        none)
+    go (Some terms) known = ap (λ (x : Step w). is_moving x.outcome) (stepped-asked config c o (system_after config log)
+        terms known)
 
-legal-event : {w : ℕ} (config : Config) (log : Log w) (h : AbstractState w) (event : Event w) (d : ℕ) (l : Level) → IsWidth w
-    → SimulationRelation config log h.mail h.request h.state (system_after config log) → MonitorRelations log h.mail h.state (system_after config log)
-    → level_of config d ≡ Some l → is_legal l config.profile (flow d log) ≡ true → is_legal l config.profile (flow d ((event, (stepped config event (system_after config log)).outcome) ∷ log)) ≡ true
+legal-event : {w : ℕ} (config : Config) (log : Log w) (h : AbstractState w) (event : Event w) (d : ℕ) (l : Level)
+    → IsWidth w
+    → SimulationRelation config log h.mail h.request h.state (system_after config log)
+    → MonitorRelations log h.mail h.state (system_after config log)
+    → level_of config d ≡ Some l → is_legal l config.profile (flow d log) ≡ true
+    → is_legal l config.profile (flow d ((event, (stepped config event (system_after config log)).outcome) ∷ log))
+    ≡ true
 legal-event {w} config log h (Ask c o) d l width is values level legal =
-    ap (is_legal l config.profile) (flow_still (Ask c o) (stepped config (Ask c o) (system_after config log)).outcome log d (asked-still config log c o)) ∙ legal
-legal-event {w} config log h (Deliver link ch) d l width is values level legal = go (is_moving (stepped config (Deliver link ch) sys).outcome) refl
+    ap (is_legal l config.profile) (flow_still (Ask c o) (stepped config (Ask c o) (system_after config log)).outcome
+    log d (asked-still config log c o)) ∙ legal
+legal-event {w} config log h (Deliver link ch) d l width is values level legal =
+    go (is_moving (stepped config (Deliver link ch) sys).outcome) refl
   where
     sys : System w
     sys = system_after config log
 
-    with_beat : (x : Beat w) (b : Bool) → (b ≡ true → broken_after l config.profile x (flow d log) ≡ None) → is_legal l config.profile (if b then x ∷ flow d log else flow d log) ≡ true
+    with_beat : (x : Beat w) (b : Bool) → (b ≡ true → broken_after l config.profile x (flow d log) ≡ None)
+        → is_legal l config.profile (if b then x ∷ flow d log else flow d log) ≡ true
     with_beat x true whole = legal_more l config.profile x (flow d log) (whole refl) legal
     with_beat x false whole = legal
 
-    go : (b : Bool) → is_moving (stepped config (Deliver link ch) sys).outcome ≡ b → is_legal l config.profile (flow d ((Deliver link ch, (stepped config (Deliver link ch) sys).outcome) ∷ log)) ≡ true
+    go : (b : Bool) → is_moving (stepped config (Deliver link ch) sys).outcome ≡ b
+        → is_legal l config.profile (flow d ((Deliver link ch, (stepped config (Deliver link ch) sys).outcome) ∷ log))
+        ≡ true
     go true moving =
         let at = first-moved config link ch sys moving in
-        ap (is_legal l config.profile) ((moved-on config log link ch h at.0 at.1 at.2 width is at.3.0 at.3.1 moving (is_to_client ch) refl).delivered d)
+        ap (is_legal l config.profile)
+        ((moved-on config log link ch h at.0 at.1 at.2 width is at.3.0 at.3.1 moving (is_to_client ch)
+        refl).delivered d)
         ∙ with_beat at.0 (link.0 == d) (λ same.
         let here : link.0 ≡ d = eqb-true link.0 d same in
-        subst (λ (i : ℕ). broken_after l config.profile at.0 (flow i log) ≡ None) here (unbroken config log h link ch l at.0 at.1 width is values moving at.3.0 (ap (level_of config) here ∙ level)))
-    go false still = ap (is_legal l config.profile) (flow_still (Deliver link ch) (stepped config (Deliver link ch) sys).outcome log d still) ∙ legal
+        subst (λ (i : ℕ). broken_after l config.profile at.0 (flow i log) ≡ None) here
+        (unbroken config log h link ch l at.0 at.1 width is values moving at.3.0
+        (ap (level_of config) here ∙ level)))
+    go false still = ap (is_legal l config.profile)
+        (flow_still (Deliver link ch) (stepped config (Deliver link ch) sys).outcome log d still) ∙ legal
 
-legal : {w : ℕ} (config : Config) (log : Log w) (d : ℕ) (l : Level) → IsWidth w → AreTyped log → IsLog config log → level_of config d ≡ Some l → is_legal l config.profile (flow d log) ≡ true
+legal : {w : ℕ} (config : Config) (log : Log w) (d : ℕ) (l : Level) → IsWidth w → AreTyped log → IsLog config log
+    → level_of config d ≡ Some l → is_legal l config.profile (flow d log) ≡ true
 unfolding AreTyped IsLog flow is_legal
 legal config [] d l width typed is level = refl
 legal {w} config (x ∷ log) d l width typed is level =
     subst (λ (o : Outcome w). is_legal l config.profile (flow d ((x.0, o) ∷ log)) ≡ true) (sym is.0)
-    (legal-event config log (shadow config log) x.0 d l width (matched config log width typed.1 is.1) (flowed config log width typed.1 is.1) level (legal config log d l width typed.1 is.1 level))
+    (legal-event config log (shadow config log) x.0 d l width (matched config log width typed.1 is.1)
+    (flowed config log width typed.1 is.1) level (legal config log d l width typed.1 is.1 level))
 
 -- A monitor in the middle of a link finds no fault in what is delivered there.
-pub flows : {w : ℕ} (config : Config) (log : Log w) → IsGiven config log → (link : ℕ) (l : Level) → level_of config link ≡ Some l → is_legal l config.profile (flow link log) ≡ true
+pub flows : {w : ℕ} (config : Config) (log : Log w) → IsGiven config log → (link : ℕ) (l : Level)
+    → level_of config link ≡ Some l → is_legal l config.profile (flow link log) ≡ true
 flows config log given link l level = legal config log link l given.width given.typed given.is_log level

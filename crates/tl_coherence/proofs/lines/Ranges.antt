@@ -1,5 +1,6 @@
 -- The numbers of each beat on a channel are within their types.
-use Rattle.std.proofs.Common.{◌≡◌, ℕ, zero, suc, ◌+◌, ◌-◌, ◌*◌, ◌%◌, ◌^◌, ◌<◌, ◌≤◌, Bool, true, false, List, [], ◌∷◌, ◌++◌, Option, Some, None, length, refl, sym, ◌∙◌, lit<, arith}
+use Rattle.std.proofs.Common.{◌≡◌, ℕ, zero, suc, ◌+◌, ◌-◌, ◌*◌, ◌%◌, ◌^◌, ◌<◌, ◌≤◌, Bool, true, false, List, [], ◌∷◌}
+use Rattle.std.proofs.Common.{◌++◌, Option, Some, None, length, refl, sym, ◌∙◌, lit<, arith}
 use Rattle.std.specs.Prelude.{IfSome, drop, nat_le, option_map, replicate, slice_get}
 use Rattle.std.proofs.lemmas.Bool.{and_parts, leb-false, leb-true}
 use Rattle.std.proofs.lemmas.List.Elements.{All-append, All-drop, All-from_get_or, All-replicate, All-take}
@@ -33,15 +34,19 @@ use Rattle.tl_coherence.specs.statement.Delivery.{sources_of}
 use Rattle.tl_coherence.specs.statement.Log.{Log}
 use Rattle.tl_coherence.specs.statement.Machine.{Requests}
 use Rattle.tl_coherence.specs.protocol.Phase.{AcquirePhase, NoAcquire, AcquireOpen}
-use Rattle.tl_coherence.specs.protocol.Protocol.{Service, Free, Waits, GrantSent, GrantTaken, State, SourceState, SourceFree, Asked, Replied, Acquires, packet, packets_on, is_on}
+use Rattle.tl_coherence.specs.protocol.Protocol.{Service, Free, Waits, GrantSent, GrantTaken, State, SourceState}
+use Rattle.tl_coherence.specs.protocol.Protocol.{SourceFree, Asked, Replied, Acquires, packet, packets_on, is_on}
 use Rattle.tl_coherence.specs.statement.Ranged.{AreBytes}
 use Rattle.tl_coherence.specs.statement.OneMemory.{one_memory_after}
-use Rattle.tl_coherence.specs.refinement.PacketMessages.{AccessMessages, acquire_of, grant_of, message_of_kind, prune_told, block_message, report_told}
+use Rattle.tl_coherence.specs.refinement.PacketMessages.{AccessMessages, acquire_of, grant_of, message_of_kind}
+use Rattle.tl_coherence.specs.refinement.PacketMessages.{prune_told, block_message, report_told}
 use Rattle.tl_coherence.specs.statement.System.{System, terms_at}
-use Rattle.tl_coherence.specs.protocol.Packet.{Kind, Request, Acquire, Probe, ProbeAck, Release, Answer, Grant, ReleaseAck, GrantAck, Packet, count, is, one_if}
+use Rattle.tl_coherence.specs.protocol.Packet.{Kind, Request, Acquire, Probe, ProbeAck, Release, Answer, Grant}
+use Rattle.tl_coherence.specs.protocol.Packet.{ReleaseAck, GrantAck, Packet, count, is, one_if}
 use Rattle.tl_coherence.specs.refinement.SimulationRelation.{AreLanes, SimulationRelation, is_caching}
 use Rattle.tl_coherence.proofs.memory.Bytes.{IsRangedMachine, IsRangedOpen, IsRangedReply}
-use Rattle.tl_coherence.proofs.protocol.Capacities.{AreBounded, acquire_named, answer_named, grant_ack_named, grant_named, release_ack_named, release_named, request_named}
+use Rattle.tl_coherence.proofs.protocol.Capacities.{AreBounded, acquire_named, answer_named, grant_ack_named}
+use Rattle.tl_coherence.proofs.protocol.Capacities.{grant_named, release_ack_named, release_named, request_named}
 use Rattle.tl_coherence.proofs.protocol.Capacities.{shown_there, shows_it, tracker_of_service}
 use Rattle.tl_coherence.proofs.queues.Rendered.{same_kind_again}
 use Rattle.tl_coherence.proofs.queues.Tokens.{same_number}
@@ -57,19 +62,30 @@ IsRangedMessage (message.C m) = (m.source < 2 ^ 8) × AreBytes m.payload
 IsRangedMessage (message.D m) = (m.source < 2 ^ 8) × (m.sink < 2 ^ 8) × AreBytes m.payload
 IsRangedMessage (message.E m) = m.sink < 2 ^ 8
 
-ranged-lanes : (w : ℕ) (carries : Bool) (payload : List ℕ) (k : ℕ) → AreBytes payload → IfSome (lanes_at carries w payload k) (λ lanes. length lanes ≡ w) → HasLanes w (lanes_at carries w payload k)
-ranged-lanes w true payload k bytes long = (long, All-take (λ byte. byte < 2 ^ 8) (w * k + w - w * k) (drop (w * k) payload) (All-drop (λ byte. byte < 2 ^ 8) (w * k) payload bytes))
+ranged-lanes : (w : ℕ) (carries : Bool) (payload : List ℕ) (k : ℕ) → AreBytes payload
+    → IfSome (lanes_at carries w payload k) (λ lanes. length lanes ≡ w) → HasLanes w (lanes_at carries w payload k)
+ranged-lanes w true payload k bytes long = (
+  long,
+  All-take (λ byte. byte < 2 ^ 8) (w * k + w - w * k) (drop (w * k) payload)
+      (All-drop (λ byte. byte < 2 ^ 8) (w * k) payload bytes),
+)
 ranged-lanes w false payload k bytes long = tt
 
 -- an address inside the map
 inside-below : (blocks address : ℕ) → blocks ≤ 1024 → nat_le blocks (block_at address) ≡ false → address < 2 ^ 32
-inside-below blocks address few inside = let less = leb-false blocks (block_at address) inside in omega (arith, less, few)
+inside-below blocks address few inside = let less = leb-false blocks (block_at address) inside in
+    omega (arith, less, few)
 
-pub ranged-beat : {w : ℕ} (blocks : ℕ) (m : Message w) (k : ℕ) → blocks ≤ 1024 → is_outside blocks (beat_of m k) ≡ false → AreLanes (beat_of m k) → IsRangedMessage m → IsInRange (beat_of m k)
-ranged-beat {w} blocks (message.A m) k few inside lanes is = (is.0, inside-below blocks m.address few inside, ranged-lanes w (a_carries_data m.opcode) m.payload k is.1 lanes.1)
-ranged-beat {w} blocks (message.B m) k few inside lanes is = (is.0, inside-below blocks m.address few inside, ranged-lanes w (b_carries_data m.opcode) m.payload k is.1 lanes)
-ranged-beat {w} blocks (message.C m) k few inside lanes is = (is.0, inside-below blocks m.address few inside, ranged-lanes w (c_carries_data m.opcode) m.payload k is.1 lanes)
-ranged-beat {w} blocks (message.D m) k few inside lanes is = (is.0, is.1, ranged-lanes w (d_carries_data m.opcode) m.payload k is.2 lanes)
+pub ranged-beat : {w : ℕ} (blocks : ℕ) (m : Message w) (k : ℕ) → blocks ≤ 1024 → is_outside blocks (beat_of m k) ≡ false
+    → AreLanes (beat_of m k) → IsRangedMessage m → IsInRange (beat_of m k)
+ranged-beat {w} blocks (message.A m) k few inside lanes is =
+    (is.0, inside-below blocks m.address few inside, ranged-lanes w (a_carries_data m.opcode) m.payload k is.1 lanes.1)
+ranged-beat {w} blocks (message.B m) k few inside lanes is =
+    (is.0, inside-below blocks m.address few inside, ranged-lanes w (b_carries_data m.opcode) m.payload k is.1 lanes)
+ranged-beat {w} blocks (message.C m) k few inside lanes is =
+    (is.0, inside-below blocks m.address few inside, ranged-lanes w (c_carries_data m.opcode) m.payload k is.1 lanes)
+ranged-beat {w} blocks (message.D m) k few inside lanes is =
+    (is.0, is.1, ranged-lanes w (d_carries_data m.opcode) m.payload k is.2 lanes)
 ranged-beat blocks (message.E m) k few inside lanes is = is
 
 -- ---- what messages are made of
@@ -77,17 +93,20 @@ ranged-beat blocks (message.E m) k few inside lanes is = is
 pub zeros-bytes : (n : ℕ) → AreBytes (replicate n 0)
 zeros-bytes n = All-replicate (λ byte. byte < 2 ^ 8) n 0 (lit< tt)
 
-acquire-ranged : (w : ℕ) (a : AcquirePhase) (source n : ℕ) → source < 2 ^ 8 → IsRangedMessage (acquire_of {w = w} a source n)
+acquire-ranged : (w : ℕ) (a : AcquirePhase) (source n : ℕ) → source < 2 ^ 8
+    → IsRangedMessage (acquire_of {w = w} a source n)
 acquire-ranged w (AcquireOpen true g) source n small = (small, zeros-bytes 64)
 acquire-ranged w (AcquireOpen false g) source n small = (small, zeros-bytes 64)
 acquire-ranged w NoAcquire source n small = (small, zeros-bytes 64)
 
-report-ranged : (w : ℕ) (p : Perm) (r : Report) (n : ℕ) (truth : List ℕ) → AreBytes truth → IsRangedMessage (probe_ack {w = w} opb.ProbeBlock p r n truth)
+report-ranged : (w : ℕ) (p : Perm) (r : Report) (n : ℕ) (truth : List ℕ) → AreBytes truth
+    → IsRangedMessage (probe_ack {w = w} opb.ProbeBlock p r n truth)
 report-ranged w perm.Trunk r n truth bytes = (lit< tt, bytes)
 report-ranged w perm.Branch r n truth bytes = (lit< tt, zeros-bytes 64)
 report-ranged w perm.None r n truth bytes = (lit< tt, zeros-bytes 64)
 
-release-ranged : (w : ℕ) (p : Prune) (source n : ℕ) (truth : List ℕ) → source < 2 ^ 8 → AreBytes truth → IsRangedMessage (release {w = w} p source n truth)
+release-ranged : (w : ℕ) (p : Prune) (source n : ℕ) (truth : List ℕ) → source < 2 ^ 8 → AreBytes truth
+    → IsRangedMessage (release {w = w} p source n truth)
 release-ranged w prune.TtoB source n truth small bytes = (small, bytes)
 release-ranged w prune.TtoN source n truth small bytes = (small, bytes)
 release-ranged w prune.BtoN source n truth small bytes = (small, zeros-bytes 64)
@@ -99,43 +118,59 @@ grant-ranged : (w : ℕ) (service : Service) (source tracker : ℕ) (truth : Lis
     → ((q : ℕ) (d : Bool) (k : _) → service ≡ GrantSent q d k → tracker < 2 ^ 8) → AreBytes truth
     → IsRangedMessage (grant_of {w = w} service source tracker truth)
 grant-ranged w (GrantSent q true k) source tracker truth small sink bytes = (small, sink q true k refl, bytes)
-grant-ranged w (GrantSent q false k) source tracker truth small sink bytes = (small, sink q false k refl, zeros-bytes 64)
+grant-ranged w (GrantSent q false k) source tracker truth small sink bytes =
+    (small, sink q false k refl, zeros-bytes 64)
 grant-ranged w Free source tracker truth small sink bytes = ack-ranged w source small
 grant-ranged w (Waits r own s k) source tracker truth small sink bytes = ack-ranged w source small
 grant-ranged w (GrantTaken q) source tracker truth small sink bytes = ack-ranged w source small
 
 payload-bytes : (at : ℕ) (bytes : List ℕ) → AreBytes bytes → AreBytes (as_payload at bytes)
 payload-bytes at bytes are =
-    All-append (λ byte. byte < 2 ^ 8) (replicate at 0 ++ bytes) (replicate (64 - at - length bytes) 0) (All-append (λ byte. byte < 2 ^ 8) (replicate at 0) bytes (zeros-bytes at) are)
+    All-append (λ byte. byte < 2 ^ 8) (replicate at 0 ++ bytes) (replicate (64 - at - length bytes) 0)
+    (All-append (λ byte. byte < 2 ^ 8) (replicate at 0) bytes (zeros-bytes at) are)
     (zeros-bytes (64 - at - length bytes))
 
-answer-ranged : {w : ℕ} (m : MessageA w) (r : memory.AccessResult) → m.source < 2 ^ 8 → IsRangedReply r → IsRangedMessage (access_answer m (answer_of (message.A m) r))
+answer-ranged : {w : ℕ} (m : MessageA w) (r : memory.AccessResult) → m.source < 2 ^ 8 → IsRangedReply r
+    → IsRangedMessage (access_answer m (answer_of (message.A m) r))
 answer-ranged m memory.Done small bytes = (small, lit< tt, zeros-bytes 64)
 answer-ranged m memory.Hinted small bytes = (small, lit< tt, zeros-bytes 64)
 answer-ranged {w} m (memory.Bytes list) small bytes = (small, lit< tt, payload-bytes (m.address % w) list bytes)
 
 -- ---- sources are few
 
-each-fits : (clients : List ClientConfig) (k : ℕ) (client : ClientConfig) → all_sources_fit clients ≡ true → slice_get clients k ≡ Some client → sources_fit client ≡ true
+each-fits : (clients : List ClientConfig) (k : ℕ) (client : ClientConfig) → all_sources_fit clients ≡ true
+    → slice_get clients k ≡ Some client → sources_fit client ≡ true
 each-fits [] k client fit e = absurd cc
-each-fits (x ∷ clients) zero client fit e = let is : x ≡ client = cc in rw is at (and_parts (sources_fit x) (all_sources_fit clients) fit).0
-each-fits (x ∷ clients) (suc k) client fit e = each-fits clients k client (and_parts (sources_fit x) (all_sources_fit clients) fit).1 e
+each-fits (x ∷ clients) zero client fit e = let is : x ≡ client = cc in
+    rw is at (and_parts (sources_fit x) (all_sources_fit clients) fit).0
+each-fits (x ∷ clients) (suc k) client fit e =
+    each-fits clients k client (and_parts (sources_fit x) (all_sources_fit clients) fit).1 e
 
 pub few-sources : (config : Config) (c : ℕ) → config_fault config ≡ None → sources_of (terms_at config c) ≤ 8
 few-sources config c fits = go (slice_get config.clients.items c) refl
   where
     all : all_sources_fit config.clients.items ≡ true
-    all = (limits-fit (is_from_to 1 16 (length config.clients.items)) (blocks_fit config.blocks) (trackers_fit config.trackers) (all_sources_fit config.clients.items) fits).3
+    all = (limits-fit (is_from_to 1 16 (length config.clients.items)) (blocks_fit config.blocks)
+        (trackers_fit config.trackers) (all_sources_fit config.clients.items) fits).3
 
     go : (o : Option ClientConfig) → slice_get config.clients.items c ≡ o
-        → sources_of (option_map {U = EndConfig} (λ x. record { level = x.level; profile = config.profile; sources = x.sources; blocks = config.blocks }) o) ≤ 8
+        → sources_of (option_map {U = EndConfig} (λ x. record {
+          level = x.level;
+          profile = config.profile;
+          sources =
+              x.sources;
+          blocks = config.blocks;
+        }) o) ≤ 8
     go None e = omega arith
-    go (Some x) e = leb-true x.sources 8 (and_parts (nat_le 1 x.sources) (nat_le x.sources 8) (each-fits config.clients.items c x all e)).1
+    go (Some x) e = leb-true x.sources 8 (and_parts (nat_le 1 x.sources) (nat_le x.sources 8)
+        (each-fits config.clients.items c x all e)).1
 
 -- ---- the message of the first token of a channel
 
-module _ {w : ℕ} (config : Config) (log : Log w) (mail : AccessMessages w) (request : ℕ → MessageA w) (s : State (List ℕ)) (sys : System w)
-    (matched : SimulationRelation config log mail request s sys) (ranged : IsRangedMachine (one_memory_after config log)) (c sources trackers : ℕ)
+module _ {w : ℕ} (config : Config) (log : Log w) (mail : AccessMessages w) (request : ℕ → MessageA w)
+    (s : State (List ℕ)) (sys : System w)
+    (matched : SimulationRelation config log mail request s sys)
+    (ranged : IsRangedMachine (one_memory_after config log)) (c sources trackers : ℕ)
     (bounds : AreBounded c sources trackers s) (few_sources : sources ≤ 8) (few_trackers : trackers ≤ 8) where
   truth-bytes : (n : ℕ) → AreBytes (s.block n).truth
   truth-bytes n = All-from_get_or (λ byte. byte < 2 ^ 8) (s.block n).truth 0 (λ i less.
@@ -143,7 +178,8 @@ module _ {w : ℕ} (config : Config) (log : Log w) (mail : AccessMessages w) (re
       rw (sym (matched.beside.memory n i inside)) (ranged.memory (64 * n + i)))
 
   used-small : (source : ℕ) (u : SourceState) → s.uses c source ≡ u → (u ≡ SourceFree → ⊥) → source < 2 ^ 8
-  used-small source u e used = let less = bounds.requests source (λ none. used (sym e ∙ none)) in omega (arith, less, few_sources)
+  used-small source u e used = let less = bounds.requests source (λ none. used (sym e ∙ none)) in
+      omega (arith, less, few_sources)
 
   let-small : (source n : ℕ) → s.lets c source ≡ Some n → source < 2 ^ 8
   let-small source n e = let less = bounds.releases source n e in omega (arith, less, few_sources)
@@ -153,16 +189,20 @@ module _ {w : ℕ} (config : Config) (log : Log w) (mail : AccessMessages w) (re
 
   request-ranged : (n : ℕ) → s.uses c n ≡ Asked → IsRangedMessage (mail.request c n)
   request-ranged n used =
-      let opened : IsOpened c n mail s Asked ((one_memory_after config log).opened c Requests n) = rw used at (matched.beside.requests c n) in
-      let are : IsRangedOpen (Some (record { asked = op.Access (message.A opened.0); answer = None })) = rw opened.2 at (ranged.opened c Requests n) in
+      let opened : IsOpened c n mail s Asked ((one_memory_after config log).opened c Requests n) =
+      rw used at (matched.beside.requests c n) in
+      let are : IsRangedOpen (Some (record { asked = op.Access (message.A opened.0); answer = None })) =
+      rw opened.2 at (ranged.opened c Requests n) in
       rw opened.1 (used-small n Asked used (λ e. absurd cc), are.0)
 
   answer-is-ranged : (n : ℕ) → s.uses c n ≡ Replied → IsRangedMessage (mail.answer c n)
   answer-is-ranged n used =
-      let opened : IsOpened c n mail s Replied ((one_memory_after config log).opened c Requests n) = rw used at (matched.beside.requests c n) in
+      let opened : IsOpened c n mail s Replied ((one_memory_after config log).opened c Requests n) =
+      rw used at (matched.beside.requests c n) in
       let m : MessageA w = opened.1.0 in
       let r : memory.AccessResult = opened.0 in
-      let are : IsRangedOpen (Some (record { asked = op.Access (message.A m); answer = Some r })) = rw opened.1.2 at (ranged.opened c Requests n) in
+      let are : IsRangedOpen (Some (record { asked = op.Access (message.A m); answer = Some r })) =
+      rw opened.1.2 at (ranged.opened c Requests n) in
       let answers : Answers (message.A (sourced n m)) r (mail.answer c n) = rw opened.1.1 at opened.2 in
       rw answers.0 (answer-ranged (sourced n m) r (used-small n Replied used (λ e. absurd cc)) are.1)
 
@@ -172,21 +212,31 @@ module _ {w : ℕ} (config : Config) (log : Log w) (mail : AccessMessages w) (re
   kind-ranged Answer n shows = answer-is-ranged n (answer_named (is_caching config) s c n matched.invariant shows)
   kind-ranged Acquire n shows =
       acquire-ranged w ((s.block n).pair c).acquiring ((s.block n).source c) n
-      (used-small ((s.block n).source c) (Acquires n) (acquire_named (is_caching config) s c n matched.invariant shows) (λ e. absurd cc))
+      (used-small ((s.block n).source c) (Acquires n) (acquire_named (is_caching config) s c n matched.invariant shows)
+      (λ e. absurd cc))
   kind-ranged Probe n shows = (lit< tt, zeros-bytes 64)
-  kind-ranged ProbeAck n shows = report-ranged w _ (report_told ((s.block n).pair c).probing) n (s.block n).truth (truth-bytes n)
+  kind-ranged ProbeAck n shows = report-ranged w _ (report_told ((s.block n).pair c).probing) n (s.block n).truth
+      (truth-bytes n)
   kind-ranged Release n shows =
       release-ranged w (prune_told ((s.block n).pair c).letting) ((s.block n).release_source c) n (s.block n).truth
-      (let-small ((s.block n).release_source c) n (release_named (is_caching config) s c n matched.invariant shows)) (truth-bytes n)
+      (let-small ((s.block n).release_source c) n (release_named (is_caching config) s c n matched.invariant shows))
+      (truth-bytes n)
   kind-ranged Grant n shows =
       grant-ranged w (s.block n).service ((s.block n).source c) (s.block n).tracker (s.block n).truth
-      (used-small ((s.block n).source c) (Acquires n) (grant_named (is_caching config) s c n matched.invariant shows) (λ e. absurd cc))
-      (λ q d k e. tracker-small (s.block n).tracker n (tracker_of_service (is_caching config) s n matched.invariant (rw e refl))) (truth-bytes n)
-  kind-ranged ReleaseAck n shows = ack-ranged w ((s.block n).release_source c) (let-small ((s.block n).release_source c) n (release_ack_named (is_caching config) s c n matched.invariant shows))
-  kind-ranged GrantAck n shows = tracker-small (s.block n).tracker n (grant_ack_named (is_caching config) s c n matched.invariant shows)
+      (used-small ((s.block n).source c) (Acquires n) (grant_named (is_caching config) s c n matched.invariant shows)
+      (λ e. absurd cc))
+      (λ q d k e. tracker-small (s.block n).tracker n (tracker_of_service (is_caching config) s n matched.invariant
+      (rw e refl))) (truth-bytes n)
+  kind-ranged ReleaseAck n shows =
+      ack-ranged w ((s.block n).release_source c)
+      (let-small ((s.block n).release_source c) n (release_ack_named (is_caching config) s c n matched.invariant shows))
+  kind-ranged GrantAck n shows =
+      tracker-small (s.block n).tracker n (grant_ack_named (is_caching config) s c n matched.invariant shows)
 
-  pub first-ranged : (ch : Channel) (k : Kind) (n : ℕ) (rest : List Packet) → is_on ch k ≡ true → packets_on ch (s.link c) ≡ packet k n ∷ rest → IsRangedMessage (message_of_kind k mail s c n)
+  pub first-ranged : (ch : Channel) (k : Kind) (n : ℕ) (rest : List Packet) → is_on ch k ≡ true
+      → packets_on ch (s.link c) ≡ packet k n ∷ rest → IsRangedMessage (message_of_kind k mail s c n)
   unfolding count
   first-ranged ch k n rest on_it tokens =
       let one : one_if (is k n (packet k n)) ≡ 1 = rw (same_kind_again k, same_number n) refl in
-      kind-ranged k n (shown_there (is_caching config) s c ch k n matched.invariant on_it (rw tokens (omega (arith, one))))
+      kind-ranged k n (shown_there (is_caching config) s c ch k n matched.invariant on_it
+      (rw tokens (omega (arith, one))))

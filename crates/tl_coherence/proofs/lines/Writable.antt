@@ -20,7 +20,8 @@ use Rattle.tl_burst.specs.statement.Burst.{beat_of}
 use Rattle.tl_params.specs.declared.level.Level.{Level}
 use Rattle.tl_params.specs.declared.rule.Rule.TheVariants.{L1, L2, L3, L7}
 use Rattle.tl_params.specs.statement.Param.{cap_of}
-use Rattle.tl_rules.specs.statement.Legality.{a_has_param, a_has_size, breaks_l1, breaks_l2, breaks_l3, breaks_l7, c_has_param, c_has_source, d_has_param, d_has_sink, illegal}
+use Rattle.tl_rules.specs.statement.Legality.{a_has_param, a_has_size, breaks_l1, breaks_l2, breaks_l3, breaks_l7}
+use Rattle.tl_rules.specs.statement.Legality.{c_has_param, c_has_source, d_has_param, d_has_sink, illegal}
 use Rattle.tl_rules.proofs.Bursts.{next_rule}
 use Rattle.tl_rules.proofs.Sizes.{response-small}
 use Rattle.tl_manager.proofs.Masks.{request_small}
@@ -36,8 +37,17 @@ cap-large n large = rw (apart n 0 (omega arith), apart n 1 (omega arith), apart 
 a-large : (opcode : OpA) (n : ℕ) → 8 ≤ n → a_has_param opcode n ≡ false
 a-large a.PutFullData n large = apart n 0 (omega arith)
 a-large a.PutPartialData n large = apart n 0 (omega arith)
-a-large a.ArithmeticData n large = rw (apart n 0 (omega arith), apart n 1 (omega arith), apart n 2 (omega arith), apart n 3 (omega arith), apart n 4 (omega arith)) refl
-a-large a.LogicalData n large = rw (apart n 0 (omega arith), apart n 1 (omega arith), apart n 2 (omega arith), apart n 3 (omega arith)) refl
+a-large a.ArithmeticData n large =
+    rw (
+      apart n 0 (omega arith),
+      apart n 1 (omega arith),
+      apart n 2 (omega arith),
+      apart n 3 (omega arith),
+      apart n 4
+          (omega arith),
+    ) refl
+a-large a.LogicalData n large =
+    rw (apart n 0 (omega arith), apart n 1 (omega arith), apart n 2 (omega arith), apart n 3 (omega arith)) refl
 a-large a.Get n large = apart n 0 (omega arith)
 a-large a.Intent n large = rw (apart n 0 (omega arith), apart n 1 (omega arith)) refl
 a-large a.AcquireBlock n large = rw (apart n 0 (omega arith), apart n 1 (omega arith), apart n 2 (omega arith)) refl
@@ -47,7 +57,16 @@ c-large : (opcode : OpC) (n : ℕ) → 8 ≤ n → c_has_param opcode n ≡ fals
 c-large c.AccessAck n large = apart n 0 (omega arith)
 c-large c.AccessAckData n large = apart n 0 (omega arith)
 c-large c.HintAck n large = apart n 0 (omega arith)
-c-large c.ProbeAck n large = rw (apart n 0 (omega arith), apart n 1 (omega arith), apart n 2 (omega arith), apart n 3 (omega arith), apart n 4 (omega arith), apart n 5 (omega arith)) refl
+c-large c.ProbeAck n large =
+    rw (
+      apart n 0 (omega arith),
+      apart n 1 (omega arith),
+      apart n 2 (omega arith),
+      apart n 3 (omega arith),
+      apart n 4
+          (omega arith),
+      apart n 5 (omega arith),
+    ) refl
 c-large c.ProbeAckData n large = rw (apart n 0 (omega arith), apart n 1 (omega arith), apart n 3 (omega arith)) refl
 c-large c.Release n large = rw (apart n 0 (omega arith), apart n 1 (omega arith), apart n 2 (omega arith)) refl
 c-large c.ReleaseData n large = rw (apart n 0 (omega arith), apart n 1 (omega arith)) refl
@@ -96,26 +115,32 @@ keeps l ch x e =
 roomy : {w : ℕ} (l : Level) (ch : Channel) (x : Beat w) → IsWidth w → IsNarrow x → illegal l ch x ≡ None → IsWritable x
 roomy {w} l ch (A x) width mask e =
     let k = keeps l ch (A x) e in
-    let param : x.param < 8 = below x.param 8 (a_has_param x.opcode x.param) (a-large x.opcode x.param) (not-false (a_has_param x.opcode x.param) k.two) in
-    let size : x.size ≤ 6 = request_small w x.size l x.opcode width (not-false (a_has_size w l x.opcode x.size) k.three) in
+    let param : x.param < 8 = below x.param 8 (a_has_param x.opcode x.param) (a-large x.opcode x.param)
+    (not-false (a_has_param x.opcode x.param) k.two) in
+    let size : x.size ≤ 6 = request_small w x.size l x.opcode width (not-false (a_has_size w l x.opcode x.size) k.three)
+    in
     (param, omega arith, mask)
 roomy {w} l ch (B x) width mask e =
     let k = keeps l ch (B x) e in
-    let both = and_parts (is_some (cap_of x.param)) (x.source == 0) (not-false (is_some (cap_of x.param) && (x.source == 0)) k.two) in
+    let both = and_parts (is_some (cap_of x.param)) (x.source == 0)
+    (not-false (is_some (cap_of x.param) && (x.source == 0)) k.two) in
     let param : x.param < 4 = below x.param 4 (is_some (cap_of x.param)) (cap-large x.param) both.0 in
     let is : x.size ≡ 6 = eqb-true x.size 6 (not-false (x.size == 6) k.three) in
     (omega arith, omega (arith, is), mask)
 roomy {w} l ch (C x) width mask e =
     let k = keeps l ch (C x) e in
-    let both = and_parts (c_has_param x.opcode x.param) (c_has_source x.opcode x.source) (not-false (c_has_param x.opcode x.param && c_has_source x.opcode x.source) k.two) in
+    let both = and_parts (c_has_param x.opcode x.param) (c_has_source x.opcode x.source)
+    (not-false (c_has_param x.opcode x.param && c_has_source x.opcode x.source) k.two) in
     let is : x.size ≡ 6 = eqb-true x.size 6 (not-false (x.size == 6) k.three) in
     (below x.param 8 (c_has_param x.opcode x.param) (c-large x.opcode x.param) both.0, omega (arith, is))
 roomy {w} l ch (D x) width mask e =
     let k = keeps l ch (D x) e in
-    let both = and_parts (d_has_param x.opcode x.param) (d_has_sink x.opcode x.sink) (not-false (d_has_param x.opcode x.param && d_has_sink x.opcode x.sink) k.two) in
+    let both = and_parts (d_has_param x.opcode x.param) (d_has_sink x.opcode x.sink)
+    (not-false (d_has_param x.opcode x.param && d_has_sink x.opcode x.sink) k.two) in
     let size = response-small l ch x width e in
     (below x.param 4 (d_has_param x.opcode x.param) (d-large x.opcode x.param) both.0, omega (arith, size))
 roomy l ch (E x) width mask e = tt
 
-pub legal-writable : {w : ℕ} (l : Level) (ch : Channel) (m : Message w) (k : ℕ) → IsWidth w → illegal l ch (beat_of m k) ≡ None → IsWritable (beat_of m k)
+pub legal-writable : {w : ℕ} (l : Level) (ch : Channel) (m : Message w) (k : ℕ) → IsWidth w
+    → illegal l ch (beat_of m k) ≡ None → IsWritable (beat_of m k)
 legal-writable l ch m k width e = roomy l ch (beat_of m k) width (narrow m k) e

@@ -1,27 +1,22 @@
 -- Channels lose nothing and keep order, whatever happens.
-use Rattle.std.proofs.Common.{◌≡◌, ℕ, Bool, true, false, List, [], ◌∷◌, Option, Some, None, refl, sym, ◌∙◌, ap, subst, inl, inr}
+use Rattle.tl_coherence.proofs.links.Imports.{IsWidth, Beat, Link, Channel, Message, beat_of, channel_of, Config, Op}
+use Rattle.tl_coherence.proofs.links.Imports.{Verdict, Endpoint, EndConfig, Deliver, is_moving, Log, system_after, Step}
+use Rattle.tl_coherence.proofs.links.Imports.{stepped, is_to_client, System, terms_at, SimulationRelation}
+use Rattle.std.proofs.Common.{◌≡◌, ℕ, Bool, true, false, List, [], ◌∷◌, Option, Some, None, refl, sym, ◌∙◌, ap, subst}
+use Rattle.std.proofs.Common.{inl, inr}
 use Rattle.std.specs.Prelude.{◌++◌, ◌==◌, if◌then◌else◌, All, map, Ok, ⊤}
 use Rattle.std.proofs.lemmas.Bool.{cases_eq, ne_eqb}
 use Rattle.std.proofs.lemmas.List.Elements.{All-head}
-use Rattle.tl_beat.specs.statement.Width.{IsWidth}
-use Rattle.tl_beat.specs.declared.beat.Beat.{Beat}
 use Rattle.tl_beat.specs.declared.beat.Beat.TheVariants as beat
-use Rattle.tl_beat.specs.declared.beat.Link.{Link}
-use Rattle.tl_beat.specs.declared.channel.Channel.{Channel}
 use Rattle.tl_beat.specs.declared.channel.Channel.TheVariants as channel
-use Rattle.tl_burst.specs.declared.message.Message.{Message}
 use Rattle.tl_burst.specs.declared.message.Message.TheVariants as message
-use Rattle.tl_burst.specs.statement.Burst.{beat_of, burst_of}
-use Rattle.tl_burst.specs.statement.Messages.{History, carried_on, channel_of}
-use Rattle.tl_params.specs.declared.config.Config.{Config}
+use Rattle.tl_burst.specs.statement.Burst.{burst_of}
+use Rattle.tl_burst.specs.statement.Messages.{History, carried_on}
 use Rattle.tl_rules.specs.statement.Admission.{sent_if_any}
 use Rattle.tl_rules.specs.statement.Conformance.{Trace, on_link}
-use Rattle.tl_client.specs.declared.operation.Op.{Op}
-use Rattle.tl_client.specs.declared.verdict.Verdict.{Verdict}
 use Rattle.tl_client.specs.declared.verdict.Verdict.TheVariants as verdict
 use Rattle.tl_client.specs.laws.After as client_after
 use Rattle.tl_client.specs.statement.Ask as ask
-use Rattle.tl_client.specs.statement.Endpoint.{Endpoint, EndConfig}
 use Rattle.tl_client.specs.statement.Offer as offer
 use Rattle.tl_client.proofs.AfterAsked.{past-asked}
 use Rattle.tl_client.proofs.AfterOffered.{past-offered}
@@ -36,24 +31,24 @@ use Rattle.tl_manager.proofs.Reactions.{reaction_handable}
 use Rattle.tl_manager.proofs.Handed.{beats_on_link}
 use Rattle.tl_manager.proofs.Lawful.{IsHandable}
 use Rattle.tl_coherence.specs.declared.event.Event.{Event}
-use Rattle.tl_coherence.specs.declared.event.Event.TheVariants.{Ask, Deliver}
+use Rattle.tl_coherence.specs.declared.event.Event.TheVariants.{Ask}
 use Rattle.tl_coherence.specs.declared.event.Outcome.{Outcome}
 use Rattle.tl_coherence.specs.declared.event.Outcome.TheVariants as outcome
 use Rattle.tl_coherence.specs.statement.Delivery.{IsFifo}
-use Rattle.tl_coherence.specs.statement.Draining.{is_moving}
 use Rattle.tl_coherence.specs.statement.Flow.{flow, taken_on}
 use Rattle.tl_coherence.specs.statement.Headline.{IsTyped, AreTyped}
-use Rattle.tl_coherence.specs.statement.Log.{Log, IsLog, system_after}
-use Rattle.tl_coherence.specs.statement.Step.{Step, stepped, handed_by, is_to_client, outcome_of}
-use Rattle.tl_coherence.specs.statement.System.{System, fresh, terms_at, with_client, with_manager, with_channel, with_message, with_messages}
-use Rattle.tl_coherence.specs.refinement.SimulationRelation.{SimulationRelation}
+use Rattle.tl_coherence.specs.statement.Log.{IsLog}
+use Rattle.tl_coherence.specs.statement.Step.{handed_by, outcome_of}
+use Rattle.tl_coherence.specs.statement.System.{fresh, with_client, with_manager, with_channel, with_message}
+use Rattle.tl_coherence.specs.statement.System.{with_messages}
 use Rattle.tl_coherence.proofs.links.HeadsOfLinks.{first-of}
 use Rattle.tl_coherence.proofs.simulation.BeatsInFlight.{IsOfClient, IsFitIfAny, IsFitAnswer, fit-asked, fit-taken}
 use Rattle.tl_coherence.proofs.deliveries.DeliverDWhole.{unmoved}
 use Rattle.tl_coherence.proofs.queues.Landed.{IsOn}
 use Rattle.tl_coherence.proofs.deliveries.Matching.{shadow, matched, not_moving, stepped-nobody}
 use Rattle.tl_coherence.proofs.simulation.Moved.{IsTakenByClient, IsTakenByManager, client-moves, manager-moves}
-use Rattle.tl_coherence.proofs.links.FifoSteps.{ArePassing, said_at, heard_at, queued_at, client-says, manager-says, client-hears, manager-hears, passing-same}
+use Rattle.tl_coherence.proofs.links.FifoSteps.{ArePassing, said_at, heard_at, queued_at, client-says, manager-says}
+use Rattle.tl_coherence.proofs.links.FifoSteps.{client-hears, manager-hears, passing-same}
 use Rattle.tl_coherence.proofs.simulation.SoundAfter.{copy-long}
 use Rattle.tl_coherence.proofs.queues.Steps.{clients-with_messages, manager-with_messages, stepped-asked, stepped-empty}
 use Rattle.tl_coherence.proofs.queues.Tokens.{same_number}
@@ -77,35 +72,43 @@ IsOurs None = ⊤
 IsOurs (Some m) = is_from_client (beat_of m 0) ≡ true
 
 -- the client's end is then with all beats of it
-says-passing : {w : ℕ} (c : ℕ) (m : Option (Message w)) (e : Endpoint w) (t : History w) (sys : System w) (p : ℕ → History w) (f : ℕ → History w) → IsOurs m
+says-passing : {w : ℕ} (c : ℕ) (m : Option (Message w)) (e : Endpoint w) (t : History w) (sys : System w) (p : ℕ
+    → History w) (f : ℕ → History w) → IsOurs m
     → e.past ≡ sent_if_any m (p c) → ((d : ℕ) → (d ≡ c → ⊥) → p d ≡ (sys.clients d).past)
-    → ArePassing p (λ d. on_link d sys.manager.trace) sys.channels f → IsPassing (with_messages (handed_by c m) (with_client c e sys)) f
+    → ArePassing p (λ d. on_link d sys.manager.trace) sys.channels f
+    → IsPassing (with_messages (handed_by c m) (with_client c e sys)) f
 unfolding with_messages
 says-passing {w} c None e t sys p f ours past others is =
-    passing-same p (λ d. on_link d sys.manager.trace) (λ d. ((with_client c e sys).clients d).past) (λ d. on_link d sys.manager.trace) sys.channels sys.channels f f
+    passing-same p (λ d. on_link d sys.manager.trace) (λ d. ((with_client c e sys).clients d).past)
+    (λ d. on_link d sys.manager.trace) sys.channels sys.channels f f
     (λ d. elim (cases_eq d c) [
       | inl same ↦ rw (same, same_number c) past
       | inr other ↦ rw (ne_eqb d c other) (sym (others d other))
     ]) (λ d. refl) (λ d at. refl) (λ d. refl) is
 says-passing {w} c (Some m) e t sys p f ours past others is =
-    passing-same (said_at c m p) (λ d. on_link d sys.manager.trace) (λ d. ((with_client c e sys).clients d).past) (λ d. on_link d sys.manager.trace)
+    passing-same (said_at c m p) (λ d. on_link d sys.manager.trace) (λ d. ((with_client c e sys).clients d).past)
+    (λ d. on_link d sys.manager.trace)
     (queued_at c m sys.channels) (queued_at c m sys.channels) f f
     (λ d. elim (cases_eq d c) [
       | inl same ↦ rw (same, same_number c) past
       | inr other ↦ rw (ne_eqb d c other, ne_eqb c d (λ i. other (sym i))) (sym (others d other))
-    ]) (λ d. refl) (λ d at. refl) (λ d. refl) (client-says c m p (λ d. on_link d sys.manager.trace) sys.channels f ours is)
+    ]) (λ d. refl) (λ d at. refl) (λ d. refl) (client-says c m p (λ d. on_link d sys.manager.trace) sys.channels f ours
+    is)
 
 -- ---- the manager hands out messages
 
-manages-passing : {w : ℕ} (config : Config) (handed : Handed w) (t : Trace w) (s : System w) (p : ℕ → History w) (f : ℕ → History w)
+manages-passing : {w : ℕ} (config : Config) (handed : Handed w) (t : Trace w) (s : System w) (p : ℕ → History w) (f : ℕ
+    → History w)
     → Each (IsHandable config) handed → ArePassing p (λ d. on_link d t) s.channels f
     → ArePassing p (λ d. on_link d (with_handed handed t)) (with_messages handed s).channels f
 unfolding with_messages with_handed
 manages-passing config [] t s p f each is = is
 manages-passing {w} config (x ∷ handed) t s p f each is =
     manages-passing config handed (map (λ b. (x.0, b)) (burst_of x.1) ++ t) (with_message x.0.0 x.1 s) p f each.1
-    (passing-same p (said_at x.0.0 x.1 (λ d. on_link d t)) p (λ d. on_link d (map (λ b. (x.0, b)) (burst_of x.1) ++ t)) (queued_at x.0.0 x.1 s.channels) (with_message x.0.0 x.1 s).channels f f
-    (λ d. refl) (λ d. beats_on_link d x.0 (burst_of x.1) t) (λ d at. refl) (λ d. refl) (manager-says x.0.0 x.1 p (λ d. on_link d t) s.channels f each.0.ours is))
+    (passing-same p (said_at x.0.0 x.1 (λ d. on_link d t)) p (λ d. on_link d (map (λ b. (x.0, b)) (burst_of x.1) ++ t))
+    (queued_at x.0.0 x.1 s.channels) (with_message x.0.0 x.1 s).channels f f
+    (λ d. refl) (λ d. beats_on_link d x.0 (burst_of x.1) t) (λ d at. refl) (λ d. refl)
+    (manager-says x.0.0 x.1 p (λ d. on_link d t) s.channels f each.0.ours is))
 
 -- ---- the channel of a beat
 
@@ -140,7 +143,8 @@ on_it (beat.E x) channel.E = refl
 
 -- with the beat that was moved
 pub flow_moved : {w : ℕ} (link : Link) (ch : Channel) (o : Outcome w) (x : Beat w) (log : Log w) (d : ℕ)
-    → taken_on d (Deliver link ch) o ≡ (if link.0 == d then x ∷ [] else []) → flow d ((Deliver link ch, o) ∷ log) ≡ heard_at link.0 x (λ i. flow i log) d
+    → taken_on d (Deliver link ch) o ≡ (if link.0 == d then x ∷ [] else [])
+    → flow d ((Deliver link ch, o) ∷ log) ≡ heard_at link.0 x (λ i. flow i log) d
 unfolding flow
 flow_moved {w} link ch o x log d is = ap (λ xs. xs ++ flow d log) is ∙ go (link.0 == d)
   where
@@ -149,13 +153,15 @@ flow_moved {w} link ch o x log d is = ap (λ xs. xs ++ flow d log) is ∙ go (li
     go false = refl
 
 -- the beat that a client takes
-pub taken_at : {w : ℕ} (link : Link) (ch : Channel) (x : Beat w) (v : Verdict) (d : ℕ) → is_moving (outcome_of x v) ≡ true
+pub taken_at : {w : ℕ} (link : Link) (ch : Channel) (x : Beat w) (v : Verdict) (d : ℕ)
+    → is_moving (outcome_of x v) ≡ true
     → taken_on d (Deliver link ch) (outcome_of x v) ≡ (if link.0 == d then x ∷ [] else [])
 taken_at link ch x verdict.Taken d e = refl
 taken_at link ch x (verdict.Done source f) d e = refl
 taken_at link ch x verdict.Stalled d e = absurd cc
 
-pub flow_still : {w : ℕ} (event : Event w) (o : Outcome w) (log : Log w) (d : ℕ) → is_moving o ≡ false → flow d ((event, o) ∷ log) ≡ flow d log
+pub flow_still : {w : ℕ} (event : Event w) (o : Outcome w) (log : Log w) (d : ℕ) → is_moving o ≡ false
+    → flow d ((event, o) ∷ log) ≡ flow d log
 unfolding flow
 flow_still (Ask c i) o log d e = refl
 flow_still (Deliver link ch) (outcome.Replied r) log d e = refl
@@ -168,16 +174,21 @@ flow_still (Deliver link ch) (outcome.Done x source f) log d e = absurd cc
 -- ---- events
 
 still-passing : {w : ℕ} (config : Config) (log : Log w) (link : Link) (ch : Channel)
-    → is_moving (stepped config (Deliver link ch) (system_after config log)).outcome ≡ false → IsPassing (system_after config log) (λ d. flow d log)
-    → IsPassing (stepped config (Deliver link ch) (system_after config log)).after (λ d. flow d ((Deliver link ch, (stepped config (Deliver link ch) (system_after config log)).outcome) ∷ log))
+    → is_moving (stepped config (Deliver link ch) (system_after config log)).outcome ≡ false
+    → IsPassing (system_after config log) (λ d. flow d log)
+    → IsPassing (stepped config (Deliver link ch) (system_after config log)).after
+    (λ d. flow d ((Deliver link ch, (stepped config (Deliver link ch) (system_after config log)).outcome) ∷ log))
 still-passing {w} config log link ch still is =
     let same = unmoved config link ch (system_after config log) still in
     passing-same _ _ _ _ _ _ _ _ same.pasts (λ d. ap (on_link d) same.trace) same.channels
-    (λ d. flow_still (Deliver link ch) (stepped config (Deliver link ch) (system_after config log)).outcome log d still) is
+    (λ d. flow_still (Deliver link ch) (stepped config (Deliver link ch) (system_after config log)).outcome log d still)
+    is
 
 asked-passing : {w : ℕ} (config : Config) (log : Log w) (c : ℕ) (o : Op w) (mail : _) (request : _) (s : _)
-    → SimulationRelation config log mail request s (system_after config log) → IsTyped (Ask c o) → IsPassing (system_after config log) (λ d. flow d log)
-    → IsPassing (stepped config (Ask c o) (system_after config log)).after (λ d. flow d ((Ask c o, (stepped config (Ask c o) (system_after config log)).outcome) ∷ log))
+    → SimulationRelation config log mail request s (system_after config log) → IsTyped (Ask c o)
+    → IsPassing (system_after config log) (λ d. flow d log)
+    → IsPassing (stepped config (Ask c o) (system_after config log)).after
+    (λ d. flow d ((Ask c o, (stepped config (Ask c o) (system_after config log)).outcome) ∷ log))
 unfolding flow
 asked-passing {w} config log c o mail request s matched typed is = go (terms_at config c) refl
   where
@@ -200,10 +211,14 @@ asked-passing {w} config log c o mail request s matched typed is = go (terms_at 
         ours None fit = tt
         ours (Some m) fit = ours_from m fit.ours
 
-moved-passing : {w : ℕ} (config : Config) (log : Log w) (link : Link) (ch : Channel) (terms : EndConfig) (x : Beat w) (queue : List (Beat w)) → IsWidth w
-    → AreTyped log → IsLog config log → terms_at config link.0 ≡ Some terms → (system_after config log).channels link.0 ch ≡ x ∷ queue
-    → is_moving (stepped config (Deliver link ch) (system_after config log)).outcome ≡ true → IsPassing (system_after config log) (λ d. flow d log)
-    → IsPassing (stepped config (Deliver link ch) (system_after config log)).after (λ d. flow d ((Deliver link ch, (stepped config (Deliver link ch) (system_after config log)).outcome) ∷ log))
+moved-passing : {w : ℕ} (config : Config) (log : Log w) (link : Link) (ch : Channel) (terms : EndConfig) (x : Beat w)
+    (queue : List (Beat w)) → IsWidth w
+    → AreTyped log → IsLog config log → terms_at config link.0 ≡ Some terms
+    → (system_after config log).channels link.0 ch ≡ x ∷ queue
+    → is_moving (stepped config (Deliver link ch) (system_after config log)).outcome ≡ true
+    → IsPassing (system_after config log) (λ d. flow d log)
+    → IsPassing (stepped config (Deliver link ch) (system_after config log)).after
+    (λ d. flow d ((Deliver link ch, (stepped config (Deliver link ch) (system_after config log)).outcome) ∷ log))
 unfolding on_link
 moved-passing {w} config log link ch terms x queue width typed logged known beats moving is = go (is_to_client ch) refl
   where
@@ -217,12 +232,14 @@ moved-passing {w} config log link ch terms x queue width typed logged known beat
     h = matched config log width typed logged
 
     on_ch : IsOn ch x
-    on_ch = subst (λ (i : Channel). IsOn i x) (first-of config log (shadow config log) c terms ch x queue width h known beats).on (on_it x)
+    on_ch = subst (λ (i : Channel). IsOn i x) (first-of config log (shadow config log) c terms ch x queue width h known
+        beats).on (on_it x)
 
     head : manager.IsSound config (record { 0 = c }, x)
     head = All-head (λ y. manager.IsSound config (record { 0 = c }, y)) x queue (same beats (h.sound c ch))
       where
-        same : sys.channels c ch ≡ x ∷ queue → All (λ y. manager.IsSound config (record { 0 = c }, y)) (sys.channels c ch) → All (λ y. manager.IsSound config (record { 0 = c }, y)) (x ∷ queue)
+        same : sys.channels c ch ≡ x ∷ queue → All (λ y. manager.IsSound config (record { 0 = c }, y))
+            (sys.channels c ch) → All (λ y. manager.IsSound config (record { 0 = c }, y)) (x ∷ queue)
         same e i = rw e at i
 
     f : ℕ → History w
@@ -235,47 +252,63 @@ moved-passing {w} config log link ch terms x queue width typed logged known beat
     go : (b : Bool) → is_to_client ch ≡ b → IsPassing (stepped config (Deliver link ch) sys).after f'
     go true up = by_client (client-moves config link ch sys terms x queue known beats up moving)
       where
-        by_client : IsTakenByClient terms c ch x queue sys (stepped config (Deliver link ch) sys) → IsPassing (stepped config (Deliver link ch) sys).after f'
+        by_client : IsTakenByClient terms c ch x queue sys (stepped config (Deliver link ch) sys)
+            → IsPassing (stepped config (Deliver link ch) sys).after f'
         by_client t =
             subst (λ (y : Step w). IsPassing y.after (λ d. flow d ((Deliver link ch, y.outcome) ∷ log))) (sym t.step_is)
             (took t.verdict_is t.message t.answer (sym (ap (λ (y : Step w). is_moving y.outcome) t.step_is) ∙ moving))
           where
-            took : (v : Verdict) (m : Option (Message w)) → (offer.taken x (sys.clients c)).answer ≡ Ok (v, m) → is_moving (outcome_of x v) ≡ true
-                → IsPassing (with_messages (handed_by c m) (with_client c (offer.taken x (sys.clients c)).after (with_channel c ch queue sys))) (λ d. flow d ((Deliver link ch, outcome_of x v) ∷ log))
+            took : (v : Verdict) (m : Option (Message w)) → (offer.taken x (sys.clients c)).answer ≡ Ok (v, m)
+                → is_moving (outcome_of x v) ≡ true
+                → IsPassing (with_messages (handed_by c m) (with_client c (offer.taken x (sys.clients c)).after
+                (with_channel c ch queue sys))) (λ d. flow d ((Deliver link ch, outcome_of x v) ∷ log))
             took v m answer moves =
-                passing-same _ _ _ _ _ _ (heard_at c x f) _ (λ d. refl) (λ d. refl) (λ d at. refl) (λ d. flow_moved link ch (outcome_of x v) x log d (taken_at link ch x v d moves))
-                (says-passing c m (offer.taken x (sys.clients c)).after (sys.clients c).past (with_channel c ch queue sys) (heard_at c x (λ d. (sys.clients d).past)) (heard_at c x f)
+                passing-same _ _ _ _ _ _ (heard_at c x f) _ (λ d. refl) (λ d. refl) (λ d at. refl)
+                (λ d. flow_moved link ch (outcome_of x v) x log d (taken_at link ch x v d moves))
+                (says-passing c m (offer.taken x (sys.clients c)).after (sys.clients c).past
+                (with_channel c ch queue sys) (heard_at c x (λ d. (sys.clients d).past)) (heard_at c x f)
                 (ours v m answer)
                 (ap (λ (o : offer.Offered w). o.after.past) (sym t.takes) ∙ past-offered terms ch x (sys.clients c)
                 ∙ ap (sent_if_any (client_after.handed (offer.offered terms ch x (sys.clients c)).answer)) t.heard
-                ∙ ap (λ a. sent_if_any (client_after.handed a) (x ∷ (sys.clients c).past)) (ap (λ (o : offer.Offered w). o.answer) t.takes ∙ answer) ∙ handed_is v m moves ∙ rw (same_number c) refl)
+                ∙ ap (λ a. sent_if_any (client_after.handed a) (x ∷ (sys.clients c).past))
+                (ap (λ (o : offer.Offered w). o.answer) t.takes ∙ answer) ∙ handed_is v m moves ∙ rw (same_number c)
+                refl)
                 (λ d other. rw (ne_eqb c d (λ i. other (sym i))) refl)
-                (client-hears c ch x queue (λ d. (sys.clients d).past) (λ d. on_link d sys.manager.trace) sys.channels f up on_ch beats is))
+                (client-hears c ch x queue (λ d. (sys.clients d).past) (λ d. on_link d sys.manager.trace) sys.channels f
+                up on_ch beats is))
               where
                 handed_is : (v : Verdict) (m : Option (Message w)) → is_moving (outcome_of x v) ≡ true
-                    → sent_if_any (client_after.handed (Ok (v, m))) (x ∷ (sys.clients c).past) ≡ sent_if_any m (x ∷ (sys.clients c).past)
+                    → sent_if_any (client_after.handed (Ok (v, m))) (x ∷ (sys.clients c).past) ≡ sent_if_any m
+                    (x ∷ (sys.clients c).past)
                 handed_is verdict.Taken m e = refl
                 handed_is (verdict.Done source fin) m e = refl
                 handed_is verdict.Stalled m e = absurd cc
 
-                ours : (v : Verdict) (m : Option (Message w)) → (offer.taken x (sys.clients c)).answer ≡ Ok (v, m) → IsOurs m
+                ours : (v : Verdict) (m : Option (Message w)) → (offer.taken x (sys.clients c)).answer ≡ Ok (v, m)
+                    → IsOurs m
                 ours v None e = tt
                 ours v (Some m) e =
                     let fit : IsFitAnswer config.blocks (Ok (v, Some m)) =
                     subst (IsFitAnswer config.blocks) e (fit-taken config.blocks x (sys.clients c) head.inside
-                    (copy-long config log (shadow config log).mail (shadow config log).request (shadow config log).state sys h c)) in
+                    (copy-long config log (shadow config log).mail (shadow config log).request (shadow config log).state
+                    sys h c)) in
                     ours_from m fit.ours
     go false down = by_manager (manager-moves config link ch sys terms x queue known beats down moving)
       where
-        by_manager : IsTakenByManager config link ch x queue sys (stepped config (Deliver link ch) sys) → IsPassing (stepped config (Deliver link ch) sys).after f'
+        by_manager : IsTakenByManager config link ch x queue sys (stepped config (Deliver link ch) sys)
+            → IsPassing (stepped config (Deliver link ch) sys).after f'
         by_manager t =
             subst (λ (y : Step w). IsPassing y.after (λ d. flow d ((Deliver link ch, y.outcome) ∷ log))) (sym t.step_is)
-            (passing-same (λ d. (sys.clients d).past) (λ d. on_link d e.trace) _ _ (with_messages handed now).channels (with_messages handed now).channels
+            (passing-same (λ d. (sys.clients d).past) (λ d. on_link d e.trace) _ _ (with_messages handed now).channels
+            (with_messages handed now).channels
             (heard_at c x f) _ (λ d. ap (λ (i : ℕ → Endpoint w). (i d).past) (clients-with_messages handed now))
-            (λ d. ap (λ (i : manager_end.End w). on_link d i.trace) (manager-with_messages handed now)) (λ d at. refl) (λ d. flow_moved link ch (outcome.Moved x) x log d refl)
-            (manages-passing config handed ((link, x) ∷ sys.manager.trace) now (λ d. (sys.clients d).past) (heard_at c x f) (reaction_handable config link x sys.manager width head h.manager_kept.sound)
+            (λ d. ap (λ (i : manager_end.End w). on_link d i.trace) (manager-with_messages handed now)) (λ d at. refl)
+            (λ d. flow_moved link ch (outcome.Moved x) x log d refl)
+            (manages-passing config handed ((link, x) ∷ sys.manager.trace) now (λ d. (sys.clients d).past)
+            (heard_at c x f) (reaction_handable config link x sys.manager width head h.manager_kept.sound)
             (passing-same _ _ _ _ _ _ _ _ (λ d. refl) (λ d. refl) (λ d at. refl) (λ d. refl)
-            (manager-hears c ch x queue (λ d. (sys.clients d).past) (λ d. on_link d sys.manager.trace) sys.channels f down on_ch beats is))))
+            (manager-hears c ch x queue (λ d. (sys.clients d).past) (λ d. on_link d sys.manager.trace) sys.channels f
+            down on_ch beats is))))
           where
             handed : Handed w
             handed = (manager_reaction.reaction config link x sys.manager).handed
@@ -292,23 +325,32 @@ first-passing : (w : ℕ) → IsPassing {w = w} fresh (λ d. flow d [])
 unfolding carried_on on_link flow
 first-passing w = record { down = λ d at e. (refl, refl); up = λ d at e. (refl, refl) }
 
-passing-event : {w : ℕ} (config : Config) (log : Log w) (event : Event w) → IsWidth w → AreTyped log → IsLog config log → IsTyped event → IsPassing (system_after config log) (λ d. flow d log)
-    → IsPassing (stepped config event (system_after config log)).after (λ d. flow d ((event, (stepped config event (system_after config log)).outcome) ∷ log))
+passing-event : {w : ℕ} (config : Config) (log : Log w) (event : Event w) → IsWidth w → AreTyped log → IsLog config log
+    → IsTyped event → IsPassing (system_after config log) (λ d. flow d log)
+    → IsPassing (stepped config event (system_after config log)).after
+    (λ d. flow d ((event, (stepped config event (system_after config log)).outcome) ∷ log))
 passing-event config log (Ask c o) width typed logged ok before =
-    asked-passing config log c o (shadow config log).mail (shadow config log).request (shadow config log).state (matched config log width typed logged) ok before
-passing-event {w} config log (Deliver link ch) width typed logged ok before = delivered (is_moving (stepped config (Deliver link ch) sys).outcome) refl
+    asked-passing config log c o (shadow config log).mail (shadow config log).request (shadow config log).state
+    (matched config log width typed logged) ok before
+passing-event {w} config log (Deliver link ch) width typed logged ok before =
+    delivered (is_moving (stepped config (Deliver link ch) sys).outcome) refl
   where
     sys : System w
     sys = system_after config log
 
     Then : Type 0
-    Then = IsPassing (stepped config (Deliver link ch) sys).after (λ d. flow d ((Deliver link ch, (stepped config (Deliver link ch) sys).outcome) ∷ log))
+    Then = IsPassing (stepped config (Deliver link ch) sys).after
+        (λ d. flow d ((Deliver link ch, (stepped config (Deliver link ch) sys).outcome) ∷ log))
 
-    moves : (terms : EndConfig) (beats : List (Beat w)) → terms_at config link.0 ≡ Some terms → sys.channels link.0 ch ≡ beats → is_moving (stepped config (Deliver link ch) sys).outcome ≡ true → Then
-    moves terms [] known none moving = absurd (not_moving _ _ (stepped-empty config link ch sys terms known none) moving refl)
-    moves terms (y ∷ queue) known beats moving = moved-passing config log link ch terms y queue width typed logged known beats moving before
+    moves : (terms : EndConfig) (beats : List (Beat w)) → terms_at config link.0 ≡ Some terms
+        → sys.channels link.0 ch ≡ beats → is_moving (stepped config (Deliver link ch) sys).outcome ≡ true → Then
+    moves terms [] known none moving =
+        absurd (not_moving _ _ (stepped-empty config link ch sys terms known none) moving refl)
+    moves terms (y ∷ queue) known beats moving = moved-passing config log link ch terms y queue width typed logged known
+        beats moving before
 
-    found : (o : Option EndConfig) → terms_at config link.0 ≡ o → is_moving (stepped config (Deliver link ch) sys).outcome ≡ true → Then
+    found : (o : Option EndConfig) → terms_at config link.0 ≡ o
+        → is_moving (stepped config (Deliver link ch) sys).outcome ≡ true → Then
     found None none moving = absurd (not_moving _ _ (stepped-nobody config (Deliver link ch) sys none) moving refl)
     found (Some terms) known moving = moves terms (sys.channels link.0 ch) known refl moving
 
@@ -316,16 +358,24 @@ passing-event {w} config log (Deliver link ch) width typed logged ok before = de
     delivered true moving = found (terms_at config link.0) refl moving
     delivered false still = still-passing config log link ch still before
 
-pub passing : {w : ℕ} (config : Config) (log : Log w) → IsWidth w → AreTyped log → IsLog config log → IsPassing (system_after config log) (λ d. flow d log)
+pub passing : {w : ℕ} (config : Config) (log : Log w) → IsWidth w → AreTyped log → IsLog config log
+    → IsPassing (system_after config log) (λ d. flow d log)
 unfolding system_after AreTyped IsLog
 passing {w} config [] width typed logged = first-passing w
 passing {w} config (x ∷ log) width typed logged =
-    subst (λ (o : Outcome w). IsPassing (stepped config x.0 (system_after config log)).after (λ d. flow d ((x.0, o) ∷ log))) (sym logged.0)
+    subst (λ (o : Outcome w). IsPassing (stepped config x.0 (system_after config log)).after
+    (λ d. flow d ((x.0, o) ∷ log))) (sym logged.0)
     (passing-event config log x.0 width typed.1 logged.1 typed.0 (passing config log width typed.1 logged.1))
 
-pub carried-passing : {w : ℕ} (config : Config) (log : Log w) (link : ℕ) (ch : Channel) → IsPassing (system_after config log) (λ d. flow d log) → IsFifo (system_after config log) log link ch
-carried-passing config log link channel.A is = let both = is.up link channel.A refl in record { under_way = both.0; delivered = both.1 }
-carried-passing config log link channel.B is = let both = is.down link channel.B refl in record { under_way = both.0; delivered = both.1 }
-carried-passing config log link channel.C is = let both = is.up link channel.C refl in record { under_way = both.0; delivered = both.1 }
-carried-passing config log link channel.D is = let both = is.down link channel.D refl in record { under_way = both.0; delivered = both.1 }
-carried-passing config log link channel.E is = let both = is.up link channel.E refl in record { under_way = both.0; delivered = both.1 }
+pub carried-passing : {w : ℕ} (config : Config) (log : Log w) (link : ℕ) (ch : Channel)
+    → IsPassing (system_after config log) (λ d. flow d log) → IsFifo (system_after config log) log link ch
+carried-passing config log link channel.A is = let both = is.up link channel.A refl in
+    record { under_way = both.0; delivered = both.1 }
+carried-passing config log link channel.B is = let both = is.down link channel.B refl in
+    record { under_way = both.0; delivered = both.1 }
+carried-passing config log link channel.C is = let both = is.up link channel.C refl in
+    record { under_way = both.0; delivered = both.1 }
+carried-passing config log link channel.D is = let both = is.down link channel.D refl in
+    record { under_way = both.0; delivered = both.1 }
+carried-passing config log link channel.E is = let both = is.up link channel.E refl in
+    record { under_way = both.0; delivered = both.1 }

@@ -1,17 +1,14 @@
 -- Channels lose nothing and keep order: for histories of the two ends of each link, and what is on its channels.
+use Rattle.tl_coherence.proofs.links.Imports.{Beat, Channel, Message, beat_of, is_to_client}
 use Rattle.std.proofs.Common.{◌≡◌, ℕ, zero, suc, Bool, true, false, not, List, [], ◌∷◌, refl, sym, ◌∙◌, ap, inl, inr}
 use Rattle.std.specs.Prelude.{◌++◌, ◌==◌, ◌&&◌, if◌then◌else◌, reverse}
 use Rattle.std.proofs.lemmas.Bool.{cases_eq, ne_eqb}
 use Rattle.std.proofs.lemmas.List.{append_assoc, reverse-append}
-use Rattle.tl_beat.specs.declared.beat.Beat.{Beat}
-use Rattle.tl_beat.specs.declared.channel.Channel.{Channel}
-use Rattle.tl_burst.specs.declared.message.Message.{Message}
 use Rattle.tl_burst.specs.declared.message.Message.TheVariants as message
-use Rattle.tl_burst.specs.statement.Burst.{beat_of, beats_of, begun, burst_of}
+use Rattle.tl_burst.specs.statement.Burst.{beats_of, begun, burst_of}
 use Rattle.tl_burst.specs.statement.Messages.{History, carried_on, on}
 use Rattle.tl_rules.specs.statement.Legality.{beats_from}
 use Rattle.tl_manager.specs.statement.Offer.{is_from_client}
-use Rattle.tl_coherence.specs.statement.Step.{is_to_client}
 use Rattle.tl_coherence.specs.statement.System.{same_channel, channel_of_message}
 use Rattle.tl_coherence.proofs.queues.Beats.{reverse-beats_from}
 use Rattle.tl_coherence.proofs.queues.Landed.{IsOn}
@@ -25,40 +22,49 @@ use Rattle.tl_coherence.proofs.queues.Channels.{same_channel-is}
 abbrev IsInOrder : {X : Type 0} → List X → List X → List X → Type 0
 IsInOrder sent queue taken = sent ≡ reverse queue ++ taken
 
-push_order : {w : ℕ} (b : Bool) (m : Message w) (sent queue own taken : List (Beat w)) → (b ≡ true → own ≡ queue) → IsInOrder sent queue taken
+push_order : {w : ℕ} (b : Bool) (m : Message w) (sent queue own taken : List (Beat w)) → (b ≡ true → own ≡ queue)
+    → IsInOrder sent queue taken
     → IsInOrder (if b then burst_of m ++ sent else sent) (if b then own ++ beats_from m 0 (beats_of m) else queue) taken
 push_order true m sent queue own taken same is =
     ap (λ xs. burst_of m ++ xs) is ∙ sym (append_assoc (burst_of m) (reverse queue) taken)
     ∙ ap (λ xs. xs ++ taken) (ap (λ xs. xs ++ reverse queue) (sym (reverse-beats_from m (beats_of m)))
-    ∙ sym (reverse-append queue (beats_from m 0 (beats_of m))) ∙ ap (λ xs. reverse (xs ++ beats_from m 0 (beats_of m))) (sym (same refl)))
+    ∙ sym (reverse-append queue (beats_from m 0 (beats_of m))) ∙ ap (λ xs. reverse (xs ++ beats_from m 0 (beats_of m)))
+    (sym (same refl)))
 push_order false m sent queue own taken same is = is
 
-pop_order : {w : ℕ} (b : Bool) (x : Beat w) (rest sent queue taken : List (Beat w)) → (b ≡ true → queue ≡ x ∷ rest) → IsInOrder sent queue taken
+pop_order : {w : ℕ} (b : Bool) (x : Beat w) (rest sent queue taken : List (Beat w)) → (b ≡ true → queue ≡ x ∷ rest)
+    → IsInOrder sent queue taken
     → IsInOrder sent (if b then rest else queue) (if b then x ∷ taken else taken)
 pop_order true x rest sent queue taken first is =
-    is ∙ ap (λ xs. reverse xs ++ taken) (first refl) ∙ ap (λ xs. xs ++ taken) (reverse-append (x ∷ []) rest) ∙ append_assoc (reverse rest) (x ∷ []) taken
+    is ∙ ap (λ xs. reverse xs ++ taken) (first refl) ∙ ap (λ xs. xs ++ taken) (reverse-append (x ∷ []) rest)
+    ∙ append_assoc (reverse rest) (x ∷ []) taken
 pop_order false x rest sent queue taken first is = is
 
 -- ---- the beats of a channel
 
 carried-begun : {w : ℕ} (m : Message w) (k : ℕ) (at : Channel) (t : History w)
-    → carried_on at (begun m k ++ t) ≡ (if same_channel at (channel_of_message m) then begun m k ++ carried_on at t else carried_on at t)
+    → carried_on at (begun m k ++ t) ≡ (if same_channel at (channel_of_message m) then begun m k ++ carried_on at t else
+    carried_on at t)
 unfolding carried_on
 carried-begun {w} m zero at t = go (same_channel at (channel_of_message m))
   where
     go : (b : Bool) → carried_on at t ≡ (if b then carried_on at t else carried_on at t)
     go true = refl
     go false = refl
-carried-begun {w} m (suc k) at t = go (on at (beat_of m k)) (same_channel at (channel_of_message m)) (on_message m k at) (carried-begun m k at t)
+carried-begun {w} m (suc k) at t = go (on at (beat_of m k)) (same_channel at (channel_of_message m)) (on_message m k at)
+    (carried-begun m k at t)
   where
-    go : (a b : Bool) → a ≡ b → carried_on at (begun m k ++ t) ≡ (if b then begun m k ++ carried_on at t else carried_on at t)
-        → (if a then beat_of m k ∷ carried_on at (begun m k ++ t) else carried_on at (begun m k ++ t)) ≡ (if b then beat_of m k ∷ (begun m k ++ carried_on at t) else carried_on at t)
+    go : (a b : Bool) → a ≡ b
+        → carried_on at (begun m k ++ t) ≡ (if b then begun m k ++ carried_on at t else carried_on at t)
+        → (if a then beat_of m k ∷ carried_on at (begun m k ++ t) else carried_on at (begun m k ++ t))
+        ≡ (if b then beat_of m k ∷ (begun m k ++ carried_on at t) else carried_on at t)
     go true true e f = ap (λ xs. beat_of m k ∷ xs) f
     go false false e f = f
     go true false e f = absurd cc
     go false true e f = absurd cc
 
-carried-beat : {w : ℕ} (x : Beat w) (ch at : Channel) (t : History w) → IsOn ch x → carried_on at (x ∷ t) ≡ (if same_channel at ch then x ∷ carried_on at t else carried_on at t)
+carried-beat : {w : ℕ} (x : Beat w) (ch at : Channel) (t : History w) → IsOn ch x
+    → carried_on at (x ∷ t) ≡ (if same_channel at ch then x ∷ carried_on at t else carried_on at t)
 unfolding carried_on
 carried-beat x ch at t is = ap (λ b. if b then x ∷ carried_on at t else carried_on at t) (is at)
 
@@ -83,7 +89,8 @@ apart at ch b e f = go (same_channel at ch) refl
     go false g = refl
     go true g = absurd (differ (is_to_client at) (is_to_client ch) (ap is_to_client (same_channel-is at ch g)) e f)
 
-sends : {w : ℕ} (m : Message w) (b : Bool) → is_from_client (beat_of m 0) ≡ not b → is_to_client (channel_of_message m) ≡ b
+sends : {w : ℕ} (m : Message w) (b : Bool) → is_from_client (beat_of m 0) ≡ not b
+    → is_to_client (channel_of_message m) ≡ b
 sends (message.A m) true e = absurd cc
 sends (message.A m) false e = refl
 sends (message.B m) true e = refl
@@ -100,8 +107,10 @@ sends (message.E m) false e = refl
 -- `p` is the history of each client's end, `t` that of the manager's end of each link, `q` what is on each channel,
 -- and `f` what was delivered
 pub record ArePassing {w : ℕ} (p t : ℕ → History w) (q : ℕ → Channel → List (Beat w)) (f : ℕ → History w) : Type 0 where
-  pub down : (d : ℕ) (at : Channel) → is_to_client at ≡ true → IsInOrder (carried_on at (t d)) (q d at) (carried_on at (p d)) × (carried_on at (p d) ≡ carried_on at (f d))
-  pub up : (d : ℕ) (at : Channel) → is_to_client at ≡ false → IsInOrder (carried_on at (p d)) (q d at) (carried_on at (t d)) × (carried_on at (t d) ≡ carried_on at (f d))
+  pub down : (d : ℕ) (at : Channel) → is_to_client at ≡ true
+      → IsInOrder (carried_on at (t d)) (q d at) (carried_on at (p d)) × (carried_on at (p d) ≡ carried_on at (f d))
+  pub up : (d : ℕ) (at : Channel) → is_to_client at ≡ false
+      → IsInOrder (carried_on at (p d)) (q d at) (carried_on at (t d)) × (carried_on at (t d) ≡ carried_on at (f d))
 
 -- with a message, or a beat, at one end
 abbrev pub said_at : {w : ℕ} → ℕ → Message w → (ℕ → History w) → ℕ → History w
@@ -111,38 +120,47 @@ abbrev pub heard_at : {w : ℕ} → ℕ → Beat w → (ℕ → History w) → �
 heard_at c x p d = if c == d then x ∷ p d else p d
 
 abbrev pub queued_at : {w : ℕ} → ℕ → Message w → (ℕ → Channel → List (Beat w)) → ℕ → Channel → List (Beat w)
-queued_at l m q d at = if (d == l) && same_channel at (channel_of_message m) then q l (channel_of_message m) ++ beats_from m 0 (beats_of m) else q d at
+queued_at l m q d at = if (d == l) && same_channel at (channel_of_message m) then q l (channel_of_message m)
+    ++ beats_from m 0 (beats_of m) else q d at
 
-abbrev pub popped_at : {w : ℕ} → ℕ → Channel → List (Beat w) → (ℕ → Channel → List (Beat w)) → ℕ → Channel → List (Beat w)
+abbrev pub popped_at : {w : ℕ} → ℕ → Channel → List (Beat w) → (ℕ → Channel → List (Beat w)) → ℕ → Channel
+    → List (Beat w)
 popped_at c ch queue q d at = if (d == c) && same_channel at ch then queue else q d at
 
 -- the sending end says a message
-said_here : {w : ℕ} (l : ℕ) (m : Message w) (p : ℕ → History w) (q : ℕ → Channel → List (Beat w)) (d : ℕ) (at : Channel) (taken : List (Beat w)) → IsInOrder (carried_on at (p d)) (q d at) taken
+said_here : {w : ℕ} (l : ℕ) (m : Message w) (p : ℕ → History w) (q : ℕ → Channel → List (Beat w)) (d : ℕ) (at : Channel)
+    (taken : List (Beat w)) → IsInOrder (carried_on at (p d)) (q d at) taken
     → IsInOrder (carried_on at (said_at l m p d)) (queued_at l m q d at) taken
 said_here {w} l m p q d at taken is = elim (cases_eq d l) [
   | inl same ↦ rw (same, same_number l, carried-begun m (beats_of m) at (p l))
-      (push_order (same_channel at (channel_of_message m)) m (carried_on at (p l)) (q l at) (q l (channel_of_message m)) taken
+      (push_order (same_channel at (channel_of_message m)) m (carried_on at (p l)) (q l at) (q l (channel_of_message m))
+      taken
       (λ e. ap (q l) (sym (same_channel-is at (channel_of_message m) e))) (rw same at is))
   | inr other ↦ rw (ne_eqb d l other, ne_eqb l d (λ e. other (sym e))) is
 ]
 
 -- on a channel on which it doesn't send, nothing changes
-unsaid_history : {w : ℕ} (l : ℕ) (m : Message w) (p : ℕ → History w) (d : ℕ) (at : Channel) → same_channel at (channel_of_message m) ≡ false → carried_on at (said_at l m p d) ≡ carried_on at (p d)
+unsaid_history : {w : ℕ} (l : ℕ) (m : Message w) (p : ℕ → History w) (d : ℕ) (at : Channel)
+    → same_channel at (channel_of_message m) ≡ false → carried_on at (said_at l m p d) ≡ carried_on at (p d)
 unsaid_history {w} l m p d at differs = go (l == d)
   where
     go : (b : Bool) → carried_on at (if b then burst_of m ++ p d else p d) ≡ carried_on at (p d)
-    go true = carried-begun m (beats_of m) at (p d) ∙ ap (λ b. if b then burst_of m ++ carried_on at (p d) else carried_on at (p d)) differs
+    go true = carried-begun m (beats_of m) at (p d) ∙ ap (λ b. if b then burst_of m ++ carried_on at (p d) else
+        carried_on at (p d)) differs
     go false = refl
 
-unsaid_queue : {w : ℕ} (l : ℕ) (m : Message w) (q : ℕ → Channel → List (Beat w)) (d : ℕ) (at : Channel) → same_channel at (channel_of_message m) ≡ false → queued_at l m q d at ≡ q d at
+unsaid_queue : {w : ℕ} (l : ℕ) (m : Message w) (q : ℕ → Channel → List (Beat w)) (d : ℕ) (at : Channel)
+    → same_channel at (channel_of_message m) ≡ false → queued_at l m q d at ≡ q d at
 unsaid_queue {w} l m q d at differs = go (d == l) (same_channel at (channel_of_message m)) differs
   where
-    go : (a b : Bool) → b ≡ false → (if a && b then q l (channel_of_message m) ++ beats_from m 0 (beats_of m) else q d at) ≡ q d at
+    go : (a b : Bool) → b ≡ false
+        → (if a && b then q l (channel_of_message m) ++ beats_from m 0 (beats_of m) else q d at) ≡ q d at
     go true false e = refl
     go false false e = refl
     go a true e = absurd cc
 
-pub client-says : {w : ℕ} (l : ℕ) (m : Message w) (p t : ℕ → History w) (q : ℕ → Channel → List (Beat w)) (f : ℕ → History w)
+pub client-says : {w : ℕ} (l : ℕ) (m : Message w) (p t : ℕ → History w) (q : ℕ → Channel → List (Beat w)) (f : ℕ
+    → History w)
     → is_from_client (beat_of m 0) ≡ true → ArePassing p t q f → ArePassing (said_at l m p) t (queued_at l m q) f
 client-says {w} l m p t q f ours is = record {
   down = λ d at e.
@@ -151,7 +169,8 @@ client-says {w} l m p t q f ours is = record {
   up = λ d at e. (said_here l m p q d at (carried_on at (t d)) (is.up d at e).0, (is.up d at e).1);
 }
 
-pub manager-says : {w : ℕ} (l : ℕ) (m : Message w) (p t : ℕ → History w) (q : ℕ → Channel → List (Beat w)) (f : ℕ → History w)
+pub manager-says : {w : ℕ} (l : ℕ) (m : Message w) (p t : ℕ → History w) (q : ℕ → Channel → List (Beat w)) (f : ℕ
+    → History w)
     → is_from_client (beat_of m 0) ≡ false → ArePassing p t q f → ArePassing p (said_at l m t) (queued_at l m q) f
 manager-says {w} l m p t q f ours is = record {
   up = λ d at e.
@@ -162,38 +181,47 @@ manager-says {w} l m p t q f ours is = record {
 
 -- the taking end hears a beat
 heard_history : {w : ℕ} (c : ℕ) (ch : Channel) (x : Beat w) (p : ℕ → History w) (d : ℕ) (at : Channel) → IsOn ch x
-    → carried_on at (heard_at c x p d) ≡ (if (c == d) && same_channel at ch then x ∷ carried_on at (p d) else carried_on at (p d))
+    → carried_on at (heard_at c x p d) ≡ (if (c == d) && same_channel at ch then x ∷ carried_on at (p d) else carried_on
+    at (p d))
 heard_history {w} c ch x p d at is = go (c == d)
   where
-    go : (b : Bool) → carried_on at (if b then x ∷ p d else p d) ≡ (if b && same_channel at ch then x ∷ carried_on at (p d) else carried_on at (p d))
+    go : (b : Bool) → carried_on at (if b then x ∷ p d else p d) ≡ (if b && same_channel at ch then x ∷ carried_on at
+        (p d) else carried_on at (p d))
     go true = carried-beat x ch at (p d) is
     go false = refl
 
-heard_here : {w : ℕ} (c : ℕ) (ch : Channel) (x : Beat w) (queue : List (Beat w)) (p : ℕ → History w) (q : ℕ → Channel → List (Beat w)) (f : ℕ → History w)
+heard_here : {w : ℕ} (c : ℕ) (ch : Channel) (x : Beat w) (queue : List (Beat w)) (p : ℕ → History w) (q : ℕ → Channel
+    → List (Beat w)) (f : ℕ → History w)
     (d : ℕ) (at : Channel) (sent : List (Beat w)) → IsOn ch x → q c ch ≡ x ∷ queue
     → IsInOrder sent (q d at) (carried_on at (p d)) × (carried_on at (p d) ≡ carried_on at (f d))
-    → IsInOrder sent (popped_at c ch queue q d at) (carried_on at (heard_at c x p d)) × (carried_on at (heard_at c x p d) ≡ carried_on at (heard_at c x f d))
+    → IsInOrder sent (popped_at c ch queue q d at) (carried_on at (heard_at c x p d))
+    × (carried_on at (heard_at c x p d) ≡ carried_on at (heard_at c x f d))
 heard_here {w} c ch x queue p q f d at sent on first is = (order, same)
   where
     order : IsInOrder sent (popped_at c ch queue q d at) (carried_on at (heard_at c x p d))
     order = elim (cases_eq d c) [
       | inl here ↦ rw (here, heard_history c ch x p c at on, same_number c)
-          (pop_order (same_channel at ch) x queue sent (q c at) (carried_on at (p c)) (λ e. ap (q c) (same_channel-is at ch e) ∙ first) (rw here at is.0))
+          (pop_order (same_channel at ch) x queue sent (q c at) (carried_on at (p c))
+          (λ e. ap (q c) (same_channel-is at ch e) ∙ first) (rw here at is.0))
       | inr other ↦ rw (heard_history c ch x p d at on, ne_eqb d c other, ne_eqb c d (λ e. other (sym e))) is.0
     ]
 
     same : carried_on at (heard_at c x p d) ≡ carried_on at (heard_at c x f d)
-    same = heard_history c ch x p d at on ∙ ap (λ xs. if (c == d) && same_channel at ch then x ∷ xs else xs) is.1 ∙ sym (heard_history c ch x f d at on)
+    same = heard_history c ch x p d at on ∙ ap (λ xs. if (c == d) && same_channel at ch then x ∷ xs else xs) is.1 ∙ sym
+        (heard_history c ch x f d at on)
 
-unheard : {w : ℕ} (c : ℕ) (ch : Channel) (x : Beat w) (p : ℕ → History w) (d : ℕ) (at : Channel) → IsOn ch x → same_channel at ch ≡ false → carried_on at (heard_at c x p d) ≡ carried_on at (p d)
+unheard : {w : ℕ} (c : ℕ) (ch : Channel) (x : Beat w) (p : ℕ → History w) (d : ℕ) (at : Channel) → IsOn ch x
+    → same_channel at ch ≡ false → carried_on at (heard_at c x p d) ≡ carried_on at (p d)
 unheard {w} c ch x p d at on differs = heard_history c ch x p d at on ∙ go (c == d) (same_channel at ch) differs
   where
-    go : (a b : Bool) → b ≡ false → (if a && b then x ∷ carried_on at (p d) else carried_on at (p d)) ≡ carried_on at (p d)
+    go : (a b : Bool) → b ≡ false → (if a && b then x ∷ carried_on at (p d) else carried_on at (p d)) ≡ carried_on at
+        (p d)
     go true false e = refl
     go false false e = refl
     go a true e = absurd cc
 
-unpopped : {w : ℕ} (c : ℕ) (ch : Channel) (queue : List (Beat w)) (q : ℕ → Channel → List (Beat w)) (d : ℕ) (at : Channel) → same_channel at ch ≡ false → popped_at c ch queue q d at ≡ q d at
+unpopped : {w : ℕ} (c : ℕ) (ch : Channel) (queue : List (Beat w)) (q : ℕ → Channel → List (Beat w)) (d : ℕ)
+    (at : Channel) → same_channel at ch ≡ false → popped_at c ch queue q d at ≡ q d at
 unpopped {w} c ch queue q d at differs = go (d == c) (same_channel at ch) differs
   where
     go : (a b : Bool) → b ≡ false → (if a && b then queue else q d at) ≡ q d at
@@ -201,28 +229,33 @@ unpopped {w} c ch queue q d at differs = go (d == c) (same_channel at ch) differ
     go false false e = refl
     go a true e = absurd cc
 
-pub client-hears : {w : ℕ} (c : ℕ) (ch : Channel) (x : Beat w) (queue : List (Beat w)) (p t : ℕ → History w) (q : ℕ → Channel → List (Beat w))
+pub client-hears : {w : ℕ} (c : ℕ) (ch : Channel) (x : Beat w) (queue : List (Beat w)) (p t : ℕ → History w) (q : ℕ
+    → Channel → List (Beat w))
     (f : ℕ → History w) → is_to_client ch ≡ true → IsOn ch x → q c ch ≡ x ∷ queue
     → ArePassing p t q f → ArePassing (heard_at c x p) t (popped_at c ch queue q) (heard_at c x f)
 client-hears {w} c ch x queue p t q f theirs on first is = record {
   down = λ d at e. heard_here c ch x queue p q f d at (carried_on at (t d)) on first (is.down d at e);
   up = λ d at e.
       let differs = apart at ch false e theirs in
-      rw (unheard c ch x p d at on differs, unheard c ch x f d at on differs, unpopped c ch queue q d at differs) (is.up d at e);
+      rw (unheard c ch x p d at on differs, unheard c ch x f d at on differs, unpopped c ch queue q d at differs)
+      (is.up d at e);
 }
 
-pub manager-hears : {w : ℕ} (c : ℕ) (ch : Channel) (x : Beat w) (queue : List (Beat w)) (p t : ℕ → History w) (q : ℕ → Channel → List (Beat w))
+pub manager-hears : {w : ℕ} (c : ℕ) (ch : Channel) (x : Beat w) (queue : List (Beat w)) (p t : ℕ → History w) (q : ℕ
+    → Channel → List (Beat w))
     (f : ℕ → History w) → is_to_client ch ≡ false → IsOn ch x → q c ch ≡ x ∷ queue
     → ArePassing p t q f → ArePassing p (heard_at c x t) (popped_at c ch queue q) (heard_at c x f)
 manager-hears {w} c ch x queue p t q f theirs on first is = record {
   up = λ d at e. heard_here c ch x queue t q f d at (carried_on at (p d)) on first (is.up d at e);
   down = λ d at e.
       let differs = apart at ch true e theirs in
-      rw (unheard c ch x t d at on differs, unheard c ch x f d at on differs, unpopped c ch queue q d at differs) (is.down d at e);
+      rw (unheard c ch x t d at on differs, unheard c ch x f d at on differs, unpopped c ch queue q d at differs)
+      (is.down d at e);
 }
 
 -- the same histories and channels
-pub passing-same : {w : ℕ} (p t p' t' : ℕ → History w) (q q' : ℕ → Channel → List (Beat w)) (f f' : ℕ → History w) → ((d : ℕ) → p' d ≡ p d)
+pub passing-same : {w : ℕ} (p t p' t' : ℕ → History w) (q q' : ℕ → Channel → List (Beat w)) (f f' : ℕ → History w)
+    → ((d : ℕ) → p' d ≡ p d)
     → ((d : ℕ) → t' d ≡ t d) → ((d : ℕ) (at : Channel) → q' d at ≡ q d at) → ((d : ℕ) → f' d ≡ f d)
     → ArePassing p t q f → ArePassing p' t' q' f'
 passing-same p t p' t' q q' f f' ps ts qs fs is = record {

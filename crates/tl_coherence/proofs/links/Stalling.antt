@@ -1,52 +1,44 @@
 -- Which deliveries are stalled: a Probe while a Release of its block is outstanding, and the last beat of a request
 -- whose block is in service, or for which there is no tracker.
+use Rattle.tl_coherence.proofs.links.Imports.{Beat, Channel, channel_of, Config, Op, Verdict, Message, EndConfig}
+use Rattle.tl_coherence.proofs.links.Imports.{started, Deliver, is_moving, Log, system_after, one_memory_after, Step}
+use Rattle.tl_coherence.proofs.links.Imports.{is_to_client, stepped, System, terms_at, SimulationRelation}
 use Rattle.std.proofs.Common.{◌≡◌, ℕ, Bool, true, false, List, [], ◌∷◌, refl, sym, ◌∙◌, ap}
-use Rattle.std.specs.Prelude.{not, ◌&&◌, if◌then◌else◌, Option, Some, None, is_none, is_some, option_map, Result, Ok, Err}
+use Rattle.std.specs.Prelude.{not, ◌&&◌, if◌then◌else◌, Option, Some, None, is_none, is_some, option_map, Result, Ok}
+use Rattle.std.specs.Prelude.{Err}
 use Rattle.std.proofs.Math.Bool.{and-false}
 use Rattle.std.proofs.lemmas.Bool.{not-true, not-false}
-use Rattle.tl_beat.specs.declared.beat.Beat.{Beat}
 use Rattle.tl_beat.specs.declared.beat.Beat.TheVariants as beat
 use Rattle.tl_beat.specs.declared.beat.BeatB.{BeatB}
-use Rattle.tl_beat.specs.declared.channel.Channel.{Channel}
 use Rattle.tl_beat.specs.declared.channel.Channel.TheVariants as channel
 use Rattle.tl_burst.specs.declared.message.MessageA.{MessageA}
-use Rattle.tl_burst.specs.statement.Messages.{channel_of}
 use Rattle.tl_burst.specs.statement.Part.{is_empty}
-use Rattle.tl_params.specs.declared.config.Config.{Config}
 use Rattle.tl_params.specs.declared.level.Level.{Level}
 use Rattle.tl_params.specs.declared.param.Prune.{Prune}
 use Rattle.tl_params.specs.declared.rule.Rule.{Rule}
 use Rattle.tl_params.specs.declared.key.Key.TheVariants.{ReleaseOf}
 use Rattle.tl_rules.specs.statement.History.{block_at, is_probe, pending}
-use Rattle.tl_client.specs.declared.operation.Op.{Op}
-use Rattle.tl_client.specs.declared.verdict.Verdict.{Verdict}
 use Rattle.tl_client.specs.declared.verdict.Verdict.TheVariants as verdict
-use Rattle.tl_burst.specs.declared.message.Message.{Message}
 use Rattle.tl_client.specs.declared.operation.Op.TheVariants.{Release}
-use Rattle.tl_client.specs.statement.Endpoint.{EndConfig}
 use Rattle.tl_client.specs.statement.Endpoint as client
 use Rattle.tl_client.specs.statement.Offer as offer
 use Rattle.tl_client.specs.statement.Offer.{offered}
 use Rattle.tl_manager.specs.statement.End as manager_end
 use Rattle.tl_manager.specs.statement.Offer as manager
-use Rattle.tl_manager.specs.statement.Offer.{must_wait, Judgement, Breaks, Waits, Passes, breaks_or, waits_or, is_waiting, offered_as, judged_on, judged_at, open_level}
+use Rattle.tl_manager.specs.statement.Offer.{must_wait, Judgement, Breaks, Waits, Passes, breaks_or, waits_or}
+use Rattle.tl_manager.specs.statement.Offer.{is_waiting, offered_as, judged_on, judged_at, open_level}
 use Rattle.tl_manager.proofs.Stalls.{never-stalled}
 use Rattle.tl_coherence.specs.refinement.MemoryRelation.{IsLet}
-use Rattle.tl_coherence.specs.statement.Coherent.{IsCoherent, started}
-use Rattle.tl_coherence.specs.declared.event.Event.TheVariants.{Deliver}
-use Rattle.tl_coherence.specs.statement.Delivery.{IsExact, IsReleasing, Moves, is_emptiness, is_stall, outcome_of_delivery}
-use Rattle.tl_coherence.specs.statement.Draining.{is_moving}
+use Rattle.tl_coherence.specs.statement.Coherent.{IsCoherent}
+use Rattle.tl_coherence.specs.statement.Delivery.{IsExact, IsReleasing, Moves, is_emptiness, is_stall}
+use Rattle.tl_coherence.specs.statement.Delivery.{outcome_of_delivery}
 use Rattle.tl_coherence.specs.protocol.Invariant.{is_of, releases_with}
-use Rattle.tl_coherence.specs.statement.Log.{Log, system_after}
 use Rattle.tl_coherence.specs.statement.Machine.{Open, Releases, is_client}
 use Rattle.tl_coherence.specs.statement.Movable.{is_movable, moves, stalls}
 use Rattle.tl_coherence.specs.protocol.Phase.{is_unreleased}
 use Rattle.tl_coherence.specs.protocol.Protocol.{State}
-use Rattle.tl_coherence.specs.statement.OneMemory.{one_memory_after}
 use Rattle.tl_coherence.specs.refinement.PacketMessages.{AccessMessages}
-use Rattle.tl_coherence.specs.statement.Step.{Step, delivered, is_to_client, judged, manager_took, stepped, stepped_at}
-use Rattle.tl_coherence.specs.statement.System.{System, terms_at}
-use Rattle.tl_coherence.specs.refinement.SimulationRelation.{SimulationRelation}
+use Rattle.tl_coherence.specs.statement.Step.{delivered, judged, manager_took, stepped_at}
 use Rattle.tl_coherence.proofs.protocol.Capacities.{source_of_release}
 use Rattle.tl_coherence.proofs.memory.Runs.{IsTaken, IsTakenUp, IsTakenIn, stall-delivered}
 use Rattle.tl_coherence.proofs.queues.Tokens.{same_number}
@@ -54,8 +46,10 @@ use Rattle.tl_coherence.proofs.queues.Phases.{and_left}
 
 -- ---- a request at the manager
 
-waits-as-it-must : {w : ℕ} (config : Config) (link : _) (x : Beat w) (e : manager_end.End w) (a b : Option Rule) (must : Bool) (rest : Judgement) → is_waiting rest ≡ false
-    → IsTakenIn (offered_as (breaks_or a (breaks_or b (waits_or must rest))) config link x e) → is_waiting (breaks_or a (breaks_or b (waits_or must rest))) ≡ must
+waits-as-it-must : {w : ℕ} (config : Config) (link : _) (x : Beat w) (e : manager_end.End w) (a b : Option Rule)
+    (must : Bool) (rest : Judgement) → is_waiting rest ≡ false
+    → IsTakenIn (offered_as (breaks_or a (breaks_or b (waits_or must rest))) config link x e)
+    → is_waiting (breaks_or a (breaks_or b (waits_or must rest))) ≡ must
 waits-as-it-must config link x e (Some r) b must rest silent taken = absurd taken
 waits-as-it-must config link x e None (Some r) must rest silent taken = absurd taken
 waits-as-it-must config link x e None None true rest silent taken = refl
@@ -66,18 +60,21 @@ passes-or-breaks (Some r) b = refl
 passes-or-breaks None (Some r) = refl
 passes-or-breaks None None = refl
 
-stalled-as-it-must : {w : ℕ} (config : Config) (link : _) (ch : Channel) (x : Beat w) (e : manager_end.End w) → IsTakenIn (manager.offered config link ch x e)
+stalled-as-it-must : {w : ℕ} (config : Config) (link : _) (ch : Channel) (x : Beat w) (e : manager_end.End w)
+    → IsTakenIn (manager.offered config link ch x e)
     → manager.stalls config link ch x e ≡ must_wait config link x e.trace
 unfolding judged_at manager.offered manager.stalls
 stalled-as-it-must config link ch x e taken = go (open_level config link e) taken
   where
-    go : (o : Option Level) → IsTakenIn (offered_as (judged_on config o link ch x e.trace) config link x e) → is_waiting (judged_on config o link ch x e.trace) ≡ must_wait config link x e.trace
+    go : (o : Option Level) → IsTakenIn (offered_as (judged_on config o link ch x e.trace) config link x e)
+        → is_waiting (judged_on config o link ch x e.trace) ≡ must_wait config link x e.trace
     go None refused = absurd refused
     go (Some l) is = waits-as-it-must config link x e _ _ _ _ (passes-or-breaks _ _) is
 
 -- ---- a Probe at a client
 
-up-unbroken : {w : ℕ} (terms : EndConfig) (ch : Channel) (x : Beat w) (e : client.Endpoint w) → IsTakenUp (offered terms ch x e).answer → is_none (offer.broken_before terms ch x e) ≡ true
+up-unbroken : {w : ℕ} (terms : EndConfig) (ch : Channel) (x : Beat w) (e : client.Endpoint w)
+    → IsTakenUp (offered terms ch x e).answer → is_none (offer.broken_before terms ch x e) ≡ true
 unfolding offered
 up-unbroken terms ch x e taken = go (offer.broken_before terms ch x e) taken
   where
@@ -85,7 +82,8 @@ up-unbroken terms ch x e taken = go (offer.broken_before terms ch x e) taken
     go None is = refl
     go (Some r) refused = absurd refused
 
-stalled-as-it-waits : {w : ℕ} (terms : EndConfig) (ch : Channel) (x : Beat w) (e : client.Endpoint w) → IsTakenUp (offered terms ch x e).answer → offer.stalls terms ch x e ≡ offer.waits x e.past
+stalled-as-it-waits : {w : ℕ} (terms : EndConfig) (ch : Channel) (x : Beat w) (e : client.Endpoint w)
+    → IsTakenUp (offered terms ch x e).answer → offer.stalls terms ch x e ≡ offer.waits x e.past
 unfolding offer.stalls
 stalled-as-it-waits terms ch x e taken = rw (up-unbroken terms ch x e taken) refl
 
@@ -94,10 +92,12 @@ stalled-as-it-waits terms ch x e taken = rw (up-unbroken terms ch x e taken) ref
 is_some_of : (n : ℕ) (o : Option ℕ) → o ≡ Some n → is_of n o ≡ true
 is_some_of n o e = rw e (same_number n)
 
-module _ {w : ℕ} (config : Config) (log : Log w) (mail : AccessMessages w) (request : ℕ → MessageA w) (s : State (List ℕ)) (matched : SimulationRelation config log mail request s (system_after config log))
+module _ {w : ℕ} (config : Config) (log : Log w) (mail : AccessMessages w) (request : ℕ → MessageA w)
+    (s : State (List ℕ)) (matched : SimulationRelation config log mail request s (system_after config log))
     (coherent : IsCoherent (system_after config log) log (one_memory_after config log)) (c n : ℕ) where
   pub releasing-started : pending (ReleaseOf n) ((system_after config log).clients c).past ≡ true → IsReleasing c n log
-  releasing-started p = let found = of_let (rw let_by at (matched.beside.releases c source)) in (source, found.0, found.1)
+  releasing-started p = let found = of_let (rw let_by at (matched.beside.releases c source)) in
+      (source, found.0, found.1)
     where
       not_kept : is_unreleased ((s.block n).pair c).letting ≡ false
       not_kept = not-true (is_unreleased ((s.block n).pair c).letting) (sym ((matched.known c).releases n) ∙ p)
@@ -108,42 +108,56 @@ module _ {w : ℕ} (config : Config) (log : Log w) (mail : AccessMessages w) (re
       let_by : s.lets c source ≡ Some n
       let_by = source_of_release _ s c n matched.invariant not_kept
 
-      of_let : IsLet (Some n) ((one_memory_after config log).opened c Releases source) → (prune : Prune) × (started c Releases source log ≡ Some (Release n prune))
-      of_let (p, is) = (p, sym (coherent.opened c Releases source) ∙ ap (λ (o : Option (Open w)). option_map (λ x. x.asked) o) is)
+      of_let : IsLet (Some n) ((one_memory_after config log).opened c Releases source)
+          → (prune : Prune) × (started c Releases source log ≡ Some (Release n prune))
+      of_let (p, is) = (
+        p,
+        sym (coherent.opened c Releases source) ∙ ap
+            (λ (o : Option (Open w)). option_map (λ x. x.asked) o) is,
+      )
 
   pub started-releasing : IsReleasing c n log → pending (ReleaseOf n) ((system_after config log).clients c).past ≡ true
   started-releasing (source, prune, is) = go (s.lets c source) refl (matched.beside.releases c source)
     where
-      asked_is : option_map (λ x. x.asked) ((one_memory_after config log).opened c Releases source) ≡ Some (Release n prune)
+      asked_is : option_map (λ x. x.asked) ((one_memory_after config log).opened c Releases source) ≡ Some
+          (Release n prune)
       asked_is = coherent.opened c Releases source ∙ is
 
-      same_release : (m : ℕ) (p : Prune) (a b : Option (Op w)) → a ≡ Some (Release m p) → b ≡ Some (Release n prune) → a ≡ b → m ≡ n
+      same_release : (m : ℕ) (p : Prune) (a b : Option (Op w)) → a ≡ Some (Release m p) → b ≡ Some (Release n prune)
+          → a ≡ b → m ≡ n
       same_release m p a b e f g = cc
 
       nothing : (x : Op w) → None ≡ Some x → ⊥
       nothing x e = absurd cc
 
-      go : (o : Option ℕ) → s.lets c source ≡ o → IsLet o ((one_memory_after config log).opened c Releases source) → pending (ReleaseOf n) ((system_after config log).clients c).past ≡ true
+      go : (o : Option ℕ) → s.lets c source ≡ o → IsLet o ((one_memory_after config log).opened c Releases source)
+          → pending (ReleaseOf n) ((system_after config log).clients c).past ≡ true
       go None e none = absurd (nothing _ (rw none at asked_is))
       go (Some m) e (p, opened) =
-          let asked : option_map (λ x. x.asked) ((one_memory_after config log).opened c Releases source) ≡ Some (Release m p) = rw opened refl in
+          let asked : option_map (λ x. x.asked) ((one_memory_after config log).opened c Releases source) ≡ Some
+          (Release m p) = rw opened refl in
           let same : m ≡ n = same_release m p _ _ asked asked_is refl in
-          let named : releases_with c source (s.block n) ≡ true = sym (matched.invariant.named.releases c source n) ∙ is_some_of n (s.lets c source) (e ∙ ap (λ (i : ℕ). Some i) same) in
+          let named : releases_with c source (s.block n) ≡ true =
+          sym (matched.invariant.named.releases c source n) ∙ is_some_of n (s.lets c source)
+          (e ∙ ap (λ (i : ℕ). Some i) same) in
           (matched.known c).releases n ∙ and_left (not (is_unreleased ((s.block n).pair c).letting)) _ named
 
 -- ---- deliveries
 
-emptiness : {w : ℕ} (config : Config) (terms : EndConfig) (link : ℕ) (ch : Channel) (beats : List (Beat w)) (s : System w) → is_emptiness (delivered config terms link ch beats s).outcome ≡ is_empty beats
+emptiness : {w : ℕ} (config : Config) (terms : EndConfig) (link : ℕ) (ch : Channel) (beats : List (Beat w))
+    (s : System w) → is_emptiness (delivered config terms link ch beats s).outcome ≡ is_empty beats
 emptiness config terms link ch [] s = refl
 emptiness {w} config terms link ch (x ∷ rest) s = go (is_to_client ch)
   where
-    of_client : (r : Result (Verdict × Option (Message w)) Rule) (e : client.Endpoint w) → is_emptiness (judged r link ch x rest e s).outcome ≡ false
+    of_client : (r : Result (Verdict × Option (Message w)) Rule) (e : client.Endpoint w)
+        → is_emptiness (judged r link ch x rest e s).outcome ≡ false
     of_client (Err rule) e = refl
     of_client (Ok (verdict.Stalled, m)) e = refl
     of_client (Ok (verdict.Taken, m)) e = refl
     of_client (Ok (verdict.Done source f, m)) e = refl
 
-    of_manager : (a : manager.Reception w × manager_end.End w) → is_emptiness (manager_took link ch x rest a s).outcome ≡ false
+    of_manager : (a : manager.Reception w × manager_end.End w)
+        → is_emptiness (manager_took link ch x rest a s).outcome ≡ false
     of_manager (manager.Refused rule, e) = refl
     of_manager (manager.Stalled, e) = refl
     of_manager (manager.Sent handed, e) = refl
@@ -155,41 +169,51 @@ emptiness {w} config terms link ch (x ∷ rest) s = go (is_to_client ch)
     go false = of_manager _
 
 -- one that is neither empty nor stalled moves a beat
-moving-else : {w : ℕ} (config : Config) (terms : EndConfig) (link : ℕ) (ch : Channel) (beats : List (Beat w)) (s : System w)
-    → is_emptiness (delivered config terms link ch beats s).outcome ≡ false → is_stall (delivered config terms link ch beats s).outcome ≡ false
+moving-else : {w : ℕ} (config : Config) (terms : EndConfig) (link : ℕ) (ch : Channel) (beats : List (Beat w))
+    (s : System w)
+    → is_emptiness (delivered config terms link ch beats s).outcome ≡ false
+    → is_stall (delivered config terms link ch beats s).outcome ≡ false
     → is_moving (delivered config terms link ch beats s).outcome ≡ true
 moving-else config terms link ch [] s some unstalled = absurd cc
 moving-else {w} config terms link ch (x ∷ rest) s some unstalled = go (is_to_client ch) unstalled
   where
-    of_client : (r : Result (Verdict × Option (Message w)) Rule) (e : client.Endpoint w) → is_stall (judged r link ch x rest e s).outcome ≡ false → is_moving (judged r link ch x rest e s).outcome ≡ true
+    of_client : (r : Result (Verdict × Option (Message w)) Rule) (e : client.Endpoint w)
+        → is_stall (judged r link ch x rest e s).outcome ≡ false
+        → is_moving (judged r link ch x rest e s).outcome ≡ true
     of_client (Err rule) e f = absurd cc
     of_client (Ok (verdict.Stalled, m)) e f = absurd cc
     of_client (Ok (verdict.Taken, m)) e f = refl
     of_client (Ok (verdict.Done source finish, m)) e f = refl
 
-    of_manager : (a : manager.Reception w × manager_end.End w) → is_stall (manager_took link ch x rest a s).outcome ≡ false → is_moving (manager_took link ch x rest a s).outcome ≡ true
+    of_manager : (a : manager.Reception w × manager_end.End w)
+        → is_stall (manager_took link ch x rest a s).outcome ≡ false
+        → is_moving (manager_took link ch x rest a s).outcome ≡ true
     of_manager (manager.Refused rule, e) f = absurd cc
     of_manager (manager.Stalled, e) f = absurd cc
     of_manager (manager.Sent handed, e) f = refl
 
     step : Bool → Step w
     step b = if b then judged (offered terms ch x (s.clients link)).answer link ch x rest
-        (offered terms ch x (s.clients link)).after s else manager_took link ch x rest (manager.offered config (record { 0 = link }) ch x s.manager) s
+        (offered terms ch x (s.clients link)).after s else manager_took link ch x rest
+        (manager.offered config (record { 0 = link }) ch x s.manager) s
 
     go : (b : Bool) → is_stall (step b).outcome ≡ false → is_moving (step b).outcome ≡ true
     go true f = of_client (offered terms ch x (s.clients link)).answer _ f
     go false f = of_manager _ f
 
 -- a movable delivery moves a beat, where empty and stalled ones are what they should be
-pub movable-moves : {w : ℕ} (config : Config) (log : Log w) (c : ℕ) (ch : Channel) → (is_client config c ≡ true → IsExact config log c ch)
+pub movable-moves : {w : ℕ} (config : Config) (log : Log w) (c : ℕ) (ch : Channel)
+    → (is_client config c ≡ true → IsExact config log c ch)
     → is_movable config c ch (system_after config log) ≡ true → is_moving (outcome_of_delivery config log c ch) ≡ true
 unfolding is_movable stepped
-movable-moves {w} config log c ch exactly movable = go (terms_at config c) refl ((system_after config log).channels c ch) refl movable
+movable-moves {w} config log c ch exactly movable =
+    go (terms_at config c) refl ((system_after config log).channels c ch) refl movable
   where
     sys : System w
     sys = system_after config log
 
-    go : (o : Option EndConfig) → terms_at config c ≡ o → (beats : List (Beat w)) → sys.channels c ch ≡ beats → moves config o c ch beats sys ≡ true
+    go : (o : Option EndConfig) → terms_at config c ≡ o → (beats : List (Beat w)) → sys.channels c ch ≡ beats
+        → moves config o c ch beats sys ≡ true
         → is_moving (outcome_of_delivery config log c ch) ≡ true
     go None e beats f g = absurd cc
     go (Some terms) e [] f g = absurd cc
@@ -199,52 +223,71 @@ movable-moves {w} config log c ch exactly movable = go (terms_at config c) refl 
         ap (λ (o : Option EndConfig). (stepped_at config o (Deliver (record { 0 = c }) ch) sys).outcome) e in
         let some : is_emptiness (outcome_of_delivery config log c ch) ≡ false = is.empty ∙ ap is_empty f in
         let unstalled : is_stall (outcome_of_delivery config log c ch) ≡ false = is.stalled
-        ∙ ap (λ (b : Bool). not (is_empty (sys.channels c ch)) && not b) movable ∙ and-false (not (is_empty (sys.channels c ch))) in
-        ap is_moving same ∙ moving-else config terms c ch (sys.channels c ch) sys (sym (ap is_emptiness same) ∙ some) (sym (ap is_stall same) ∙ unstalled)
+        ∙ ap (λ (b : Bool). not (is_empty (sys.channels c ch)) && not b) movable ∙ and-false
+        (not (is_empty (sys.channels c ch))) in
+        ap is_moving same ∙ moving-else config terms c ch (sys.channels c ch) sys (sym (ap is_emptiness same) ∙ some)
+        (sym (ap is_stall same) ∙ unstalled)
 
 -- ---- exact stalls
 
 -- what is known of the first beat of a channel: its channel, that no rule refuses it, and that on B it is a Probe
-pub record IsFirst {w : ℕ} (config : Config) (terms : EndConfig) (c : ℕ) (ch : Channel) (x : Beat w) (sys : System w) : Type 0 where
+pub record IsFirst {w : ℕ} (config : Config) (terms : EndConfig) (c : ℕ) (ch : Channel) (x : Beat w)
+    (sys : System w) : Type 0 where
   pub on : channel_of x ≡ ch
   pub taken : IsTaken config terms c ch x sys
   pub probes : (y : BeatB w) → x ≡ beat.B y → is_probe y.opcode ≡ true
 
-module _ {w : ℕ} (config : Config) (log : Log w) (mail : AccessMessages w) (request : ℕ → MessageA w) (s : State (List ℕ)) (matched : SimulationRelation config log mail request s (system_after config log))
-    (coherent : IsCoherent (system_after config log) log (one_memory_after config log)) (c : ℕ) (terms : EndConfig) (is : terms_at config c ≡ Some terms) where
+module _ {w : ℕ} (config : Config) (log : Log w) (mail : AccessMessages w) (request : ℕ → MessageA w)
+    (s : State (List ℕ)) (matched : SimulationRelation config log mail request s (system_after config log))
+    (coherent : IsCoherent (system_after config log) log (one_memory_after config log)) (c : ℕ) (terms : EndConfig)
+    (is : terms_at config c ≡ Some terms) where
   movable-is : (ch : Channel) (x : Beat w) (rest : List (Beat w)) → (system_after config log).channels c ch ≡ x ∷ rest
       → is_movable config c ch (system_after config log) ≡ not (stalls config terms c ch x (system_after config log))
   unfolding is_movable
   movable-is ch x rest e = rw (is, e) refl
 
-  outcome-is : (ch : Channel) → outcome_of_delivery config log c ch ≡ (delivered config terms c ch ((system_after config log).channels c ch) (system_after config log)).outcome
+  outcome-is : (ch : Channel)
+      → outcome_of_delivery config log c ch ≡ (delivered config terms c ch ((system_after config log).channels c ch)
+      (system_after config log)).outcome
   unfolding stepped
   outcome-is ch = rw (outcome_of_delivery, is) refl
 
-  moves-exactly : (ch : Channel) (x : Beat w) (rest : List (Beat w)) → (system_after config log).channels c ch ≡ x ∷ rest → IsFirst config terms c ch x (system_after config log) → Moves config log c x
+  moves-exactly : (ch : Channel) (x : Beat w) (rest : List (Beat w))
+      → (system_after config log).channels c ch ≡ x ∷ rest → IsFirst config terms c ch x (system_after config log)
+      → Moves config log c x
   moves-exactly channel.A (beat.A y) rest e first =
-      movable-is channel.A (beat.A y) rest e ∙ ap not (stalled-as-it-must config (record { 0 = c }) channel.A (beat.A y) (system_after config log).manager (first.taken.1 refl))
+      movable-is channel.A (beat.A y) rest e ∙ ap not (stalled-as-it-must config (record { 0 = c }) channel.A (beat.A y)
+      (system_after config log).manager (first.taken.1 refl))
   moves-exactly channel.C (beat.C y) rest e first =
-      movable-is channel.C (beat.C y) rest e ∙ ap not (never-stalled config (record { 0 = c }) channel.C (beat.C y) (system_after config log).manager refl)
+      movable-is channel.C (beat.C y) rest e ∙ ap not (never-stalled config (record { 0 = c }) channel.C (beat.C y)
+      (system_after config log).manager refl)
   moves-exactly channel.E (beat.E y) rest e first =
-      movable-is channel.E (beat.E y) rest e ∙ ap not (never-stalled config (record { 0 = c }) channel.E (beat.E y) (system_after config log).manager refl)
+      movable-is channel.E (beat.E y) rest e ∙ ap not (never-stalled config (record { 0 = c }) channel.E (beat.E y)
+      (system_after config log).manager refl)
   moves-exactly channel.D (beat.D y) rest e first =
-      movable-is channel.D (beat.D y) rest e ∙ ap not (stalled-as-it-waits terms channel.D (beat.D y) ((system_after config log).clients c) (first.taken.0 refl))
+      movable-is channel.D (beat.D y) rest e ∙ ap not
+      (stalled-as-it-waits terms channel.D (beat.D y) ((system_after config log).clients c) (first.taken.0 refl))
   moves-exactly channel.B (beat.B y) rest e first = (there, back)
     where
-      waits : is_movable config c channel.B (system_after config log) ≡ not (pending (ReleaseOf (block_at y.address)) ((system_after config log).clients c).past)
-      waits = movable-is channel.B (beat.B y) rest e ∙ ap not (stalled-as-it-waits terms channel.B (beat.B y) ((system_after config log).clients c) (first.taken.0 refl) ∙ rw (first.probes y refl) refl)
+      waits : is_movable config c channel.B (system_after config log) ≡ not
+          (pending (ReleaseOf (block_at y.address)) ((system_after config log).clients c).past)
+      waits = movable-is channel.B (beat.B y) rest e ∙ ap not
+          (stalled-as-it-waits terms channel.B (beat.B y) ((system_after config log).clients c) (first.taken.0 refl)
+          ∙ rw (first.probes y refl) refl)
 
       there : is_movable config c channel.B (system_after config log) ≡ false → IsReleasing c (block_at y.address) log
-      there h = releasing-started config log mail request s matched coherent c (block_at y.address) (not-false _ (sym waits ∙ h))
+      there h = releasing-started config log mail request s matched coherent c (block_at y.address)
+          (not-false _ (sym waits ∙ h))
 
       back : IsReleasing c (block_at y.address) log → is_movable config c channel.B (system_after config log) ≡ false
       back h = waits ∙ ap not (started-releasing config log mail request s matched coherent c (block_at y.address) h)
   moves-exactly ch x rest e first = absurd (let on = first.on in cc)
 
-  pub exact : (ch : Channel) → ((x : Beat w) (rest : List (Beat w)) → (system_after config log).channels c ch ≡ x ∷ rest → IsFirst config terms c ch x (system_after config log)) → IsExact config log c ch
+  pub exact : (ch : Channel) → ((x : Beat w) (rest : List (Beat w)) → (system_after config log).channels c ch ≡ x ∷ rest
+      → IsFirst config terms c ch x (system_after config log)) → IsExact config log c ch
   exact ch firsts = record {
-    empty = ap is_emptiness (outcome-is ch) ∙ emptiness config terms c ch ((system_after config log).channels c ch) (system_after config log);
+    empty = ap is_emptiness (outcome-is ch) ∙ emptiness config terms c ch ((system_after config log).channels c ch)
+        (system_after config log);
     stalled = stall ((system_after config log).channels c ch) refl;
     moves = λ x rest e. moves-exactly ch x rest e (firsts x rest e);
   }
@@ -259,4 +302,5 @@ module _ {w : ℕ} (config : Config) (log : Log w) (mail : AccessMessages w) (re
       stall [] e = rw (outcome-is ch, e) refl
       stall (x ∷ rest) e =
           ap is_stall (outcome-is ch) ∙ rw (movable-is ch x rest e, e)
-          (stall-delivered config terms c ch x rest (system_after config log) (firsts x rest e).taken ∙ not_not (stalls config terms c ch x (system_after config log)))
+          (stall-delivered config terms c ch x rest (system_after config log) (firsts x rest e).taken ∙ not_not
+          (stalls config terms c ch x (system_after config log)))

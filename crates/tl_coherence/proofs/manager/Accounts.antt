@@ -1,37 +1,31 @@
 -- What the manager knows follows from five things: what it recorded, which ProbeAcks it misses, which service each
 -- block has, and which request that is. This is for all of its events alike.
-use Rattle.std.proofs.Common.{◌≡◌, ℕ, ◌==◌, Bool, true, false, not, ◌&&◌, ◌||◌, List, [], ◌∷◌, Option, Some, None, refl, sym, ◌∙◌, ap, inl, inr}
+use Rattle.tl_coherence.proofs.manager.Imports.{MessageA, a_beat_of, unfinished, Config, ProbeOf, Cap, Trace, on_link}
+use Rattle.tl_coherence.proofs.manager.Imports.{comes_in_request, pending, block_at, request_of, probe_of, swapped}
+use Rattle.tl_coherence.proofs.manager.Imports.{recorded, cap_probed, IsKept, services, service_of_block, End}
+use Rattle.tl_coherence.proofs.manager.Imports.{ClientBlock, View, Own, Other, Granting, Acknowledging, GrantedOther}
+use Rattle.tl_coherence.proofs.manager.Imports.{is_unprobed, ok, Service, Free, Waits, GrantSent, GrantTaken, State}
+use Rattle.tl_coherence.proofs.manager.Imports.{SourceState, SourceFree, Asked, InService, Replied, Acquires, view}
+use Rattle.tl_coherence.proofs.manager.Imports.{is_granting, is_acknowledging, is_wanting, IsInvariant, is_busy}
+use Rattle.tl_coherence.proofs.manager.Imports.{ManagerRelation, is_own, client_in, service_with, ServedSourceRelation}
+use Rattle.tl_coherence.proofs.manager.Imports.{IsFor, is_served, is_granted, cap_waited, probe_beat}
+use Rattle.std.proofs.Common.{◌≡◌, ℕ, ◌==◌, Bool, true, false, not, ◌&&◌, ◌||◌, List, [], ◌∷◌, Option, Some, None, refl}
+use Rattle.std.proofs.Common.{sym, ◌∙◌, ap, inl, inr}
 use Rattle.std.specs.Prelude.{if◌then◌else◌}
 use Rattle.std.specs.Cmp.Derive.{one_truth}
 use Rattle.std.proofs.Math.Bool.{or_comm, or-true}
 use Rattle.std.proofs.lemmas.Bool.{cases_eq, ne_eqb, eqb-true}
 use Rattle.std.proofs.lemmas.Option.{same_Some}
-use Rattle.tl_burst.specs.declared.message.MessageA.{MessageA}
-use Rattle.tl_burst.specs.statement.Burst.{a_beat_of}
 use Rattle.tl_beat.specs.declared.channel.Channel.TheVariants as channel
-use Rattle.tl_burst.specs.statement.Messages.{unfinished}
-use Rattle.tl_params.specs.declared.config.Config.{Config}
-use Rattle.tl_params.specs.declared.key.Key.TheVariants.{ProbeOf}
-use Rattle.tl_params.specs.declared.param.Cap.{Cap}
-use Rattle.tl_rules.specs.statement.Conformance.{Trace, on_link, comes_in_request}
-use Rattle.tl_rules.specs.statement.History.{pending, block_at, request_of, probe_of}
-use Rattle.tl_client.proofs.HeldAfter.{swapped}
-use Rattle.tl_manager.specs.statement.Holders.{recorded, cap_probed}
-use Rattle.tl_manager.specs.code.Kept.{AreApart, blocks_of, IsKept}
+use Rattle.tl_manager.specs.code.Kept.{AreApart, blocks_of}
 use Rattle.tl_manager.specs.laws.Pending as waits
-use Rattle.tl_manager.specs.laws.Pending.{is_any, is_asking, is_acquiring, is_granted_to, is_granted_with, is_awaited, IsProbed}
+use Rattle.tl_manager.specs.laws.Pending.{is_any, is_asking, is_acquiring, is_granted_to, is_granted_with, is_awaited}
+use Rattle.tl_manager.specs.laws.Pending.{IsProbed}
 use Rattle.tl_manager.specs.statement.Service as manager
-use Rattle.tl_manager.specs.statement.Service.{services, service_of_block}
-use Rattle.tl_manager.specs.statement.End.{End}
 use Rattle.tl_manager.proofs.Serving.{some_is, none_of_block}
 use Rattle.tl_manager.proofs.Settled.{all-settled}
 use Rattle.tl_manager.proofs.Sources.{source-pending, sink-pending}
-use Rattle.tl_coherence.specs.protocol.Phase.{ClientBlock, View, Own, Other, Granting, Acknowledging, GrantedOther, is_unprobed, ok}
-use Rattle.tl_coherence.specs.protocol.Protocol.{Service, Free, Waits, GrantSent, GrantTaken, State, SourceState, SourceFree, Asked, InService, Replied, Acquires, view, is_granting, is_acknowledging, is_wanting}
-use Rattle.tl_coherence.specs.protocol.Invariant.{IsInvariant, IsAwaited, IsOwnSource, is_serving, tracks_with, is_busy}
-use Rattle.tl_coherence.specs.refinement.ManagerRelation.{ManagerRelation, is_own, client_in, service_with}
-use Rattle.tl_coherence.specs.refinement.SourceRelation.{ServedSourceRelation, IsFor, is_served, is_granted, cap_waited}
-use Rattle.tl_coherence.specs.refinement.PacketMessages.{probe_beat}
+use Rattle.tl_coherence.specs.protocol.Invariant.{IsAwaited, IsOwnSource, is_serving, tracks_with}
 use Rattle.tl_coherence.proofs.queues.Facts.{is_other, own_wants}
 use Rattle.tl_coherence.proofs.queues.Phases.{each_phase, of_phase, and_left, and_right}
 use Rattle.tl_coherence.proofs.queues.Tokens.{same_number}
@@ -39,11 +33,13 @@ use Rattle.tl_coherence.proofs.protocol.BothParts.{is_of-is, acquires_of-is, ser
 
 -- ---- services that pass a test
 
-pub any-of : {w : ℕ} (n : ℕ) (test : manager.Service w → Bool) (ss : List (manager.Service w)) (v : manager.Service w) → service_of_block n ss ≡ Some v → test v ≡ true → is_any test ss ≡ true
+pub any-of : {w : ℕ} (n : ℕ) (test : manager.Service w → Bool) (ss : List (manager.Service w)) (v : manager.Service w)
+    → service_of_block n ss ≡ Some v → test v ≡ true → is_any test ss ≡ true
 any-of n test [] v e f = absurd cc
 any-of {w} n test (s ∷ ss) v e f = go (block_at s.request.address == n) (λ g. any-of n test ss v g f) e
   where
-    go : (b : Bool) → (service_of_block n ss ≡ Some v → is_any test ss ≡ true) → (if b then Some s else service_of_block n ss) ≡ Some v → (test s || is_any test ss) ≡ true
+    go : (b : Bool) → (service_of_block n ss ≡ Some v → is_any test ss ≡ true)
+        → (if b then Some s else service_of_block n ss) ≡ Some v → (test s || is_any test ss) ≡ true
     go true more g = let here : test s ≡ true = rw (some_is s v g) f in rw here refl
     go false more g = rw (more g) (or-true (test s))
 
@@ -54,7 +50,8 @@ pub record IsFound {w : ℕ} (test : manager.Service w → Bool) (ss : List (man
   pub serves : service_of_block block ss ≡ Some service
   pub passes : test service ≡ true
 
-pub any-found : {w : ℕ} (test : manager.Service w → Bool) (ss : List (manager.Service w)) → AreApart (blocks_of ss) → is_any test ss ≡ true → IsFound test ss
+pub any-found : {w : ℕ} (test : manager.Service w → Bool) (ss : List (manager.Service w)) → AreApart (blocks_of ss)
+    → is_any test ss ≡ true → IsFound test ss
 any-found test [] apart e = absurd cc
 any-found {w} test (s ∷ ss) apart e = go (test s) refl (λ f. any-found test ss apart.1 f) e
   where
@@ -63,14 +60,23 @@ any-found {w} test (s ∷ ss) apart e = go (test s) refl (λ f. any-found test s
       block = is.block;
       service = is.service;
       serves = elim (cases_eq (block_at s.request.address) is.block) [
-        | inl same ↦ absurd (let none : service_of_block is.block ss ≡ None = none_of_block is.block ss (rw same at apart.0) in let no : Some is.service ≡ None = sym is.serves ∙ none in cc)
+        | inl same ↦ absurd (let none : service_of_block is.block ss ≡ None =
+            none_of_block is.block ss (rw same at apart.0) in let no : Some is.service ≡ None = sym is.serves ∙ none in
+            cc)
         | inr other ↦ rw (ne_eqb (block_at s.request.address) is.block other) is.serves
       ];
       passes = is.passes;
     }
 
-    go : (b : Bool) → test s ≡ b → (is_any test ss ≡ true → IsFound test ss) → (b || is_any test ss) ≡ true → IsFound test (s ∷ ss)
-    go true f more g = record { block = block_at s.request.address; service = s; serves = rw (same_number (block_at s.request.address)) refl; passes = f }
+    go : (b : Bool) → test s ≡ b → (is_any test ss ≡ true → IsFound test ss) → (b || is_any test ss) ≡ true
+        → IsFound test (s ∷ ss)
+    go true f more g = record {
+      block = block_at s.request.address;
+      service = s;
+      serves =
+          rw (same_number (block_at s.request.address)) refl;
+      passes = f;
+    }
     go false f more g = later (more g)
 
 -- ---- phases
@@ -95,9 +101,11 @@ is_granted_in (GrantTaken q) = true
 pub record IsTraced {w : ℕ} {X : Type 0} (request : ℕ → MessageA w) (s : State X) (t : Trace w) : Type 0 where
   pub recorded_is : (c n : ℕ) → recorded c n t ≡ ((s.block n).pair c).recorded
   pub probes : (c n : ℕ) → pending (ProbeOf n) (on_link c t) ≡ not (is_unprobed ((s.block n).pair c).probing)
-  pub serving_is : (n : ℕ) → service_of_block n (services t) ≡ service_with (client_in (s.block n).service) (s.block n).tracker (request n)
+  pub serving_is : (n : ℕ) → service_of_block n (services t) ≡ service_with (client_in (s.block n).service)
+      (s.block n).tracker (request n)
   pub requests : (n : ℕ) → IsFor (s.block n).service n (request n)
-  pub asked : (n r source : ℕ) (own : Bool) (k : Cap) → (s.block n).service ≡ Waits r own source k → request_of source (on_link r t) ≡ Some (a_beat_of (request n) 0)
+  pub asked : (n r source : ℕ) (own : Bool) (k : Cap) → (s.block n).service ≡ Waits r own source k
+      → request_of source (on_link r t) ≡ Some (a_beat_of (request n) 0)
 
 -- ---- what one block's service says
 
@@ -112,8 +120,10 @@ granted_views (GrantSent q d k) c e = not-other (c == q) (Granting d k) GrantedO
 granted_views (GrantTaken q) c e = not-other (c == q) Acknowledging GrantedOther refl refl
 
 -- a request is granted exactly where the protocol says so
-pub granted-is : {w : ℕ} {X : Type 0} (caching : ℕ → Bool) (config : Config) (request : ℕ → MessageA w) (s : State X) (e : End w) → IsInvariant caching s → IsKept config e → IsTraced request s e.trace
-    → (n : ℕ) (v : manager.Service w) → service_of_block n (services e.trace) ≡ Some v → waits.is_granted e.trace v ≡ is_granted_in (s.block n).service
+pub granted-is : {w : ℕ} {X : Type 0} (caching : ℕ → Bool) (config : Config) (request : ℕ → MessageA w) (s : State X)
+    (e : End w) → IsInvariant caching s → IsKept config e → IsTraced request s e.trace
+    → (n : ℕ) (v : manager.Service w) → service_of_block n (services e.trace) ≡ Some v
+    → waits.is_granted e.trace v ≡ is_granted_in (s.block n).service
 granted-is {w} {X} caching config request s e inv kept is n v found = go (s.block n).service refl
   where
     t : Trace w
@@ -122,16 +132,19 @@ granted-is {w} {X} caching config request s e inv kept is n v found = go (s.bloc
     granted : is_granted_in (s.block n).service ≡ true → waits.is_granted t v ≡ true
     granted f =
         let settled = all-settled config n t (λ c. is.probes c n
-        ∙ ap not (quiet_unless ((s.block n).pair c) (view (s.block n).service c) ((inv.blocks n).phases c) (granted_views (s.block n).service c f)))
+        ∙ ap not (quiet_unless ((s.block n).pair c) (view (s.block n).service c) ((inv.blocks n).phases c)
+        (granted_views (s.block n).service c f)))
         in
-        let awaited : is_awaited config n t (Some v) ≡ true = ap (is_awaited config n t) (sym found) ∙ kept.steady.awaited n in
+        let awaited : is_awaited config n t (Some v) ≡ true =
+        ap (is_awaited config n t) (sym found) ∙ kept.steady.awaited n in
         only (waits.is_granted t v) (rw settled at awaited)
       where
         only : (b : Bool) → (b || false) ≡ true → b ≡ true
         only true g = refl
         only false g = absurd cc
 
-    waiting : (service : Service) → (s.block n).service ≡ service → IsAwaited service (s.block n).pair → is_granted_in service ≡ false → (service ≡ Free → ⊥) → waits.is_granted t v ≡ false
+    waiting : (service : Service) → (s.block n).service ≡ service → IsAwaited service (s.block n).pair
+        → is_granted_in service ≡ false → (service ≡ Free → ⊥) → waits.is_granted t v ≡ false
     waiting Free f someone g busy = absurd (busy refl)
     waiting (GrantSent q d k) f someone g busy = absurd cc
     waiting (GrantTaken q) f someone g busy = absurd cc
@@ -142,7 +155,8 @@ granted-is {w} {X} caching config request s e inv kept is n v found = go (s.bloc
         rw same at probed.unanswered
 
     go : (service : Service) → (s.block n).service ≡ service → waits.is_granted t v ≡ is_granted_in service
-    go Free f = absurd (let none : service_of_block n (services t) ≡ None = is.serving_is n ∙ rw f refl in let no : Some v ≡ None = sym found ∙ none in cc)
+    go Free f = absurd (let none : service_of_block n (services t) ≡ None = is.serving_is n ∙ rw f refl in
+        let no : Some v ≡ None = sym found ∙ none in cc)
     go (Waits r own source k) f =
         let someone : IsAwaited (Waits r own source k) (s.block n).pair = rw f at (inv.blocks n).awaited in
         waiting (Waits r own source k) f someone refl (λ g. cc)
@@ -151,21 +165,25 @@ granted-is {w} {X} caching config request s e inv kept is n v found = go (s.bloc
 
 -- what a service says of the client whose request it is, and of another
 acquiring-is : {w : ℕ} (c n tracker : ℕ) (m : MessageA w) (t : Trace w) (service : Service) → IsFor service n m
-    → ((v : manager.Service w) → service_with (client_in service) tracker m ≡ Some v → waits.is_granted t v ≡ is_granted_in service)
+    → ((v : manager.Service w) → service_with (client_in service) tracker m ≡ Some v
+    → waits.is_granted t v ≡ is_granted_in service)
     → is_acquiring c t (service_with (client_in service) tracker m) ≡ is_own (view service c)
 acquiring-is c n tracker m t Free for granted = refl
-acquiring-is c n tracker m t (Waits r own source k) for granted = rw (granted (at_service r tracker m) refl, for.0, swapped r c) (go own (c == r))
+acquiring-is c n tracker m t (Waits r own source k) for granted =
+    rw (granted (at_service r tracker m) refl, for.0, swapped r c) (go own (c == r))
   where
     go : (b same : Bool) → (b && (same && true)) ≡ is_own (if b && same then Own else Other k)
     go true true = refl
     go true false = refl
     go false same = refl
-acquiring-is c n tracker m t (GrantSent q d k) for granted = rw (granted (at_service q tracker m) refl, for.0, swapped q c) (go (c == q))
+acquiring-is c n tracker m t (GrantSent q d k) for granted =
+    rw (granted (at_service q tracker m) refl, for.0, swapped q c) (go (c == q))
   where
     go : (same : Bool) → (true && (same && false)) ≡ is_own (if same then Granting d k else GrantedOther)
     go true = refl
     go false = refl
-acquiring-is c n tracker m t (GrantTaken q) for granted = rw (granted (at_service q tracker m) refl, for.0, swapped q c) (go (c == q))
+acquiring-is c n tracker m t (GrantTaken q) for granted = rw (granted (at_service q tracker m) refl, for.0, swapped q c)
+    (go (c == q))
   where
     go : (same : Bool) → (true && (same && false)) ≡ is_own (if same then Acknowledging else GrantedOther)
     go true = refl
@@ -175,28 +193,33 @@ abbrev is_grant_of : View → Bool
 is_grant_of v = is_granting v || is_acknowledging v
 
 granting-is : {w : ℕ} (c n tracker : ℕ) (m : MessageA w) (t : Trace w) (service : Service)
-    → ((v : manager.Service w) → service_with (client_in service) tracker m ≡ Some v → waits.is_granted t v ≡ is_granted_in service)
+    → ((v : manager.Service w) → service_with (client_in service) tracker m ≡ Some v
+    → waits.is_granted t v ≡ is_granted_in service)
     → is_granted_to c t (service_with (client_in service) tracker m) ≡ is_grant_of (view service c)
 granting-is c n tracker m t Free granted = refl
-granting-is c n tracker m t (Waits r own source k) granted = rw (granted (at_service r tracker m) refl) (go (r == c) (own && (c == r)))
+granting-is c n tracker m t (Waits r own source k) granted =
+    rw (granted (at_service r tracker m) refl) (go (r == c) (own && (c == r)))
   where
     go : (b same : Bool) → (b && false) ≡ is_grant_of (if same then Own else Other k)
     go true true = refl
     go true false = refl
     go false true = refl
     go false false = refl
-granting-is c n tracker m t (GrantSent q d k) granted = rw (granted (at_service q tracker m) refl, swapped q c) (go (c == q))
+granting-is c n tracker m t (GrantSent q d k) granted = rw (granted (at_service q tracker m) refl, swapped q c)
+    (go (c == q))
   where
     go : (same : Bool) → (same && true) ≡ is_grant_of (if same then Granting d k else GrantedOther)
     go true = refl
     go false = refl
-granting-is c n tracker m t (GrantTaken q) granted = rw (granted (at_service q tracker m) refl, swapped q c) (go (c == q))
+granting-is c n tracker m t (GrantTaken q) granted = rw (granted (at_service q tracker m) refl, swapped q c)
+    (go (c == q))
   where
     go : (same : Bool) → (same && true) ≡ is_grant_of (if same then Acknowledging else GrantedOther)
     go true = refl
     go false = refl
 
-pub managed-traced : {w : ℕ} {X : Type 0} (caching : ℕ → Bool) (config : Config) (request : ℕ → MessageA w) (s : State X) (e : End w) → IsInvariant caching s
+pub managed-traced : {w : ℕ} {X : Type 0} (caching : ℕ → Bool) (config : Config) (request : ℕ → MessageA w)
+    (s : State X) (e : End w) → IsInvariant caching s
     → IsKept config e → IsTraced request s e.trace → ManagerRelation request s e.trace
 managed-traced {w} {X} caching config request s e inv kept is = record {
   recorded_is = is.recorded_is;
@@ -208,19 +231,24 @@ managed-traced {w} {X} caching config request s e inv kept is = record {
   serving_is = is.serving_is;
 }
   where
-    granted : (n : ℕ) (v : manager.Service w) → service_with (client_in (s.block n).service) (s.block n).tracker (request n) ≡ Some v → waits.is_granted e.trace v ≡ is_granted_in (s.block n).service
+    granted : (n : ℕ) (v : manager.Service w) → service_with (client_in (s.block n).service) (s.block n).tracker
+        (request n) ≡ Some v → waits.is_granted e.trace v ≡ is_granted_in (s.block n).service
     granted n v f = granted-is caching config request s e inv kept is n v (is.serving_is n ∙ f)
 
 -- ---- sources
 
 -- a source that is served is that of a service that isn't granted, and the other way
-asking-served : {w : ℕ} {X : Type 0} (caching : ℕ → Bool) (request : ℕ → MessageA w) (s : State X) (c source n tracker : ℕ) (service : Service)
-    → IsInvariant caching s → (s.block n).service ≡ service → IsFor service n (request n) → is_granted_in service ≡ false
-    → (r : ℕ) → client_in service ≡ Some r → (r == c) ≡ true → ((request n).source == source) ≡ true → is_served c (s.uses c source) s ≡ true
+asking-served : {w : ℕ} {X : Type 0} (caching : ℕ → Bool) (request : ℕ → MessageA w) (s : State X)
+    (c source n tracker : ℕ) (service : Service)
+    → IsInvariant caching s → (s.block n).service ≡ service → IsFor service n (request n)
+    → is_granted_in service ≡ false
+    → (r : ℕ) → client_in service ≡ Some r → (r == c) ≡ true → ((request n).source == source) ≡ true
+    → is_served c (s.uses c source) s ≡ true
 asking-served caching request s c source n tracker Free inv f for ungranted r client same here = absurd cc
 asking-served caching request s c source n tracker (GrantSent q d k) inv f for ungranted r client same here = absurd cc
 asking-served caching request s c source n tracker (GrantTaken q) inv f for ungranted r client same here = absurd cc
-asking-served {w} {X} caching request s c source n tracker (Waits q own src k) inv f for ungranted r client same here = go own refl
+asking-served {w} {X} caching request s c source n tracker (Waits q own src k) inv f for ungranted r client same here =
+    go own refl
   where
     q_is : q ≡ c
     q_is = same_Some q r client ∙ eqb-true r c same
@@ -231,15 +259,19 @@ asking-served {w} {X} caching request s c source n tracker (Waits q own src k) i
     go : (b : Bool) → own ≡ b → is_served c (s.uses c source) s ≡ true
     go true g =
         let waits_so : (s.block n).service ≡ Waits c true source k = f ∙ rw (q_is, src_is, g) refl in
-        let sourced : IsOwnSource (Waits c true source k) (s.block n).source = rw waits_so at (inv.blocks n).own_source in
+        let sourced : IsOwnSource (Waits c true source k) (s.block n).source =
+        rw waits_so at (inv.blocks n).own_source in
         let own_view : view (s.block n).service c ≡ Own = rw (waits_so, same_number c) refl in
         let wants : is_wanting ((s.block n).pair c).acquiring ≡ true =
-        not-calm ((s.block n).pair c).acquiring (own_wants ((s.block n).pair c) (view (s.block n).service c) ((inv.blocks n).phases c) own_view) in
-        let used = acquires_of-is n (s.uses c source) (inv.named.acquires c source n ∙ rw (wants, ← sourced, same_number source) refl) in
+        not-calm ((s.block n).pair c).acquiring (own_wants ((s.block n).pair c) (view (s.block n).service c)
+        ((inv.blocks n).phases c) own_view) in
+        let used = acquires_of-is n (s.uses c source)
+        (inv.named.acquires c source n ∙ rw (wants, ← sourced, same_number source) refl) in
         rw (used, own_view) refl
     go false g =
         let waits_so : (s.block n).service ≡ Waits c false source k = f ∙ rw (q_is, src_is, g) refl in
-        let used = serves_of-is n (s.uses c source) (inv.named.serves c source n ∙ rw (waits_so, same_number c, same_number source) refl) in
+        let used = serves_of-is n (s.uses c source)
+        (inv.named.serves c source n ∙ rw (waits_so, same_number c, same_number source) refl) in
         rw used refl
 
 -- the block whose service a served use is of
@@ -249,11 +281,13 @@ pub record IsServing {X : Type 0} (c source : ℕ) (s : State X) : Type 0 where
   pub cap : Cap
   pub waits_so : (s.block block).service ≡ Waits c own source cap
 
-served-waits : {X : Type 0} (caching : ℕ → Bool) (s : State X) (c source : ℕ) (u : SourceState) → IsInvariant caching s → s.uses c source ≡ u → is_served c u s ≡ true → IsServing c source s
+served-waits : {X : Type 0} (caching : ℕ → Bool) (s : State X) (c source : ℕ) (u : SourceState) → IsInvariant caching s
+    → s.uses c source ≡ u → is_served c u s ≡ true → IsServing c source s
 served-waits caching s c source SourceFree inv f e = absurd cc
 served-waits caching s c source Asked inv f e = absurd cc
 served-waits caching s c source Replied inv f e = absurd cc
-served-waits {X} caching s c source (InService n) inv f e = go (s.block n).service refl (sym (inv.named.serves c source n) ∙ rw (f, same_number n) refl)
+served-waits {X} caching s c source (InService n) inv f e =
+    go (s.block n).service refl (sym (inv.named.serves c source n) ∙ rw (f, same_number n) refl)
   where
     go : (service : Service) → (s.block n).service ≡ service → is_serving c source service ≡ true → IsServing c source s
     go Free g h = absurd cc
@@ -275,9 +309,11 @@ served-waits {X} caching s c source (Acquires n) inv f e = go (s.block n).servic
     no_grant false u v g h = h
 
     named : (source == (s.block n).source c) ≡ true
-    named = and_right (is_wanting ((s.block n).pair c).acquiring) (source == (s.block n).source c) (sym (inv.named.acquires c source n) ∙ rw (f, same_number n) refl)
+    named = and_right (is_wanting ((s.block n).pair c).acquiring) (source == (s.block n).source c)
+        (sym (inv.named.acquires c source n) ∙ rw (f, same_number n) refl)
 
-    go : (service : Service) → (s.block n).service ≡ service → is_own (view (s.block n).service c) ≡ true → IsServing c source s
+    go : (service : Service) → (s.block n).service ≡ service → is_own (view (s.block n).service c) ≡ true
+        → IsServing c source s
     go Free g h = absurd (let no : false ≡ true = rw g at h in cc)
     go (GrantSent q d k) g h = absurd (let one : is_own (view (GrantSent q d k) c) ≡ true = rw g at h in let none =
         no_grant (c == q) (Granting d k) GrantedOther refl refl in let no : false ≡ true = sym none ∙ one in cc)
@@ -288,10 +324,12 @@ served-waits {X} caching s c source (Acquires n) inv f e = go (s.block n).servic
         let mine = and_left own (c == r) both in
         let client = eqb-true c r (and_right own (c == r) both) in
         let sourced : IsOwnSource (Waits r true src k) (s.block n).source = rw (g, mine) at (inv.blocks n).own_source in
-        let number : source ≡ src = eqb-true source ((s.block n).source c) named ∙ ap (s.block n).source client ∙ sym sourced in
+        let number : source ≡ src = eqb-true source ((s.block n).source c) named ∙ ap (s.block n).source client ∙ sym
+        sourced in
         record { block = n; own = true; cap = k; waits_so = g ∙ rw (client, number, mine) refl }
 
-sources-traced : {w : ℕ} {X : Type 0} (caching : ℕ → Bool) (config : Config) (request : ℕ → MessageA w) (s : State X) (e : End w) → IsInvariant caching s → IsKept config e → IsTraced request s e.trace
+sources-traced : {w : ℕ} {X : Type 0} (caching : ℕ → Bool) (config : Config) (request : ℕ → MessageA w) (s : State X)
+    (e : End w) → IsInvariant caching s → IsKept config e → IsTraced request s e.trace
     → (c source : ℕ) → is_any (is_asking c source e.trace) (services e.trace) ≡ is_served c (s.uses c source) s
 sources-traced {w} {X} caching config request s e inv kept is c source = one_truth _ _ asking serving_it
   where
@@ -304,28 +342,33 @@ sources-traced {w} {X} caching config request s e inv kept is c source = one_tru
     at_block n v Free f found asks granted = absurd (let no : None ≡ Some v = found in cc)
     at_block n v (Waits r own src k) f found asks granted =
         let v_is = some_is (at_service r (s.block n).tracker (request n)) v found in
-        let here : is_asking c source t (at_service r (s.block n).tracker (request n)) ≡ true = ap (is_asking c source t) v_is ∙ asks in
-        asking-served caching request s c source n (s.block n).tracker (Waits r own src k) inv f (rw f at (is.requests n)) refl r refl
+        let here : is_asking c source t (at_service r (s.block n).tracker (request n)) ≡ true =
+        ap (is_asking c source t) v_is ∙ asks in
+        asking-served caching request s c source n (s.block n).tracker (Waits r own src k) inv f
+        (rw f at (is.requests n)) refl r refl
         (and_left (r == c) _ here) (and_left ((request n).source == source) _ (and_right (r == c) _ here))
     at_block n v (GrantSent q d k) f found asks granted = absurd (ungranted v asks granted)
       where
         ungranted : (u : manager.Service w) → is_asking c source t u ≡ true → waits.is_granted t u ≡ true → ⊥
         ungranted u g h =
-            let none : not (waits.is_granted t u) ≡ true = and_right (u.request.source == source) _ (and_right (u.link.0 == c) _ g) in
+            let none : not (waits.is_granted t u) ≡ true =
+            and_right (u.request.source == source) _ (and_right (u.link.0 == c) _ g) in
             let no : false ≡ true = rw h at none in
             cc
     at_block n v (GrantTaken q) f found asks granted = absurd (ungranted v asks granted)
       where
         ungranted : (u : manager.Service w) → is_asking c source t u ≡ true → waits.is_granted t u ≡ true → ⊥
         ungranted u g h =
-            let none : not (waits.is_granted t u) ≡ true = and_right (u.request.source == source) _ (and_right (u.link.0 == c) _ g) in
+            let none : not (waits.is_granted t u) ≡ true =
+            and_right (u.request.source == source) _ (and_right (u.link.0 == c) _ g) in
             let no : false ≡ true = rw h at none in
             cc
 
     asking : is_any (is_asking c source t) (services t) ≡ true → is_served c (s.uses c source) s ≡ true
     asking any =
         let one = any-found (is_asking c source t) (services t) kept.blocks_apart any in
-        at_block one.block one.service (s.block one.block).service refl (sym (is.serving_is one.block) ∙ one.serves) one.passes
+        at_block one.block one.service (s.block one.block).service refl (sym (is.serving_is one.block) ∙ one.serves)
+        one.passes
         (granted-is caching config request s e inv kept is one.block one.service one.serves)
 
     serving_it : is_served c (s.uses c source) s ≡ true → is_any (is_asking c source t) (services t) ≡ true
@@ -333,9 +376,12 @@ sources-traced {w} {X} caching config request s e inv kept is c source = one_tru
         let one = served-waits caching s c source (s.uses c source) inv refl served in
         let v : manager.Service w = at_service c (s.block one.block).tracker (request one.block) in
         let found : service_of_block one.block (services t) ≡ Some v = is.serving_is one.block ∙ rw one.waits_so refl in
-        let for : IsFor (Waits c one.own source one.cap) one.block (request one.block) = rw one.waits_so at (is.requests one.block) in
-        let granted : waits.is_granted t v ≡ false = granted-is caching config request s e inv kept is one.block v found ∙ rw one.waits_so refl in
-        any-of one.block (is_asking c source t) (services t) v found (rw (same_number c, for.1, same_number source, granted) refl)
+        let for : IsFor (Waits c one.own source one.cap) one.block (request one.block) =
+        rw one.waits_so at (is.requests one.block) in
+        let granted : waits.is_granted t v ≡ false = granted-is caching config request s e inv kept is one.block v
+        found ∙ rw one.waits_so refl in
+        any-of one.block (is_asking c source t) (services t) v found
+        (rw (same_number c, for.1, same_number source, granted) refl)
 
 -- ---- sinks
 
@@ -343,25 +389,30 @@ abbrev is_grant_to : ℕ → Service → Bool
 is_grant_to c service = is_granting (view service c) || is_acknowledging (view service c)
 
 -- a Grant to the client
-granted-to : (c : ℕ) (service : Service) → is_grant_to c service ≡ true → (is_granted_in service ≡ true) × (client_in service ≡ Some c)
+granted-to : (c : ℕ) (service : Service) → is_grant_to c service ≡ true → (is_granted_in service ≡ true)
+    × (client_in service ≡ Some c)
 granted-to c Free e = absurd cc
 granted-to c (Waits r own source k) e = absurd (never (own && (c == r)) e)
   where
-    never : (b : Bool) → (is_granting (if b then Own else Other k) || is_acknowledging (if b then Own else Other k)) ≡ true → ⊥
+    never : (b : Bool) → (is_granting (if b then Own else Other k) || is_acknowledging (if b then Own else Other k))
+        ≡ true → ⊥
     never true g = cc
     never false g = cc
 granted-to c (GrantSent q d k) e = let same = eqb-true c q (own (c == q) e) in (refl, rw same refl)
   where
-    own : (b : Bool) → (is_granting (if b then Granting d k else GrantedOther) || is_acknowledging (if b then Granting d k else GrantedOther)) ≡ true → b ≡ true
+    own : (b : Bool) → (is_granting (if b then Granting d k else GrantedOther) || is_acknowledging
+        (if b then Granting d k else GrantedOther)) ≡ true → b ≡ true
     own true g = refl
     own false g = absurd cc
 granted-to c (GrantTaken q) e = let same = eqb-true c q (own (c == q) e) in (refl, rw same refl)
   where
-    own : (b : Bool) → (is_granting (if b then Acknowledging else GrantedOther) || is_acknowledging (if b then Acknowledging else GrantedOther)) ≡ true → b ≡ true
+    own : (b : Bool) → (is_granting (if b then Acknowledging else GrantedOther) || is_acknowledging
+        (if b then Acknowledging else GrantedOther)) ≡ true → b ≡ true
     own true g = refl
     own false g = absurd cc
 
-to-granted : (c : ℕ) (service : Service) → is_granted_in service ≡ true → client_in service ≡ Some c → is_grant_to c service ≡ true
+to-granted : (c : ℕ) (service : Service) → is_granted_in service ≡ true → client_in service ≡ Some c
+    → is_grant_to c service ≡ true
 to-granted c Free e f = absurd cc
 to-granted c (Waits r own source k) e f = absurd cc
 to-granted c (GrantSent q d k) e f = let same : q ≡ c = same_Some q c f in rw (same, same_number c) refl
@@ -376,16 +427,20 @@ busy-granted (Waits r own source k) e = refl
 busy-granted (GrantSent q d k) e = refl
 busy-granted (GrantTaken q) e = refl
 
-sinks-traced : {w : ℕ} {X : Type 0} (caching : ℕ → Bool) (config : Config) (request : ℕ → MessageA w) (s : State X) (e : End w) → IsInvariant caching s → IsKept config e → IsTraced request s e.trace
+sinks-traced : {w : ℕ} {X : Type 0} (caching : ℕ → Bool) (config : Config) (request : ℕ → MessageA w) (s : State X)
+    (e : End w) → IsInvariant caching s → IsKept config e → IsTraced request s e.trace
     → (c sink : ℕ) → is_any (is_granted_with c sink e.trace) (services e.trace) ≡ is_granted c (s.tracked sink) s
-sinks-traced {w} {X} caching config request s e inv kept is c sink = one_truth _ _ granted_with (with_granted (s.tracked sink) refl)
+sinks-traced {w} {X} caching config request s e inv kept is c sink =
+    one_truth _ _ granted_with (with_granted (s.tracked sink) refl)
   where
     t : Trace w
     t = e.trace
 
-    client_of : (o : Option ℕ) (tracker : ℕ) (m : MessageA w) (v : manager.Service w) → service_with o tracker m ≡ Some v → (o ≡ Some v.link.0) × (v.tracker ≡ tracker)
+    client_of : (o : Option ℕ) (tracker : ℕ) (m : MessageA w) (v : manager.Service w)
+        → service_with o tracker m ≡ Some v → (o ≡ Some v.link.0) × (v.tracker ≡ tracker)
     client_of None tracker m v f = absurd cc
-    client_of (Some r) tracker m v f = let v_is = some_is (at_service r tracker m) v f in (ap (λ (u : manager.Service w). Some u.link.0) v_is, sym (ap (λ (u : manager.Service w). u.tracker) v_is))
+    client_of (Some r) tracker m v f = let v_is = some_is (at_service r tracker m) v f in
+        (ap (λ (u : manager.Service w). Some u.link.0) v_is, sym (ap (λ (u : manager.Service w). u.tracker) v_is))
 
     granted_with : is_any (is_granted_with c sink t) (services t) ≡ true → is_granted c (s.tracked sink) s ≡ true
     granted_with any =
@@ -393,55 +448,80 @@ sinks-traced {w} {X} caching config request s e inv kept is c sink = one_truth _
         let n : ℕ = one.block in
         let v : manager.Service w = one.service in
         let client = eqb-true v.link.0 c (and_left (v.link.0 == c) _ one.passes) in
-        let number = eqb-true v.tracker sink (and_left (v.tracker == sink) _ (and_right (v.link.0 == c) _ one.passes)) in
-        let yes : waits.is_granted t v ≡ true = and_right (v.tracker == sink) _ (and_right (v.link.0 == c) _ one.passes) in
-        let granted : is_granted_in (s.block n).service ≡ true = sym (granted-is caching config request s e inv kept is n v one.serves) ∙ yes in
-        let of = client_of (client_in (s.block n).service) (s.block n).tracker (request n) v (sym (is.serving_is n) ∙ one.serves) in
+        let number = eqb-true v.tracker sink (and_left (v.tracker == sink) _ (and_right (v.link.0 == c) _ one.passes))
+        in
+        let yes : waits.is_granted t v ≡ true = and_right (v.tracker == sink) _ (and_right (v.link.0 == c) _ one.passes)
+        in
+        let granted : is_granted_in (s.block n).service ≡ true =
+        sym (granted-is caching config request s e inv kept is n v one.serves) ∙ yes in
+        let of = client_of (client_in (s.block n).service) (s.block n).tracker (request n) v
+        (sym (is.serving_is n) ∙ one.serves) in
         let tracker_is : sink ≡ (s.block n).tracker = sym number ∙ of.1 in
-        let tracked = is_of-is n (s.tracked sink) (inv.named.trackers sink n ∙ rw (busy-granted (s.block n).service granted, ← tracker_is, same_number sink) refl) in
-        ap (λ (o : Option ℕ). is_granted c o s) tracked ∙ to-granted c (s.block n).service granted (of.0 ∙ ap Some client)
+        let tracked = is_of-is n (s.tracked sink)
+        (inv.named.trackers sink n ∙ rw (busy-granted (s.block n).service granted, ← tracker_is, same_number sink)
+        refl) in
+        ap (λ (o : Option ℕ). is_granted c o s) tracked ∙ to-granted c (s.block n).service granted
+        (of.0 ∙ ap Some client)
 
-    with_granted : (o : Option ℕ) → s.tracked sink ≡ o → is_granted c o s ≡ true → is_any (is_granted_with c sink t) (services t) ≡ true
+    with_granted : (o : Option ℕ) → s.tracked sink ≡ o → is_granted c o s ≡ true
+        → is_any (is_granted_with c sink t) (services t) ≡ true
     with_granted None f g = absurd cc
     with_granted (Some n) f g =
         let to = granted-to c (s.block n).service g in
         let v : manager.Service w = at_service c (s.block n).tracker (request n) in
-        let found : service_of_block n (services t) ≡ Some v = is.serving_is n ∙ ap (λ (o : Option ℕ). service_with o (s.block n).tracker (request n)) to.1 in
-        let granted : waits.is_granted t v ≡ true = granted-is caching config request s e inv kept is n v found ∙ to.0 in
-        let tracks : tracks_with sink (s.block n) ≡ true = sym (inv.named.trackers sink n) ∙ rw (f, same_number n) refl in
-        let number = eqb-true sink (s.block n).tracker (and_right (is_busy (s.block n).service) (sink == (s.block n).tracker) tracks) in
-        any-of n (is_granted_with c sink t) (services t) v found (rw (same_number c, granted, ← number, same_number sink) refl)
+        let found : service_of_block n (services t) ≡ Some v =
+        is.serving_is n ∙ ap (λ (o : Option ℕ). service_with o (s.block n).tracker (request n)) to.1 in
+        let granted : waits.is_granted t v ≡ true = granted-is caching config request s e inv kept is n v found ∙ to.0
+        in
+        let tracks : tracks_with sink (s.block n) ≡ true = sym (inv.named.trackers sink n) ∙ rw (f, same_number n) refl
+        in
+        let number = eqb-true sink (s.block n).tracker
+        (and_right (is_busy (s.block n).service) (sink == (s.block n).tracker) tracks) in
+        any-of n (is_granted_with c sink t) (services t) v found
+        (rw (same_number c, granted, ← number, same_number sink) refl)
 
 -- ---- all of it
 
-cap-of : {w : ℕ} (service : Service) (n : ℕ) (m : MessageA w) (k : Cap) → IsFor service n m → is_granted_in service ≡ false → (service ≡ Free → ⊥)
+cap-of : {w : ℕ} (service : Service) (n : ℕ) (m : MessageA w) (k : Cap) → IsFor service n m
+    → is_granted_in service ≡ false → (service ≡ Free → ⊥)
     → cap_probed m.opcode m.param ≡ Some k → k ≡ cap_waited service
 cap-of Free n m k for ungranted busy e = absurd (busy refl)
 cap-of (Waits r own source j) n m k for ungranted busy e = same_Some k j (sym e ∙ for.3)
 cap-of (GrantSent q d j) n m k for ungranted busy e = absurd cc
 cap-of (GrantTaken q) n m k for ungranted busy e = absurd cc
 
-request-with : {w : ℕ} (service : Service) (tracker : ℕ) (m : MessageA w) (v : manager.Service w) → service_with (client_in service) tracker m ≡ Some v → (v.request ≡ m) × (service ≡ Free → ⊥)
+request-with : {w : ℕ} (service : Service) (tracker : ℕ) (m : MessageA w) (v : manager.Service w)
+    → service_with (client_in service) tracker m ≡ Some v → (v.request ≡ m) × (service ≡ Free → ⊥)
 request-with Free tracker m v f = absurd (let no : None ≡ Some v = f in cc)
-request-with {w} (Waits r own source k) tracker m v f = (sym (ap (λ (u : manager.Service w). u.request) (some_is (at_service r tracker m) v f)), λ e. cc)
-request-with {w} (GrantSent q d k) tracker m v f = (sym (ap (λ (u : manager.Service w). u.request) (some_is (at_service q tracker m) v f)), λ e. cc)
-request-with {w} (GrantTaken q) tracker m v f = (sym (ap (λ (u : manager.Service w). u.request) (some_is (at_service q tracker m) v f)), λ e. cc)
+request-with {w} (Waits r own source k) tracker m v f =
+    (sym (ap (λ (u : manager.Service w). u.request) (some_is (at_service r tracker m) v f)), λ e. cc)
+request-with {w} (GrantSent q d k) tracker m v f =
+    (sym (ap (λ (u : manager.Service w). u.request) (some_is (at_service q tracker m) v f)), λ e. cc)
+request-with {w} (GrantTaken q) tracker m v f =
+    (sym (ap (λ (u : manager.Service w). u.request) (some_is (at_service q tracker m) v f)), λ e. cc)
 
-probes-traced : {w : ℕ} {X : Type 0} (caching : ℕ → Bool) (config : Config) (request : ℕ → MessageA w) (s : State X) (e : End w) → IsInvariant caching s → IsKept config e → IsTraced request s e.trace
-    → (c n : ℕ) → is_unprobed ((s.block n).pair c).probing ≡ false → probe_of n (on_link c e.trace) ≡ Some (probe_beat n (cap_waited (s.block n).service))
+probes-traced : {w : ℕ} {X : Type 0} (caching : ℕ → Bool) (config : Config) (request : ℕ → MessageA w) (s : State X)
+    (e : End w) → IsInvariant caching s → IsKept config e → IsTraced request s e.trace
+    → (c n : ℕ) → is_unprobed ((s.block n).pair c).probing ≡ false
+    → probe_of n (on_link c e.trace) ≡ Some (probe_beat n (cap_waited (s.block n).service))
 probes-traced {w} {X} caching config request s e inv kept is c n sent =
     let probed : IsProbed c n e.trace = (kept.steady.accounted.blocks n).probes c (is.probes c n ∙ ap not sent) in
-    let granted : is_granted_in (s.block n).service ≡ false = sym (granted-is caching config request s e inv kept is n probed.service probed.serves) ∙ probed.unanswered in
-    let of = request-with (s.block n).service (s.block n).tracker (request n) probed.service (sym (is.serving_is n) ∙ probed.serves) in
+    let granted : is_granted_in (s.block n).service ≡ false =
+    sym (granted-is caching config request s e inv kept is n probed.service probed.serves) ∙ probed.unanswered in
+    let of = request-with (s.block n).service (s.block n).tracker (request n) probed.service
+    (sym (is.serving_is n) ∙ probed.serves) in
     let caps : cap_probed (request n).opcode (request n).param ≡ Some probed.cap = rw (← of.0) probed.caps in
-    probed.probe ∙ ap (λ (k : Cap). Some (probe_beat n k)) (cap-of (s.block n).service n (request n) probed.cap (is.requests n) granted of.1 caps)
+    probed.probe ∙ ap (λ (k : Cap). Some (probe_beat n k)) (cap-of (s.block n).service n (request n) probed.cap
+    (is.requests n) granted of.1 caps)
 
-pub are_served-traced : {w : ℕ} {X : Type 0} (caching : ℕ → Bool) (config : Config) (request : ℕ → MessageA w) (s : State X) (e : End w) → IsInvariant caching s
+pub are_served-traced : {w : ℕ} {X : Type 0} (caching : ℕ → Bool) (config : Config) (request : ℕ → MessageA w)
+    (s : State X) (e : End w) → IsInvariant caching s
     → IsKept config e → IsTraced request s e.trace → ServedSourceRelation request s e.trace
 are_served-traced {w} {X} caching config request s e inv kept is = record {
   sources = λ c source.
       source-pending c source e.trace kept.steady.accounted
-      ∙ ap (λ b. comes_in_request source (unfinished channel.A (on_link c e.trace)) || b) (sources-traced caching config request s e inv kept is c source)
+      ∙ ap (λ b. comes_in_request source (unfinished channel.A (on_link c e.trace)) || b)
+      (sources-traced caching config request s e inv kept is c source)
       ∙ or_comm (comes_in_request source (unfinished channel.A (on_link c e.trace))) (is_served c (s.uses c source) s);
   sinks = λ c sink. sink-pending c sink e.trace kept.sinks ∙ sinks-traced caching config request s e inv kept is c sink;
   requests = is.requests;
@@ -450,7 +530,8 @@ are_served-traced {w} {X} caching config request s e inv kept is = record {
 }
 
 -- the other way
-pub traced-known : {w : ℕ} {X : Type 0} (request : ℕ → MessageA w) (s : State X) (t : Trace w) → ManagerRelation request s t → ServedSourceRelation request s t → IsTraced request s t
+pub traced-known : {w : ℕ} {X : Type 0} (request : ℕ → MessageA w) (s : State X) (t : Trace w)
+    → ManagerRelation request s t → ServedSourceRelation request s t → IsTraced request s t
 traced-known request s t managed served = record {
   recorded_is = managed.recorded_is;
   probes = managed.probes;

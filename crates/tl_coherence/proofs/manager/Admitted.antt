@@ -1,62 +1,52 @@
 -- A beat of channel A that is delivered breaks no rule: it is taken, unless it has to wait.
-use Rattle.std.proofs.Common.{◌≡◌, ℕ, zero, suc, ◌==◌, Bool, true, false, not, ◌&&◌, ◌||◌, List, [], ◌∷◌, Option, Some, None, refl, sym, ◌∙◌, ap, arith}
+use Rattle.tl_coherence.proofs.manager.Imports.{Beat, BeatA, Channel, MessageA, a_beat_of, begun, History, unfinished}
+use Rattle.tl_coherence.proofs.manager.Imports.{Config, Grow, Prune, Report, Perm, Profile, report_left, Trace, on_link}
+use Rattle.tl_coherence.proofs.manager.Imports.{broken_order, broken_in_order, same_perm, pending, block_at, is_acquire}
+use Rattle.tl_coherence.proofs.manager.Imports.{held, same_block, Link, first_if, Level, reaction, End, Passes}
+use Rattle.tl_coherence.proofs.manager.Imports.{level_of, must_wait, judged, offered, taken, services, service_of_block}
+use Rattle.tl_coherence.proofs.manager.Imports.{least_untaken, trackers_of, acquire_opcode, Log, ClientBlock, View, Own}
+use Rattle.tl_coherence.proofs.manager.Imports.{Other, Granting, Acknowledging, GrantedOther, is_unprobed, ok}
+use Rattle.tl_coherence.proofs.manager.Imports.{is_served, ManagerRelation, is_own, client_in, service_with}
+use Rattle.tl_coherence.proofs.manager.Imports.{IsInvariant, is_busy, Service, Free, Waits, GrantSent, GrantTaken}
+use Rattle.tl_coherence.proofs.manager.Imports.{Asked, State, packet, is_on, view, AccessMessages, block_message}
+use Rattle.tl_coherence.proofs.manager.Imports.{System, Kind, Request, Acquire, Probe, ProbeAck, Release, Answer, Grant}
+use Rattle.tl_coherence.proofs.manager.Imports.{ReleaseAck, GrantAck, Packet, SimulationRelation}
+use Rattle.std.proofs.Common.{◌≡◌, ℕ, zero, suc, ◌==◌, Bool, true, false, not, ◌&&◌, ◌||◌, List, [], ◌∷◌, Option, Some}
+use Rattle.std.proofs.Common.{None, refl, sym, ◌∙◌, ap, arith}
 use Rattle.std.specs.Prelude.{map, is_some, All}
 use Rattle.std.proofs.lemmas.Bool.{ne_eqb, eqb-true}
-use Rattle.tl_beat.specs.declared.beat.Beat.{Beat}
 use Rattle.tl_beat.specs.declared.beat.Beat.TheVariants as beat
-use Rattle.tl_beat.specs.declared.beat.BeatA.{BeatA}
-use Rattle.tl_beat.specs.declared.channel.Channel.{Channel}
 use Rattle.tl_beat.specs.declared.channel.Channel.TheVariants as channel
 use Rattle.tl_beat.specs.declared.opcode.OpB.TheVariants as b
 use Rattle.tl_burst.specs.declared.message.Message.TheVariants as message
-use Rattle.tl_burst.specs.declared.message.MessageA.{MessageA}
-use Rattle.tl_burst.specs.statement.Burst.{a_beat_of, begun}
-use Rattle.tl_burst.specs.statement.Messages.{History, unfinished}
-use Rattle.tl_params.specs.declared.config.Config.{Config}
 use Rattle.tl_params.specs.declared.key.Key.TheVariants as key
-use Rattle.tl_params.specs.declared.param.Grow.{Grow}
 use Rattle.tl_params.specs.declared.param.Grow.TheVariants as grow
-use Rattle.tl_params.specs.declared.param.Prune.{Prune}
 use Rattle.tl_params.specs.declared.param.Prune.TheVariants as prune
-use Rattle.tl_params.specs.declared.param.Report.{Report}
-use Rattle.tl_params.specs.declared.perm.Perm.{Perm}
 use Rattle.tl_params.specs.declared.perm.Perm.TheVariants as perm
-use Rattle.tl_params.specs.declared.profile.Profile.{Profile}
-use Rattle.tl_params.specs.statement.Param.{grow_code, report_left}
-use Rattle.tl_rules.specs.statement.Conformance.{Trace, on_link, broken_order, broken_in_order, grows_from, same_perm}
-use Rattle.tl_rules.specs.statement.History.{pending, block_at, is_acquire, held}
+use Rattle.tl_params.specs.statement.Param.{grow_code}
+use Rattle.tl_rules.specs.statement.Conformance.{grows_from}
 use Rattle.tl_client.specs.statement.Send.{acquisition, probe_ack, release}
-use Rattle.tl_client.proofs.HeldAfter.{same_block}
 use Rattle.tl_rules.specs.statement.Admission.{is_outside, is_spoiled}
 use Rattle.tl_rules.specs.statement.Legality.{illegal, is_one_of}
 use Rattle.tl_rules.proofs.Later.{later-legal}
-use Rattle.tl_beat.specs.declared.beat.Link.{Link}
-use Rattle.tl_beat.specs.statement.First.{first_if}
-use Rattle.tl_params.specs.declared.level.Level.{Level}
 use Rattle.tl_params.specs.declared.rule.Rule.TheVariants.{H4, H5}
 use Rattle.tl_manager.specs.code.Kept.{IsSound, IsTyped}
 use Rattle.tl_manager.specs.statement.Offer as manager
-use Rattle.tl_manager.specs.statement.Reaction.{reaction}
-use Rattle.tl_manager.specs.statement.End.{End}
-use Rattle.tl_manager.specs.statement.Offer.{Passes, level_of, open_level, before_stall, must_wait, judged_at, judged, offered_as, offered, taken}
+use Rattle.tl_manager.specs.statement.Offer.{open_level, before_stall, judged_at, offered_as}
 use Rattle.tl_manager.proofs.Judged.{judged-passes}
 use Rattle.tl_manager.proofs.Sound.{leveled}
 use Rattle.tl_manager.specs.code.Releases.{comes_of}
-use Rattle.tl_manager.specs.statement.Service.{services, service_of_block, is_in_service, least_untaken, trackers_of}
+use Rattle.tl_manager.specs.statement.Service.{is_in_service}
 use Rattle.tl_manager.proofs.Free.{least_free-is_free}
 use Rattle.tl_manager.proofs.Serving.{tracker_among}
-use Rattle.tl_coherence.specs.refinement.AbstractStep.{acquire_opcode}
-use Rattle.tl_coherence.specs.statement.Log.{Log}
-use Rattle.tl_coherence.specs.protocol.Phase.{ClientBlock, View, Idle, Own, Other, Granting, Acknowledging, GrantedOther, AcquireOpen, ReleasePhase, NoRelease, ReleaseSent, ReleaseAcked, is_unreleased, is_unprobed, ok, grow_fits}
-use Rattle.tl_coherence.specs.refinement.SourceRelation.{is_served}
-use Rattle.tl_coherence.specs.refinement.ManagerRelation.{ManagerRelation, is_own, client_in, service_with}
-use Rattle.tl_coherence.specs.protocol.Invariant.{IsInvariant, tracks_with, is_busy}
-use Rattle.tl_coherence.specs.protocol.Protocol.{Service, Free, Waits, GrantSent, GrantTaken, Asked, State, packet, is_on, is_releasing, is_unserved, shown, view}
+use Rattle.tl_coherence.specs.protocol.Phase.{Idle, AcquireOpen, ReleasePhase, NoRelease, ReleaseSent, ReleaseAcked}
+use Rattle.tl_coherence.specs.protocol.Phase.{is_unreleased, grow_fits}
+use Rattle.tl_coherence.specs.protocol.Invariant.{tracks_with}
+use Rattle.tl_coherence.specs.protocol.Protocol.{is_releasing, is_unserved, shown}
 use Rattle.tl_coherence.specs.refinement.Carried.{IsCarried}
-use Rattle.tl_coherence.specs.refinement.PacketMessages.{AccessMessages, block_message, message_of, report_told, prune_told}
-use Rattle.tl_coherence.specs.statement.System.{System}
-use Rattle.tl_coherence.specs.protocol.Packet.{Kind, Request, Acquire, Probe, ProbeAck, Release, Answer, Grant, ReleaseAck, GrantAck, Packet, count, one_if, is}
-use Rattle.tl_coherence.specs.refinement.SimulationRelation.{SimulationRelation, AreLanes}
+use Rattle.tl_coherence.specs.refinement.PacketMessages.{message_of, report_told, prune_told}
+use Rattle.tl_coherence.specs.protocol.Packet.{count, one_if, is}
+use Rattle.tl_coherence.specs.refinement.SimulationRelation.{AreLanes}
 use Rattle.tl_coherence.proofs.manager.Arrivals.{link_of}
 use Rattle.tl_coherence.proofs.queues.Facts.{asked_alone, acquire_fits}
 use Rattle.tl_coherence.proofs.protocol.Heads.{IsWanted}
@@ -69,14 +59,16 @@ use Rattle.tl_coherence.proofs.queues.Codes.{acquires-so}
 -- ---- a Release that is unfinished at the manager is on its way
 
 -- the beats of a ProbeAck are of no Release
-ack_comes : (w : ℕ) (p : Perm) (r : Report) (i n k : ℕ) (payload : List ℕ) → comes_of n (begun (probe_ack {w = w} b.ProbeBlock p r i payload) k) ≡ false
+ack_comes : (w : ℕ) (p : Perm) (r : Report) (i n k : ℕ) (payload : List ℕ)
+    → comes_of n (begun (probe_ack {w = w} b.ProbeBlock p r i payload) k) ≡ false
 ack_comes w p r i n zero payload = refl
 ack_comes w perm.Trunk r i n (suc k) payload = refl
 ack_comes w perm.Branch r i n (suc k) payload = refl
 ack_comes w perm.None r i n (suc k) payload = refl
 
 -- those of a Release are of its block
-release_comes : (w : ℕ) (r : Prune) (source i n k : ℕ) (payload : List ℕ) → (i ≡ n → ⊥) → comes_of n (begun (release {w = w} r source i payload) k) ≡ false
+release_comes : (w : ℕ) (r : Prune) (source i n k : ℕ) (payload : List ℕ) → (i ≡ n → ⊥)
+    → comes_of n (begun (release {w = w} r source i payload) k) ≡ false
 release_comes w r source i n zero payload ne = refl
 release_comes w prune.TtoB source i n (suc k) payload ne = rw (same_block i) (ne_eqb i n ne)
 release_comes w prune.TtoN source i n (suc k) payload ne = rw (same_block i) (ne_eqb i n ne)
@@ -85,27 +77,34 @@ release_comes w prune.BtoN source i n (suc k) payload ne = rw (same_block i) (ne
 -- the first token of a list stands there
 pub first_counts : (x : Packet) (xs : List Packet) → count x.kind x.number (x ∷ xs) ≡ 0 → ⊥
 unfolding count
-first_counts x xs none = let one : one_if (is x.kind x.number x) ≡ 1 = rw (same_kind_again x.kind, same_number x.number) refl in absurd (omega (arith, none, one))
+first_counts x xs none = let one : one_if (is x.kind x.number x) ≡ 1 =
+    rw (same_kind_again x.kind, same_number x.number) refl in absurd (omega (arith, none, one))
 
-pub release-comes : {w : ℕ} (config : Config) (log : Log w) (mail : AccessMessages w) (request : ℕ → MessageA w) (s : State (List ℕ)) (sys : System w) (c n : ℕ)
-    → SimulationRelation config log mail request s sys → is_releasing ((s.block n).pair c).letting ≡ false → comes_of n (unfinished channel.C (on_link c sys.manager.trace)) ≡ false
+pub release-comes : {w : ℕ} (config : Config) (log : Log w) (mail : AccessMessages w) (request : ℕ → MessageA w)
+    (s : State (List ℕ)) (sys : System w) (c n : ℕ)
+    → SimulationRelation config log mail request s sys → is_releasing ((s.block n).pair c).letting ≡ false
+    → comes_of n (unfinished channel.C (on_link c sys.manager.trace)) ≡ false
 unfolding block_message
 release-comes {w} config log mail request s sys c n is kept = go (s.link c).c refl
   where
     t : List (Beat w)
     t = unfinished channel.C (on_link c sys.manager.trace)
 
-    carried : (xs : List Packet) → (s.link c).c ≡ xs → IsCarried t (map (message_of mail s c) xs) (sys.channels c channel.C)
+    carried : (xs : List Packet) → (s.link c).c ≡ xs
+        → IsCarried t (map (message_of mail s c) xs) (sys.channels c channel.C)
     carried xs e = rw e at (is.carried c channel.C)
 
     apart : (x : Packet) (xs : List Packet) → (s.link c).c ≡ x ∷ xs → is_on channel.C x.kind ≡ false → ⊥
     apart x xs e off = first_counts x xs (rw e at (is.invariant.own_kinds c channel.C x.kind x.number off))
 
-    kinds : (k : Kind) (x : Packet) (xs : List Packet) → (s.link c).c ≡ x ∷ xs → x.kind ≡ k → (i : ℕ) → comes_of n (begun (message_of mail s c x) i) ≡ false
+    kinds : (k : Kind) (x : Packet) (xs : List Packet) → (s.link c).c ≡ x ∷ xs → x.kind ≡ k → (i : ℕ)
+        → comes_of n (begun (message_of mail s c x) i) ≡ false
     kinds ProbeAck x xs e f i =
-        rw f (ack_comes w (report_left (report_told ((s.block x.number).pair c).probing)) (report_told ((s.block x.number).pair c).probing) x.number n i (s.block x.number).truth)
+        rw f (ack_comes w (report_left (report_told ((s.block x.number).pair c).probing))
+        (report_told ((s.block x.number).pair c).probing) x.number n i (s.block x.number).truth)
     kinds Release x xs e f i =
-        rw f (release_comes w (prune_told ((s.block x.number).pair c).letting) ((s.block x.number).release_source c) x.number n i (s.block x.number).truth (λ same.
+        rw f (release_comes w (prune_told ((s.block x.number).pair c).letting) ((s.block x.number).release_source c)
+        x.number n i (s.block x.number).truth (λ same.
         let first : (s.link c).c ≡ packet Release x.number ∷ xs = e ∙ ap (λ (k : Kind). packet k x.number ∷ xs) f in
         let shows : is_releasing ((s.block x.number).pair c).letting ≡ true =
         holds-first Release (s.link c).c xs (packet Release x.number) (λ j. shown Release c (s.block j)) first refl
@@ -127,25 +126,34 @@ release-comes {w} config log mail request s sys c n is kept = go (s.link c).c re
 -- ---- the order of messages
 
 -- a source that isn't in service, and of which no burst is unfinished, is free
-source-free : {w : ℕ} (config : Config) (log : Log w) (mail : AccessMessages w) (request : ℕ → MessageA w) (s : State (List ℕ)) (sys : System w) (c source : ℕ)
-    → SimulationRelation config log mail request s sys → is_served c (s.uses c source) s ≡ false → unfinished channel.A (on_link c sys.manager.trace) ≡ []
+source-free : {w : ℕ} (config : Config) (log : Log w) (mail : AccessMessages w) (request : ℕ → MessageA w)
+    (s : State (List ℕ)) (sys : System w) (c source : ℕ)
+    → SimulationRelation config log mail request s sys → is_served c (s.uses c source) s ≡ false
+    → unfinished channel.A (on_link c sys.manager.trace) ≡ []
     → pending (key.RequestSource source) (on_link c sys.manager.trace) ≡ false
-source-free config log mail request s sys c source is unserved none = is.served.sources c source ∙ rw (unserved, none) refl
+source-free config log mail request s sys c source is unserved none =
+    is.served.sources c source ∙ rw (unserved, none) refl
 
-access-order : {w : ℕ} (p : Profile) (x : BeatA w) (t : History w) → is_acquire x.opcode ≡ false → unfinished channel.A t ≡ []
+access-order : {w : ℕ} (p : Profile) (x : BeatA w) (t : History w) → is_acquire x.opcode ≡ false
+    → unfinished channel.A t ≡ []
     → pending (key.RequestSource x.source) t ≡ false → broken_in_order p (beat.A x) t ≡ None
 unfolding broken_order
 access-order p x t access none free = rw (none, free, access) refl
 
 -- a beat of an access that was asked
-pub order-access : {w : ℕ} (config : Config) (log : Log w) (mail : AccessMessages w) (request : ℕ → MessageA w) (s : State (List ℕ)) (sys : System w) (c source : ℕ) (m : MessageA w) (k : ℕ)
-    → SimulationRelation config log mail request s sys → s.uses c source ≡ Asked → m.source ≡ source → is_acquire m.opcode ≡ false → unfinished channel.A (on_link c sys.manager.trace) ≡ begun (message.A m) k
+pub order-access : {w : ℕ} (config : Config) (log : Log w) (mail : AccessMessages w) (request : ℕ → MessageA w)
+    (s : State (List ℕ)) (sys : System w) (c source : ℕ) (m : MessageA w) (k : ℕ)
+    → SimulationRelation config log mail request s sys → s.uses c source ≡ Asked → m.source ≡ source
+    → is_acquire m.opcode ≡ false → unfinished channel.A (on_link c sys.manager.trace) ≡ begun (message.A m) k
     → broken_in_order config.profile (beat.A (a_beat_of m k)) (on_link c sys.manager.trace) ≡ None
 order-access {w} config log mail request s sys c source m zero is used source_is access burst =
-    access-order config.profile (a_beat_of m 0) (on_link c sys.manager.trace) access burst (rw source_is (source-free config log mail request s sys c source is (rw used refl) burst))
-order-access config log mail request s sys c source m (suc i) is used source_is access burst = later-legal config.profile (message.A m) i (on_link c sys.manager.trace) burst
+    access-order config.profile (a_beat_of m 0) (on_link c sys.manager.trace) access burst
+    (rw source_is (source-free config log mail request s sys c source is (rw used refl) burst))
+order-access config log mail request s sys c source m (suc i) is used source_is access burst =
+    later-legal config.profile (message.A m) i (on_link c sys.manager.trace) burst
 
-pub grows : (g : Grow) (p q : Perm) (whole : Bool) → grow_fits q (AcquireOpen whole g) ≡ true → same_perm p q ≡ true → grows_from (grow_code g) p ≡ true
+pub grows : (g : Grow) (p q : Perm) (whole : Bool) → grow_fits q (AcquireOpen whole g) ≡ true → same_perm p q ≡ true
+    → grows_from (grow_code g) p ≡ true
 grows grow.NtoB perm.None perm.None whole e f = refl
 grows grow.NtoT perm.None perm.None whole e f = refl
 grows grow.BtoT perm.None perm.None whole e f = refl
@@ -179,12 +187,17 @@ first_three true false z more e = absurd cc
 first_three false y z more e = absurd cc
 
 -- a beat of an Acquire that is wanted, whose block isn't in service
-pub order-acquire : {w : ℕ} (config : Config) (log : Log w) (mail : AccessMessages w) (request : ℕ → MessageA w) (s : State (List ℕ)) (sys : System w) (c n : ℕ) (k : ℕ)
+pub order-acquire : {w : ℕ} (config : Config) (log : Log w) (mail : AccessMessages w) (request : ℕ → MessageA w)
+    (s : State (List ℕ)) (sys : System w) (c n : ℕ) (k : ℕ)
     → SimulationRelation config log mail request s sys → (is_it : IsWanted w c n s) → (s.block n).service ≡ Free
-    → unfinished channel.A (on_link c sys.manager.trace) ≡ begun (message.A (acquisition (acquire_opcode is_it.whole) is_it.grow ((s.block n).source c) n)) k
-    → broken_in_order config.profile (beat.A (a_beat_of (acquisition (acquire_opcode is_it.whole) is_it.grow ((s.block n).source c) n) k)) (on_link c sys.manager.trace) ≡ None
+    → unfinished channel.A (on_link c sys.manager.trace) ≡ begun
+    (message.A (acquisition (acquire_opcode is_it.whole) is_it.grow ((s.block n).source c) n)) k
+    → broken_in_order config.profile
+    (beat.A (a_beat_of (acquisition (acquire_opcode is_it.whole) is_it.grow ((s.block n).source c) n) k))
+    (on_link c sys.manager.trace) ≡ None
 order-acquire {w} config log mail request s sys c n zero is is_it free burst =
-    acquire-legal config.profile n p.recorded (a_beat_of (acquisition (acquire_opcode is_it.whole) is_it.grow ((s.block n).source c) n) 0)
+    acquire-legal config.profile n p.recorded
+    (a_beat_of (acquisition (acquire_opcode is_it.whole) is_it.grow ((s.block n).source c) n) 0)
     (on_link c sys.manager.trace) (acquires-so is_it.whole) (same_block n) burst
     (source-free config log mail request s sys c ((s.block n).source c) is (rw (is_it.used, idle) refl) burst)
     (is.managed.acquires c n ∙ rw idle refl)
@@ -192,7 +205,8 @@ order-acquire {w} config log mail request s sys c n zero is is_it free burst =
     (kept-is p.letting (and_right (is_unprobed p.probing) (is_unreleased p.letting)
     (and_left (is_unprobed p.probing && is_unreleased p.letting) (same_perm p.recorded p.held) settled))))
     (is.managed.recorded_is c n)
-    (grows is_it.grow p.recorded p.held is_it.whole (acquire_fits is_it.whole is_it.grow p (view (s.block n).service c) well is_it.wants)
+    (grows is_it.grow p.recorded p.held is_it.whole (acquire_fits is_it.whole is_it.grow p (view (s.block n).service c)
+    well is_it.wants)
     (and_right (is_unprobed p.probing && is_unreleased p.letting) (same_perm p.recorded p.held) settled))
   where
     p : ClientBlock
@@ -205,51 +219,70 @@ order-acquire {w} config log mail request s sys c n zero is is_it free burst =
     idle = rw free refl
 
     settled : ((is_unprobed p.probing && is_unreleased p.letting) && same_perm p.recorded p.held) ≡ true
-    settled = first_three (is_unprobed p.probing) (is_unreleased p.letting) (same_perm p.recorded p.held) _ (asked_alone is_it.whole is_it.grow p (view (s.block n).service c) well idle is_it.wants)
+    settled = first_three (is_unprobed p.probing) (is_unreleased p.letting) (same_perm p.recorded p.held) _
+        (asked_alone is_it.whole is_it.grow p (view (s.block n).service c) well idle is_it.wants)
 order-acquire {w} config log mail request s sys c n (suc i) is is_it free burst =
-    later-legal config.profile (message.A (acquisition (acquire_opcode is_it.whole) is_it.grow ((s.block n).source c) n)) i (on_link c sys.manager.trace) burst
+    later-legal config.profile
+    (message.A (acquisition (acquire_opcode is_it.whole) is_it.grow ((s.block n).source c) n)) i
+    (on_link c sys.manager.trace) burst
 
 -- ---- what a beat that needn't wait finds
 
-pub unserved-free : {w : ℕ} {X : Type 0} (request : ℕ → MessageA w) (s : State X) (t : Trace w) (n : ℕ) → ManagerRelation request s t → is_in_service n (services t) ≡ false → (s.block n).service ≡ Free
+pub unserved-free : {w : ℕ} {X : Type 0} (request : ℕ → MessageA w) (s : State X) (t : Trace w) (n : ℕ)
+    → ManagerRelation request s t → is_in_service n (services t) ≡ false → (s.block n).service ≡ Free
 unserved-free {w} request s t n is none = go (s.block n).service (ap is_some (sym (is.serving_is n)) ∙ none)
   where
-    go : (service : Service) → is_some (service_with (client_in service) (s.block n).tracker (request n)) ≡ false → service ≡ Free
+    go : (service : Service) → is_some (service_with (client_in service) (s.block n).tracker (request n)) ≡ false
+        → service ≡ Free
     go Free e = refl
     go (Waits r own source k) e = absurd cc
     go (GrantSent q d k) e = absurd cc
     go (GrantTaken q) e = absurd cc
 
 -- the tracker of the next service is of no block
-pub free-untracked : {w : ℕ} {X : Type 0} (caching : ℕ → Bool) (request : ℕ → MessageA w) (s : State X) (t : Trace w) → IsInvariant caching s
+pub free-untracked : {w : ℕ} {X : Type 0} (caching : ℕ → Bool) (request : ℕ → MessageA w) (s : State X) (t : Trace w)
+    → IsInvariant caching s
     → ManagerRelation request s t → s.tracked (least_untaken (trackers_of (services t))) ≡ None
 free-untracked {w} caching request s t inv is = go (s.tracked i) refl
   where
     i : ℕ
     i = least_untaken (trackers_of (services t))
 
-    among : (n r : ℕ) → service_of_block n (services t) ≡ service_with (Some r) (s.block n).tracker (request n) → i ≡ (s.block n).tracker → ⊥
+    among : (n r : ℕ) → service_of_block n (services t) ≡ service_with (Some r) (s.block n).tracker (request n)
+        → i ≡ (s.block n).tracker → ⊥
     among n r found same =
         let one : is_one_of (s.block n).tracker (trackers_of (services t)) ≡ true =
-        tracker_among n (services t) (record { tracker = (s.block n).tracker; link = record { 0 = r }; request = request n }) found in
-        let none : is_one_of (s.block n).tracker (trackers_of (services t)) ≡ false = ap (λ j. is_one_of j (trackers_of (services t))) (sym same) ∙ least_free-is_free (trackers_of (services t)) in
+        tracker_among n (services t) (record {
+          tracker = (s.block n).tracker;
+          link = record { 0 = r };
+          request =
+              request n;
+        }) found in
+        let none : is_one_of (s.block n).tracker (trackers_of (services t)) ≡ false =
+        ap (λ j. is_one_of j (trackers_of (services t))) (sym same) ∙ least_free-is_free (trackers_of (services t))
+        in
         cc
 
-    taken : (n : ℕ) (service : Service) → (s.block n).service ≡ service → is_busy service ≡ true → (i == (s.block n).tracker) ≡ true → ⊥
+    taken : (n : ℕ) (service : Service) → (s.block n).service ≡ service → is_busy service ≡ true
+        → (i == (s.block n).tracker) ≡ true → ⊥
     taken n Free f busy same = cc
-    taken n (Waits r own source k) f busy same = among n r (is.serving_is n ∙ rw f refl) (eqb-true i (s.block n).tracker same)
-    taken n (GrantSent q d k) f busy same = among n q (is.serving_is n ∙ rw f refl) (eqb-true i (s.block n).tracker same)
+    taken n (Waits r own source k) f busy same =
+        among n r (is.serving_is n ∙ rw f refl) (eqb-true i (s.block n).tracker same)
+    taken n (GrantSent q d k) f busy same =
+        among n q (is.serving_is n ∙ rw f refl) (eqb-true i (s.block n).tracker same)
     taken n (GrantTaken q) f busy same = among n q (is.serving_is n ∙ rw f refl) (eqb-true i (s.block n).tracker same)
 
     go : (o : Option ℕ) → s.tracked i ≡ o → o ≡ None
     go None e = refl
     go (Some n) e =
         let tracks : tracks_with i (s.block n) ≡ true = sym (inv.named.trackers i n) ∙ rw (e, same_number n) refl in
-        absurd (taken n (s.block n).service refl (and_left (is_busy (s.block n).service) (i == (s.block n).tracker) tracks) (and_right (is_busy (s.block n).service) (i == (s.block n).tracker) tracks))
+        absurd (taken n (s.block n).service refl (and_left (is_busy (s.block n).service) (i == (s.block n).tracker)
+        tracks) (and_right (is_busy (s.block n).service) (i == (s.block n).tracker) tracks))
 
 -- ---- it is taken, or has to wait
 
-open-level : {w : ℕ} (config : Config) (l : Level) (c : ℕ) (e : End w) → e.closed ≡ [] → level_of config c ≡ Some l → open_level config (link_of c) e ≡ Some l
+open-level : {w : ℕ} (config : Config) (l : Level) (c : ℕ) (e : End w) → e.closed ≡ [] → level_of config c ≡ Some l
+    → open_level config (link_of c) e ≡ Some l
 open-level config l c e live level = rw live level
 
 -- the first of the beats that are on a channel
@@ -268,31 +301,42 @@ pub record IsFirstBeat {w : ℕ} (config : Config) (c : ℕ) (x : BeatA w) (sys 
   pub clean : is_spoiled (beat.A x) ≡ false
   pub typed : IsTyped (beat.A x)
 
-pub first-beat : {w : ℕ} (config : Config) (log : Log w) (mail : AccessMessages w) (request : ℕ → MessageA w) (s : State (List ℕ)) (sys : System w) (c : ℕ) (x : BeatA w) (queue : List (Beat w))
-    → SimulationRelation config log mail request s sys → sys.channels c channel.A ≡ beat.A x ∷ queue → IsFirstBeat config c x sys
+pub first-beat : {w : ℕ} (config : Config) (log : Log w) (mail : AccessMessages w) (request : ℕ → MessageA w)
+    (s : State (List ℕ)) (sys : System w) (c : ℕ) (x : BeatA w) (queue : List (Beat w))
+    → SimulationRelation config log mail request s sys → sys.channels c channel.A ≡ beat.A x ∷ queue
+    → IsFirstBeat config c x sys
 first-beat {w} config log mail request s sys c x queue is beats =
-    let sound : IsSound config (link_of c, beat.A x) = head_all (λ y. IsSound config (link_of c, y)) (beat.A x) queue (sys.channels c channel.A) beats (is.sound c channel.A) in
-    let typed : AreLanes (beat.A x) = head_all AreLanes (beat.A x) queue (sys.channels c channel.A) beats (is.typed c channel.A) in
+    let sound : IsSound config (link_of c, beat.A x) = head_all (λ y. IsSound config (link_of c, y)) (beat.A x) queue
+    (sys.channels c channel.A) beats (is.sound c channel.A) in
+    let typed : AreLanes (beat.A x) = head_all AreLanes (beat.A x) queue (sys.channels c channel.A) beats
+    (is.typed c channel.A) in
     let l = leveled (level_of config c) (beat.A x) sound.lawful in
     record { level = l.0; level_is = l.1; lawful = l.2; inside = sound.inside; clean = sound.clean; typed = typed }
 
-pub passes-first : {w : ℕ} (config : Config) (c : ℕ) (x : BeatA w) (sys : System w) → sys.manager.closed ≡ [] → IsFirstBeat config c x sys
-    → broken_in_order config.profile (beat.A x) (on_link c sys.manager.trace) ≡ None → must_wait config (link_of c) (beat.A x) sys.manager.trace ≡ false
+pub passes-first : {w : ℕ} (config : Config) (c : ℕ) (x : BeatA w) (sys : System w) → sys.manager.closed ≡ []
+    → IsFirstBeat config c x sys
+    → broken_in_order config.profile (beat.A x) (on_link c sys.manager.trace) ≡ None
+    → must_wait config (link_of c) (beat.A x) sys.manager.trace ≡ false
     → judged config (link_of c) channel.A (beat.A x) sys.manager ≡ Passes
 passes-first config c x sys live is order moves =
-    judged-passes config is.level (link_of c) channel.A (beat.A x) sys.manager (open-level config is.level c sys.manager live is.level_is) is.lawful order moves is.inside is.clean
+    judged-passes config is.level (link_of c) channel.A (beat.A x) sys.manager
+    (open-level config is.level c sys.manager live is.level_is) is.lawful order moves is.inside is.clean
 
-waits_at : {w : ℕ} (config : Config) (l : Level) (link : Link) (x : BeatA w) (t : Trace w) → illegal l channel.A (beat.A x) ≡ None
+waits_at : {w : ℕ} (config : Config) (l : Level) (link : Link) (x : BeatA w) (t : Trace w)
+    → illegal l channel.A (beat.A x) ≡ None
     → before_stall (broken_in_order config.profile (beat.A x) (on_link link.0 t)) ≡ None
     → must_wait config link (beat.A x) t ≡ true → judged_at config l link channel.A (beat.A x) t ≡ manager.Waits
 unfolding judged_at
 waits_at config l link x t lawful order waits = rw (lawful, order, waits) refl
 
 -- one that has to wait is stalled, and not refused
-pub waits-first : {w : ℕ} (config : Config) (c : ℕ) (x : BeatA w) (sys : System w) → sys.manager.closed ≡ [] → IsFirstBeat config c x sys
-    → before_stall (broken_in_order config.profile (beat.A x) (on_link c sys.manager.trace)) ≡ None → must_wait config (link_of c) (beat.A x) sys.manager.trace ≡ true
+pub waits-first : {w : ℕ} (config : Config) (c : ℕ) (x : BeatA w) (sys : System w) → sys.manager.closed ≡ []
+    → IsFirstBeat config c x sys
+    → before_stall (broken_in_order config.profile (beat.A x) (on_link c sys.manager.trace)) ≡ None
+    → must_wait config (link_of c) (beat.A x) sys.manager.trace ≡ true
     → judged config (link_of c) channel.A (beat.A x) sys.manager ≡ manager.Waits
-waits-first config c x sys live is order waits = rw (open-level config is.level c sys.manager live is.level_is) (waits_at config is.level (link_of c) x sys.manager.trace is.lawful order waits)
+waits-first config c x sys live is order waits = rw (open-level config is.level c sys.manager live is.level_is)
+    (waits_at config is.level (link_of c) x sys.manager.trace is.lawful order waits)
 
 -- what is judged before the stall is none of an Acquire either
 early_none : (x y : Bool) → before_stall (first_if x H4 (first_if y H5 None)) ≡ None
@@ -300,19 +344,27 @@ early_none true y = refl
 early_none false true = refl
 early_none false false = refl
 
-early_first : {w : ℕ} (p : Profile) (x : BeatA w) (t : History w) → unfinished channel.A t ≡ [] → pending (key.RequestSource x.source) t ≡ false → before_stall (broken_in_order p (beat.A x) t) ≡ None
+early_first : {w : ℕ} (p : Profile) (x : BeatA w) (t : History w) → unfinished channel.A t ≡ []
+    → pending (key.RequestSource x.source) t ≡ false → before_stall (broken_in_order p (beat.A x) t) ≡ None
 unfolding broken_order
 early_first p x t none free = rw (none, free) (early_none
-    (is_acquire x.opcode && (pending (key.AcquireOf (block_at x.address)) t || pending (key.ReleaseOf (block_at x.address)) t))
+    (is_acquire x.opcode && (pending (key.AcquireOf (block_at x.address)) t || pending
+    (key.ReleaseOf (block_at x.address)) t))
     (is_acquire x.opcode && not (grows_from x.param (held (block_at x.address) t))))
 
-pub early-acquire : {w : ℕ} (config : Config) (log : Log w) (mail : AccessMessages w) (request : ℕ → MessageA w) (s : State (List ℕ)) (sys : System w) (c n k : ℕ)
+pub early-acquire : {w : ℕ} (config : Config) (log : Log w) (mail : AccessMessages w) (request : ℕ → MessageA w)
+    (s : State (List ℕ)) (sys : System w) (c n k : ℕ)
     → SimulationRelation config log mail request s sys → (is_it : IsWanted w c n s)
-    → unfinished channel.A (on_link c sys.manager.trace) ≡ begun (message.A (acquisition (acquire_opcode is_it.whole) is_it.grow ((s.block n).source c) n)) k
-    → before_stall (broken_in_order config.profile (beat.A (a_beat_of (acquisition (acquire_opcode is_it.whole) is_it.grow ((s.block n).source c) n) k)) (on_link c sys.manager.trace)) ≡ None
+    → unfinished channel.A (on_link c sys.manager.trace) ≡ begun
+    (message.A (acquisition (acquire_opcode is_it.whole) is_it.grow ((s.block n).source c) n)) k
+    → before_stall (broken_in_order config.profile
+    (beat.A (a_beat_of (acquisition (acquire_opcode is_it.whole) is_it.grow ((s.block n).source c) n) k))
+    (on_link c sys.manager.trace)) ≡ None
 early-acquire {w} config log mail request s sys c n zero is is_it burst =
-    early_first config.profile (a_beat_of (acquisition (acquire_opcode is_it.whole) is_it.grow ((s.block n).source c) n) 0) (on_link c sys.manager.trace) burst
-    (source-free config log mail request s sys c ((s.block n).source c) is (rw is_it.used (unserved_own (view (s.block n).service c) is_it.unserved)) burst)
+    early_first config.profile (a_beat_of (acquisition (acquire_opcode is_it.whole) is_it.grow ((s.block n).source c) n)
+    0) (on_link c sys.manager.trace) burst
+    (source-free config log mail request s sys c ((s.block n).source c) is
+    (rw is_it.used (unserved_own (view (s.block n).service c) is_it.unserved)) burst)
   where
     unserved_own : (v : View) → is_unserved v ≡ true → is_own v ≡ false
     unserved_own Idle e = refl
@@ -322,15 +374,23 @@ early-acquire {w} config log mail request s sys c n zero is is_it burst =
     unserved_own Acknowledging e = refl
     unserved_own GrantedOther e = refl
 early-acquire {w} config log mail request s sys c n (suc i) is is_it burst =
-    ap before_stall (later-legal config.profile (message.A (acquisition (acquire_opcode is_it.whole) is_it.grow ((s.block n).source c) n)) i (on_link c sys.manager.trace) burst)
+    ap before_stall (later-legal config.profile
+    (message.A (acquisition (acquire_opcode is_it.whole) is_it.grow ((s.block n).source c) n)) i
+    (on_link c sys.manager.trace) burst)
 
 -- ---- the answers
 
-pub offered-taken : {w : ℕ} (config : Config) (link : Link) (ch : Channel) (x : Beat w) (e : End w) → judged config link ch x e ≡ Passes
-    → offered config link ch x e ≡ (manager.Sent (reaction config link x e).handed, taken link x (reaction config link x e) e)
+pub offered-taken : {w : ℕ} (config : Config) (link : Link) (ch : Channel) (x : Beat w) (e : End w)
+    → judged config link ch x e ≡ Passes
+    → offered config link ch x e ≡ (
+      manager.Sent (reaction config link x e).handed,
+      taken link x
+          (reaction config link x e) e,
+    )
 unfolding offered
 offered-taken config link ch x e f = ap (λ j. offered_as j config link x e) f
 
-pub offered-stalled : {w : ℕ} (config : Config) (link : Link) (ch : Channel) (x : Beat w) (e : End w) → judged config link ch x e ≡ manager.Waits → offered config link ch x e ≡ (manager.Stalled, e)
+pub offered-stalled : {w : ℕ} (config : Config) (link : Link) (ch : Channel) (x : Beat w) (e : End w)
+    → judged config link ch x e ≡ manager.Waits → offered config link ch x e ≡ (manager.Stalled, e)
 unfolding offered
 offered-stalled config link ch x e f = ap (λ j. offered_as j config link x e) f

@@ -1,18 +1,16 @@
--- Clients that pass a test, as the manager finds them and as the protocol does; and which source a request that waits has.
-use Rattle.std.proofs.Common.{◌≡◌, ℕ, zero, suc, ◌<◌, ◌≤◌, Bool, true, false, not, ◌||◌, List, [], ◌∷◌, length, refl, sym, ◌∙◌, ap, arith}
+-- Clients that pass a test, as the manager finds them and as the protocol does; and which source a request that waits
+-- has.
+use Rattle.tl_coherence.proofs.manager.Imports.{Config, Cap, is_nobody, some_below, IsInvariant, Own, Waits, State}
+use Rattle.tl_coherence.proofs.manager.Imports.{Acquires, InService, view, is_wanting, is_caching}
+use Rattle.std.proofs.Common.{◌≡◌, ℕ, zero, suc, ◌<◌, ◌≤◌, Bool, true, false, not, ◌||◌, List, [], ◌∷◌, length, refl}
+use Rattle.std.proofs.Common.{sym, ◌∙◌, ap, arith}
 use Rattle.std.specs.Prelude.{if◌then◌else◌}
 use Rattle.std.proofs.lemmas.Bool.{lt-ltb}
 use Rattle.std.proofs.lemmas.Option.{slice_get_past}
-use Rattle.tl_params.specs.declared.config.Config.{Config}
-use Rattle.tl_params.specs.declared.param.Cap.{Cap}
 use Rattle.tl_rules.specs.statement.Legality.{is_one_of}
-use Rattle.tl_manager.specs.statement.Holders.{clients_where, is_nobody}
+use Rattle.tl_manager.specs.statement.Holders.{clients_where}
 use Rattle.tl_manager.proofs.Clients.{among-where, nobody-is, nobody-where, where-same}
-use Rattle.tl_coherence.specs.refinement.AbstractStep.{some_below}
-use Rattle.tl_coherence.specs.protocol.Invariant.{IsInvariant, IsOwnSource}
-use Rattle.tl_coherence.specs.protocol.Phase.{Own}
-use Rattle.tl_coherence.specs.protocol.Protocol.{Waits, State, Acquires, InService, view, is_wanting}
-use Rattle.tl_coherence.specs.refinement.SimulationRelation.{is_caching}
+use Rattle.tl_coherence.specs.protocol.Invariant.{IsOwnSource}
 use Rattle.tl_coherence.proofs.queues.Facts.{own_wants}
 use Rattle.tl_coherence.proofs.protocol.FollowKept.{some-none}
 use Rattle.tl_coherence.proofs.queues.Tokens.{same_number}
@@ -25,25 +23,32 @@ unfolding some_below
 some-found zero test e = absurd cc
 some-found (suc n) test e = go (test n) refl e (λ f. some-found n test f)
   where
-    go : (b : Bool) → test n ≡ b → (b || some_below n test) ≡ true → (some_below n test ≡ true → (i : ℕ) × (i < n) × (test i ≡ true)) → (i : ℕ) × (i < suc n) × (test i ≡ true)
+    go : (b : Bool) → test n ≡ b → (b || some_below n test) ≡ true
+        → (some_below n test ≡ true → (i : ℕ) × (i < n) × (test i ≡ true)) → (i : ℕ) × (i < suc n) × (test i ≡ true)
     go true f g h = (n, omega arith, f)
     go false f g h = let one = h g in (one.0, omega (arith, one.1), one.2)
 
 -- nobody passes, as the manager finds them, where none does below the number of clients
-pub nobody-some : (config : Config) (test : ℕ → Bool) → is_nobody (clients_where config test) ≡ not (some_below (length config.clients.items) test)
-nobody-some config test = go (some_below (length config.clients.items) test) refl (is_nobody (clients_where config test)) refl
+pub nobody-some : (config : Config) (test : ℕ → Bool)
+    → is_nobody (clients_where config test) ≡ not (some_below (length config.clients.items) test)
+nobody-some config test = go (some_below (length config.clients.items) test) refl
+    (is_nobody (clients_where config test)) refl
   where
-    go : (b : Bool) → some_below (length config.clients.items) test ≡ b → (x : Bool) → is_nobody (clients_where config test) ≡ x → x ≡ not b
+    go : (b : Bool) → some_below (length config.clients.items) test ≡ b → (x : Bool)
+        → is_nobody (clients_where config test) ≡ x → x ≡ not b
     go true e true f =
         let one = some-found (length config.clients.items) test e in
-        let among : is_one_of one.0 (clients_where config test) ≡ true = among-where config test one.0 ∙ rw (lt-ltb one.0 (length config.clients.items) one.1, one.2) refl in
-        let none : is_one_of one.0 (clients_where config test) ≡ false = nobody-is (clients_where config test) f one.0 in
+        let among : is_one_of one.0 (clients_where config test) ≡ true =
+        among-where config test one.0 ∙ rw (lt-ltb one.0 (length config.clients.items) one.1, one.2) refl in
+        let none : is_one_of one.0 (clients_where config test) ≡ false =
+        nobody-is (clients_where config test) f one.0 in
         absurd cc
     go true e false f = refl
     go false e x f = sym f ∙ (nobody-where config test).1 (some-none (length config.clients.items) test e)
 
 -- the clients that the manager finds with a test that agrees
-pub nobody-same : (config : Config) (f g : ℕ → Bool) → ((d : ℕ) → f d ≡ g d) → is_nobody (clients_where config f) ≡ not (some_below (length config.clients.items) g)
+pub nobody-same : (config : Config) (f g : ℕ → Bool) → ((d : ℕ) → f d ≡ g d)
+    → is_nobody (clients_where config f) ≡ not (some_below (length config.clients.items) g)
 nobody-same config f g same = ap is_nobody (where-same 0 (length config.clients.items) f g same) ∙ nobody-some config g
 
 pub some-clients : (clients : List ℕ) → is_nobody clients ≡ false → (d : ℕ) × (ds : List ℕ) × (clients ≡ d ∷ ds)
@@ -60,12 +65,15 @@ plain-past config d past = rw (slice_get_past config.clients.items d past) refl
 
 -- ---- the source of a request that waits
 
-pub waits-used : {X : Type 0} (caching : ℕ → Bool) (s : State X) (n r source : ℕ) (own : Bool) (k : Cap) → IsInvariant caching s → (s.block n).service ≡ Waits r own source k
+pub waits-used : {X : Type 0} (caching : ℕ → Bool) (s : State X) (n r source : ℕ) (own : Bool) (k : Cap)
+    → IsInvariant caching s → (s.block n).service ≡ Waits r own source k
     → s.uses r source ≡ (if own then Acquires n else InService n)
 waits-used caching s n r source true k inv e =
     let sourced : IsOwnSource (Waits r true source k) (s.block n).source = rw e at (inv.blocks n).own_source in
     let own_view : view (s.block n).service r ≡ Own = rw (e, same_number r) refl in
     let wants : is_wanting ((s.block n).pair r).acquiring ≡ true =
-    not-calm ((s.block n).pair r).acquiring (own_wants ((s.block n).pair r) (view (s.block n).service r) ((inv.blocks n).phases r) own_view) in
+    not-calm ((s.block n).pair r).acquiring (own_wants ((s.block n).pair r) (view (s.block n).service r)
+    ((inv.blocks n).phases r) own_view) in
     acquires_of-is n (s.uses r source) (inv.named.acquires r source n ∙ rw (wants, ← sourced, same_number source) refl)
-waits-used caching s n r source false k inv e = serves_of-is n (s.uses r source) (inv.named.serves r source n ∙ rw (e, same_number r, same_number source) refl)
+waits-used caching s n r source false k inv e =
+    serves_of-is n (s.uses r source) (inv.named.serves r source n ∙ rw (e, same_number r, same_number source) refl)

@@ -1,37 +1,28 @@
 -- What the manager knows after the last ProbeAck that an access waited for, whose answer is handed out.
-use Rattle.std.proofs.Common.{◌≡◌, ℕ, ◌+◌, ◌==◌, Bool, true, false, ◌&&◌, ◌||◌, List, ◌∷◌, Option, Some, None, refl, sym, ◌∙◌, ap, inl, inr, arith}
+use Rattle.tl_coherence.proofs.manager.Imports.{BeatC, D, MessageA, MessageD, a_beat_of, unfinished, Cap, Report}
+use Rattle.tl_coherence.proofs.manager.Imports.{report_right, Trace, on_link, comes_in_request, is_acquire, is_grant}
+use Rattle.tl_coherence.proofs.manager.Imports.{is_probe_ack, pending, probe_of, request_of, IsAccounted, services}
+use Rattle.tl_coherence.proofs.manager.Imports.{service_of_block, after_sent, reply-quiet, burst-reply, request-reply}
+use Rattle.tl_coherence.proofs.manager.Imports.{probe-reply, AreNamed, is_busy, ManagerRelation, is_own, is_unprobed}
+use Rattle.tl_coherence.proofs.manager.Imports.{after_report, Free, Waits, Block, State, SourceState, SourceFree, Asked}
+use Rattle.tl_coherence.proofs.manager.Imports.{InService, Replied, Acquires, view, is_granting, is_acknowledging}
+use Rattle.tl_coherence.proofs.manager.Imports.{ServedSourceRelation, is_served, is_granted, cap_waited, probe_beat}
+use Rattle.tl_coherence.proofs.manager.Imports.{Packet, set}
+use Rattle.std.proofs.Common.{◌≡◌, ℕ, ◌+◌, ◌==◌, Bool, true, false, ◌&&◌, ◌||◌, List, ◌∷◌, Option, Some, None, refl}
+use Rattle.std.proofs.Common.{sym, ◌∙◌, ap, inl, inr, arith}
 use Rattle.std.specs.Prelude.{if◌then◌else◌}
 use Rattle.std.proofs.lemmas.Bool.{cases_eq, eqb-true, ne_eqb, and_parts}
 use Rattle.tl_beat.specs.declared.beat.Beat.TheVariants as beat
-use Rattle.tl_beat.specs.declared.beat.BeatC.{BeatC}
 use Rattle.tl_beat.specs.declared.channel.Channel.TheVariants as channel
-use Rattle.tl_burst.specs.declared.message.Message.TheVariants.{D}
-use Rattle.tl_burst.specs.declared.message.MessageA.{MessageA}
-use Rattle.tl_burst.specs.declared.message.MessageD.{MessageD}
-use Rattle.tl_burst.specs.statement.Burst.{a_beat_of}
-use Rattle.tl_burst.specs.statement.Messages.{unfinished}
 use Rattle.tl_params.specs.declared.key.Key.TheVariants as key
-use Rattle.tl_params.specs.declared.param.Cap.{Cap}
-use Rattle.tl_params.specs.declared.param.Report.{Report}
-use Rattle.tl_params.specs.statement.Param.{report_right}
-use Rattle.tl_rules.specs.statement.Conformance.{Trace, on_link, comes_in_request}
-use Rattle.tl_rules.specs.statement.History.{is_acquire, is_grant, is_probe_ack, pending, probe_of, request_of}
-use Rattle.tl_manager.specs.laws.Pending.{IsAccounted, one_if, count_where, is_asking}
+use Rattle.tl_manager.specs.laws.Pending.{one_if, count_where, is_asking}
 use Rattle.tl_manager.specs.statement.Service as manager
-use Rattle.tl_manager.specs.statement.Service.{services, service_of_block, is_access_answer}
+use Rattle.tl_manager.specs.statement.Service.{is_access_answer}
 use Rattle.tl_manager.proofs.Accesses.{answer_kind, services-answer, accounted-answer}
 use Rattle.tl_manager.proofs.Counts.{serving-without}
-use Rattle.tl_manager.proofs.Handed.{after_sent}
 use Rattle.tl_manager.proofs.Replied.{IsReply, source-reply}
-use Rattle.tl_manager.proofs.Replies.{reply-quiet, burst-reply, request-reply, probe-reply}
-use Rattle.tl_coherence.specs.protocol.Invariant.{AreNamed, is_busy}
-use Rattle.tl_coherence.specs.refinement.ManagerRelation.{ManagerRelation, is_own}
-use Rattle.tl_coherence.specs.protocol.Phase.{is_unprobed}
-use Rattle.tl_coherence.specs.protocol.PhaseSteps.{after_report}
-use Rattle.tl_coherence.specs.protocol.Protocol.{Free, Waits, Block, State, SourceState, SourceFree, Asked, InService, Replied, Acquires, view, is_granting, is_acknowledging, report_answers, ended_block}
-use Rattle.tl_coherence.specs.refinement.SourceRelation.{ServedSourceRelation, is_served, is_granted, cap_waited}
-use Rattle.tl_coherence.specs.refinement.PacketMessages.{probe_beat}
-use Rattle.tl_coherence.specs.protocol.Packet.{Packet, set, set_at}
+use Rattle.tl_coherence.specs.protocol.Protocol.{report_answers, ended_block}
+use Rattle.tl_coherence.specs.protocol.Packet.{set_at}
 use Rattle.tl_coherence.proofs.manager.QuiescentManager.{quiet-c, IsLastOf, recorded-answer, pair-part}
 use Rattle.tl_coherence.proofs.manager.ManagedReports.{reported-records, reported-missing, reported-probing}
 use Rattle.tl_coherence.proofs.queues.Tokens.{same_number, set-same, set-other, set-part, set_at-same}
@@ -39,10 +30,12 @@ use Rattle.tl_coherence.proofs.protocol.BothParts.{is_of-is}
 
 -- ---- one place of two numbers
 
-pub set_at-other : {X : Type 0} (c k : ℕ) (x : X) (f : ℕ → ℕ → X) (d i : ℕ) → ((c == d) && (k == i)) ≡ false → set_at c k x f d i ≡ f d i
+pub set_at-other : {X : Type 0} (c k : ℕ) (x : X) (f : ℕ → ℕ → X) (d i : ℕ) → ((c == d) && (k == i)) ≡ false
+    → set_at c k x f d i ≡ f d i
 set_at-other c k x f d i other = elim (cases_eq d c) [
   | inl client ↦ elim (cases_eq i k) [
-    | inl source ↦ absurd (let yes : ((c == d) && (k == i)) ≡ true = rw (client, source, same_number c, same_number k) refl in let no : false ≡ true = sym other ∙ yes in cc)
+    | inl source ↦ absurd (let yes : ((c == d) && (k == i)) ≡ true =
+        rw (client, source, same_number c, same_number k) refl in let no : false ≡ true = sym other ∙ yes in cc)
     | inr apart ↦ rw (client, same_number c, ne_eqb i k apart) refl
   ]
   | inr apart ↦ rw (ne_eqb d c apart) refl
@@ -51,11 +44,16 @@ set_at-other c k x f d i other = elim (cases_eq d c) [
 -- ---- a tracker
 
 -- the tracker of a block that is in service is of the block, and no other one is
-pub tracker-of : {X : Type 0} (n : ℕ) (s : State X) → AreNamed s → is_busy (s.block n).service ≡ true → s.tracked (s.block n).tracker ≡ Some n
-tracker-of n s named busy = is_of-is n (s.tracked (s.block n).tracker) (named.trackers (s.block n).tracker n ∙ rw (busy, same_number (s.block n).tracker) refl)
+pub tracker-of : {X : Type 0} (n : ℕ) (s : State X) → AreNamed s → is_busy (s.block n).service ≡ true
+    → s.tracked (s.block n).tracker ≡ Some n
+tracker-of n s named busy =
+    is_of-is n (s.tracked (s.block n).tracker)
+    (named.trackers (s.block n).tracker n ∙ rw (busy, same_number (s.block n).tracker) refl)
 
 pub tracker-alone : {X : Type 0} (n i : ℕ) (s : State X) → AreNamed s → s.tracked i ≡ Some n → i ≡ (s.block n).tracker
-tracker-alone n i s named e = eqb-true i (s.block n).tracker (later (is_busy (s.block n).service) (sym (named.trackers i n) ∙ rw (e, same_number n) refl))
+tracker-alone n i s named e =
+    eqb-true i (s.block n).tracker
+    (later (is_busy (s.block n).service) (sym (named.trackers i n) ∙ rw (e, same_number n) refl))
   where
     later : (b : Bool) → (b && (i == (s.block n).tracker)) ≡ true → (i == (s.block n).tracker) ≡ true
     later true f = f
@@ -71,7 +69,8 @@ taken c x t = (record { 0 = c }, beat.C x) ∷ t
 abbrev pub service_for : {w : ℕ} {X : Type 0} → ℕ → ℕ → (ℕ → MessageA w) → State X → manager.Service w
 service_for q n request s = record { tracker = (s.block n).tracker; link = record { 0 = q }; request = request n }
 
-pub record IsEnding {w : ℕ} {X : Type 0} (c q n source : ℕ) (k : Cap) (r : Report) (x : BeatC w) (m : MessageD w) (request : ℕ → MessageA w) (s : State X) (t : Trace w) : Type 0 where
+pub record IsEnding {w : ℕ} {X : Type 0} (c q n source : ℕ) (k : Cap) (r : Report) (x : BeatC w) (m : MessageD w)
+    (request : ℕ → MessageA w) (s : State X) (t : Trace w) : Type 0 where
   pub last : IsLastOf c n (report_right r) x t
   pub report : is_probe_ack x.opcode ≡ true
   pub waits : (s.block n).service ≡ Waits q false source k
@@ -85,33 +84,45 @@ pub record IsEnding {w : ℕ} {X : Type 0} (c q n source : ℕ) (k : Cap) (r : R
   pub source_is : (request n).source ≡ source
 
 -- after a ProbeAck that was the last one missing nobody's is
-pub all-quiet : {X : Type 0} (c n : ℕ) (r : Report) (new : Block X) (block : ℕ → Block X) → ((d : ℕ) → new.pair d ≡ set c (after_report r ((block n).pair c)) (block n).pair d)
-    → ((d : ℕ) → (d ≡ c → ⊥) → is_unprobed ((block n).pair d).probing ≡ true) → (d : ℕ) → is_unprobed ((set n new block n).pair d).probing ≡ true
+pub all-quiet : {X : Type 0} (c n : ℕ) (r : Report) (new : Block X) (block : ℕ → Block X)
+    → ((d : ℕ) → new.pair d ≡ set c (after_report r ((block n).pair c)) (block n).pair d)
+    → ((d : ℕ) → (d ≡ c → ⊥) → is_unprobed ((block n).pair d).probing ≡ true) → (d : ℕ)
+    → is_unprobed ((set n new block n).pair d).probing ≡ true
 all-quiet c n r new block pairs settled d =
-    pair-part (λ p. is_unprobed p.probing) c n (after_report r ((block n).pair c)) new block pairs d n ∙ elim (cases_eq c d) [
+    pair-part (λ p. is_unprobed p.probing) c n (after_report r ((block n).pair c)) new block pairs d
+    n ∙ elim (cases_eq c d) [
       | inl same ↦ rw (same, same_number d, same_number n) refl
       | inr other ↦ rw (ne_eqb c d other) (settled d (λ e. other (sym e)))
     ]
 
-pub managed-ended : {w : ℕ} {X : Type 0} (request : ℕ → MessageA w) (c q n source : ℕ) (k : Cap) (r : Report) (f : X → X) (rest : List Packet) (x : BeatC w) (m : MessageD w) (s : State X) (t : Trace w)
-    → IsEnding c q n source k r x m request s t → ManagerRelation request s t → ManagerRelation request (report_answers c q n source r f rest s) (after_sent (record { 0 = q }) (D m) (taken c x t))
+pub managed-ended : {w : ℕ} {X : Type 0} (request : ℕ → MessageA w) (c q n source : ℕ) (k : Cap) (r : Report) (f : X
+    → X) (rest : List Packet) (x : BeatC w) (m : MessageD w) (s : State X) (t : Trace w)
+    → IsEnding c q n source k r x m request s t → ManagerRelation request s t
+    → ManagerRelation request (report_answers c q n source r f rest s)
+    (after_sent (record { 0 = q }) (D m) (taken c x t))
 managed-ended {w} {X} request c q n source k r f rest x m s t is known = record {
-  recorded_is = λ d i. recorded-answer (record { 0 = q }) m u is.reply.width is.reply.whole other d i ∙ reported-records request c n r new x s t is.last (λ j. refl) known d i;
+  recorded_is = λ d i. recorded-answer (record { 0 = q }) m u is.reply.width is.reply.whole other d i ∙ reported-records
+      request c n r new x s t is.last (λ j. refl) known d i;
   probes = λ d i. reply-quiet (key.ProbeOf i) (record { 0 = q }) m u d is.reply.width is.reply.whole (λ e. (refl, refl))
       ∙ reported-missing request c n r new x s t is.last is.report (λ j. refl) known d i;
   acquires = λ d i.
-      reply-quiet (key.AcquireOf i) (record { 0 = q }) m u d is.reply.width is.reply.whole (λ e. (refl, rw other refl)) ∙ (quiet-c (record { 0 = c }) x t).acquires d i ∙ known.acquires d i
+      reply-quiet (key.AcquireOf i) (record { 0 = q }) m u d is.reply.width is.reply.whole (λ e. (refl, rw other refl))
+      ∙ (quiet-c (record { 0 = c }) x t).acquires d i ∙ known.acquires d i
       ∙ sym (set-part (λ (b : Block X). is_own (view b.service d)) n new s.block (rw is.waits refl) i);
   grant_acks = λ d i.
-      reply-quiet (key.GrantAckOf i) (record { 0 = q }) m u d is.reply.width is.reply.whole (λ e. (rw other refl, refl)) ∙ (quiet-c (record { 0 = c }) x t).grants d i ∙ known.grant_acks d i
-      ∙ sym (set-part (λ (b : Block X). is_granting (view b.service d) || is_acknowledging (view b.service d)) n new s.block (rw is.waits refl) i);
+      reply-quiet (key.GrantAckOf i) (record { 0 = q }) m u d is.reply.width is.reply.whole (λ e. (rw other refl, refl))
+      ∙ (quiet-c (record { 0 = c }) x t).grants d i ∙ known.grant_acks d i
+      ∙ sym (set-part (λ (b : Block X). is_granting (view b.service d) || is_acknowledging (view b.service d)) n new
+      s.block (rw is.waits refl) i);
   serving_is = λ i.
-      ap (service_of_block i) (services-answer n (service_for q n request s) m u is.reply is.answers is.access is.accounted) ∙ serving-without n i (services u)
+      ap (service_of_block i) (services-answer n (service_for q n request s) m u is.reply is.answers is.access
+      is.accounted) ∙ serving-without n i (services u)
       ∙ elim (cases_eq n i) [
         | inl same ↦ rw (← same, same_number n) refl
         | inr apart ↦
             let differ : i ≡ n → ⊥ = λ e. apart (sym e) in
-            rw (ne_eqb n i apart, ne_eqb i n differ) (ap (service_of_block i) (quiet-c (record { 0 = c }) x t).serves ∙ known.serving_is i)
+            rw (ne_eqb n i apart, ne_eqb i n differ) (ap (service_of_block i) (quiet-c (record { 0 = c }) x t).serves
+            ∙ known.serving_is i)
       ];
 }
   where
@@ -125,26 +136,34 @@ managed-ended {w} {X} request c q n source k r f rest x m s t is known = record 
     other = answer_kind m.opcode is.answers
 
 -- a source that isn't pending has no unfinished request
-pub no-burst : {w : ℕ} (c q : ℕ) (t : Trace w) → IsAccounted t → pending (key.RequestSource q) (on_link c t) ≡ false → comes_in_request q (unfinished channel.A (on_link c t)) ≡ false
-no-burst c q t ok free = go (comes_in_request q (unfinished channel.A (on_link c t))) (count_where (is_asking c q t) (services t)) (ok.sources c q ∙ ap one_if free)
+pub no-burst : {w : ℕ} (c q : ℕ) (t : Trace w) → IsAccounted t → pending (key.RequestSource q) (on_link c t) ≡ false
+    → comes_in_request q (unfinished channel.A (on_link c t)) ≡ false
+no-burst c q t ok free = go (comes_in_request q (unfinished channel.A (on_link c t)))
+    (count_where (is_asking c q t) (services t)) (ok.sources c q ∙ ap one_if free)
   where
     go : (b : Bool) (k : ℕ) → one_if b + k ≡ 0 → b ≡ false
     go true k e = absurd (omega (arith, e))
     go false k e = refl
 
-pub are_served-ended : {w : ℕ} {X : Type 0} (request : ℕ → MessageA w) (c q n source : ℕ) (k : Cap) (r : Report) (f : X → X) (rest : List Packet) (x : BeatC w)
+pub are_served-ended : {w : ℕ} {X : Type 0} (request : ℕ → MessageA w) (c q n source : ℕ) (k : Cap) (r : Report) (f : X
+    → X) (rest : List Packet) (x : BeatC w)
     (m : MessageD w) (s : State X) (t : Trace w)
-    → IsEnding c q n source k r x m request s t → ServedSourceRelation request s t → ServedSourceRelation request (report_answers c q n source r f rest s) (after_sent (record { 0 = q }) (D m) (taken c x t))
+    → IsEnding c q n source k r x m request s t → ServedSourceRelation request s t
+    → ServedSourceRelation request (report_answers c q n source r f rest s)
+    (after_sent (record { 0 = q }) (D m) (taken c x t))
 are_served-ended {w} {X} request c q n source k r f rest x m s t is known = record {
   sources = λ d i. sources_now d i ((q == d) && (source == i)) refl;
-  sinks = λ d i. reply-quiet (key.GrantSink i) (record { 0 = q }) m u d is.reply.width is.reply.whole (λ e. (rw other refl, refl))
+  sinks = λ d i. reply-quiet (key.GrantSink i) (record { 0 = q }) m u d is.reply.width is.reply.whole
+      (λ e. (rw other refl, refl))
       ∙ (quiet-c (record { 0 = c }) x t).sinks d i ∙ known.sinks d i ∙ sym (sinks_now d i);
   requests = λ i. elim (cases_eq i n) [
     | inl same ↦ rw (same, set-same n new s.block) tt
     | inr apart ↦ rw (set-other n i new s.block apart) (known.requests i)
   ];
-  asked = λ i p source own cap e. request-reply (record { 0 = q }) m u p source ∙ (quiet-c (record { 0 = c }) x t).requests p source ∙ asked_now i p source own cap e;
-  probes = λ d i e. probe-reply (record { 0 = q }) m u d i ∙ (quiet-c (record { 0 = c }) x t).probe d i ∙ probes_now d i e;
+  asked = λ i p source own cap e. request-reply (record { 0 = q }) m u p
+      source ∙ (quiet-c (record { 0 = c }) x t).requests p source ∙ asked_now i p source own cap e;
+  probes = λ d i e. probe-reply (record { 0 = q }) m u d i ∙ (quiet-c (record { 0 = c }) x t).probe d i ∙ probes_now d i
+      e;
 }
   where
     u : Trace w
@@ -169,42 +188,65 @@ are_served-ended {w} {X} request c q n source k r f rest x m s t is known = reco
     served_now d Replied = refl
     served_now d (Acquires j) = set-part (λ (b : Block X). is_own (view b.service d)) n new s.block (rw is.waits refl) j
 
-    source_now : (d i : ℕ) → pending (key.RequestSource i) (on_link d v) ≡ (if (q == d) && (source == i) then false else pending (key.RequestSource i) (on_link d u))
-    source_now d i = source-reply n d i (service_for q n request s) m u is.reply ∙ ap (λ j. if (q == d) && (j == i) then false else pending (key.RequestSource i) (on_link d u)) is.source_is
+    source_now : (d i : ℕ) → pending (key.RequestSource i) (on_link d v) ≡ (if (q == d) && (source == i) then false else
+        pending (key.RequestSource i) (on_link d u))
+    source_now d i = source-reply n d i (service_for q n request s) m u is.reply ∙ ap
+        (λ j. if (q == d) && (j == i) then false else pending (key.RequestSource i) (on_link d u)) is.source_is
 
     sources_now : (d i : ℕ) (b : Bool) → ((q == d) && (source == i)) ≡ b
-        → pending (key.RequestSource i) (on_link d v) ≡ (is_served d (set_at q source Replied s.uses d i) z || comes_in_request i (unfinished channel.A (on_link d v)))
+        → pending (key.RequestSource i) (on_link d v) ≡ (is_served d (set_at q source Replied s.uses d i)
+        z || comes_in_request i (unfinished channel.A (on_link d v)))
     sources_now d i true e =
         let p = and_parts (q == d) (source == i) e in
         let client : q ≡ d = eqb-true q d p.0 in
         let mine : source ≡ i = eqb-true source i p.1 in
         let free : pending (key.RequestSource i) (on_link d v) ≡ false = source_now d i ∙ rw e refl in
         let none : comes_in_request i (unfinished channel.A (on_link d v)) ≡ false =
-        no-burst d i v (accounted-answer n (service_for q n request s) m u is.reply is.answers is.access is.accounted) free in
+        no-burst d i v (accounted-answer n (service_for q n request s) m u is.reply is.answers is.access is.accounted)
+        free in
         rw (free, none, ← client, ← mine, set_at-same q source Replied s.uses) refl
     sources_now d i false e =
-        source_now d i ∙ rw (e, set_at-other q source Replied s.uses d i e, served_now d (s.uses d i), burst-reply (record { 0 = q }) m u d, (quiet-c (record { 0 = c }) x t).bursts d)
+        source_now d i ∙ rw (
+          e,
+          set_at-other q source Replied s.uses d i e,
+          served_now d (s.uses d i),
+          burst-reply
+              (record { 0 = q }) m u d,
+          (quiet-c (record { 0 = c }) x t).bursts d,
+        )
         ((quiet-c (record { 0 = c }) x t).sources d i ∙ known.sources d i)
 
     sinks_now : (d i : ℕ) → is_granted d (set (s.block n).tracker None s.tracked i) z ≡ is_granted d (s.tracked i) s
     sinks_now d i = elim (cases_eq i (s.block n).tracker) [
-      | inl same ↦ rw (same, set-same (s.block n).tracker None s.tracked, tracker-of n s is.named (rw is.waits refl), is.waits) refl
+      | inl same ↦ rw (
+        same,
+        set-same (s.block n).tracker None s.tracked,
+        tracker-of n s is.named (rw is.waits refl),
+        is.waits,
+      ) refl
       | inr apart ↦ rw (set-other (s.block n).tracker i None s.tracked apart) (granted_now (s.tracked i))
     ]
       where
         granted_now : (o : Option ℕ) → is_granted d o z ≡ is_granted d o s
         granted_now None = refl
-        granted_now (Some j) = set-part (λ (b : Block X). is_granting (view b.service d) || is_acknowledging (view b.service d)) n new s.block (rw is.waits refl) j
+        granted_now (Some j) = set-part (λ (b : Block X). is_granting (view b.service d) || is_acknowledging
+            (view b.service d)) n new s.block (rw is.waits refl) j
 
-    asked_now : (i p source : ℕ) (own : Bool) (cap : Cap) → (set n new s.block i).service ≡ Waits p own source cap → request_of source (on_link p t) ≡ Some (a_beat_of (request i) 0)
+    asked_now : (i p source : ℕ) (own : Bool) (cap : Cap) → (set n new s.block i).service ≡ Waits p own source cap
+        → request_of source (on_link p t) ≡ Some (a_beat_of (request i) 0)
     asked_now i p source own cap e = elim (cases_eq i n) [
-      | inl same ↦ absurd (let free : Free ≡ Waits p own source cap = ap (λ (b : Block X). b.service) (sym (set-same n new s.block)) ∙ (rw same at e) in cc)
-      | inr apart ↦ known.asked i p source own cap (ap (λ (b : Block X). b.service) (sym (set-other n i new s.block apart)) ∙ e)
+      | inl same ↦ absurd (let free : Free ≡ Waits p own source cap =
+          ap (λ (b : Block X). b.service) (sym (set-same n new s.block)) ∙ (rw same at e) in cc)
+      | inr apart ↦ known.asked i p source own cap
+          (ap (λ (b : Block X). b.service) (sym (set-other n i new s.block apart)) ∙ e)
     ]
 
-    probes_now : (d i : ℕ) → is_unprobed ((set n new s.block i).pair d).probing ≡ false → probe_of i (on_link d t) ≡ Some (probe_beat i (cap_waited (set n new s.block i).service))
+    probes_now : (d i : ℕ) → is_unprobed ((set n new s.block i).pair d).probing ≡ false
+        → probe_of i (on_link d t) ≡ Some (probe_beat i (cap_waited (set n new s.block i).service))
     probes_now d i e = elim (cases_eq i n) [
-      | inl same ↦ absurd (let yes = all-quiet c n r new s.block (λ j. refl) is.settled d in let no : is_unprobed ((set n new s.block n).pair d).probing ≡ false =
+      | inl same ↦ absurd (let yes = all-quiet c n r new s.block (λ j. refl) is.settled d in
+          let no : is_unprobed ((set n new s.block n).pair d).probing ≡ false =
           rw same at e in let differ : true ≡ false = sym yes ∙ no in cc)
-      | inr apart ↦ known.probes d i (reported-probing c n r new s.block (λ j. refl) d i e) ∙ rw (set-other n i new s.block apart) refl
+      | inr apart ↦ known.probes d i (reported-probing c n r new s.block (λ j. refl) d i e) ∙ rw
+          (set-other n i new s.block apart) refl
     ]

@@ -1,41 +1,27 @@
 -- What the manager knows after the last ProbeAck that an Acquire waited for, whose Grant is handed out.
-use Rattle.std.proofs.Common.{◌≡◌, ℕ, ◌==◌, Bool, true, false, not, ◌&&◌, ◌||◌, List, [], Option, Some, None, refl, sym, ◌∙◌, ap, ◌⊎◌, inl, inr, subst}
+use Rattle.tl_coherence.proofs.manager.Imports.{IsWidth, BeatC, D, MessageA, MessageD, a_beat_of, unfinished}
+use Rattle.tl_coherence.proofs.manager.Imports.{beats-positive, Cap, Report, cap_right, report_right, Trace, on_link}
+use Rattle.tl_coherence.proofs.manager.Imports.{comes_in_request, block_at, capped, held, is_grant, is_probe_ack}
+use Rattle.tl_coherence.proofs.manager.Imports.{pending, probe_of, request_of, held-sent_d, swapped, recorded}
+use Rattle.tl_coherence.proofs.manager.Imports.{IsAccounted, service_of_block, after_sent, own_link, other_link}
+use Rattle.tl_coherence.proofs.manager.Imports.{reply-quiet, burst-reply, request-reply, probe-reply, AreNamed}
+use Rattle.tl_coherence.proofs.manager.Imports.{ManagerRelation, is_own, ClientBlock, Own, Other, Granting}
+use Rattle.tl_coherence.proofs.manager.Imports.{GrantedOther, is_unprobed, after_report, after_grant_sent, Waits}
+use Rattle.tl_coherence.proofs.manager.Imports.{GrantSent, Block, State, SourceState, SourceFree, Asked, InService}
+use Rattle.tl_coherence.proofs.manager.Imports.{Replied, Acquires, view, is_granting, is_acknowledging, is_wanting}
+use Rattle.tl_coherence.proofs.manager.Imports.{report_grants, granted_block, reported_block, ServedSourceRelation}
+use Rattle.tl_coherence.proofs.manager.Imports.{is_served, is_granted, cap_waited, probe_beat, Packet, set}
+use Rattle.std.proofs.Common.{◌≡◌, ℕ, ◌==◌, Bool, true, false, not, ◌&&◌, ◌||◌, List, [], Option, Some, None, refl, sym}
+use Rattle.std.proofs.Common.{◌∙◌, ap, ◌⊎◌, inl, inr, subst}
 use Rattle.std.specs.Prelude.{if◌then◌else◌, unwrap_or}
 use Rattle.std.proofs.lemmas.Bool.{cases_eq, eqb-true, ne_eqb, and_parts}
-use Rattle.tl_beat.specs.statement.Width.{IsWidth}
-use Rattle.tl_beat.specs.declared.beat.BeatC.{BeatC}
 use Rattle.tl_beat.specs.declared.channel.Channel.TheVariants as channel
-use Rattle.tl_burst.specs.declared.message.Message.TheVariants.{D}
-use Rattle.tl_burst.specs.declared.message.MessageA.{MessageA}
-use Rattle.tl_burst.specs.declared.message.MessageD.{MessageD}
-use Rattle.tl_burst.specs.statement.Burst.{a_beat_of}
-use Rattle.tl_burst.specs.statement.Messages.{unfinished}
-use Rattle.tl_burst.proofs.Splitting.{beats-positive}
 use Rattle.tl_params.specs.declared.key.Key.TheVariants as key
-use Rattle.tl_params.specs.declared.param.Cap.{Cap}
-use Rattle.tl_params.specs.declared.param.Report.{Report}
-use Rattle.tl_params.specs.statement.Param.{cap_right, report_right}
-use Rattle.tl_rules.specs.statement.Conformance.{Trace, on_link, comes_in_request}
-use Rattle.tl_rules.specs.statement.History.{block_at, asks_for, capped, held, is_grant, is_probe_ack, pending, probe_of, request_of}
+use Rattle.tl_rules.specs.statement.History.{asks_for}
 use Rattle.tl_rules.proofs.Handed.{after_whole}
-use Rattle.tl_rules.proofs.Sent.{held-sent_d}
-use Rattle.tl_client.proofs.HeldAfter.{swapped}
-use Rattle.tl_manager.specs.statement.Holders.{recorded}
-use Rattle.tl_manager.specs.laws.Pending.{IsAccounted}
-use Rattle.tl_manager.specs.statement.Service.{service_of_block}
 use Rattle.tl_manager.proofs.Granted.{IsGrant, services-grant, accounted-grant}
-use Rattle.tl_manager.proofs.Handed.{after_sent, own_link, other_link}
 use Rattle.tl_manager.proofs.Replied.{source-reply}
-use Rattle.tl_manager.proofs.Replies.{pending-reply, reply-quiet, burst-reply, request-reply, probe-reply}
-use Rattle.tl_coherence.specs.protocol.Invariant.{AreNamed}
-use Rattle.tl_coherence.specs.refinement.ManagerRelation.{ManagerRelation, is_own}
-use Rattle.tl_coherence.specs.protocol.Phase.{ClientBlock, Own, Other, Granting, GrantedOther, is_unprobed}
-use Rattle.tl_coherence.specs.protocol.PhaseSteps.{after_report, after_grant_sent}
-use Rattle.tl_coherence.specs.protocol.Protocol.{Waits, GrantSent, Block, State, SourceState, SourceFree, Asked, InService, Replied, Acquires, view, is_granting, is_acknowledging}
-use Rattle.tl_coherence.specs.protocol.Protocol.{is_wanting, report_grants, granted_block, reported_block}
-use Rattle.tl_coherence.specs.refinement.SourceRelation.{ServedSourceRelation, is_served, is_granted, cap_waited}
-use Rattle.tl_coherence.specs.refinement.PacketMessages.{probe_beat}
-use Rattle.tl_coherence.specs.protocol.Packet.{Packet, set}
+use Rattle.tl_manager.proofs.Replies.{pending-reply}
 use Rattle.tl_coherence.proofs.manager.QuiescentManager.{quiet-c, IsLastOf}
 use Rattle.tl_coherence.proofs.manager.ManagedEndings.{tracker-of, tracker-alone, taken, service_for, no-burst}
 use Rattle.tl_coherence.proofs.manager.ManagedReports.{reported-records, reported-missing}
@@ -51,66 +37,87 @@ pub record IsGiven {w : ℕ} (q n tracker : ℕ) (m : MessageD w) (u : Trace w) 
   pub sink : m.sink ≡ tracker
   pub asks : (i : ℕ) → asks_for i (request_of m.source (on_link q u)) ≡ (n == i)
 
-grants_it : {w : ℕ} (q n tracker : ℕ) (m : MessageD w) (u : Trace w) → IsGiven q n tracker m u → (d i : ℕ) → (q == d) ≡ true
+grants_it : {w : ℕ} (q n tracker : ℕ) (m : MessageD w) (u : Trace w) → IsGiven q n tracker m u → (d i : ℕ)
+    → (q == d) ≡ true
     → (is_grant m.opcode && asks_for i (request_of m.source (on_link d u))) ≡ (n == i)
 grants_it q n tracker m u is d i e = rw (← eqb-true q d e, is.grants) (is.asks i)
 
 pub given-acquires : {w : ℕ} (q n tracker : ℕ) (m : MessageD w) (u : Trace w) → IsGiven q n tracker m u → (d i : ℕ)
-    → pending (key.AcquireOf i) (on_link d (after_sent (record { 0 = q }) (D m) u)) ≡ (if (q == d) && (n == i) then false else pending (key.AcquireOf i) (on_link d u))
-given-acquires {w} q n tracker m u is d i = pending-reply (key.AcquireOf i) (record { 0 = q }) m u d is.width is.whole ∙ go (q == d) refl
+    → pending (key.AcquireOf i) (on_link d (after_sent (record { 0 = q }) (D m) u))
+    ≡ (if (q == d) && (n == i) then false else pending (key.AcquireOf i) (on_link d u))
+given-acquires {w} q n tracker m u is d i = pending-reply (key.AcquireOf i) (record { 0 = q }) m u d is.width
+    is.whole ∙ go (q == d) refl
   where
     go : (b : Bool) → (q == d) ≡ b
-        → (if b then after_whole false (is_grant m.opcode && asks_for i (request_of m.source (on_link d u))) (pending (key.AcquireOf i) (on_link d u)) else pending (key.AcquireOf i) (on_link d u))
+        → (if b then after_whole false (is_grant m.opcode && asks_for i (request_of m.source (on_link d u)))
+        (pending (key.AcquireOf i) (on_link d u)) else pending (key.AcquireOf i) (on_link d u))
         ≡ (if b && (n == i) then false else pending (key.AcquireOf i) (on_link d u))
-    go true e = ap (λ z. after_whole false z (pending (key.AcquireOf i) (on_link d u))) (grants_it q n tracker m u is d i e)
+    go true e = ap (λ z. after_whole false z (pending (key.AcquireOf i) (on_link d u)))
+        (grants_it q n tracker m u is d i e)
     go false e = refl
 
 pub given-acks : {w : ℕ} (q n tracker : ℕ) (m : MessageD w) (u : Trace w) → IsGiven q n tracker m u → (d i : ℕ)
-    → pending (key.GrantAckOf i) (on_link d (after_sent (record { 0 = q }) (D m) u)) ≡ (if (q == d) && (n == i) then true else pending (key.GrantAckOf i) (on_link d u))
-given-acks {w} q n tracker m u is d i = pending-reply (key.GrantAckOf i) (record { 0 = q }) m u d is.width is.whole ∙ go (q == d) refl
+    → pending (key.GrantAckOf i) (on_link d (after_sent (record { 0 = q }) (D m) u))
+    ≡ (if (q == d) && (n == i) then true else pending (key.GrantAckOf i) (on_link d u))
+given-acks {w} q n tracker m u is d i = pending-reply (key.GrantAckOf i) (record { 0 = q }) m u d is.width is.whole ∙ go
+    (q == d) refl
   where
     go : (b : Bool) → (q == d) ≡ b
-        → (if b then after_whole (is_grant m.opcode && asks_for i (request_of m.source (on_link d u))) false (pending (key.GrantAckOf i) (on_link d u)) else pending (key.GrantAckOf i) (on_link d u))
+        → (if b then after_whole (is_grant m.opcode && asks_for i (request_of m.source (on_link d u))) false
+        (pending (key.GrantAckOf i) (on_link d u)) else pending (key.GrantAckOf i) (on_link d u))
         ≡ (if b && (n == i) then true else pending (key.GrantAckOf i) (on_link d u))
-    go true e = ap (λ z. after_whole z false (pending (key.GrantAckOf i) (on_link d u))) (grants_it q n tracker m u is d i e)
+    go true e = ap (λ z. after_whole z false (pending (key.GrantAckOf i) (on_link d u)))
+        (grants_it q n tracker m u is d i e)
     go false e = refl
 
 pub given-sinks : {w : ℕ} (q n tracker : ℕ) (m : MessageD w) (u : Trace w) → IsGiven q n tracker m u → (d i : ℕ)
-    → pending (key.GrantSink i) (on_link d (after_sent (record { 0 = q }) (D m) u)) ≡ (if (q == d) && (tracker == i) then true else pending (key.GrantSink i) (on_link d u))
-given-sinks {w} q n tracker m u is d i = pending-reply (key.GrantSink i) (record { 0 = q }) m u d is.width is.whole ∙ rw (is.grants, is.sink) (go (q == d))
+    → pending (key.GrantSink i) (on_link d (after_sent (record { 0 = q }) (D m) u))
+    ≡ (if (q == d) && (tracker == i) then true else pending (key.GrantSink i) (on_link d u))
+given-sinks {w} q n tracker m u is d i = pending-reply (key.GrantSink i) (record { 0 = q }) m u d is.width is.whole ∙ rw
+    (is.grants, is.sink) (go (q == d))
   where
     go : (b : Bool)
-        → (if b then after_whole (tracker == i) false (pending (key.GrantSink i) (on_link d u)) else pending (key.GrantSink i) (on_link d u))
+        → (if b then after_whole (tracker == i) false (pending (key.GrantSink i) (on_link d u)) else pending
+        (key.GrantSink i) (on_link d u))
         ≡ (if b && (tracker == i) then true else pending (key.GrantSink i) (on_link d u))
     go true = refl
     go false = refl
 
 pub given-records : {w : ℕ} (q n tracker : ℕ) (m : MessageD w) (u : Trace w) → IsGiven q n tracker m u → (d i : ℕ)
-    → recorded d i (after_sent (record { 0 = q }) (D m) u) ≡ (if (q == d) && (n == i) then capped m.param else recorded d i u)
+    → recorded d i (after_sent (record { 0 = q }) (D m) u) ≡ (if (q == d) && (n == i) then capped m.param else recorded
+    d i u)
 given-records {w} q n tracker m u is d i = go (q == d) refl
   where
-    said : (b : Bool) → unwrap_or (if b then Some (capped m.param) else None) (recorded d i u) ≡ (if b then capped m.param else recorded d i u)
+    said : (b : Bool) → unwrap_or (if b then Some (capped m.param) else None) (recorded d i u)
+        ≡ (if b then capped m.param else recorded d i u)
     said true = refl
     said false = refl
 
-    go : (b : Bool) → (q == d) ≡ b → recorded d i (after_sent (record { 0 = q }) (D m) u) ≡ (if b && (n == i) then capped m.param else recorded d i u)
+    go : (b : Bool) → (q == d) ≡ b
+        → recorded d i (after_sent (record { 0 = q }) (D m) u) ≡ (if b && (n == i) then capped m.param else recorded d i
+        u)
     go true e =
         ap (held i) (own_link d (record { 0 = q }) (D m) u e)
-        ∙ held-sent_d i m (on_link d u) (subst (λ (j : ℕ). unfinished channel.D (on_link j u) ≡ []) (eqb-true q d e) is.whole)
+        ∙ held-sent_d i m (on_link d u) (subst (λ (j : ℕ). unfinished channel.D (on_link j u) ≡ []) (eqb-true q d e)
+        is.whole)
         (beats-positive (D m) is.width)
-        ∙ ap (λ z. unwrap_or (if z then Some (capped m.param) else None) (recorded d i u)) (grants_it q n tracker m u is d i e) ∙ said (n == i)
+        ∙ ap (λ z. unwrap_or (if z then Some (capped m.param) else None) (recorded d i u))
+        (grants_it q n tracker m u is d i e) ∙ said (n == i)
     go false e = ap (held i) (other_link d (record { 0 = q }) (D m) u e)
 
 -- ---- one client of one block has another pair than it had in the block's place
 
-pub pair-over : {X A : Type 0} (part : ClientBlock → A) (q n : ℕ) (p : ClientBlock) (new mid : Block X) (block : ℕ → Block X) → ((d : ℕ) → new.pair d ≡ set q p mid.pair d) → (d i : ℕ)
+pub pair-over : {X A : Type 0} (part : ClientBlock → A) (q n : ℕ) (p : ClientBlock) (new mid : Block X) (block : ℕ
+    → Block X) → ((d : ℕ) → new.pair d ≡ set q p mid.pair d) → (d i : ℕ)
     → part ((set n new block i).pair d) ≡ (if (q == d) && (n == i) then part p else part ((set n mid block i).pair d))
 pair-over {X} {A} part q n p new mid block is d i = elim (cases_eq i n) [
   | inl same ↦ rw (same, set-same n new block, set-same n mid block, same_number n, is d) (elim (cases_eq d q) [
     | inl mine ↦ rw (mine, set-same q p mid.pair, same_number q) refl
-    | inr apart ↦ let differ : q ≡ d → ⊥ = λ e. apart (sym e) in rw (set-other q d p mid.pair apart, ne_eqb q d differ) refl
+    | inr apart ↦ let differ : q ≡ d → ⊥ = λ e. apart (sym e) in rw (set-other q d p mid.pair apart, ne_eqb q d differ)
+        refl
   ])
-  | inr other ↦ let differ : n ≡ i → ⊥ = λ e. other (sym e) in rw (set-other n i new block other, set-other n i mid block other, ne_eqb n i differ) (never (q == d))
+  | inr other ↦ let differ : n ≡ i → ⊥ = λ e. other (sym e) in
+      rw (set-other n i new block other, set-other n i mid block other, ne_eqb n i differ) (never (q == d))
 ]
   where
     never : (b : Bool) → part ((block i).pair d) ≡ (if b && false then part p else part ((block i).pair d))
@@ -119,7 +126,8 @@ pair-over {X} {A} part q n p new mid block is d i = elim (cases_eq i n) [
 
 -- ---- the Grant of a service that waited
 
-pub record IsConceded {w : ℕ} {X : Type 0} (c q n source : ℕ) (k gift : Cap) (r : Report) (x : BeatC w) (m : MessageD w) (request : ℕ → MessageA w) (s : State X) (t : Trace w) : Type 0 where
+pub record IsConceded {w : ℕ} {X : Type 0} (c q n source : ℕ) (k gift : Cap) (r : Report) (x : BeatC w) (m : MessageD w)
+    (request : ℕ → MessageA w) (s : State X) (t : Trace w) : Type 0 where
   pub last : IsLastOf c n (report_right r) x t
   pub report : is_probe_ack x.opcode ≡ true
   pub waits : (s.block n).service ≡ Waits q true source k
@@ -135,7 +143,8 @@ pub record IsConceded {w : ℕ} {X : Type 0} (c q n source : ℕ) (k gift : Cap)
   pub asked : request_of source (on_link q t) ≡ Some (a_beat_of (request n) 0)
   pub cap_is : capped m.param ≡ cap_right gift
 
-conceded-given : {w : ℕ} {X : Type 0} (c q n source : ℕ) (k gift : Cap) (r : Report) (x : BeatC w) (m : MessageD w) (request : ℕ → MessageA w) (s : State X) (t : Trace w)
+conceded-given : {w : ℕ} {X : Type 0} (c q n source : ℕ) (k gift : Cap) (r : Report) (x : BeatC w) (m : MessageD w)
+    (request : ℕ → MessageA w) (s : State X) (t : Trace w)
     → IsConceded c q n source k gift r x m request s t → IsGiven q n (s.block n).tracker m (taken c x t)
 conceded-given c q n source k gift r x m request s t is = record {
   width = is.grant.reply.width;
@@ -143,7 +152,8 @@ conceded-given c q n source k gift r x m request s t is = record {
   grants = is.grant.grants;
   sink = is.grant.sink;
   asks = λ i.
-      ap (λ j. asks_for i (request_of j (on_link q (taken c x t)))) (is.grant.reply.source ∙ is.source_is) ∙ ap (asks_for i) ((quiet-c (record { 0 = c }) x t).requests q source ∙ is.asked)
+      ap (λ j. asks_for i (request_of j (on_link q (taken c x t)))) (is.grant.reply.source ∙ is.source_is) ∙ ap
+      (asks_for i) ((quiet-c (record { 0 = c }) x t).requests q source ∙ is.asked)
       ∙ ap (λ j. j == i) is.block_is;
 }
 
@@ -152,7 +162,9 @@ never_own : (b : Bool) (d : Bool) (k : Cap) → is_own (if b then Granting d k e
 never_own true d k = refl
 never_own false d k = refl
 
-granted_if : (b : Bool) (d : Bool) (k : Cap) → (is_granting (if b then Granting d k else GrantedOther) || is_acknowledging (if b then Granting d k else GrantedOther)) ≡ b
+granted_if : (b : Bool) (d : Bool) (k : Cap)
+    → (is_granting (if b then Granting d k else GrantedOther) || is_acknowledging
+    (if b then Granting d k else GrantedOther)) ≡ b
 granted_if true d k = refl
 granted_if false d k = refl
 
@@ -160,7 +172,9 @@ own_if : (b : Bool) (k : Cap) → is_own (if true && b then Own else Other k) �
 own_if true k = refl
 own_if false k = refl
 
-waits_ungranted : (b : Bool) (k : Cap) → (is_granting (if true && b then Own else Other k) || is_acknowledging (if true && b then Own else Other k)) ≡ false
+waits_ungranted : (b : Bool) (k : Cap)
+    → (is_granting (if true && b then Own else Other k) || is_acknowledging (if true && b then Own else Other k))
+    ≡ false
 waits_ungranted true k = refl
 waits_ungranted false k = refl
 
@@ -180,18 +194,24 @@ if_always : {A : Type 0} (b : Bool) (p q : A) → (if b && true then p else q) �
 if_always true p q = refl
 if_always false p q = refl
 
-pub managed-conceded : {w : ℕ} {X : Type 0} (request : ℕ → MessageA w) (c q n source : ℕ) (k gift : Cap) (r : Report) (dt : Bool) (rest : List Packet)
+pub managed-conceded : {w : ℕ} {X : Type 0} (request : ℕ → MessageA w) (c q n source : ℕ) (k gift : Cap) (r : Report)
+    (dt : Bool) (rest : List Packet)
     (x : BeatC w) (m : MessageD w) (s : State X) (t : Trace w)
-    → IsConceded c q n source k gift r x m request s t → ManagerRelation request s t → ManagerRelation request (report_grants c q n r dt gift rest s) (after_sent (record { 0 = q }) (D m) (taken c x t))
+    → IsConceded c q n source k gift r x m request s t → ManagerRelation request s t
+    → ManagerRelation request (report_grants c q n r dt gift rest s) (after_sent (record { 0 = q }) (D m) (taken c x t))
 managed-conceded {w} {X} request c q n source k gift r dt rest x m s t is known = record {
-  recorded_is = λ d i. given-records q n (s.block n).tracker m u given d i ∙ records_now d i ∙ sym (pair-over (λ p. p.recorded) q n gives new mid s.block (λ j. refl) d i);
+  recorded_is = λ d i. given-records q n (s.block n).tracker m u given d i ∙ records_now d i ∙ sym
+      (pair-over (λ p. p.recorded) q n gives new mid s.block (λ j. refl) d i);
   probes = λ d i.
-      reply-quiet (key.ProbeOf i) (record { 0 = q }) m u d given.width given.whole (λ e. (refl, refl)) ∙ reported-missing request c n r mid x s t is.last is.report (λ j. refl) known d i
-      ∙ sym (pair-over (λ p. not (is_unprobed p.probing)) q n gives new mid s.block (λ j. refl) d i ∙ probing_same d i ((q == d) && (n == i)) refl);
+      reply-quiet (key.ProbeOf i) (record { 0 = q }) m u d given.width given.whole (λ e. (refl, refl))
+      ∙ reported-missing request c n r mid x s t is.last is.report (λ j. refl) known d i
+      ∙ sym (pair-over (λ p. not (is_unprobed p.probing)) q n gives new mid s.block (λ j. refl) d i ∙ probing_same d i
+      ((q == d) && (n == i)) refl);
   acquires = λ d i. given-acquires q n (s.block n).tracker m u given d i ∙ acquires_now d i;
   grant_acks = λ d i. given-acks q n (s.block n).tracker m u given d i ∙ acks_now d i;
   serving_is = λ i.
-      ap (service_of_block i) (services-grant (record { 0 = q }) m u given.width given.whole given.grants ∙ (quiet-c (record { 0 = c }) x t).serves) ∙ known.serving_is i
+      ap (service_of_block i) (services-grant (record { 0 = q }) m u given.width given.whole given.grants
+      ∙ (quiet-c (record { 0 = c }) x t).serves) ∙ known.serving_is i
       ∙ sym (elim (cases_eq i n) [
         | inl same ↦ rw (same, set-same n new s.block, is.waits) refl
         | inr other ↦ rw (set-other n i new s.block other) refl
@@ -213,7 +233,8 @@ managed-conceded {w} {X} request c q n source k gift r dt rest x m s t is known 
     given : IsGiven q n (s.block n).tracker m u
     given = conceded-given c q n source k gift r x m request s t is
 
-    records_now : (d i : ℕ) → (if (q == d) && (n == i) then capped m.param else recorded d i u) ≡ (if (q == d) && (n == i) then cap_right gift else ((set n mid s.block i).pair d).recorded)
+    records_now : (d i : ℕ) → (if (q == d) && (n == i) then capped m.param else recorded d i u)
+        ≡ (if (q == d) && (n == i) then cap_right gift else ((set n mid s.block i).pair d).recorded)
     records_now d i = rw (is.cap_is, reported-records request c n r mid x s t is.last (λ j. refl) known d i) refl
 
     others : q ≡ c → ⊥
@@ -225,54 +246,94 @@ managed-conceded {w} {X} request c q n source k gift r dt rest x m s t is known 
     probing_same d i false e = refl
     probing_same d i true e =
         let p = and_parts (q == d) (n == i) e in
-        rw (← eqb-true q d p.0, ← eqb-true n i p.1, set-same n mid s.block, set-other c q (after_report r ((s.block n).pair c)) (s.block n).pair others) refl
+        rw (
+          ← eqb-true q d p.0,
+          ← eqb-true n i p.1,
+          set-same n mid s.block,
+          set-other c q
+              (after_report r ((s.block n).pair c)) (s.block n).pair others,
+        ) refl
 
-    acquires_now : (d i : ℕ) → (if (q == d) && (n == i) then false else pending (key.AcquireOf i) (on_link d u)) ≡ is_own (view (set n new s.block i).service d)
+    acquires_now : (d i : ℕ) → (if (q == d) && (n == i) then false else pending (key.AcquireOf i) (on_link d u))
+        ≡ is_own (view (set n new s.block i).service d)
     acquires_now d i = elim (cases_eq i n) [
-      | inl same ↦ rw (same, set-same n new s.block, same_number n, (quiet-c (record { 0 = c }) x t).acquires d n, known.acquires d n, is.waits, swapped q d)
-          (if_always (d == q) false (is_own (if true && (d == q) then Own else Other k)) ∙ ap (λ z. if (d == q) then false else z) (own_if (d == q) k)
+      | inl same ↦ rw (
+        same,
+        set-same n new s.block,
+        same_number n,
+        (quiet-c (record { 0 = c }) x t).acquires d n,
+        known.acquires d n,
+        is.waits,
+        swapped q d,
+      )
+          (if_always (d == q) false (is_own (if true && (d == q) then Own else Other k)) ∙ ap
+          (λ z. if (d == q) then false else z) (own_if (d == q) k)
           ∙ twice (d == q) ∙ sym (never_own (d == q) dt gift))
       | inr other ↦
           let differ : n ≡ i → ⊥ = λ e. other (sym e) in
           rw (ne_eqb n i differ, set-other n i new s.block other)
-          (never_if (q == d) false (pending (key.AcquireOf i) (on_link d u)) ∙ (quiet-c (record { 0 = c }) x t).acquires d i ∙ known.acquires d i)
+          (never_if (q == d) false (pending (key.AcquireOf i) (on_link d u)) ∙ (quiet-c (record { 0 = c }) x t).acquires
+          d i ∙ known.acquires d i)
     ]
 
     acks_now : (d i : ℕ) → (if (q == d) && (n == i) then true else pending (key.GrantAckOf i) (on_link d u))
-        ≡ (is_granting (view (set n new s.block i).service d) || is_acknowledging (view (set n new s.block i).service d))
+        ≡ (is_granting (view (set n new s.block i).service d) || is_acknowledging
+        (view (set n new s.block i).service d))
     acks_now d i = elim (cases_eq i n) [
-      | inl same ↦ rw (same, set-same n new s.block, same_number n, (quiet-c (record { 0 = c }) x t).grants d n, known.grant_acks d n, is.waits, swapped q d)
-          (if_always (d == q) true (is_granting (if true && (d == q) then Own else Other k) || is_acknowledging (if true && (d == q) then Own else Other k))
-          ∙ ap (λ z. if (d == q) then true else z) (waits_ungranted (d == q) k) ∙ alike (d == q) ∙ sym (granted_if (d == q) dt gift))
+      | inl same ↦ rw (
+        same,
+        set-same n new s.block,
+        same_number n,
+        (quiet-c (record { 0 = c }) x t).grants d n,
+        known.grant_acks d n,
+        is.waits,
+        swapped q d,
+      )
+          (if_always (d == q) true (is_granting (if true && (d == q) then Own else Other k) || is_acknowledging
+          (if true && (d == q) then Own else Other k))
+          ∙ ap (λ z. if (d == q) then true else z) (waits_ungranted (d == q) k) ∙ alike (d == q) ∙ sym
+          (granted_if (d == q) dt gift))
       | inr other ↦
           let differ : n ≡ i → ⊥ = λ e. other (sym e) in
           rw (ne_eqb n i differ, set-other n i new s.block other)
-          (never_if (q == d) true (pending (key.GrantAckOf i) (on_link d u)) ∙ (quiet-c (record { 0 = c }) x t).grants d i ∙ known.grant_acks d i)
+          (never_if (q == d) true (pending (key.GrantAckOf i) (on_link d u)) ∙ (quiet-c (record { 0 = c }) x t).grants d
+          i ∙ known.grant_acks d i)
     ]
 
 -- ---- sources, sinks and requests
 
 -- no other source of the client is of the block
-only_source : {X : Type 0} (q n source i : ℕ) (s : State X) → AreNamed s → s.uses q source ≡ Acquires n → s.uses q i ≡ Acquires n → i ≡ source
+only_source : {X : Type 0} (q n source i : ℕ) (s : State X) → AreNamed s → s.uses q source ≡ Acquires n
+    → s.uses q i ≡ Acquires n → i ≡ source
 only_source q n source i s named used e =
-    let here : (is_wanting ((s.block n).pair q).acquiring && (source == (s.block n).source q)) ≡ true = sym (named.acquires q source n) ∙ rw (used, same_number n) refl in
-    let there : (is_wanting ((s.block n).pair q).acquiring && (i == (s.block n).source q)) ≡ true = sym (named.acquires q i n) ∙ rw (e, same_number n) refl in
-    let first = eqb-true source ((s.block n).source q) (and_right (is_wanting ((s.block n).pair q).acquiring) (source == (s.block n).source q) here) in
-    let second = eqb-true i ((s.block n).source q) (and_right (is_wanting ((s.block n).pair q).acquiring) (i == (s.block n).source q) there) in
+    let here : (is_wanting ((s.block n).pair q).acquiring && (source == (s.block n).source q)) ≡ true =
+    sym (named.acquires q source n) ∙ rw (used, same_number n) refl in
+    let there : (is_wanting ((s.block n).pair q).acquiring && (i == (s.block n).source q)) ≡ true =
+    sym (named.acquires q i n) ∙ rw (e, same_number n) refl in
+    let first = eqb-true source ((s.block n).source q) (and_right (is_wanting ((s.block n).pair q).acquiring)
+    (source == (s.block n).source q) here) in
+    let second = eqb-true i ((s.block n).source q) (and_right (is_wanting ((s.block n).pair q).acquiring)
+    (i == (s.block n).source q) there) in
     second ∙ sym first
 
-pub are_served-conceded : {w : ℕ} {X : Type 0} (request : ℕ → MessageA w) (c q n source : ℕ) (k gift : Cap) (r : Report) (dt : Bool) (rest : List Packet)
+pub are_served-conceded : {w : ℕ} {X : Type 0} (request : ℕ → MessageA w) (c q n source : ℕ) (k gift : Cap) (r : Report)
+    (dt : Bool) (rest : List Packet)
     (x : BeatC w) (m : MessageD w) (s : State X) (t : Trace w)
-    → IsConceded c q n source k gift r x m request s t → ServedSourceRelation request s t → ServedSourceRelation request (report_grants c q n r dt gift rest s) (after_sent (record { 0 = q }) (D m) (taken c x t))
+    → IsConceded c q n source k gift r x m request s t → ServedSourceRelation request s t
+    → ServedSourceRelation request (report_grants c q n r dt gift rest s)
+    (after_sent (record { 0 = q }) (D m) (taken c x t))
 are_served-conceded {w} {X} request c q n source k gift r dt rest x m s t is known = record {
   sources = λ d i. sources_now d i ((q == d) && (source == i)) refl;
-  sinks = λ d i. given-sinks q n (s.block n).tracker m u given d i ∙ sinks_now d i ((q == d) && ((s.block n).tracker == i)) refl;
+  sinks = λ d i. given-sinks q n (s.block n).tracker m u given d i ∙ sinks_now d i
+      ((q == d) && ((s.block n).tracker == i)) refl;
   requests = λ i. elim (cases_eq i n) [
     | inl same ↦ rw (same, set-same n new s.block) (is.grant.acquires, is.block_is)
     | inr other ↦ rw (set-other n i new s.block other) (known.requests i)
   ];
-  asked = λ i p from own low e. request-reply (record { 0 = q }) m u p from ∙ (quiet-c (record { 0 = c }) x t).requests p from ∙ asked_now i p from own low e;
-  probes = λ d i e. probe-reply (record { 0 = q }) m u d i ∙ (quiet-c (record { 0 = c }) x t).probe d i ∙ probes_now d i e;
+  asked = λ i p from own low e. request-reply (record { 0 = q }) m u p from ∙ (quiet-c (record { 0 = c }) x t).requests
+      p from ∙ asked_now i p from own low e;
+  probes = λ d i e. probe-reply (record { 0 = q }) m u d i ∙ (quiet-c (record { 0 = c }) x t).probe d i ∙ probes_now d i
+      e;
 }
   where
     u : Trace w
@@ -301,11 +362,13 @@ are_served-conceded {w} {X} request c q n source k gift r dt rest x m s t is kno
     unlike d i j apart e same = elim (cases_eq d q) [
       | inl client ↦
           let mine : i ≡ source = only_source q n source i s is.named is.used (rw (client, same) at e) in
-          absurd (let yes : ((q == d) && (source == i)) ≡ true = rw (client, mine, same_number q, same_number source) refl in let no : false ≡ true = sym apart ∙ yes in cc)
+          absurd (let yes : ((q == d) && (source == i)) ≡ true = rw (client, mine, same_number q, same_number source)
+          refl in let no : false ≡ true = sym apart ∙ yes in cc)
       | inr other ↦ ne_eqb d q other
     ]
 
-    served_now : (d i : ℕ) → ((q == d) && (source == i)) ≡ false → (y : SourceState) → s.uses d i ≡ y → is_served d y z ≡ is_served d y s
+    served_now : (d i : ℕ) → ((q == d) && (source == i)) ≡ false → (y : SourceState) → s.uses d i ≡ y
+        → is_served d y z ≡ is_served d y s
     served_now d i apart SourceFree e = refl
     served_now d i apart Asked e = refl
     served_now d i apart (InService j) e = refl
@@ -315,32 +378,43 @@ are_served-conceded {w} {X} request c q n source k gift r dt rest x m s t is kno
       | inr other ↦ rw (set-other n j new s.block other) refl
     ]
 
-    source_now : (d i : ℕ) → pending (key.RequestSource i) (on_link d v) ≡ (if (q == d) && (source == i) then false else pending (key.RequestSource i) (on_link d u))
-    source_now d i = source-reply n d i (service_for q n request s) m u is.grant.reply ∙ ap (λ j. if (q == d) && (j == i) then false else pending (key.RequestSource i) (on_link d u)) is.source_is
+    source_now : (d i : ℕ) → pending (key.RequestSource i) (on_link d v) ≡ (if (q == d) && (source == i) then false else
+        pending (key.RequestSource i) (on_link d u))
+    source_now d i = source-reply n d i (service_for q n request s) m u is.grant.reply ∙ ap
+        (λ j. if (q == d) && (j == i) then false else pending (key.RequestSource i) (on_link d u)) is.source_is
 
     answered : is_served q (s.uses q source) z ≡ false
     answered = rw (is.used, set-same n new s.block) (never_own (q == q) dt gift)
 
     sources_now : (d i : ℕ) (b : Bool) → ((q == d) && (source == i)) ≡ b
-        → pending (key.RequestSource i) (on_link d v) ≡ (is_served d (s.uses d i) z || comes_in_request i (unfinished channel.A (on_link d v)))
+        → pending (key.RequestSource i) (on_link d v) ≡ (is_served d (s.uses d i) z || comes_in_request i
+        (unfinished channel.A (on_link d v)))
     sources_now d i true e =
         let p = and_parts (q == d) (source == i) e in
         let client : q ≡ d = eqb-true q d p.0 in
         let mine : source ≡ i = eqb-true source i p.1 in
         let free : pending (key.RequestSource i) (on_link d v) ≡ false = source_now d i ∙ rw e refl in
-        let none : comes_in_request i (unfinished channel.A (on_link d v)) ≡ false = no-burst d i v (accounted-grant n (service_for q n request s) m u is.grant is.accounted) free in
+        let none : comes_in_request i (unfinished channel.A (on_link d v)) ≡ false =
+        no-burst d i v (accounted-grant n (service_for q n request s) m u is.grant is.accounted) free in
         let served : is_served d (s.uses d i) z ≡ false = rw (← client, ← mine) answered in
         free ∙ sym (ap (λ b. b || comes_in_request i (unfinished channel.A (on_link d v))) served ∙ none)
     sources_now d i false e =
-        source_now d i ∙ rw (e, served_now d i e (s.uses d i) refl, burst-reply (record { 0 = q }) m u d, (quiet-c (record { 0 = c }) x t).bursts d)
+        source_now d i ∙ rw (
+          e,
+          served_now d i e (s.uses d i) refl,
+          burst-reply (record { 0 = q }) m u d,
+          (quiet-c (record { 0 = c }) x t).bursts d,
+        )
         ((quiet-c (record { 0 = c }) x t).sources d i ∙ known.sources d i)
 
-    granted_now : (d i : ℕ) → ((q == d) && ((s.block n).tracker == i)) ≡ false → (o : Option ℕ) → s.tracked i ≡ o → is_granted d o s ≡ is_granted d o z
+    granted_now : (d i : ℕ) → ((q == d) && ((s.block n).tracker == i)) ≡ false → (o : Option ℕ) → s.tracked i ≡ o
+        → is_granted d o s ≡ is_granted d o z
     granted_now d i apart None e = refl
     granted_now d i apart (Some j) e = elim (cases_eq j n) [
       | inl same ↦
           let mine : i ≡ (s.block n).tracker = tracker-alone n i s is.named (rw same at e) in
-          rw (same, set-same n new s.block, is.waits) (waits_ungranted (d == q) k ∙ sym (granted_if (d == q) dt gift ∙ away (cases_eq d q) mine))
+          rw (same, set-same n new s.block, is.waits)
+          (waits_ungranted (d == q) k ∙ sym (granted_if (d == q) dt gift ∙ away (cases_eq d q) mine))
       | inr other ↦ rw (set-other n j new s.block other) refl
     ]
       where
@@ -354,23 +428,30 @@ are_served-conceded {w} {X} request c q n source k gift r dt rest x m s t is kno
     granted_here = rw (set-same n new s.block) (granted_if (q == q) dt gift ∙ same_number q)
 
     sinks_now : (d i : ℕ) (b : Bool) → ((q == d) && ((s.block n).tracker == i)) ≡ b
-        → (if (q == d) && ((s.block n).tracker == i) then true else pending (key.GrantSink i) (on_link d u)) ≡ is_granted d (s.tracked i) z
+        → (if (q == d) && ((s.block n).tracker == i) then true else pending (key.GrantSink i) (on_link d u))
+        ≡ is_granted d (s.tracked i) z
     sinks_now d i true e =
         let p = and_parts (q == d) ((s.block n).tracker == i) e in
-        rw (e, ← eqb-true q d p.0, ← eqb-true (s.block n).tracker i p.1) (sym (ap (λ o. is_granted q o z) (tracker-of n s is.named (rw is.waits refl)) ∙ granted_here))
-    sinks_now d i false e = rw e ((quiet-c (record { 0 = c }) x t).sinks d i ∙ known.sinks d i ∙ granted_now d i e (s.tracked i) refl)
+        rw (e, ← eqb-true q d p.0, ← eqb-true (s.block n).tracker i p.1)
+        (sym (ap (λ o. is_granted q o z) (tracker-of n s is.named (rw is.waits refl)) ∙ granted_here))
+    sinks_now d i false e = rw e ((quiet-c (record { 0 = c }) x t).sinks d i ∙ known.sinks d i ∙ granted_now d i e
+        (s.tracked i) refl)
 
-    asked_now : (i p from : ℕ) (own : Bool) (low : Cap) → (set n new s.block i).service ≡ Waits p own from low → request_of from (on_link p t) ≡ Some (a_beat_of (request i) 0)
+    asked_now : (i p from : ℕ) (own : Bool) (low : Cap) → (set n new s.block i).service ≡ Waits p own from low
+        → request_of from (on_link p t) ≡ Some (a_beat_of (request i) 0)
     asked_now i p from own low e = elim (cases_eq i n) [
-      | inl same ↦ absurd (let sent : GrantSent q dt gift ≡ Waits p own from low = ap (λ (b : Block X). b.service) (sym (set-same n new s.block)) ∙ (rw same at e) in cc)
-      | inr other ↦ known.asked i p from own low (ap (λ (b : Block X). b.service) (sym (set-other n i new s.block other)) ∙ e)
+      | inl same ↦ absurd (let sent : GrantSent q dt gift ≡ Waits p own from low =
+          ap (λ (b : Block X). b.service) (sym (set-same n new s.block)) ∙ (rw same at e) in cc)
+      | inr other ↦ known.asked i p from own low
+          (ap (λ (b : Block X). b.service) (sym (set-other n i new s.block other)) ∙ e)
     ]
 
     others : q ≡ c → ⊥
     others e = is.apart (sym e)
 
     -- who isn't quiet isn't of this block
-    probing_before : (d i : ℕ) → (i ≡ n → ⊥) → is_unprobed ((set n new s.block i).pair d).probing ≡ false → is_unprobed ((s.block i).pair d).probing ≡ false
+    probing_before : (d i : ℕ) → (i ≡ n → ⊥) → is_unprobed ((set n new s.block i).pair d).probing ≡ false
+        → is_unprobed ((s.block i).pair d).probing ≡ false
     probing_before d i other e = rw (set-other n i new s.block other) at e
 
     quiet_here : (d : ℕ) → is_unprobed ((set n new s.block n).pair d).probing ≡ true
@@ -382,8 +463,10 @@ are_served-conceded {w} {X} request c q n source k gift r dt rest x m s t is kno
       ])
     ])
 
-    probes_now : (d i : ℕ) → is_unprobed ((set n new s.block i).pair d).probing ≡ false → probe_of i (on_link d t) ≡ Some (probe_beat i (cap_waited (set n new s.block i).service))
+    probes_now : (d i : ℕ) → is_unprobed ((set n new s.block i).pair d).probing ≡ false
+        → probe_of i (on_link d t) ≡ Some (probe_beat i (cap_waited (set n new s.block i).service))
     probes_now d i e = elim (cases_eq i n) [
-      | inl same ↦ absurd (let no : is_unprobed ((set n new s.block n).pair d).probing ≡ false = rw same at e in let differ : true ≡ false = sym (quiet_here d) ∙ no in cc)
+      | inl same ↦ absurd (let no : is_unprobed ((set n new s.block n).pair d).probing ≡ false = rw same at e in
+          let differ : true ≡ false = sym (quiet_here d) ∙ no in cc)
       | inr other ↦ known.probes d i (probing_before d i other e) ∙ rw (set-other n i new s.block other) refl
     ]

@@ -1,12 +1,10 @@
 -- Who is above a cap for the manager is so for the protocol.
+use Rattle.tl_coherence.proofs.manager.Imports.{Cap, Perm, recorded, cap_probed, is_spared, probed, is_above}
 use Rattle.std.proofs.Common.{◌≡◌, refl}
-use Rattle.tl_params.specs.declared.param.Cap.{Cap}
 use Rattle.tl_params.specs.declared.param.Cap.TheVariants as cap
-use Rattle.tl_params.specs.declared.perm.Perm.{Perm}
 use Rattle.tl_params.specs.declared.perm.Perm.TheVariants as perm
 use Rattle.tl_manager.specs.statement.Holders as holders
-use Rattle.tl_manager.specs.statement.Holders.{recorded, clients_from, clients_where, cap_probed, is_spared, probed}
-use Rattle.tl_coherence.specs.protocol.PhaseSteps.{is_above}
+use Rattle.tl_manager.specs.statement.Holders.{clients_from, clients_where}
 
 pub same_above : (k : Cap) (p : Perm) → holders.is_above k p ≡ is_above k p
 same_above cap.ToT perm.None = refl

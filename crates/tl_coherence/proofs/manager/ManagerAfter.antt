@@ -1,53 +1,39 @@
--- All that is kept of the manager's end, after a beat of channel C or E that it takes: a beat that isn't the last of its
+-- All that is kept of the manager's end, after a beat of channel C or E that it takes: a beat that isn't the last of
+-- its
 -- message, a ProbeAck that isn't the last one missing, a Release, and a GrantAck.
-use Rattle.std.proofs.Common.{◌≡◌, ℕ, suc, ◌+◌, Bool, true, false, not, ◌&&◌, ◌||◌, List, [], ◌∷◌, length, refl, sym, ◌∙◌, ap, subst, inl, inr, arith}
+use Rattle.tl_coherence.proofs.manager.Imports.{IsWidth, Beat, BeatC, BeatE, Channel, Message, MessageC, MessageD}
+use Rattle.tl_coherence.proofs.manager.Imports.{beats_of, begun, c_beat_of, unfinished, Config, Prune, Report, Perm}
+use Rattle.tl_coherence.proofs.manager.Imports.{prune_code, prune_left, prune_right, report_code, report_left}
+use Rattle.tl_coherence.proofs.manager.Imports.{report_right, on_link, same_perm, ends, block_at, is_grant}
+use Rattle.tl_coherence.proofs.manager.Imports.{is_probe_ack, is_release_ack, pending, reported, is_last, Reaction}
+use Rattle.tl_coherence.proofs.manager.Imports.{with_handed, IsKept, reaction, End, offered, taken, whole-taken}
+use Rattle.tl_coherence.proofs.manager.Imports.{AbstractState, some_below, ManagerRelation, ClientBlock, is_unprobed}
+use Rattle.tl_coherence.proofs.manager.Imports.{Block, State, reported_block, let_block, ServedSourceRelation, Packet}
+use Rattle.tl_coherence.proofs.manager.Imports.{IsServedWith}
+use Rattle.std.proofs.Common.{◌≡◌, ℕ, suc, ◌+◌, Bool, true, false, not, ◌&&◌, ◌||◌, List, [], ◌∷◌, length, refl, sym}
+use Rattle.std.proofs.Common.{◌∙◌, ap, subst, inl, inr, arith}
 use Rattle.std.specs.Prelude.{◌==◌, if◌then◌else◌}
 use Rattle.std.proofs.lemmas.Bool.{cases_eq, ne_eqb}
-use Rattle.tl_beat.specs.statement.Width.{IsWidth}
-use Rattle.tl_beat.specs.declared.beat.Beat.{Beat}
 use Rattle.tl_beat.specs.declared.beat.Beat.TheVariants as beat
-use Rattle.tl_beat.specs.declared.beat.BeatC.{BeatC}
-use Rattle.tl_beat.specs.declared.beat.BeatE.{BeatE}
-use Rattle.tl_beat.specs.declared.channel.Channel.{Channel}
 use Rattle.tl_beat.specs.declared.channel.Channel.TheVariants as channel
-use Rattle.tl_burst.specs.declared.message.Message.{Message}
 use Rattle.tl_burst.specs.declared.message.Message.TheVariants as message
-use Rattle.tl_burst.specs.declared.message.MessageC.{MessageC}
-use Rattle.tl_burst.specs.declared.message.MessageD.{MessageD}
-use Rattle.tl_burst.specs.statement.Burst.{beats_of, begun, burst_of, c_beat_of}
-use Rattle.tl_burst.specs.statement.Messages.{unfinished}
-use Rattle.tl_params.specs.declared.config.Config.{Config}
+use Rattle.tl_burst.specs.statement.Burst.{burst_of}
 use Rattle.tl_params.specs.declared.key.Key.TheVariants as key
-use Rattle.tl_params.specs.declared.param.Prune.{Prune}
-use Rattle.tl_params.specs.declared.param.Report.{Report}
-use Rattle.tl_params.specs.declared.perm.Perm.{Perm}
 use Rattle.tl_params.specs.declared.perm.Perm.TheVariants as perm
-use Rattle.tl_params.specs.statement.Param.{prune_code, prune_left, prune_right, report_code, report_left, report_right}
 use Rattle.tl_rules.specs.statement.Admission.{payload_of}
-use Rattle.tl_rules.specs.statement.Conformance.{on_link, same_perm}
-use Rattle.tl_rules.specs.statement.History.{ends, block_at, is_grant, is_probe_ack, is_release_ack, pending, reported}
 use Rattle.tl_rules.proofs.Payload.{payload-c}
-use Rattle.tl_rules.proofs.Sent.{is_last}
 use Rattle.tl_burst.proofs.Begun.{length-begun}
-use Rattle.tl_manager.specs.statement.Handing.{Reaction, nothing, release_ack, with_handed}
+use Rattle.tl_manager.specs.statement.Handing.{nothing, release_ack}
 use Rattle.tl_manager.specs.statement.Holders.{is_settled, is_missing}
-use Rattle.tl_manager.specs.code.Kept.{IsKept}
 use Rattle.tl_manager.specs.statement.Offer as manager_offer
-use Rattle.tl_manager.specs.statement.Reaction.{reaction}
-use Rattle.tl_manager.specs.statement.End.{End}
-use Rattle.tl_manager.specs.statement.Offer.{offered, taken}
 use Rattle.tl_manager.proofs.Events.{reaction-part, reaction-release, reaction-report, reaction-ack, memory_with}
-use Rattle.tl_manager.proofs.Handed.{whole-taken}
 use Rattle.tl_manager.proofs.Keeping.{kept-offered}
-use Rattle.tl_coherence.specs.refinement.AbstractStep.{AbstractState, with_state, some_below}
-use Rattle.tl_coherence.specs.refinement.ManagerRelation.{ManagerRelation}
-use Rattle.tl_coherence.specs.protocol.Phase.{ClientBlock, is_unprobed}
-use Rattle.tl_coherence.specs.protocol.Protocol.{Block, State, report_taken, reported_block, release_taken, let_block, grant_ack_taken, freed_block}
-use Rattle.tl_coherence.specs.refinement.SourceRelation.{ServedSourceRelation}
-use Rattle.tl_coherence.specs.protocol.Packet.{Packet}
-use Rattle.tl_coherence.specs.refinement.SimulationRelation.{IsServedWith}
+use Rattle.tl_coherence.specs.refinement.AbstractStep.{with_state}
+use Rattle.tl_coherence.specs.protocol.Protocol.{report_taken, release_taken, grant_ack_taken, freed_block}
 use Rattle.tl_coherence.proofs.manager.ManagedAcks.{IsAcked, managed-acked, are_served-acked}
-use Rattle.tl_coherence.proofs.manager.ManagedReports.{managed-report_part, are_served-report_part, managed-reported, are_served-reported, IsReleased, managed-released, are_served-released}
+use Rattle.tl_coherence.proofs.manager.ManagedReports.{managed-report_part, are_served-report_part, managed-reported}
+use Rattle.tl_coherence.proofs.manager.ManagedReports.{are_served-reported, IsReleased, managed-released}
+use Rattle.tl_coherence.proofs.manager.ManagedReports.{are_served-released}
 use Rattle.tl_coherence.proofs.manager.ManagersEnd.{IsAtManager}
 use Rattle.tl_coherence.proofs.manager.ManagerMemory.{block_in, other-blocks, blocks-now, block-taken}
 use Rattle.tl_coherence.proofs.manager.Choices.{nobody-same}
@@ -66,23 +52,30 @@ IsManagerOf config h e = IsAtManager config h.mail h.request h.state e
 abbrev pub left : {w : ℕ} → ℕ → Beat w → Reaction w → End w → End w
 left c x d e = taken (record { 0 = c }) x d e
 
-pub left-is : {w : ℕ} (config : Config) (c : ℕ) (ch : Channel) (x : Beat w) (d : Reaction w) (e : End w) → IsTakenUp config c ch x e
+pub left-is : {w : ℕ} (config : Config) (c : ℕ) (ch : Channel) (x : Beat w) (d : Reaction w) (e : End w)
+    → IsTakenUp config c ch x e
     → reaction config (record { 0 = c }) x e ≡ d → (offered config (record { 0 = c }) ch x e).1 ≡ left c x d e
-left-is {w} config c ch x d e up is = ap (λ (p : manager_offer.Reception w × End w). p.1) up.answer ∙ ap (λ (i : Reaction w). left c x i e) is
+left-is {w} config c ch x d e up is = ap (λ (p : manager_offer.Reception w × End w). p.1) up.answer ∙ ap
+    (λ (i : Reaction w). left c x i e) is
 
-pub kept-left : {w : ℕ} (config : Config) (c : ℕ) (x : BeatC w) (d : Reaction w) (e : End w) → IsWidth w → IsTakenUp config c channel.C (beat.C x) e
+pub kept-left : {w : ℕ} (config : Config) (c : ℕ) (x : BeatC w) (d : Reaction w) (e : End w) → IsWidth w
+    → IsTakenUp config c channel.C (beat.C x) e
     → reaction config (record { 0 = c }) (beat.C x) e ≡ d → IsKept config e → IsKept config (left c (beat.C x) d e)
-kept-left config c x d e width up is kept = subst (IsKept config) (left-is config c channel.C (beat.C x) d e up is) (kept-offered config (record { 0 = c }) channel.C (beat.C x) e width tt kept)
+kept-left config c x d e width up is kept = subst (IsKept config) (left-is config c channel.C (beat.C x) d e up is)
+    (kept-offered config (record { 0 = c }) channel.C (beat.C x) e width tt kept)
 
-pub others-left : {w : ℕ} (config : Config) (c n : ℕ) (x : BeatC w) (d : Reaction w) (e : End w) → IsWidth w → IsTakenUp config c channel.C (beat.C x) e
+pub others-left : {w : ℕ} (config : Config) (c n : ℕ) (x : BeatC w) (d : Reaction w) (e : End w) → IsWidth w
+    → IsTakenUp config c channel.C (beat.C x) e
     → reaction config (record { 0 = c }) (beat.C x) e ≡ d → IsKept config e → block_at x.address ≡ n
     → (i : ℕ) → (i ≡ n → ⊥) → block_in d.memory i ≡ block_in e.memory i
 others-left {w} config c n x d e width up is kept block i other =
-    ap (λ (z : End w). block_in z.memory i) (sym (left-is config c channel.C (beat.C x) d e up is)) ∙ other-blocks config (record { 0 = c }) channel.C x e n width kept block i other
+    ap (λ (z : End w). block_in z.memory i) (sym (left-is config c channel.C (beat.C x) d e up is)) ∙ other-blocks
+    config (record { 0 = c }) channel.C x e n width kept block i other
 
 -- ---- a beat of channel C that isn't the last of its message
 
-pub report_part-left : {w : ℕ} (config : Config) (c : ℕ) (x : BeatC w) (h : AbstractState w) (e : End w) → IsWidth w → IsTakenUp config c channel.C (beat.C x) e
+pub report_part-left : {w : ℕ} (config : Config) (c : ℕ) (x : BeatC w) (h : AbstractState w) (e : End w) → IsWidth w
+    → IsTakenUp config c channel.C (beat.C x) e
     → ends (beat.C x) (on_link c e.trace) ≡ false → IsManagerOf config h e
     → IsManagerOf config h (left c (beat.C x) (reaction config (record { 0 = c }) (beat.C x) e) e)
 unfolding with_handed
@@ -100,28 +93,35 @@ report_part-left {w} config c x h e width up part is =
 -- ---- the last beat of a message of channel C
 
 -- the message, whose last beat is number k
-pub record IsEnd {w : ℕ} (is_report : Bool) (c n param : ℕ) (carries : Bool) (truth : List ℕ) (k : ℕ) (m : MessageC w) (e : End w) : Type 0 where
+pub record IsEnd {w : ℕ} (is_report : Bool) (c n param : ℕ) (carries : Bool) (truth : List ℕ) (k : ℕ) (m : MessageC w)
+    (e : End w) : Type 0 where
   pub width : IsWidth w
   pub about : IsAbout is_report n param carries truth m
   pub rest : unfinished channel.C (on_link c e.trace) ≡ begun (message.C m) k
   pub last : k + 1 ≡ beats_of (message.C m)
   pub long : length truth ≡ 64
 
-pub ends-it : {w : ℕ} (b : Bool) (c n param : ℕ) (carries : Bool) (truth : List ℕ) (k : ℕ) (m : MessageC w) (e : End w) → IsEnd b c n param carries truth k m e
+pub ends-it : {w : ℕ} (b : Bool) (c n param : ℕ) (carries : Bool) (truth : List ℕ) (k : ℕ) (m : MessageC w) (e : End w)
+    → IsEnd b c n param carries truth k m e
     → ends (beat.C (c_beat_of m k)) (on_link c e.trace) ≡ true
-ends-it b c n param carries truth k m e is = rw (is.rest, length-begun (message.C m) k) (is_last k (beats_of (message.C m)) is.last)
+ends-it b c n param carries truth k m e is =
+    rw (is.rest, length-begun (message.C m) k) (is_last k (beats_of (message.C m)) is.last)
 
 -- the bytes that it carries
-pub payload-end : {w : ℕ} (b : Bool) (c n param : ℕ) (carries : Bool) (truth : List ℕ) (k : ℕ) (m : MessageC w) (e : End w) → IsEnd b c n param carries truth k m e → carries ≡ true
+pub payload-end : {w : ℕ} (b : Bool) (c n param : ℕ) (carries : Bool) (truth : List ℕ) (k : ℕ) (m : MessageC w)
+    (e : End w) → IsEnd b c n param carries truth k m e → carries ≡ true
     → payload_of (beat.C (c_beat_of m k) ∷ unfinished channel.C (on_link c e.trace)) ≡ truth
 payload-end {w} b c n param carries truth k m e is some =
     ap (λ (beats : List (Beat w)). payload_of (beat.C (c_beat_of m k) ∷ beats)) is.rest
-    ∙ payload-c m (begun (message.C m) (suc k)) is.width is.about.long (whole, is.about.blank) ∙ is.about.payload_is some
+    ∙ payload-c m (begun (message.C m) (suc k)) is.width is.about.long (whole, is.about.blank) ∙ is.about.payload_is
+    some
   where
     whole : begun (message.C m) (suc k) ≡ burst_of (message.C m)
-    whole = let all : suc k ≡ beats_of (message.C m) = omega (arith, is.last) in ap (λ (i : ℕ). begun (message.C m) i) all
+    whole = let all : suc k ≡ beats_of (message.C m) = omega (arith, is.last) in
+        ap (λ (i : ℕ). begun (message.C m) i) all
 
-pub last-of : {w : ℕ} (b : Bool) (c n param : ℕ) (carries : Bool) (truth : List ℕ) (k : ℕ) (right : Perm) (m : MessageC w) (e : End w)
+pub last-of : {w : ℕ} (b : Bool) (c n param : ℕ) (carries : Bool) (truth : List ℕ) (k : ℕ) (right : Perm)
+    (m : MessageC w) (e : End w)
     → IsEnd b c n param carries truth k m e → reported param ≡ right → IsLastOf c n right (c_beat_of m k) e.trace
 last-of b c n param carries truth k right m e is said = record {
   last = ends-it b c n param carries truth k m e is;
@@ -135,40 +135,58 @@ last-of b c n param carries truth k right m e is said = record {
     either false = refl
 
 -- the memory with it
-pub memory-end : {w : ℕ} (b : Bool) (c n param : ℕ) (carries : Bool) (truth : List ℕ) (k : ℕ) (m : MessageC w) (e : End w) → IsEnd b c n param carries truth k m e
+pub memory-end : {w : ℕ} (b : Bool) (c n param : ℕ) (carries : Bool) (truth : List ℕ) (k : ℕ) (m : MessageC w)
+    (e : End w) → IsEnd b c n param carries truth k m e
     → block_in (memory_with (record { 0 = c }) (c_beat_of m k) e) n ≡ (if carries then truth else block_in e.memory n)
 memory-end {w} b c n param carries truth k m e is =
-    block-taken (c_beat_of m k) (beat.C (c_beat_of m k) ∷ unfinished channel.C (on_link c e.trace)) e.memory n carries truth is.about.block is.about.carries_is
+    block-taken (c_beat_of m k) (beat.C (c_beat_of m k) ∷ unfinished channel.C (on_link c e.trace)) e.memory n carries
+    truth is.about.block is.about.carries_is
     (payload-end b c n param carries truth k m e is) is.long
 
 -- ---- a Release
 
-release_is : {w : ℕ} (source : ℕ) → (m : MessageD w) × (release_ack source ≡ message.D m) × (is_release_ack m.opcode ≡ true) × (is_grant m.opcode ≡ false)
+release_is : {w : ℕ} (source : ℕ) → (m : MessageD w) × (release_ack source ≡ message.D m)
+    × (is_release_ack m.opcode ≡ true) × (is_grant m.opcode ≡ false)
 release_is source = (_, refl, refl, refl)
 
-pub reaction-released : {w : ℕ} (config : Config) (c n k : ℕ) (r : Prune) (m : MessageC w) (h : AbstractState w) (e : End w)
+pub reaction-released : {w : ℕ} (config : Config) (c n k : ℕ) (r : Prune) (m : MessageC w) (h : AbstractState w)
+    (e : End w)
     → IsEnd false c n (prune_code r) (same_perm (prune_left r) perm.Trunk) (h.state.block n).truth k m e
-    → reaction config (record { 0 = c }) (beat.C (c_beat_of m k)) e ≡ record { handed = (record { 0 = c }, release_ack m.source) ∷ []; memory = memory_with (record { 0 = c }) (c_beat_of m k) e }
+    → reaction config (record { 0 = c }) (beat.C (c_beat_of m k)) e ≡ record {
+      handed =
+          (record { 0 = c }, release_ack m.source) ∷ [];
+      memory = memory_with (record { 0 = c }) (c_beat_of m k) e;
+    }
 reaction-released config c n k r m h e end =
-    reaction-release config (record { 0 = c }) (c_beat_of m k) e (ends-it false c n (prune_code r) (same_perm (prune_left r) perm.Trunk) (h.state.block n).truth k m e end) end.about.releases
+    reaction-release config (record { 0 = c }) (c_beat_of m k) e
+    (ends-it false c n (prune_code r) (same_perm (prune_left r) perm.Trunk) (h.state.block n).truth k m e end)
+    end.about.releases
 
-pub released-left : {w : ℕ} (config : Config) (c n k : ℕ) (r : Prune) (rest : List Packet) (m : MessageC w) (h : AbstractState w) (e : End w) → IsTakenUp config c channel.C (beat.C (c_beat_of m k)) e
-    → IsEnd false c n (prune_code r) (same_perm (prune_left r) perm.Trunk) (h.state.block n).truth k m e → IsManagerOf config h e
-    → IsManagerOf config (with_state (release_taken c n r rest h.state) h) (left c (beat.C (c_beat_of m k)) (reaction config (record { 0 = c }) (beat.C (c_beat_of m k)) e) e)
+pub released-left : {w : ℕ} (config : Config) (c n k : ℕ) (r : Prune) (rest : List Packet) (m : MessageC w)
+    (h : AbstractState w) (e : End w) → IsTakenUp config c channel.C (beat.C (c_beat_of m k)) e
+    → IsEnd false c n (prune_code r) (same_perm (prune_left r) perm.Trunk) (h.state.block n).truth k m e
+    → IsManagerOf config h e
+    → IsManagerOf config (with_state (release_taken c n r rest h.state) h)
+    (left c (beat.C (c_beat_of m k)) (reaction config (record { 0 = c }) (beat.C (c_beat_of m k)) e) e)
 unfolding with_handed
 released-left {w} config c n k r rest m h e up end is =
     subst (λ (d : Reaction w). IsManagerOf config (with_state after h) (left c (beat.C x) d e)) (sym done) (record {
       managed =
-          subst (λ (i : Message w). ManagerRelation h.request after (with_handed ((record { 0 = c }, i) ∷ []) ((record { 0 = c }, beat.C x) ∷ e.trace))) (sym answer.1)
-          (managed-released h.request c n r rest x answer.0 h.state e.trace (last-of false c n (prune_code r) carries truth k (prune_right r) m e end (reported-prune r)) released is.managed);
+          subst (λ (i : Message w). ManagerRelation h.request after
+          (with_handed ((record { 0 = c }, i) ∷ []) ((record { 0 = c }, beat.C x) ∷ e.trace))) (sym answer.1)
+          (managed-released h.request c n r rest x answer.0 h.state e.trace
+          (last-of false c n (prune_code r) carries truth k (prune_right r) m e end (reported-prune r)) released
+          is.managed);
       served =
-          subst (λ (i : Message w). ServedSourceRelation h.request after (with_handed ((record { 0 = c }, i) ∷ []) ((record { 0 = c }, beat.C x) ∷ e.trace))) (sym answer.1)
+          subst (λ (i : Message w). ServedSourceRelation h.request after
+          (with_handed ((record { 0 = c }, i) ∷ []) ((record { 0 = c }, beat.C x) ∷ e.trace))) (sym answer.1)
           (are_served-released h.request c n r rest x answer.0 h.state e.trace released is.served);
       served_with = λ i. still i;
       manager_kept = kept-left config c x does e end.width up done is.manager_kept;
       memory = λ i.
           blocks-now e.memory does.memory n (let_block c r (h.state.block n)) h.state
-          (memory-end false c n (prune_code r) carries truth k m e end ∙ ap (λ z. if carries then truth else z) (is.memory n))
+          (memory-end false c n (prune_code r) carries truth k m e end ∙ ap (λ z. if carries then truth else z)
+          (is.memory n))
           (others-left config c n x does e end.width up done is.manager_kept end.about.block) is.memory i;
       all_live = is.all_live;
     })
@@ -186,16 +204,28 @@ released-left {w} config c n k r rest m h e up end is =
     after = release_taken c n r rest h.state
 
     does : Reaction w
-    does = record { handed = (record { 0 = c }, release_ack x.source) ∷ []; memory = memory_with (record { 0 = c }) x e }
+    does = record {
+      handed = (record { 0 = c }, release_ack x.source) ∷ [];
+      memory =
+          memory_with (record { 0 = c }) x e;
+    }
 
     done : reaction config (record { 0 = c }) (beat.C x) e ≡ does
     done = reaction-released config c n k r m h e end
 
-    answer : (i : MessageD w) × (release_ack x.source ≡ message.D i) × (is_release_ack i.opcode ≡ true) × (is_grant i.opcode ≡ false)
+    answer : (i : MessageD w) × (release_ack x.source ≡ message.D i) × (is_release_ack i.opcode ≡ true)
+        × (is_grant i.opcode ≡ false)
     answer = release_is x.source
 
     released : IsReleased c x answer.0 e.trace
-    released = record { width = end.width; other = end.about.reports; ack = answer.2; none = answer.3; whole = (whole-taken c (record { 0 = c }) (beat.C x) e.trace refl (is.manager_kept.whole c)).1 }
+    released = record {
+      width = end.width;
+      other = end.about.reports;
+      ack = answer.2;
+      none = answer.3;
+      whole =
+          (whole-taken c (record { 0 = c }) (beat.C x) e.trace refl (is.manager_kept.whole c)).1;
+    }
 
     still : (i : ℕ) → IsServedWith h.mail (after.block i).service (h.request i)
     still i = elim (cases_eq i n) [
@@ -209,28 +239,38 @@ released-left {w} config c n k r rest m h e up end is =
 abbrev pub others_probed : ℕ → (ℕ → ClientBlock) → ℕ → Bool
 others_probed c pair d = not (d == c) && not (is_unprobed (pair d).probing)
 
-pub settled-is : {w : ℕ} (config : Config) (c n : ℕ) (right : Perm) (x : BeatC w) (h : AbstractState w) (e : End w) → IsLastOf c n right x e.trace
+pub settled-is : {w : ℕ} (config : Config) (c n : ℕ) (right : Perm) (x : BeatC w) (h : AbstractState w) (e : End w)
+    → IsLastOf c n right x e.trace
     → is_probe_ack x.opcode ≡ true → ManagerRelation h.request h.state e.trace
-    → is_settled config n ((record { 0 = c }, beat.C x) ∷ e.trace) ≡ not (some_below (length config.clients.items) (others_probed c (h.state.block n).pair))
+    → is_settled config n ((record { 0 = c }, beat.C x) ∷ e.trace) ≡ not
+    (some_below (length config.clients.items) (others_probed c (h.state.block n).pair))
 settled-is {w} config c n right x h e last report managed =
-    nobody-same config (λ d. is_missing d n ((record { 0 = c }, beat.C x) ∷ e.trace)) (others_probed c (h.state.block n).pair) (λ d. missing-last c n right x e.trace last report d n ∙ now d)
+    nobody-same config (λ d. is_missing d n ((record { 0 = c }, beat.C x) ∷ e.trace))
+    (others_probed c (h.state.block n).pair) (λ d. missing-last c n right x e.trace last report d n ∙ now d)
   where
-    now : (d : ℕ) → (if (c == d) && (n == n) then false else pending (key.ProbeOf n) (on_link d e.trace)) ≡ others_probed c (h.state.block n).pair d
+    now : (d : ℕ) → (if (c == d) && (n == n) then false else pending (key.ProbeOf n) (on_link d e.trace))
+        ≡ others_probed c (h.state.block n).pair d
     now d = elim (cases_eq c d) [
       | inl same ↦ rw (same, same_number d, same_number n) refl
-      | inr other ↦ let differ : d ≡ c → ⊥ = λ f. other (sym f) in rw (ne_eqb c d other, ne_eqb d c differ) (managed.probes d n)
+      | inr other ↦ let differ : d ≡ c → ⊥ = λ f. other (sym f) in
+          rw (ne_eqb c d other, ne_eqb d c differ) (managed.probes d n)
     ]
 
 -- ---- a ProbeAck that isn't the last one missing
 
-pub reaction-reported : {w : ℕ} (config : Config) (c n k : ℕ) (r : Report) (m : MessageC w) (h : AbstractState w) (e : End w)
+pub reaction-reported : {w : ℕ} (config : Config) (c n k : ℕ) (r : Report) (m : MessageC w) (h : AbstractState w)
+    (e : End w)
     → IsEnd true c n (report_code r) (same_perm (report_left r) perm.Trunk) (h.state.block n).truth k m e
-    → some_below (length config.clients.items) (others_probed c (h.state.block n).pair) ≡ true → ManagerRelation h.request h.state e.trace
-    → reaction config (record { 0 = c }) (beat.C (c_beat_of m k)) e ≡ nothing (memory_with (record { 0 = c }) (c_beat_of m k) e)
+    → some_below (length config.clients.items) (others_probed c (h.state.block n).pair) ≡ true
+    → ManagerRelation h.request h.state e.trace
+    → reaction config (record { 0 = c }) (beat.C (c_beat_of m k)) e ≡ nothing
+    (memory_with (record { 0 = c }) (c_beat_of m k) e)
 reaction-reported {w} config c n k r m h e end others managed =
-    reaction-report config (record { 0 = c }) x e (ends-it true c n (report_code r) carries truth k m e end) end.about.releases end.about.reports
+    reaction-report config (record { 0 = c }) x e (ends-it true c n (report_code r) carries truth k m e end)
+    end.about.releases end.about.reports
     (ap (λ i. is_settled config i ((record { 0 = c }, beat.C x) ∷ e.trace)) end.about.block
-    ∙ settled-is config c n (report_right r) x h e (last-of true c n (report_code r) carries truth k (report_right r) m e end (reported-report r)) end.about.reports managed ∙ rw others refl)
+    ∙ settled-is config c n (report_right r) x h e (last-of true c n (report_code r) carries truth k (report_right r) m
+    e end (reported-report r)) end.about.reports managed ∙ rw others refl)
   where
     x : BeatC w
     x = c_beat_of m k
@@ -241,10 +281,12 @@ reaction-reported {w} config c n k r m h e end others managed =
     carries : Bool
     carries = same_perm (report_left r) perm.Trunk
 
-pub reported-left : {w : ℕ} (config : Config) (c n k : ℕ) (r : Report) (rest : List Packet) (m : MessageC w) (h : AbstractState w) (e : End w) → IsTakenUp config c channel.C (beat.C (c_beat_of m k)) e
+pub reported-left : {w : ℕ} (config : Config) (c n k : ℕ) (r : Report) (rest : List Packet) (m : MessageC w)
+    (h : AbstractState w) (e : End w) → IsTakenUp config c channel.C (beat.C (c_beat_of m k)) e
     → IsEnd true c n (report_code r) (same_perm (report_left r) perm.Trunk) (h.state.block n).truth k m e
     → some_below (length config.clients.items) (others_probed c (h.state.block n).pair) ≡ true → IsManagerOf config h e
-    → IsManagerOf config (with_state (report_taken c n r rest h.state) h) (left c (beat.C (c_beat_of m k)) (reaction config (record { 0 = c }) (beat.C (c_beat_of m k)) e) e)
+    → IsManagerOf config (with_state (report_taken c n r rest h.state) h)
+    (left c (beat.C (c_beat_of m k)) (reaction config (record { 0 = c }) (beat.C (c_beat_of m k)) e) e)
 unfolding with_handed
 reported-left {w} config c n k r rest m h e up end others is =
     subst (λ (d : Reaction w). IsManagerOf config (with_state after h) (left c (beat.C x) d e)) (sym done) (record {
@@ -254,7 +296,8 @@ reported-left {w} config c n k r rest m h e up end others is =
       manager_kept = kept-left config c x does e end.width up done is.manager_kept;
       memory = λ i.
           blocks-now e.memory does.memory n (reported_block c r (h.state.block n)) h.state
-          (memory-end true c n (report_code r) carries truth k m e end ∙ ap (λ z. if carries then truth else z) (is.memory n))
+          (memory-end true c n (report_code r) carries truth k m e end ∙ ap (λ z. if carries then truth else z)
+          (is.memory n))
           (others-left config c n x does e end.width up done is.manager_kept end.about.block) is.memory i;
       all_live = is.all_live;
     })
@@ -288,9 +331,11 @@ reported-left {w} config c n k r rest m h e up end others is =
 
 -- ---- a GrantAck
 
-pub acked-left : {w : ℕ} (config : Config) (c n : ℕ) (rest : List Packet) (x : BeatE) (h : AbstractState w) (e : End w) → IsWidth w
+pub acked-left : {w : ℕ} (config : Config) (c n : ℕ) (rest : List Packet) (x : BeatE) (h : AbstractState w) (e : End w)
+    → IsWidth w
     → IsTakenUp config c channel.E (beat.E x) e → IsAcked c n x h.request h.state e.trace → IsManagerOf config h e
-    → IsManagerOf config (with_state (grant_ack_taken c n rest h.state) h) (left c (beat.E x) (reaction config (record { 0 = c }) (beat.E x) e) e)
+    → IsManagerOf config (with_state (grant_ack_taken c n rest h.state) h)
+    (left c (beat.E x) (reaction config (record { 0 = c }) (beat.E x) e) e)
 unfolding with_handed
 acked-left {w} config c n rest x h e width up acks is =
     subst (λ (d : Reaction w). IsManagerOf config (with_state after h) (left c (beat.E x) d e)) (sym done) (record {
@@ -299,7 +344,8 @@ acked-left {w} config c n rest x h e width up acks is =
       served_with = λ i. still i;
       manager_kept = subst (IsKept config) (left-is config c channel.E (beat.E x) (nothing e.memory) e up done)
           (kept-offered config (record { 0 = c }) channel.E (beat.E x) e width tt is.manager_kept);
-      memory = λ i. is.memory i ∙ sym (set-part (λ (b : Block (List ℕ)). b.memory) n (freed_block (h.state.block n)) h.state.block refl i);
+      memory = λ i. is.memory i ∙ sym (set-part (λ (b : Block (List ℕ)). b.memory) n (freed_block (h.state.block n))
+          h.state.block refl i);
       all_live = is.all_live;
     })
   where

@@ -1,20 +1,13 @@
 -- What the manager hands out at a beat of channel C or E: the messages of the tokens that the protocol pushes.
+use Rattle.tl_coherence.proofs.manager.Imports.{Config, Cap, Grow, Report, cap_right, same_perm, AbstractState}
+use Rattle.tl_coherence.proofs.manager.Imports.{ClientBlock, after_report, after_grant_sent, is_granted_data, GrantSent}
+use Rattle.tl_coherence.proofs.manager.Imports.{Block, State, granted_block, is_granting, let_block, report_grants}
+use Rattle.tl_coherence.proofs.manager.Imports.{view, block_message, Grant, set}
 use Rattle.std.proofs.Common.{◌≡◌, ℕ, Bool, false, List, refl, ap}
-use Rattle.tl_params.specs.declared.config.Config.{Config}
-use Rattle.tl_params.specs.declared.param.Cap.{Cap}
-use Rattle.tl_params.specs.declared.param.Grow.{Grow}
-use Rattle.tl_params.specs.declared.param.Report.{Report}
 use Rattle.tl_params.specs.declared.perm.Perm.TheVariants as perm
-use Rattle.tl_params.specs.statement.Param.{cap_right}
-use Rattle.tl_rules.specs.statement.Conformance.{same_perm}
-use Rattle.tl_coherence.specs.refinement.AbstractStep.{AbstractState}
 use Rattle.tl_coherence.specs.protocol.Invariant.{IsWell}
-use Rattle.tl_coherence.specs.protocol.Phase.{ClientBlock}
-use Rattle.tl_coherence.specs.protocol.PhaseSteps.{after_report, after_grant_sent, is_granted_data}
 use Rattle.tl_coherence.specs.protocol.Protocol as protocol
-use Rattle.tl_coherence.specs.protocol.Protocol.{GrantSent, Block, State, granted_block, granted_pair, is_granting, let_block, report_grants, view}
-use Rattle.tl_coherence.specs.refinement.PacketMessages.{block_message}
-use Rattle.tl_coherence.specs.protocol.Packet.{Grant, set}
+use Rattle.tl_coherence.specs.protocol.Protocol.{granted_pair}
 use Rattle.tl_coherence.proofs.manager.ManagerSettles.{gift_after, grant_after}
 use Rattle.tl_coherence.proofs.queues.Tokens.{set-same}
 use Rattle.tl_coherence.proofs.queues.Codes.{gives-some}
@@ -22,21 +15,29 @@ use Rattle.tl_coherence.proofs.manager.RequestsHanded.{memory-granted}
 
 -- ---- the Grant
 
--- who is granted the block is recorded with what it is given, so that nobody else has it to write: the memory is its truth
-pub granted-memory : (caching : ℕ → Bool) (c q : ℕ) (r : Report) (d : Bool) (k : Cap) (b : Block (List ℕ)) → same_perm (cap_right k) perm.None ≡ false → IsWell caching (granted_block c q r d k b)
+-- who is granted the block is recorded with what it is given, so that nobody else has it to write: the memory is its
+-- truth
+pub granted-memory : (caching : ℕ → Bool) (c q : ℕ) (r : Report) (d : Bool) (k : Cap) (b : Block (List ℕ))
+    → same_perm (cap_right k) perm.None ≡ false → IsWell caching (granted_block c q r d k b)
     → protocol.written r b.truth b.memory ≡ b.truth
 granted-memory caching c q r d k b some well =
-    memory-granted caching q d k (granted_block c q r d k b) well refl (ap (λ (p : ClientBlock). p.recorded) (set-same q (after_grant_sent k (b.pair q)) (set c (after_report r (b.pair c)) b.pair))) some
+    memory-granted caching q d k (granted_block c q r d k b) well refl
+    (ap (λ (p : ClientBlock). p.recorded)
+    (set-same q (after_grant_sent k (b.pair q)) (set c (after_report r (b.pair c)) b.pair))) some
 
 -- the Grant that is handed out is the one of the token
-pub grant-rendered : {w : ℕ} (config : Config) (caching : ℕ → Bool) (c q n source : ℕ) (r : Report) (whole : Bool) (g : Grow) (h : AbstractState w) → source ≡ (h.state.block n).source q
-    → IsWell caching (granted_block c q r (is_granted_data whole g ((h.state.block n).pair q).recorded) (gift_after config c n r whole g h) (h.state.block n))
+pub grant-rendered : {w : ℕ} (config : Config) (caching : ℕ → Bool) (c q n source : ℕ) (r : Report) (whole : Bool)
+    (g : Grow) (h : AbstractState w) → source ≡ (h.state.block n).source q
+    → IsWell caching (granted_block c q r (is_granted_data whole g ((h.state.block n).pair q).recorded)
+    (gift_after config c n r whole g h) (h.state.block n))
     → grant_after config c q n source r whole g h ≡ block_message Grant q n
-    (granted_block c q r (is_granted_data whole g ((h.state.block n).pair q).recorded) (gift_after config c n r whole g h) (h.state.block n))
+    (granted_block c q r (is_granted_data whole g ((h.state.block n).pair q).recorded)
+    (gift_after config c n r whole g h) (h.state.block n))
 unfolding block_message
 grant-rendered config caching c q n source r whole g h own well =
     rw (
       own,
-      granted-memory caching c q r (is_granted_data whole g ((h.state.block n).pair q).recorded) (gift_after config c n r whole g h) (h.state.block n)
+      granted-memory caching c q r (is_granted_data whole g ((h.state.block n).pair q).recorded)
+          (gift_after config c n r whole g h) (h.state.block n)
           (gives-some config.profile whole g _) well,
     ) refl

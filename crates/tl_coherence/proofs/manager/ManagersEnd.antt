@@ -1,23 +1,15 @@
 -- The manager's end beside the protocol: all that is kept of it in one, and what follows from one trace and one memory.
+use Rattle.tl_coherence.proofs.manager.Imports.{MessageA, Config, bytes_from, IsKept, End, IsInvariant, Log}
+use Rattle.tl_coherence.proofs.manager.Imports.{ManagerRelation, Service, Free, Waits, GrantSent, GrantTaken, State}
+use Rattle.tl_coherence.proofs.manager.Imports.{AccessMessages, ServedSourceRelation, System, SimulationRelation}
+use Rattle.tl_coherence.proofs.manager.Imports.{IsServedWith}
 use Rattle.std.proofs.Common.{◌≡◌, ℕ, ◌*◌, Bool, List, [], sym, ◌∙◌}
-use Rattle.tl_burst.specs.declared.message.MessageA.{MessageA}
-use Rattle.tl_params.specs.declared.config.Config.{Config}
-use Rattle.tl_rules.specs.statement.Effect.{bytes_from}
-use Rattle.tl_manager.specs.code.Kept.{IsKept}
-use Rattle.tl_manager.specs.statement.End.{End}
-use Rattle.tl_coherence.specs.protocol.Invariant.{IsInvariant}
-use Rattle.tl_coherence.specs.statement.Log.{Log}
-use Rattle.tl_coherence.specs.refinement.ManagerRelation.{ManagerRelation}
-use Rattle.tl_coherence.specs.protocol.Protocol.{Service, Free, Waits, GrantSent, GrantTaken, State}
-use Rattle.tl_coherence.specs.refinement.PacketMessages.{AccessMessages}
-use Rattle.tl_coherence.specs.refinement.SourceRelation.{ServedSourceRelation}
-use Rattle.tl_coherence.specs.statement.System.{System}
-use Rattle.tl_coherence.specs.refinement.SimulationRelation.{SimulationRelation, IsServedWith}
 use Rattle.tl_coherence.proofs.manager.Accounts.{IsTraced, managed-traced, are_served-traced, traced-known}
 use Rattle.tl_coherence.proofs.manager.Traces.{IsSameToManager, SameService, traced-same}
 
 -- all that is kept of the manager's end
-pub record IsAtManager {w : ℕ} (config : Config) (mail : AccessMessages w) (request : ℕ → MessageA w) (s : State (List ℕ)) (e : End w) : Type 0 where
+pub record IsAtManager {w : ℕ} (config : Config) (mail : AccessMessages w) (request : ℕ → MessageA w)
+    (s : State (List ℕ)) (e : End w) : Type 0 where
   pub managed : ManagerRelation request s e.trace
   pub served : ServedSourceRelation request s e.trace
   pub served_with : (n : ℕ) → IsServedWith mail (s.block n).service (request n)
@@ -25,7 +17,8 @@ pub record IsAtManager {w : ℕ} (config : Config) (mail : AccessMessages w) (re
   pub memory : (n : ℕ) → bytes_from e.memory (64 * n) 64 ≡ (s.block n).memory
   pub all_live : e.closed ≡ []
 
-pub at_manager-matched : {w : ℕ} (config : Config) (log : Log w) (mail : AccessMessages w) (request : ℕ → MessageA w) (s : State (List ℕ)) (sys : System w)
+pub at_manager-matched : {w : ℕ} (config : Config) (log : Log w) (mail : AccessMessages w) (request : ℕ → MessageA w)
+    (s : State (List ℕ)) (sys : System w)
     → SimulationRelation config log mail request s sys → IsAtManager config mail request s sys.manager
 at_manager-matched config log mail request s sys is = record {
   managed = is.managed;
@@ -37,9 +30,12 @@ at_manager-matched config log mail request s sys is = record {
 }
 
 -- the values of the trace give all else
-pub at_manager-traced : {w : ℕ} (caching : ℕ → Bool) (config : Config) (mail : AccessMessages w) (request : ℕ → MessageA w) (s : State (List ℕ)) (e : End w)
+pub at_manager-traced : {w : ℕ} (caching : ℕ → Bool) (config : Config) (mail : AccessMessages w) (request : ℕ
+    → MessageA w) (s : State (List ℕ)) (e : End w)
     → IsInvariant caching s → IsKept config e → IsTraced request s e.trace
-    → ((n : ℕ) → IsServedWith mail (s.block n).service (request n)) → ((n : ℕ) → bytes_from e.memory (64 * n) 64 ≡ (s.block n).memory) → e.closed ≡ [] → IsAtManager config mail request s e
+    → ((n : ℕ) → IsServedWith mail (s.block n).service (request n))
+    → ((n : ℕ) → bytes_from e.memory (64 * n) 64 ≡ (s.block n).memory) → e.closed ≡ []
+    → IsAtManager config mail request s e
 at_manager-traced caching config mail request s e inv kept is with memory live = record {
   managed = managed-traced caching config request s e inv kept is;
   served = are_served-traced caching config request s e inv kept is;
@@ -51,7 +47,8 @@ at_manager-traced caching config mail request s e inv kept is with memory live =
 
 -- ---- events that the manager doesn't see
 
-same_with : {w : ℕ} (mail : AccessMessages w) (service after : Service) (m : MessageA w) → SameService service after → IsServedWith mail service m → IsServedWith mail after m
+same_with : {w : ℕ} (mail : AccessMessages w) (service after : Service) (m : MessageA w) → SameService service after
+    → IsServedWith mail service m → IsServedWith mail after m
 same_with mail (GrantSent q d k) (GrantTaken r) m e ok = tt
 same_with mail (GrantSent q d k) Free m e ok = tt
 same_with mail (GrantSent q d k) (Waits r own source j) m e ok = absurd cc
@@ -61,10 +58,12 @@ same_with mail (Waits r own source k) after m e ok = rw e ok
 same_with mail (GrantTaken r) after m e ok = rw e ok
 
 -- what the manager's end knows stays, where the blocks are the same to it
-pub at_manager-same : {w : ℕ} (caching : ℕ → Bool) (config : Config) (mail : AccessMessages w) (request : ℕ → MessageA w) (s u : State (List ℕ)) (e : End w)
+pub at_manager-same : {w : ℕ} (caching : ℕ → Bool) (config : Config) (mail : AccessMessages w) (request : ℕ
+    → MessageA w) (s u : State (List ℕ)) (e : End w)
     → IsInvariant caching u → IsSameToManager s u → ((n : ℕ) → (u.block n).memory ≡ (s.block n).memory)
     → IsAtManager config mail request s e → IsAtManager config mail request u e
-at_manager-same caching config mail request s u e inv same memory is = at_manager-traced caching config mail request u e inv is.manager_kept
+at_manager-same caching config mail request s u e inv same memory is =
+    at_manager-traced caching config mail request u e inv is.manager_kept
     (traced-same request s u e.trace same (traced-known request s e.trace is.managed is.served))
     (λ n. same_with mail (s.block n).service (u.block n).service (request n) (same.service_same n) (is.served_with n))
     (λ n. is.memory n ∙ sym (memory n)) is.all_live

@@ -1,18 +1,15 @@
 -- The manager's memory, block by block, after an access was performed.
-use Rattle.std.proofs.Common.{◌≡◌, ℕ, zero, suc, ◌+◌, ◌-◌, ◌*◌, ◌%◌, ◌^◌, ◌<◌, ◌≤◌, Option, Some, None, sym, ◌∙◌, ap, arith}
+use Rattle.tl_coherence.proofs.manager.Imports.{IsWidth, A, MessageA, Level, Memory, bytes_from, effect, block_at}
+use Rattle.tl_coherence.proofs.manager.Imports.{illegal_message_at, performs}
+use Rattle.std.proofs.Common.{◌≡◌, ℕ, zero, suc, ◌+◌, ◌-◌, ◌*◌, ◌%◌, ◌^◌, ◌<◌, ◌≤◌, Option, Some, None, sym, ◌∙◌, ap}
+use Rattle.std.proofs.Common.{arith}
 use Rattle.std.specs.Prelude.{slice_index}
 use Rattle.std.proofs.lemmas.Bool.{eqb-true}
-use Rattle.tl_beat.specs.statement.Width.{IsWidth}
-use Rattle.tl_burst.specs.declared.message.Message.TheVariants.{A}
-use Rattle.tl_burst.specs.declared.message.MessageA.{MessageA}
-use Rattle.tl_params.specs.declared.level.Level.{Level}
-use Rattle.tl_rules.specs.statement.Effect.{Memory, bytes_from, effect, SameBlock}
-use Rattle.tl_rules.specs.statement.History.{block_at}
+use Rattle.tl_rules.specs.statement.Effect.{SameBlock}
 use Rattle.tl_rules.proofs.Bursts.{control_of_legal, control_aligned}
 use Rattle.tl_rules.proofs.Local.{after-local, reply-local, bytes_same}
 use Rattle.tl_rules.proofs.Rooms.{room_in_block}
-use Rattle.tl_manager.specs.code.Kept.{illegal_message_at}
-use Rattle.tl_coherence.specs.refinement.AbstractStep.{bytes_at, performs}
+use Rattle.tl_coherence.specs.refinement.AbstractStep.{bytes_at}
 
 -- the bytes of a block that no byte of is changed
 pub block-same : (f g : Memory) (n : ℕ) → SameBlock n f g → bytes_from f (64 * n) 64 ≡ bytes_from g (64 * n) 64
@@ -32,22 +29,31 @@ again-same f n x e =
     sym (byte_in f (64 * n) 64 (x - 64 * n) lt ∙ ap f place)
 
 -- the bytes that a lawful access reaches are of its block
-pub access-room : {w : ℕ} (o : Option Level) (m : MessageA w) → IsWidth w → illegal_message_at o (A m) ≡ None → m.address % 64 + 2 ^ m.size ≤ 64
+pub access-room : {w : ℕ} (o : Option Level) (m : MessageA w) → IsWidth w → illegal_message_at o (A m) ≡ None
+    → m.address % 64 + 2 ^ m.size ≤ 64
 access-room None m width lawful = absurd cc
 access-room {w} (Some l) m width lawful = room_in_block m.size m.address m.small
-    (eqb-true (m.address % 2 ^ m.size) 0 (control_aligned w l m.opcode m.param m.size m.address (control_of_legal l m width lawful)))
+    (eqb-true (m.address % 2 ^ m.size) 0 (control_aligned w l m.opcode m.param m.size m.address
+    (control_of_legal l m width lawful)))
 
 -- the memory's bytes of the block after the access are those that the protocol gives the block
-pub performed-block : {w : ℕ} (o : Option Level) (m : MessageA w) (f : Memory) → IsWidth w → illegal_message_at o (A m) ≡ None
-    → bytes_from (effect (A m) f).0 (64 * block_at m.address) 64 ≡ performs m (bytes_from f (64 * block_at m.address) 64)
+pub performed-block : {w : ℕ} (o : Option Level) (m : MessageA w) (f : Memory) → IsWidth w
+    → illegal_message_at o (A m) ≡ None
+    → bytes_from (effect (A m) f).0 (64 * block_at m.address) 64 ≡ performs m
+    (bytes_from f (64 * block_at m.address) 64)
 unfolding effect
 performed-block {w} o m f width lawful =
-    block-same (effect (A m) f).0 (effect (A m) (bytes_at (block_at m.address) (bytes_from f (64 * block_at m.address) 64))).0 (block_at m.address)
-    (after-local m.opcode m f (bytes_at (block_at m.address) (bytes_from f (64 * block_at m.address) 64)) (access-room o m width lawful) (again-same f (block_at m.address)))
+    block-same (effect (A m) f).0
+    (effect (A m) (bytes_at (block_at m.address) (bytes_from f (64 * block_at m.address) 64))).0
+    (block_at m.address)
+    (after-local m.opcode m f (bytes_at (block_at m.address) (bytes_from f (64 * block_at m.address) 64))
+    (access-room o m width lawful) (again-same f (block_at m.address)))
 
 -- and so is its answer
-pub performed-reply : {w : ℕ} (o : Option Level) (m : MessageA w) (f : Memory) → IsWidth w → illegal_message_at o (A m) ≡ None
+pub performed-reply : {w : ℕ} (o : Option Level) (m : MessageA w) (f : Memory) → IsWidth w
+    → illegal_message_at o (A m) ≡ None
     → (effect (A m) f).1 ≡ (effect (A m) (bytes_at (block_at m.address) (bytes_from f (64 * block_at m.address) 64))).1
 unfolding effect
-performed-reply {w} o m f width lawful = reply-local m.opcode m f (bytes_at (block_at m.address) (bytes_from f (64 * block_at m.address) 64))
+performed-reply {w} o m f width lawful =
+    reply-local m.opcode m f (bytes_at (block_at m.address) (bytes_from f (64 * block_at m.address) 64))
     (access-room o m width lawful) (again-same f (block_at m.address))

@@ -1,61 +1,67 @@
 -- A message that the values of a history allow breaks no rule of order after it: for the manager's end and for what
 -- is delivered alike.
+use Rattle.tl_coherence.proofs.manager.Imports.{BeatA, BeatC, c_carries_data, first_if, History, unfinished, Cap}
+use Rattle.tl_coherence.proofs.manager.Imports.{Report, Perm, Profile, report_code, broken_order, broken_in_order}
+use Rattle.tl_coherence.proofs.manager.Imports.{block_at, is_acquire, is_probe_ack, is_release, held, pending, probe_of}
+use Rattle.tl_coherence.proofs.manager.Imports.{probe_beat}
 use Rattle.std.proofs.Common.{◌≡◌, ℕ, Bool, true, false, not, ◌&&◌, ◌||◌, [], Option, Some, None, refl}
 use Rattle.std.proofs.Math.Bool.{and-false}
 use Rattle.tl_beat.specs.declared.beat.Beat.TheVariants as beat
-use Rattle.tl_beat.specs.declared.beat.BeatA.{BeatA}
 use Rattle.tl_beat.specs.declared.beat.BeatB.{BeatB}
-use Rattle.tl_beat.specs.declared.beat.BeatC.{BeatC}
-use Rattle.tl_beat.specs.statement.Opcode.{c_carries_data}
 use Rattle.tl_beat.specs.declared.channel.Channel.TheVariants as channel
-use Rattle.tl_beat.specs.statement.First.{first_if}
-use Rattle.tl_burst.specs.statement.Messages.{History, unfinished}
 use Rattle.tl_params.specs.declared.key.Key.TheVariants as key
-use Rattle.tl_params.specs.declared.param.Cap.{Cap}
-use Rattle.tl_params.specs.declared.param.Report.{Report}
-use Rattle.tl_params.specs.declared.perm.Perm.{Perm}
-use Rattle.tl_params.specs.declared.profile.Profile.{Profile}
 use Rattle.tl_params.specs.declared.rule.Rule.TheVariants.{H1, H4, H5, H10, H11, H12}
-use Rattle.tl_params.specs.statement.Param.{report_code, report_at}
-use Rattle.tl_rules.specs.statement.Conformance.{broken_order, broken_in_order, answers_wrong_probe, misreports, grows_from}
-use Rattle.tl_rules.specs.statement.History.{block_at, is_acquire, is_probe_ack, is_release, held, pending, probe_of}
-use Rattle.tl_coherence.specs.refinement.PacketMessages.{probe_beat}
+use Rattle.tl_params.specs.statement.Param.{report_at}
+use Rattle.tl_rules.specs.statement.Conformance.{answers_wrong_probe, misreports, grows_from}
 use Rattle.tl_coherence.proofs.queues.Tokens.{same_number}
 use Rattle.tl_coherence.proofs.queues.Codes.{cap-again}
 
 -- ---- a ProbeAck: H10, H11 and H12
 
-rules : (wrong late bad : Bool) → wrong ≡ false → late ≡ false → bad ≡ false → first_if wrong H10 (first_if late H11 (first_if bad H12 None)) ≡ None
+rules : (wrong late bad : Bool) → wrong ≡ false → late ≡ false → bad ≡ false
+    → first_if wrong H10 (first_if late H11 (first_if bad H12 None)) ≡ None
 rules wrong late bad e f g = rw (e, f, g) refl
 
-answers_it : {w : ℕ} (x : BeatC w) (n : ℕ) (k : Cap) (o : Option (BeatB w)) → o ≡ Some (probe_beat n k) → answers_wrong_probe x o ≡ false
+answers_it : {w : ℕ} (x : BeatC w) (n : ℕ) (k : Cap) (o : Option (BeatB w)) → o ≡ Some (probe_beat n k)
+    → answers_wrong_probe x o ≡ false
 answers_it x n k o e = rw e (and-false (c_carries_data x.opcode))
 
-reports_it : {w : ℕ} (x : BeatC w) (n : ℕ) (k : Cap) (r : Report) (p : Perm) (o : Option (BeatB w)) → o ≡ Some (probe_beat n k) → x.param ≡ report_code r → r ≡ report_at k p → misreports x o p ≡ false
+reports_it : {w : ℕ} (x : BeatC w) (n : ℕ) (k : Cap) (r : Report) (p : Perm) (o : Option (BeatB w))
+    → o ≡ Some (probe_beat n k) → x.param ≡ report_code r → r ≡ report_at k p → misreports x o p ≡ false
 reports_it x n k r p o e param told = rw (e, cap-again k, param, told, same_number (report_code (report_at k p))) refl
 
-pub report-legal : {w : ℕ} (profile : Profile) (n : ℕ) (k : Cap) (r : Report) (p : Perm) (x : BeatC w) (t : History w) → is_probe_ack x.opcode ≡ true → is_release x.opcode ≡ false
+pub report-legal : {w : ℕ} (profile : Profile) (n : ℕ) (k : Cap) (r : Report) (p : Perm) (x : BeatC w) (t : History w)
+    → is_probe_ack x.opcode ≡ true → is_release x.opcode ≡ false
     → block_at x.address ≡ n → x.param ≡ report_code r
-    → unfinished channel.C t ≡ [] → pending (key.ProbeOf n) t ≡ true → pending (key.ReleaseOf n) t ≡ false → probe_of n t ≡ Some (probe_beat n k) → held n t ≡ p → r ≡ report_at k p
+    → unfinished channel.C t ≡ [] → pending (key.ProbeOf n) t ≡ true → pending (key.ReleaseOf n) t ≡ false
+    → probe_of n t ≡ Some (probe_beat n k) → held n t ≡ p → r ≡ report_at k p
     → broken_in_order profile (beat.C x) t ≡ None
 unfolding broken_order
 report-legal {w} profile n k r p x t acks not_release block param none probed released probe is told =
     let found : probe_of (block_at x.address) t ≡ Some (probe_beat n k) = rw block probe in
-    let wrong : (not (pending (key.ProbeOf (block_at x.address)) t) || answers_wrong_probe x (probe_of (block_at x.address) t)) ≡ false = rw (block, probed) (answers_it x n k (probe_of n t) probe) in
+    let wrong : (not (pending (key.ProbeOf (block_at x.address)) t) || answers_wrong_probe x
+    (probe_of (block_at x.address) t)) ≡ false = rw (block, probed) (answers_it x n k (probe_of n t) probe) in
     let late : pending (key.ReleaseOf (block_at x.address)) t ≡ false = rw block released in
-    let bad : misreports x (probe_of (block_at x.address) t) (held (block_at x.address) t) ≡ false = rw (block, is) (reports_it x n k r p (probe_of n t) probe param told) in
-    rw (none, not_release, acks) (rules (not (pending (key.ProbeOf (block_at x.address)) t) || answers_wrong_probe x (probe_of (block_at x.address) t)) (pending (key.ReleaseOf (block_at x.address)) t)
+    let bad : misreports x (probe_of (block_at x.address) t) (held (block_at x.address) t) ≡ false =
+    rw (block, is) (reports_it x n k r p (probe_of n t) probe param told) in
+    rw (none, not_release, acks)
+    (rules (not (pending (key.ProbeOf (block_at x.address)) t) || answers_wrong_probe x
+    (probe_of (block_at x.address) t)) (pending (key.ReleaseOf (block_at x.address)) t)
     (misreports x (probe_of (block_at x.address) t) (held (block_at x.address) t)) wrong late bad)
 
 -- ---- an Acquire: H1, H4 and H5
 
-requests : (taken twice low : Bool) → taken ≡ false → twice ≡ false → low ≡ true → first_if taken H1 (first_if (true && twice) H4 (first_if (true && not low) H5 None)) ≡ None
+requests : (taken twice low : Bool) → taken ≡ false → twice ≡ false → low ≡ true
+    → first_if taken H1 (first_if (true && twice) H4 (first_if (true && not low) H5 None)) ≡ None
 requests taken twice low e f g = rw (e, f, g) refl
 
-pub acquire-legal : {w : ℕ} (profile : Profile) (n : ℕ) (p : Perm) (x : BeatA w) (t : History w) → is_acquire x.opcode ≡ true → block_at x.address ≡ n → unfinished channel.A t ≡ []
-    → pending (key.RequestSource x.source) t ≡ false → pending (key.AcquireOf n) t ≡ false → pending (key.ReleaseOf n) t ≡ false → held n t ≡ p → grows_from x.param p ≡ true
+pub acquire-legal : {w : ℕ} (profile : Profile) (n : ℕ) (p : Perm) (x : BeatA w) (t : History w)
+    → is_acquire x.opcode ≡ true → block_at x.address ≡ n → unfinished channel.A t ≡ []
+    → pending (key.RequestSource x.source) t ≡ false → pending (key.AcquireOf n) t ≡ false
+    → pending (key.ReleaseOf n) t ≡ false → held n t ≡ p → grows_from x.param p ≡ true
     → broken_in_order profile (beat.A x) t ≡ None
 unfolding broken_order
 acquire-legal profile n p x t acquires block none free once released is grows =
-    rw (none, acquires, block, is) (requests (pending (key.RequestSource x.source) t) (pending (key.AcquireOf n) t || pending (key.ReleaseOf n) t)
+    rw (none, acquires, block, is) (requests (pending (key.RequestSource x.source) t)
+    (pending (key.AcquireOf n) t || pending (key.ReleaseOf n) t)
     (grows_from x.param p) free (rw (once, released) refl) grows)

@@ -1,34 +1,26 @@
--- Beats and answers after which the manager's end says the same of all but what is recorded and which ProbeAcks are missing.
-use Rattle.std.proofs.Common.{◌≡◌, ℕ, ◌==◌, Bool, true, false, not, ◌&&◌, ◌||◌, [], ◌∷◌, Option, Some, None, refl, sym, ◌∙◌, ap, subst, inl, inr}
+-- Beats and answers after which the manager's end says the same of all but what is recorded and which ProbeAcks are
+-- missing.
+use Rattle.tl_coherence.proofs.manager.Imports.{IsWidth, BeatC, Link, D, MessageA, MessageD, unfinished, Perm, Trace}
+use Rattle.tl_coherence.proofs.manager.Imports.{on_link, ends, block_at, is_grant, is_probe_ack, is_release}
+use Rattle.tl_coherence.proofs.manager.Imports.{is_release_ack, pending, probe_of, reported, request_of, held}
+use Rattle.tl_coherence.proofs.manager.Imports.{held-sent_d, pending-quiet, beats-positive, recorded, services}
+use Rattle.tl_coherence.proofs.manager.Imports.{service_of_block, after_sent, own_link, other_link, own_beat}
+use Rattle.tl_coherence.proofs.manager.Imports.{other_beat, beat-keeps, reply-quiet, burst-reply, request-reply}
+use Rattle.tl_coherence.proofs.manager.Imports.{probe-reply, ManagerRelation, is_own, ClientBlock, is_unprobed, Service}
+use Rattle.tl_coherence.proofs.manager.Imports.{Block, State, SourceState, SourceFree, Asked, InService, Replied}
+use Rattle.tl_coherence.proofs.manager.Imports.{Acquires, view, is_granting, is_acknowledging, ServedSourceRelation}
+use Rattle.tl_coherence.proofs.manager.Imports.{is_served, is_granted, set}
+use Rattle.std.proofs.Common.{◌≡◌, ℕ, ◌==◌, Bool, true, false, not, ◌&&◌, ◌||◌, [], ◌∷◌, Option, Some, None, refl, sym}
+use Rattle.std.proofs.Common.{◌∙◌, ap, subst, inl, inr}
 use Rattle.std.specs.Prelude.{if◌then◌else◌, unwrap_or}
 use Rattle.std.proofs.lemmas.Bool.{cases_eq, eqb-true, ne_eqb}
-use Rattle.tl_beat.specs.statement.Width.{IsWidth}
 use Rattle.tl_beat.specs.declared.beat.Beat.TheVariants as beat
-use Rattle.tl_beat.specs.declared.beat.BeatC.{BeatC}
-use Rattle.tl_beat.specs.declared.beat.Link.{Link}
 use Rattle.tl_beat.specs.declared.channel.Channel.TheVariants as channel
-use Rattle.tl_burst.specs.declared.message.Message.TheVariants.{D}
-use Rattle.tl_burst.specs.declared.message.MessageA.{MessageA}
-use Rattle.tl_burst.specs.declared.message.MessageD.{MessageD}
-use Rattle.tl_burst.specs.statement.Messages.{unfinished}
 use Rattle.tl_params.specs.declared.key.Key.TheVariants as key
-use Rattle.tl_params.specs.declared.perm.Perm.{Perm}
-use Rattle.tl_rules.specs.statement.Conformance.{Trace, on_link}
-use Rattle.tl_rules.specs.statement.History.{ends, block_at, is_grant, is_probe_ack, is_release, is_release_ack, pending, probe_of, reported, request_of, held}
-use Rattle.tl_rules.proofs.Sent.{held-sent_d, pending-quiet}
-use Rattle.tl_burst.proofs.Splitting.{beats-positive}
-use Rattle.tl_manager.specs.statement.Holders.{recorded}
-use Rattle.tl_manager.specs.statement.Service.{services, service_of_block}
 use Rattle.tl_manager.proofs.Accesses.{services-release_ack}
-use Rattle.tl_manager.proofs.Handed.{after_sent, own_link, other_link, recorded-taken}
-use Rattle.tl_manager.proofs.LinkHistories.{own_beat, other_beat, beat-keeps, pending-closed}
+use Rattle.tl_manager.proofs.Handed.{recorded-taken}
+use Rattle.tl_manager.proofs.LinkHistories.{pending-closed}
 use Rattle.tl_manager.proofs.Probing.{services-c, burst-c, probe_of-c, request_of-c}
-use Rattle.tl_manager.proofs.Replies.{reply-quiet, burst-reply, request-reply, probe-reply}
-use Rattle.tl_coherence.specs.refinement.ManagerRelation.{ManagerRelation, is_own}
-use Rattle.tl_coherence.specs.protocol.Phase.{ClientBlock, is_unprobed}
-use Rattle.tl_coherence.specs.protocol.Protocol.{Service, Block, State, SourceState, SourceFree, Asked, InService, Replied, Acquires, view, is_granting, is_acknowledging}
-use Rattle.tl_coherence.specs.refinement.SourceRelation.{ServedSourceRelation, is_served, is_granted}
-use Rattle.tl_coherence.specs.protocol.Packet.{set}
 use Rattle.tl_coherence.proofs.queues.Tokens.{same_number, set-same, set-other}
 
 -- ---- the manager's end
@@ -61,10 +53,14 @@ quiet-then t u v a b = record {
 pub quiet-c : {w : ℕ} (link : Link) (x : BeatC w) (t : Trace w) → AreQuiet t ((link, beat.C x) ∷ t)
 quiet-c link x t = record {
   serves = services-c link x t;
-  acquires = λ c n. beat-keeps (pending (key.AcquireOf n)) c link (beat.C x) t (λ h. pending-quiet (key.AcquireOf n) (beat.C x) h refl refl);
-  grants = λ c n. beat-keeps (pending (key.GrantAckOf n)) c link (beat.C x) t (λ h. pending-quiet (key.GrantAckOf n) (beat.C x) h refl refl);
-  sources = λ c q. beat-keeps (pending (key.RequestSource q)) c link (beat.C x) t (λ h. pending-quiet (key.RequestSource q) (beat.C x) h refl refl);
-  sinks = λ c q. beat-keeps (pending (key.GrantSink q)) c link (beat.C x) t (λ h. pending-quiet (key.GrantSink q) (beat.C x) h refl refl);
+  acquires = λ c n. beat-keeps (pending (key.AcquireOf n)) c link (beat.C x) t
+      (λ h. pending-quiet (key.AcquireOf n) (beat.C x) h refl refl);
+  grants = λ c n. beat-keeps (pending (key.GrantAckOf n)) c link (beat.C x) t
+      (λ h. pending-quiet (key.GrantAckOf n) (beat.C x) h refl refl);
+  sources = λ c q. beat-keeps (pending (key.RequestSource q)) c link (beat.C x) t
+      (λ h. pending-quiet (key.RequestSource q) (beat.C x) h refl refl);
+  sinks = λ c q. beat-keeps (pending (key.GrantSink q)) c link (beat.C x) t
+      (λ h. pending-quiet (key.GrantSink q) (beat.C x) h refl refl);
   bursts = λ c. beat-keeps (unfinished channel.A) c link (beat.C x) t (burst-c x);
   requests = λ c q. beat-keeps (request_of q) c link (beat.C x) t (request_of-c q x);
   probe = λ c n. beat-keeps (probe_of n) c link (beat.C x) t (probe_of-c n x);
@@ -73,7 +69,8 @@ quiet-c link x t = record {
 -- what is recorded after it
 recorded-c : {w : ℕ} (link : Link) (x : BeatC w) (t : Trace w) (d i : ℕ)
     → recorded d i ((link, beat.C x) ∷ t) ≡ unwrap_or (if (link.0 == d)
-    && (ends (beat.C x) (on_link d t) && ((is_probe_ack x.opcode || is_release x.opcode) && (block_at x.address == i))) then Some
+    && (ends (beat.C x) (on_link d t) && ((is_probe_ack x.opcode || is_release x.opcode) && (block_at x.address == i)))
+    then Some
     (reported x.param) else None) (recorded d i t)
 recorded-c link x t d i = recorded-taken d link i (beat.C x) t refl
 
@@ -91,7 +88,8 @@ recorded-last {w} c n right x t is d i = recorded-c (record { 0 = c }) x t d i �
   | inr other ↦ rw (ne_eqb c d other) refl
 ]
   where
-    go : (b : Bool) → unwrap_or (if b then Some right else None) (recorded c i t) ≡ (if b then right else recorded c i t)
+    go : (b : Bool) → unwrap_or (if b then Some right else None) (recorded c i t)
+        ≡ (if b then right else recorded c i t)
     go true = refl
     go false = refl
 
@@ -100,7 +98,8 @@ part_or p true q = refl
 part_or p false q = refl
 
 -- a beat that isn't the last one
-pub recorded-part : {w : ℕ} (c : ℕ) (x : BeatC w) (t : Trace w) → ends (beat.C x) (on_link c t) ≡ false → (d i : ℕ) → recorded d i ((record { 0 = c }, beat.C x) ∷ t) ≡ recorded d i t
+pub recorded-part : {w : ℕ} (c : ℕ) (x : BeatC w) (t : Trace w) → ends (beat.C x) (on_link c t) ≡ false → (d i : ℕ)
+    → recorded d i ((record { 0 = c }, beat.C x) ∷ t) ≡ recorded d i t
 recorded-part c x t part d i = recorded-c (record { 0 = c }) x t d i ∙ elim (cases_eq c d) [
   | inl same ↦ rw (← same, part) (part_or (reported x.param) (c == c) (recorded c i t))
   | inr other ↦ rw (ne_eqb c d other) refl
@@ -110,19 +109,24 @@ recorded-part c x t part d i = recorded-c (record { 0 = c }) x t d i ∙ elim (c
 
 missing-c : {w : ℕ} (c : ℕ) (x : BeatC w) (t : Trace w) (d i : ℕ)
     → pending (key.ProbeOf i) (on_link d ((record { 0 = c }, beat.C x) ∷ t))
-    ≡ (if (c == d) && (ends (beat.C x) (on_link d t) && (is_probe_ack x.opcode && (block_at x.address == i))) then false else pending (key.ProbeOf i)
+    ≡ (if (c == d) && (ends (beat.C x) (on_link d t) && (is_probe_ack x.opcode && (block_at x.address == i))) then false
+    else pending (key.ProbeOf i)
     (on_link d t))
 missing-c {w} c x t d i = go (c == d) refl
   where
     go : (b : Bool) → (c == d) ≡ b
         → pending (key.ProbeOf i) (on_link d ((record { 0 = c }, beat.C x) ∷ t))
-        ≡ (if b && (ends (beat.C x) (on_link d t) && (is_probe_ack x.opcode && (block_at x.address == i))) then false else pending (key.ProbeOf i)
+        ≡ (if b && (ends (beat.C x) (on_link d t) && (is_probe_ack x.opcode && (block_at x.address == i))) then false
+        else pending (key.ProbeOf i)
         (on_link d t))
-    go true e = ap (pending (key.ProbeOf i)) (own_beat d (record { 0 = c }) (beat.C x) t e) ∙ pending-closed (key.ProbeOf i) (beat.C x) (on_link d t) refl
+    go true e = ap (pending (key.ProbeOf i)) (own_beat d (record { 0 = c }) (beat.C x) t e) ∙ pending-closed
+        (key.ProbeOf i) (beat.C x) (on_link d t) refl
     go false e = ap (pending (key.ProbeOf i)) (other_beat d (record { 0 = c }) (beat.C x) t e)
 
-pub missing-last : {w : ℕ} (c n : ℕ) (right : Perm) (x : BeatC w) (t : Trace w) → IsLastOf c n right x t → is_probe_ack x.opcode ≡ true → (d i : ℕ)
-    → pending (key.ProbeOf i) (on_link d ((record { 0 = c }, beat.C x) ∷ t)) ≡ (if (c == d) && (n == i) then false else pending (key.ProbeOf i) (on_link d t))
+pub missing-last : {w : ℕ} (c n : ℕ) (right : Perm) (x : BeatC w) (t : Trace w) → IsLastOf c n right x t
+    → is_probe_ack x.opcode ≡ true → (d i : ℕ)
+    → pending (key.ProbeOf i) (on_link d ((record { 0 = c }, beat.C x) ∷ t)) ≡ (if (c == d) && (n == i) then false else
+    pending (key.ProbeOf i) (on_link d t))
 missing-last c n right x t is report d i = missing-c c x t d i ∙ elim (cases_eq c d) [
   | inl same ↦ rw (← same, is.last, report, is.block, same_number c) refl
   | inr other ↦ rw (ne_eqb c d other) refl
@@ -135,7 +139,9 @@ none_or false b p = refl
 
 pub missing-release : {w : ℕ} (c : ℕ) (x : BeatC w) (t : Trace w) → is_probe_ack x.opcode ≡ false → (d i : ℕ)
     → pending (key.ProbeOf i) (on_link d ((record { 0 = c }, beat.C x) ∷ t)) ≡ pending (key.ProbeOf i) (on_link d t)
-missing-release {w} c x t kind d i = missing-c c x t d i ∙ rw kind (none_or (c == d) (ends (beat.C x) (on_link d t)) (pending (key.ProbeOf i) (on_link d t)))
+missing-release {w} c x t kind d i =
+    missing-c c x t d i ∙ rw kind
+    (none_or (c == d) (ends (beat.C x) (on_link d t)) (pending (key.ProbeOf i) (on_link d t)))
 
 pub part_none : (a b : Bool) → (if a && false then false else b) ≡ b
 part_none true b = refl
@@ -150,7 +156,8 @@ missing-part {w} c x t part d i = missing-c c x t d i ∙ elim (cases_eq c d) [
 
 -- ---- an answer to a Release
 
-pub quiet-release_ack : {w : ℕ} (link : Link) (m : MessageD w) (t : Trace w) → IsWidth w → unfinished channel.D (on_link link.0 t) ≡ [] → is_release_ack m.opcode ≡ true → is_grant m.opcode ≡ false
+pub quiet-release_ack : {w : ℕ} (link : Link) (m : MessageD w) (t : Trace w) → IsWidth w
+    → unfinished channel.D (on_link link.0 t) ≡ [] → is_release_ack m.opcode ≡ true → is_grant m.opcode ≡ false
     → AreQuiet t (after_sent link (D m) t)
 quiet-release_ack link m t width none ack other = record {
   serves = services-release_ack link m t width none ack;
@@ -164,14 +171,16 @@ quiet-release_ack link m t width none ack other = record {
 }
 
 -- what is recorded after an answer that is no Grant
-pub recorded-answer : {w : ℕ} (link : Link) (m : MessageD w) (t : Trace w) → IsWidth w → unfinished channel.D (on_link link.0 t) ≡ [] → is_grant m.opcode ≡ false → (d i : ℕ)
+pub recorded-answer : {w : ℕ} (link : Link) (m : MessageD w) (t : Trace w) → IsWidth w
+    → unfinished channel.D (on_link link.0 t) ≡ [] → is_grant m.opcode ≡ false → (d i : ℕ)
     → recorded d i (after_sent link (D m) t) ≡ recorded d i t
 recorded-answer {w} link m t width none other d i = go (link.0 == d) refl
   where
     go : (b : Bool) → (link.0 == d) ≡ b → recorded d i (after_sent link (D m) t) ≡ recorded d i t
     go true e =
         ap (held i) (own_link d link (D m) t e) ∙ held-sent_d i m (on_link d t)
-        (subst (λ (j : ℕ). unfinished channel.D (on_link j t) ≡ []) (eqb-true link.0 d e) none) (beats-positive (D m) width) ∙ rw other refl
+        (subst (λ (j : ℕ). unfinished channel.D (on_link j t) ≡ []) (eqb-true link.0 d e) none)
+        (beats-positive (D m) width) ∙ rw other refl
     go false e = ap (held i) (other_link d link (D m) t e)
 
 -- ---- the protocol: no service, source or tracker changes
@@ -182,34 +191,46 @@ pub record AreStill {X : Type 0} (s z : State X) : Type 0 where
   pub uses : (c source : ℕ) → z.uses c source ≡ s.uses c source
   pub tracked : (i : ℕ) → z.tracked i ≡ s.tracked i
 
-pub managed-still : {w : ℕ} {X : Type 0} (request : ℕ → MessageA w) (s z : State X) (t u : Trace w) → AreQuiet t u → AreStill s z
+pub managed-still : {w : ℕ} {X : Type 0} (request : ℕ → MessageA w) (s z : State X) (t u : Trace w) → AreQuiet t u
+    → AreStill s z
     → ((c n : ℕ) → recorded c n u ≡ ((z.block n).pair c).recorded)
     → ((c n : ℕ) → pending (key.ProbeOf n) (on_link c u) ≡ not (is_unprobed ((z.block n).pair c).probing))
     → ManagerRelation request s t → ManagerRelation request z u
 managed-still request s z t u quiet still records missing known = record {
   recorded_is = records;
   probes = missing;
-  acquires = λ c n. quiet.acquires c n ∙ known.acquires c n ∙ ap (λ (v : Service). is_own (view v c)) (sym (still.services n));
-  grant_acks = λ c n. quiet.grants c n ∙ known.grant_acks c n ∙ ap (λ (v : Service). is_granting (view v c) || is_acknowledging (view v c)) (sym (still.services n));
-  serving_is = λ n. ap (service_of_block n) quiet.serves ∙ known.serving_is n ∙ rw (still.services n, still.trackers n) refl;
+  acquires = λ c n. quiet.acquires c n ∙ known.acquires c n ∙ ap (λ (v : Service). is_own (view v c))
+      (sym (still.services n));
+  grant_acks = λ c n. quiet.grants c n ∙ known.grant_acks c n ∙ ap
+      (λ (v : Service). is_granting (view v c) || is_acknowledging (view v c)) (sym (still.services n));
+  serving_is = λ n. ap (service_of_block n) quiet.serves ∙ known.serving_is n ∙ rw (still.services n, still.trackers n)
+      refl;
 }
 
-served-still : {X : Type 0} (s z : State X) → AreStill s z → (c : ℕ) (u : SourceState) → is_served c u z ≡ is_served c u s
+served-still : {X : Type 0} (s z : State X) → AreStill s z → (c : ℕ) (u : SourceState)
+    → is_served c u z ≡ is_served c u s
 served-still s z still c SourceFree = refl
 served-still s z still c Asked = refl
 served-still s z still c (InService n) = refl
 served-still s z still c Replied = refl
 served-still s z still c (Acquires n) = ap (λ (v : Service). is_own (view v c)) (still.services n)
 
-granted-still : {X : Type 0} (s z : State X) → AreStill s z → (c : ℕ) (o : Option ℕ) → is_granted c o z ≡ is_granted c o s
+granted-still : {X : Type 0} (s z : State X) → AreStill s z → (c : ℕ) (o : Option ℕ)
+    → is_granted c o z ≡ is_granted c o s
 granted-still s z still c None = refl
-granted-still s z still c (Some n) = ap (λ (v : Service). is_granting (view v c) || is_acknowledging (view v c)) (still.services n)
+granted-still s z still c (Some n) = ap (λ (v : Service). is_granting (view v c) || is_acknowledging (view v c))
+    (still.services n)
 
-pub are_served-still : {w : ℕ} {X : Type 0} (request : ℕ → MessageA w) (s z : State X) (t u : Trace w) → AreQuiet t u → AreStill s z
+pub are_served-still : {w : ℕ} {X : Type 0} (request : ℕ → MessageA w) (s z : State X) (t u : Trace w) → AreQuiet t u
+    → AreStill s z
     → ((c n : ℕ) → is_unprobed ((z.block n).pair c).probing ≡ false → is_unprobed ((s.block n).pair c).probing ≡ false)
     → ServedSourceRelation request s t → ServedSourceRelation request z u
 are_served-still {w} request s z t u quiet still probing known = record {
-  sources = λ c q. quiet.sources c q ∙ known.sources c q ∙ rw (still.uses c q, served-still s z still c (s.uses c q), quiet.bursts c) refl;
+  sources = λ c q. quiet.sources c q ∙ known.sources c q ∙ rw (
+    still.uses c q,
+    served-still s z still c (s.uses c q),
+    quiet.bursts c,
+  ) refl;
   sinks = λ c q. quiet.sinks c q ∙ known.sinks c q ∙ rw (still.tracked q, granted-still s z still c (s.tracked q)) refl;
   requests = λ n. rw (still.services n) (known.requests n);
   asked = λ n r source own k e. quiet.requests r source ∙ known.asked n r source own k (sym (still.services n) ∙ e);
@@ -218,14 +239,17 @@ are_served-still {w} request s z t u quiet still probing known = record {
 
 -- ---- one client of one block has another pair
 
-pub pair-part : {X A : Type 0} (part : ClientBlock → A) (c n : ℕ) (p : ClientBlock) (new : Block X) (block : ℕ → Block X) → ((d : ℕ) → new.pair d ≡ set c p (block n).pair d) → (d i : ℕ)
+pub pair-part : {X A : Type 0} (part : ClientBlock → A) (c n : ℕ) (p : ClientBlock) (new : Block X) (block : ℕ
+    → Block X) → ((d : ℕ) → new.pair d ≡ set c p (block n).pair d) → (d i : ℕ)
     → part ((set n new block i).pair d) ≡ (if (c == d) && (n == i) then part p else part ((block i).pair d))
 pair-part {X} {A} part c n p new block is d i = elim (cases_eq i n) [
   | inl same ↦ rw (same, set-same n new block, same_number n, is d) (elim (cases_eq d c) [
     | inl mine ↦ rw (mine, set-same c p (block n).pair, same_number c) refl
-    | inr apart ↦ let differ : c ≡ d → ⊥ = λ e. apart (sym e) in rw (set-other c d p (block n).pair apart, ne_eqb c d differ) refl
+    | inr apart ↦ let differ : c ≡ d → ⊥ = λ e. apart (sym e) in
+        rw (set-other c d p (block n).pair apart, ne_eqb c d differ) refl
   ])
-  | inr other ↦ let differ : n ≡ i → ⊥ = λ e. other (sym e) in rw (set-other n i new block other, ne_eqb n i differ) (never (c == d))
+  | inr other ↦ let differ : n ≡ i → ⊥ = λ e. other (sym e) in rw (set-other n i new block other, ne_eqb n i differ)
+      (never (c == d))
 ]
   where
     never : (b : Bool) → part ((block i).pair d) ≡ (if b && false then part p else part ((block i).pair d))
@@ -233,12 +257,15 @@ pair-part {X} {A} part c n p new block is d i = elim (cases_eq i n) [
     never false = refl
 
 -- a part that it has as before
-pub pair-still : {X A : Type 0} (part : ClientBlock → A) (c n : ℕ) (p : ClientBlock) (new : Block X) (block : ℕ → Block X) → ((d : ℕ) → new.pair d ≡ set c p (block n).pair d)
+pub pair-still : {X A : Type 0} (part : ClientBlock → A) (c n : ℕ) (p : ClientBlock) (new : Block X) (block : ℕ
+    → Block X) → ((d : ℕ) → new.pair d ≡ set c p (block n).pair d)
     → part p ≡ part ((block n).pair c) → (d i : ℕ)
     → part ((set n new block i).pair d) ≡ part ((block i).pair d)
-pair-still {X} {A} part c n p new block is same d i = pair-part part c n p new block is d i ∙ go (c == d) (n == i) refl refl
+pair-still {X} {A} part c n p new block is same d i = pair-part part c n p new block is d i ∙ go (c == d) (n == i) refl
+    refl
   where
-    go : (a b : Bool) → (c == d) ≡ a → (n == i) ≡ b → (if a && b then part p else part ((block i).pair d)) ≡ part ((block i).pair d)
+    go : (a b : Bool) → (c == d) ≡ a → (n == i) ≡ b → (if a && b then part p else part ((block i).pair d)) ≡ part
+        ((block i).pair d)
     go true true e f = rw (← eqb-true c d e, ← eqb-true n i f) same
     go true false e f = refl
     go false b e f = refl

@@ -1,46 +1,35 @@
 -- The last beat of a request that is taken: what the protocol does then is what the manager does.
-use Rattle.std.proofs.Common.{◌≡◌, subst, ℕ, suc, ◌≤◌, ◌==◌, Bool, true, false, not, ◌&&◌, List, ◌∷◌, Option, Some, None, length, refl, sym, ◌∙◌, ap, arith}
+use Rattle.tl_coherence.proofs.manager.Imports.{Message, MessageA, a_beat_of, beats_of, Config, Cap, Grow, Perm}
+use Rattle.tl_coherence.proofs.manager.Imports.{on_link, same_perm, ends, block_at, is_acquire, is_last, same_block}
+use Rattle.tl_coherence.proofs.manager.Imports.{swapped, performed, cap_granted, recorded, is_nobody, probed}
+use Rattle.tl_coherence.proofs.manager.Imports.{cap_probed, is_spared, services, least_untaken, trackers_of, reaction}
+use Rattle.tl_coherence.proofs.manager.Imports.{End, must_wait, AbstractState, some_below, acquire_opcode, is_unheld}
+use Rattle.tl_coherence.proofs.manager.Imports.{gift, kind_taken, IsInvariant, Log, ClientBlock, is_unprobed, is_above}
+use Rattle.tl_coherence.proofs.manager.Imports.{is_granted_data, Service, Free, Waits, GrantSent, GrantTaken, Block}
+use Rattle.tl_coherence.proofs.manager.Imports.{State, Asked, InService, Acquires, on, packet, view, AccessMessages}
+use Rattle.tl_coherence.proofs.manager.Imports.{IsFor, System, Kind, Request, Acquire, Packet, set, SimulationRelation}
+use Rattle.tl_coherence.proofs.manager.Imports.{IsServedWith, is_caching}
+use Rattle.std.proofs.Common.{◌≡◌, subst, ℕ, suc, ◌≤◌, ◌==◌, Bool, true, false, not, ◌&&◌, List, ◌∷◌, Option, Some}
+use Rattle.std.proofs.Common.{None, length, refl, sym, ◌∙◌, ap, arith}
 use Rattle.std.specs.Prelude.{if◌then◌else◌, nat_le}
 use Rattle.std.proofs.lemmas.Bool.{or_parts}
 use Rattle.std.proofs.Math.Bool.{and_comm}
 use Rattle.tl_beat.specs.declared.beat.Beat.TheVariants as beat
-use Rattle.tl_burst.specs.declared.message.Message.{Message}
 use Rattle.tl_burst.specs.declared.message.Message.TheVariants as message
-use Rattle.tl_burst.specs.declared.message.MessageA.{MessageA}
-use Rattle.tl_burst.specs.statement.Burst.{a_beat_of, beats_of}
-use Rattle.tl_params.specs.declared.config.Config.{Config}
-use Rattle.tl_params.specs.declared.param.Cap.{Cap}
-use Rattle.tl_params.specs.declared.param.Grow.{Grow}
 use Rattle.tl_params.specs.declared.param.Grow.TheVariants as grow
-use Rattle.tl_params.specs.declared.perm.Perm.{Perm}
 use Rattle.tl_params.specs.declared.perm.Perm.TheVariants as perm
-use Rattle.tl_rules.specs.statement.Conformance.{on_link, same_perm}
-use Rattle.tl_rules.specs.statement.History.{ends, block_at, is_acquire}
-use Rattle.tl_rules.proofs.Sent.{is_last}
 use Rattle.tl_client.specs.statement.Send.{acquisition}
-use Rattle.tl_client.proofs.HeldAfter.{same_block, swapped}
-use Rattle.tl_manager.specs.statement.Handing.{performed, cap_granted}
 use Rattle.tl_manager.specs.statement.Holders as holders
-use Rattle.tl_manager.specs.statement.Holders.{recorded, is_nobody, probed, cap_probed, is_spared}
-use Rattle.tl_manager.specs.statement.Service.{services, is_in_service, least_untaken, trackers_of}
-use Rattle.tl_manager.specs.statement.Reaction.{reaction}
-use Rattle.tl_manager.specs.statement.End.{End}
-use Rattle.tl_manager.specs.statement.Offer.{must_wait}
+use Rattle.tl_manager.specs.statement.Service.{is_in_service}
 use Rattle.tl_manager.proofs.Events.{reaction-unprobed, reaction-intent}
-use Rattle.tl_coherence.specs.refinement.AbstractStep.{AbstractState, some_below, probes_some, access_taken, request_taken, acquire_opcode, is_unheld, gift, acquire_taken, kind_taken}
-use Rattle.tl_coherence.specs.protocol.Invariant.{IsInvariant, cap_asked}
-use Rattle.tl_coherence.specs.statement.Log.{Log}
-use Rattle.tl_coherence.specs.protocol.Phase.{ClientBlock, AcquirePhase, AcquireOpen, is_unprobed}
-use Rattle.tl_coherence.specs.protocol.PhaseSteps.{is_above, is_granted_data}
-use Rattle.tl_coherence.specs.protocol.Protocol.{Service, Free, Waits, GrantSent, GrantTaken, Block, State, Asked, InService, Acquires, on, packet, view, is_probed, acquire_served, acquire_granted}
-use Rattle.tl_coherence.specs.refinement.PacketMessages.{AccessMessages}
-use Rattle.tl_coherence.specs.refinement.SourceRelation.{IsFor}
-use Rattle.tl_coherence.specs.statement.System.{System}
-use Rattle.tl_coherence.specs.protocol.Packet.{Kind, Request, Acquire, Packet, set}
-use Rattle.tl_coherence.specs.refinement.SimulationRelation.{SimulationRelation, IsServedWith, is_caching}
+use Rattle.tl_coherence.specs.refinement.AbstractStep.{probes_some, access_taken, request_taken, acquire_taken}
+use Rattle.tl_coherence.specs.protocol.Invariant.{cap_asked}
+use Rattle.tl_coherence.specs.protocol.Phase.{AcquirePhase, AcquireOpen}
+use Rattle.tl_coherence.specs.protocol.Protocol.{is_probed, acquire_served, acquire_granted}
 use Rattle.tl_coherence.proofs.manager.Admitted.{unserved-free, free-untracked}
 use Rattle.tl_coherence.proofs.manager.Arrivals.{link_of, with_beat, IsComing, ends-coming, service_for, served-last}
-use Rattle.tl_coherence.proofs.manager.AtRequests.{end_after, at_manager-probing, at_manager-answered, at_manager-granted}
+use Rattle.tl_coherence.proofs.manager.AtRequests.{end_after, at_manager-probing, at_manager-answered}
+use Rattle.tl_coherence.proofs.manager.AtRequests.{at_manager-granted}
 use Rattle.tl_coherence.proofs.manager.Choices.{nobody-same, no-clients, plain-past, waits-used}
 use Rattle.tl_coherence.proofs.queues.Facts.{quiet_at_rest}
 use Rattle.tl_coherence.proofs.protocol.FollowKept.{IsReady, IsServing, kind_taken-kept}
@@ -58,18 +47,24 @@ use Rattle.tl_coherence.proofs.manager.ManagerAfter.{IsManagerOf}
 abbrev pub next_tracker : {w : ℕ} → System w → ℕ
 next_tracker sys = least_untaken (trackers_of (services sys.manager.trace))
 
-pub free-last : {w : ℕ} (config : Config) (log : Log w) (mail : AccessMessages w) (request : ℕ → MessageA w) (s : State (List ℕ)) (sys : System w) (c k : ℕ) (m : MessageA w)
-    → SimulationRelation config log mail request s sys → IsComing config c k m sys.manager → beats_of (message.A m) ≡ suc k → must_wait config (link_of c) (beat.A (a_beat_of m k)) sys.manager.trace ≡ false
+pub free-last : {w : ℕ} (config : Config) (log : Log w) (mail : AccessMessages w) (request : ℕ → MessageA w)
+    (s : State (List ℕ)) (sys : System w) (c k : ℕ) (m : MessageA w)
+    → SimulationRelation config log mail request s sys → IsComing config c k m sys.manager
+    → beats_of (message.A m) ≡ suc k → must_wait config (link_of c) (beat.A (a_beat_of m k)) sys.manager.trace ≡ false
     → (s.block (block_at m.address)).service ≡ Free
 free-last {w} config log mail request s sys c k m is comes last moves =
-    let ended : ends (beat.A (a_beat_of m k)) (on_link c sys.manager.trace) ≡ true = ends-coming config c k m sys.manager comes ∙ rw last (is_last k (suc k) (omega arith)) in
+    let ended : ends (beat.A (a_beat_of m k)) (on_link c sys.manager.trace) ≡ true =
+    ends-coming config c k m sys.manager comes ∙ rw last (is_last k (suc k) (omega arith)) in
     unserved-free request s sys.manager.trace (block_at m.address) is.managed
-    (or_parts (is_in_service (block_at m.address) (services sys.manager.trace)) (nat_le config.trackers (length (services sys.manager.trace)))
+    (or_parts (is_in_service (block_at m.address) (services sys.manager.trace))
+    (nat_le config.trackers (length (services sys.manager.trace)))
     (rw ended at moves)).0
 
-pub untracked-next : {w : ℕ} (config : Config) (log : Log w) (mail : AccessMessages w) (request : ℕ → MessageA w) (s : State (List ℕ)) (sys : System w)
+pub untracked-next : {w : ℕ} (config : Config) (log : Log w) (mail : AccessMessages w) (request : ℕ → MessageA w)
+    (s : State (List ℕ)) (sys : System w)
     → SimulationRelation config log mail request s sys → s.tracked (next_tracker sys) ≡ None
-untracked-next config log mail request s sys is = free-untracked (is_caching config) request s sys.manager.trace is.invariant is.managed
+untracked-next config log mail request s sys is = free-untracked (is_caching config) request s sys.manager.trace
+    is.invariant is.managed
 
 -- the access that has a block in service
 serving-for : {w : ℕ} (service : Service) (n : ℕ) (m : MessageA w) → IsFor service n m → IsServing service m
@@ -79,28 +74,42 @@ serving-for (Waits r false source k) n m for = (for.0, for.3)
 serving-for (GrantSent q d k) n m for = tt
 serving-for (GrantTaken q) n m for = tt
 
-pub serving-matched : {w : ℕ} (config : Config) (log : Log w) (mail : AccessMessages w) (request : ℕ → MessageA w) (s : State (List ℕ)) (sys : System w)
+pub serving-matched : {w : ℕ} (config : Config) (log : Log w) (mail : AccessMessages w) (request : ℕ → MessageA w)
+    (s : State (List ℕ)) (sys : System w)
     → SimulationRelation config log mail request s sys → (n : ℕ) → IsServing (s.block n).service (request n)
-serving-matched config log mail request s sys is n = serving-for (s.block n).service n (request n) (is.served.requests n)
+serving-matched config log mail request s sys is n =
+    serving-for (s.block n).service n (request n) (is.served.requests n)
 
 -- the invariant is kept
-pub invariant-taken : {w : ℕ} (config : Config) (log : Log w) (h : AbstractState w) (sys : System w) (c : ℕ) (k : Kind) (i : ℕ) (rest : List Packet) → SimulationRelation config log h.mail h.request h.state sys
-    → on k (h.state.link c) ≡ packet k i ∷ rest → IsReady (next_tracker sys) c k i h → IsInvariant (is_caching config) (kind_taken config (next_tracker sys) c k i rest h).state
+pub invariant-taken : {w : ℕ} (config : Config) (log : Log w) (h : AbstractState w) (sys : System w) (c : ℕ) (k : Kind)
+    (i : ℕ) (rest : List Packet) → SimulationRelation config log h.mail h.request h.state sys
+    → on k (h.state.link c) ≡ packet k i ∷ rest → IsReady (next_tracker sys) c k i h
+    → IsInvariant (is_caching config) (kind_taken config (next_tracker sys) c k i rest h).state
 invariant-taken config log h sys c k i rest is first ready =
-    kind_taken-kept (is_caching config) config (next_tracker sys) c k i rest h is.invariant (plain-past config) (λ n. (is.sized n).truth)
+    kind_taken-kept (is_caching config) config (next_tracker sys) c k i rest h is.invariant (plain-past config)
+    (λ n. (is.sized n).truth)
     (serving-matched config log h.mail h.request h.state sys is) first ready
 
 -- ---- who is probed
 
 -- somebody is probed, as the manager's record says, where the protocol says so
-pub probed-some : {w : ℕ} (config : Config) (log : Log w) (mail : AccessMessages w) (request : ℕ → MessageA w) (s : State (List ℕ)) (sys : System w) (c k n : ℕ) (own : Bool) (j : Cap) (m : MessageA w)
+pub probed-some : {w : ℕ} (config : Config) (log : Log w) (mail : AccessMessages w) (request : ℕ → MessageA w)
+    (s : State (List ℕ)) (sys : System w) (c k n : ℕ) (own : Bool) (j : Cap) (m : MessageA w)
     → SimulationRelation config log mail request s sys → is_acquire m.opcode ≡ own → block_at m.address ≡ n
     → is_nobody (probed config (service_for c m sys.manager.trace) j (with_beat c m k sys.manager.trace))
     ≡ not (some_below (length config.clients.items) (λ d. is_probed c own j ((s.block n).pair d).recorded d))
 probed-some {w} config log mail request s sys c k n own j m is kind block =
     nobody-same config (λ d. holders.is_above j (recorded d (block_at m.address) (with_beat c m k sys.manager.trace))
     && not (is_spared (service_for c m sys.manager.trace) d)) (λ d. is_probed c own j ((s.block n).pair d).recorded d)
-    (λ d. rw (block, recorded-beat c k m sys.manager.trace d n, is.managed.recorded_is d n, kind, same_above j ((s.block n).pair d).recorded, swapped c d)
+    (λ d. rw (
+      block,
+      recorded-beat c k m sys.manager.trace d n,
+      is.managed.recorded_is d n,
+      kind,
+      same_above j
+          ((s.block n).pair d).recorded,
+      swapped c d,
+    )
     (and_comm (is_above j ((s.block n).pair d).recorded) (not (own && (d == c)))))
 
 copies_so : (p : Perm) → holders.has_copy p ≡ not (same_perm p perm.None)
@@ -109,61 +118,86 @@ copies_so perm.Branch = refl
 copies_so perm.Trunk = refl
 
 -- nobody has a copy, as the manager's record says, where the protocol says so
-pub unheld-same : {w : ℕ} (config : Config) (log : Log w) (mail : AccessMessages w) (request : ℕ → MessageA w) (s : State (List ℕ)) (sys : System w) (c k n : ℕ)
+pub unheld-same : {w : ℕ} (config : Config) (log : Log w) (mail : AccessMessages w) (request : ℕ → MessageA w)
+    (s : State (List ℕ)) (sys : System w) (c k n : ℕ)
     (m : MessageA w) → SimulationRelation config log mail request s sys
-    → holders.is_unheld config n (with_beat c m k sys.manager.trace) ≡ is_unheld (length config.clients.items) (s.block n).pair
+    → holders.is_unheld config n (with_beat c m k sys.manager.trace) ≡ is_unheld (length config.clients.items)
+    (s.block n).pair
 unheld-same {w} config log mail request s sys c k n m is =
-    nobody-same config (λ d. holders.has_copy (recorded d n (with_beat c m k sys.manager.trace))) (λ d. not (same_perm ((s.block n).pair d).recorded perm.None))
-    (λ d. rw (recorded-beat c k m sys.manager.trace d n, is.managed.recorded_is d n) (copies_so ((s.block n).pair d).recorded))
+    nobody-same config (λ d. holders.has_copy (recorded d n (with_beat c m k sys.manager.trace)))
+    (λ d. not (same_perm ((s.block n).pair d).recorded perm.None))
+    (λ d. rw (recorded-beat c k m sys.manager.trace d n, is.managed.recorded_is d n)
+    (copies_so ((s.block n).pair d).recorded))
 
 -- nothing is under way of a block that is free
-quiet-free : {w : ℕ} (config : Config) (log : Log w) (mail : AccessMessages w) (request : ℕ → MessageA w) (s : State (List ℕ)) (sys : System w) (n : ℕ)
+quiet-free : {w : ℕ} (config : Config) (log : Log w) (mail : AccessMessages w) (request : ℕ → MessageA w)
+    (s : State (List ℕ)) (sys : System w) (n : ℕ)
     → SimulationRelation config log mail request s sys → (s.block n).service ≡ Free
     → (d : ℕ) → is_unprobed ((s.block n).pair d).probing ≡ true
-quiet-free config log mail request s sys n is free d = quiet_at_rest ((s.block n).pair d) (view (s.block n).service d) ((is.invariant.blocks n).phases d) (rw free refl)
+quiet-free config log mail request s sys n is free d = quiet_at_rest ((s.block n).pair d) (view (s.block n).service d)
+    ((is.invariant.blocks n).phases d) (rw free refl)
 
-pub beyond-none : {w : ℕ} (config : Config) (log : Log w) (mail : AccessMessages w) (request : ℕ → MessageA w) (s : State (List ℕ)) (sys : System w) (n : ℕ) → SimulationRelation config log mail request s sys
+pub beyond-none : {w : ℕ} (config : Config) (log : Log w) (mail : AccessMessages w) (request : ℕ → MessageA w)
+    (s : State (List ℕ)) (sys : System w) (n : ℕ) → SimulationRelation config log mail request s sys
     → (d : ℕ) → length config.clients.items ≤ d → ((s.block n).pair d).recorded ≡ perm.None
-beyond-none config log mail request s sys n is d past = ap (λ (p : ClientBlock). p.recorded) ((is.invariant.blocks n).outside d (plain-past config d past))
+beyond-none config log mail request s sys n is d past =
+    ap (λ (p : ClientBlock). p.recorded) ((is.invariant.blocks n).outside d (plain-past config d past))
 
 -- ---- what is done
 
 -- nobody is probed: the request is performed
-pub reaction-performed : {w : ℕ} (config : Config) (log : Log w) (mail : AccessMessages w) (request : ℕ → MessageA w) (s : State (List ℕ)) (sys : System w) (c k n : ℕ)
+pub reaction-performed : {w : ℕ} (config : Config) (log : Log w) (mail : AccessMessages w) (request : ℕ → MessageA w)
+    (s : State (List ℕ)) (sys : System w) (c k n : ℕ)
     (own : Bool) (m : MessageA w) → SimulationRelation config log mail request s sys
-    → IsComing config c k m sys.manager → beats_of (message.A m) ≡ suc k → is_acquire m.opcode ≡ own → block_at m.address ≡ n
+    → IsComing config c k m sys.manager → beats_of (message.A m) ≡ suc k → is_acquire m.opcode ≡ own
+    → block_at m.address ≡ n
     → probes_some (length config.clients.items) c own (cap_probed m.opcode m.param) (s.block n).pair ≡ false
-    → reaction config (link_of c) (beat.A (a_beat_of m k)) sys.manager ≡ performed config (service_for c m sys.manager.trace) (with_beat c m k sys.manager.trace) sys.manager.memory
-reaction-performed {w} config log mail request s sys c k n own m is comes last kind block none = go (cap_probed m.opcode m.param) refl
+    → reaction config (link_of c) (beat.A (a_beat_of m k)) sys.manager ≡ performed config
+    (service_for c m sys.manager.trace) (with_beat c m k sys.manager.trace) sys.manager.memory
+reaction-performed {w} config log mail request s sys c k n own m is comes last kind block none =
+    go (cap_probed m.opcode m.param) refl
   where
     e : End w
     e = sys.manager
 
-    go : (o : Option Cap) → cap_probed m.opcode m.param ≡ o → reaction config (link_of c) (beat.A (a_beat_of m k)) e ≡ performed config (service_for c m e.trace) (with_beat c m k e.trace) e.memory
-    go None f = reaction-intent config (link_of c) (a_beat_of m k) (service_for c m e.trace) e (served-last config c k m e comes last) f
+    go : (o : Option Cap) → cap_probed m.opcode m.param ≡ o → reaction config (link_of c) (beat.A (a_beat_of m k))
+        e ≡ performed config (service_for c m e.trace) (with_beat c m k e.trace) e.memory
+    go None f = reaction-intent config (link_of c) (a_beat_of m k) (service_for c m e.trace) e
+        (served-last config c k m e comes last) f
     go (Some j) f =
         let nobody : is_nobody (probed config (service_for c m e.trace) j (with_beat c m k e.trace)) ≡ true =
         probed-some config log mail request s sys c k n own j m is kind block ∙ ap not (rw f at none) in
-        reaction-unprobed config (link_of c) (a_beat_of m k) (service_for c m e.trace) j e (served-last config c k m e comes last) f
+        reaction-unprobed config (link_of c) (a_beat_of m k) (service_for c m e.trace) j e
+        (served-last config c k m e comes last) f
         (no-clients (probed config (service_for c m e.trace) j (with_beat c m k e.trace)) nobody)
 
 -- somebody is, with this cap
-pub somebody-probed : {w : ℕ} (config : Config) (log : Log w) (mail : AccessMessages w) (request : ℕ → MessageA w) (s : State (List ℕ)) (sys : System w) (c k n : ℕ)
+pub somebody-probed : {w : ℕ} (config : Config) (log : Log w) (mail : AccessMessages w) (request : ℕ → MessageA w)
+    (s : State (List ℕ)) (sys : System w) (c k n : ℕ)
     (own : Bool) (m : MessageA w) → SimulationRelation config log mail request s sys
-    → is_acquire m.opcode ≡ own → block_at m.address ≡ n → probes_some (length config.clients.items) c own (cap_probed m.opcode m.param) (s.block n).pair ≡ true
-    → (j : Cap) × (cap_probed m.opcode m.param ≡ Some j) × (is_nobody (probed config (service_for c m sys.manager.trace) j (with_beat c m k sys.manager.trace)) ≡ false)
+    → is_acquire m.opcode ≡ own → block_at m.address ≡ n
+    → probes_some (length config.clients.items) c own (cap_probed m.opcode m.param) (s.block n).pair ≡ true
+    → (j : Cap) × (cap_probed m.opcode m.param ≡ Some j)
+    × (is_nobody (probed config (service_for c m sys.manager.trace) j (with_beat c m k sys.manager.trace)) ≡ false)
 somebody-probed {w} config log mail request s sys c k n own m is kind block some = go (cap_probed m.opcode m.param) refl
   where
     go : (o : Option Cap) → cap_probed m.opcode m.param ≡ o → (j : Cap) × (cap_probed m.opcode m.param ≡ Some j)
         × (is_nobody (probed config (service_for c m sys.manager.trace) j (with_beat c m k sys.manager.trace)) ≡ false)
     go None f = absurd (let no : false ≡ true = rw f at some in cc)
-    go (Some j) f = (j, f, probed-some config log mail request s sys c k n own j m is kind block ∙ ap not (rw f at some))
+    go (Some j) f = (
+      j,
+      f,
+      probed-some config log mail request s sys c k n own j m is kind block ∙ ap not
+          (rw f at some),
+    )
 
 -- ---- an access
 
-pub unwaited-asked : {w : ℕ} (config : Config) (log : Log w) (mail : AccessMessages w) (request : ℕ → MessageA w) (s : State (List ℕ)) (sys : System w) (c source : ℕ)
+pub unwaited-asked : {w : ℕ} (config : Config) (log : Log w) (mail : AccessMessages w) (request : ℕ → MessageA w)
+    (s : State (List ℕ)) (sys : System w) (c source : ℕ)
     → SimulationRelation config log mail request s sys → s.uses c source ≡ Asked → IsUnwaited c source s
-unwaited-asked {w} config log mail request s sys c source is used i src own j e same = go own (waits-used (is_caching config) s i c src own j is.invariant e)
+unwaited-asked {w} config log mail request s sys c source is used i src own j e same =
+    go own (waits-used (is_caching config) s i c src own j is.invariant e)
   where
     here : s.uses c src ≡ Asked
     here = ap (s.uses c) (sym same) ∙ used
@@ -172,7 +206,8 @@ unwaited-asked {w} config log mail request s sys c source is used i src own j e 
     go true f = let no : Asked ≡ Acquires i = sym here ∙ f in cc
     go false f = let no : Asked ≡ InService i = sym here ∙ f in cc
 
-with-same : {w : ℕ} (mail after : AccessMessages w) (service : Service) (m : MessageA w) → after.request ≡ mail.request → IsServedWith mail service m → IsServedWith after service m
+with-same : {w : ℕ} (mail after : AccessMessages w) (service : Service) (m : MessageA w) → after.request ≡ mail.request
+    → IsServedWith mail service m → IsServedWith after service m
 with-same mail after Free m same ok = tt
 with-same mail after (Waits r true source k) m same ok = tt
 with-same {w} mail after (Waits r false source k) m same ok = ap (λ (f : ℕ → ℕ → Message w). f r source) same ∙ ok
@@ -180,7 +215,8 @@ with-same mail after (GrantSent q d k) m same ok = tt
 with-same mail after (GrantTaken q) m same ok = tt
 
 -- other answers change nothing
-pub at_manager-answers : {w : ℕ} (config : Config) (mail after : AccessMessages w) (request : ℕ → MessageA w) (s : State (List ℕ)) (e : End w)
+pub at_manager-answers : {w : ℕ} (config : Config) (mail after : AccessMessages w) (request : ℕ → MessageA w)
+    (s : State (List ℕ)) (e : End w)
     → after.request ≡ mail.request → IsAtManager config mail request s e → IsAtManager config after request s e
 at_manager-answers config mail after request s e same is = record {
   managed = is.managed;
@@ -191,22 +227,35 @@ at_manager-answers config mail after request s e same is = record {
   all_live = is.all_live;
 }
 
-pub ready-request : {w : ℕ} (config : Config) (log : Log w) (h : AbstractState w) (sys : System w) (c source k : ℕ) → SimulationRelation config log h.mail h.request h.state sys
+pub ready-request : {w : ℕ} (config : Config) (log : Log w) (h : AbstractState w) (sys : System w) (c source k : ℕ)
+    → SimulationRelation config log h.mail h.request h.state sys
     → (asked : IsAsked config c source h.mail h.state)
-    → IsComing config c k asked.request sys.manager → beats_of (message.A asked.request) ≡ suc k → must_wait config (link_of c) (beat.A (a_beat_of asked.request k)) sys.manager.trace ≡ false
+    → IsComing config c k asked.request sys.manager → beats_of (message.A asked.request) ≡ suc k
+    → must_wait config (link_of c) (beat.A (a_beat_of asked.request k)) sys.manager.trace ≡ false
     → IsReady (next_tracker sys) c Request source h
-ready-request config log h sys c source k is asked comes last moves =
-    (asked.request, asked.is_it, asked.access, free-last config log h.mail h.request h.state sys c k asked.request is comes last moves, untracked-next config log h.mail h.request h.state sys is)
+ready-request config log h sys c source k is asked comes last moves = (
+  asked.request,
+  asked.is_it,
+  asked.access,
+  free-last config log h.mail h.request h.state sys c k asked.request is
+      comes last moves,
+  untracked-next config log h.mail h.request h.state sys is,
+)
 
 -- after the last beat of an access that was taken
-pub at_manager-request_taken : {w : ℕ} (config : Config) (log : Log w) (h : AbstractState w) (sys : System w) (c source k : ℕ) (rest : List Packet) → SimulationRelation config log h.mail h.request h.state sys
+pub at_manager-request_taken : {w : ℕ} (config : Config) (log : Log w) (h : AbstractState w) (sys : System w)
+    (c source k : ℕ) (rest : List Packet) → SimulationRelation config log h.mail h.request h.state sys
     → (h.state.link c).a ≡ packet Request source ∷ rest → (asked : IsAsked config c source h.mail h.state)
-    → IsComing config c k asked.request sys.manager → beats_of (message.A asked.request) ≡ suc k → must_wait config (link_of c) (beat.A (a_beat_of asked.request k)) sys.manager.trace ≡ false
-    → IsManagerOf config (kind_taken config (next_tracker sys) c Request source rest h) (end_after config c k asked.request sys.manager)
+    → IsComing config c k asked.request sys.manager → beats_of (message.A asked.request) ≡ suc k
+    → must_wait config (link_of c) (beat.A (a_beat_of asked.request k)) sys.manager.trace ≡ false
+    → IsManagerOf config (kind_taken config (next_tracker sys) c Request source rest h)
+    (end_after config c k asked.request sys.manager)
 at_manager-request_taken {w} config log h sys c source k rest is first asked comes last moves =
-    subst (λ (i : Message w). IsManagerOf config (request_taken clients c source i tracker rest h) after) (sym asked.is_it)
+    subst (λ (i : Message w). IsManagerOf config (request_taken clients c source i tracker rest h) after)
+    (sym asked.is_it)
     (go (probes_some clients c false (cap_probed m.opcode m.param) b.pair) (cap_probed m.opcode m.param) refl refl
-    (subst (λ (i : Message w). IsInvariant (is_caching config) (request_taken clients c source i tracker rest h).state) asked.is_it inv))
+    (subst (λ (i : Message w). IsInvariant (is_caching config) (request_taken clients c source i tracker rest h).state)
+    asked.is_it inv))
   where
     m : MessageA w
     m = asked.request
@@ -236,37 +285,56 @@ at_manager-request_taken {w} config log h sys c source k rest is first asked com
     unwaited = unwaited-asked config log h.mail h.request h.state sys c source is asked.used
 
     inv : IsInvariant (is_caching config) (kind_taken config tracker c Request source rest h).state
-    inv = invariant-taken config log h sys c Request source rest is first (ready-request config log h sys c source k is asked comes last moves)
+    inv = invariant-taken config log h sys c Request source rest is first
+        (ready-request config log h sys c source k is asked comes last moves)
 
     answering : IsAnswering config c k n m h.state e
-    answering = record { comes = comes; last = last; access = asked.access; block = refl; free = free; unwaited = λ i src own j f same. unwaited i src own j f (sym asked.source_is ∙ same) }
+    answering = record {
+      comes = comes;
+      last = last;
+      access = asked.access;
+      block = refl;
+      free = free;
+      unwaited =
+          λ i src own j f same. unwaited i src own j f (sym asked.source_is ∙ same);
+    }
 
-    answered : (p : Bool) (o : Option Cap) → IsInvariant (is_caching config) (access_taken c source m tracker p o rest h).state
+    answered : (p : Bool) (o : Option Cap)
+        → IsInvariant (is_caching config) (access_taken c source m tracker p o rest h).state
         → access_taken c source m tracker p o rest h ≡ access_taken c source m tracker false None rest h
-        → reaction config (link_of c) (beat.A (a_beat_of m k)) e ≡ performed config (service_for c m e.trace) (with_beat c m k e.trace) e.memory
+        → reaction config (link_of c) (beat.A (a_beat_of m k)) e ≡ performed config (service_for c m e.trace)
+        (with_beat c m k e.trace) e.memory
         → IsManagerOf config (access_taken c source m tracker p o rest h) after
     answered p o kept same done =
         subst (λ (i : AbstractState w). IsManagerOf config i after) (sym same)
-        (at_manager-answered (is_caching config) config (access_taken c source m tracker false None rest h).mail h.request c k n m h.state (access_taken c source m tracker false None rest h).state e
-        (subst (λ (i : AbstractState w). IsInvariant (is_caching config) i.state) same kept) (λ i. refl) answering asked.lawful done
-        (at_manager-answers config h.mail (access_taken c source m tracker false None rest h).mail h.request h.state e refl (at_manager-matched config log h.mail h.request h.state sys is)))
+        (at_manager-answered (is_caching config) config (access_taken c source m tracker false None rest h).mail
+        h.request c k n m h.state (access_taken c source m tracker false None rest h).state e
+        (subst (λ (i : AbstractState w). IsInvariant (is_caching config) i.state) same kept) (λ i. refl) answering
+        asked.lawful done
+        (at_manager-answers config h.mail (access_taken c source m tracker false None rest h).mail h.request h.state e
+        refl (at_manager-matched config log h.mail h.request h.state sys is)))
 
     done : probes_some clients c false (cap_probed m.opcode m.param) b.pair ≡ false
-        → reaction config (link_of c) (beat.A (a_beat_of m k)) e ≡ performed config (service_for c m e.trace) (with_beat c m k e.trace) e.memory
-    done none = reaction-performed config log h.mail h.request h.state sys c k n false m is comes last asked.access refl none
+        → reaction config (link_of c) (beat.A (a_beat_of m k)) e ≡ performed config (service_for c m e.trace)
+        (with_beat c m k e.trace) e.memory
+    done none = reaction-performed config log h.mail h.request h.state sys c k n false m is comes last asked.access refl
+        none
 
     some_cap : (x y : Option Cap) (i j : Cap) → x ≡ Some i → x ≡ y → y ≡ Some j → i ≡ j
     some_cap x y i j f g l = let same : Some i ≡ Some j = sym f ∙ g ∙ l in cc
 
-    go : (p : Bool) (o : Option Cap) → probes_some clients c false (cap_probed m.opcode m.param) b.pair ≡ p → cap_probed m.opcode m.param ≡ o
-        → IsInvariant (is_caching config) (access_taken c source m tracker p o rest h).state → IsManagerOf config (access_taken c source m tracker p o rest h) after
+    go : (p : Bool) (o : Option Cap) → probes_some clients c false (cap_probed m.opcode m.param) b.pair ≡ p
+        → cap_probed m.opcode m.param ≡ o
+        → IsInvariant (is_caching config) (access_taken c source m tracker p o rest h).state
+        → IsManagerOf config (access_taken c source m tracker p o rest h) after
     go true None f g kept = absurd (let no : false ≡ true = rw g at f in cc)
     go false None f g kept = answered false None kept refl (done f)
     go false (Some j) f g kept = answered false (Some j) kept refl (done f)
     go true (Some j) f g kept =
         let some = somebody-probed config log h.mail h.request h.state sys c k n false m is asked.access refl f in
         let same : some.0 ≡ j = some_cap (cap_probed m.opcode m.param) (Some j) some.0 j some.1 g refl in
-        at_manager-probing (is_caching config) config h.mail h.request c k n false source j m h.state (access_taken c source m tracker true (Some j) rest h).state e kept (λ i. refl)
+        at_manager-probing (is_caching config) config h.mail h.request c k n false source j m h.state
+        (access_taken c source m tracker true (Some j) rest h).state e kept (λ i. refl)
         (record {
           comes = comes;
           last = last;
@@ -280,10 +348,12 @@ at_manager-request_taken {w} config log h sys c source k rest is first asked com
 
 -- ---- an Acquire
 
-unwaited-acquires : {w : ℕ} (config : Config) (log : Log w) (mail : AccessMessages w) (request : ℕ → MessageA w) (s : State (List ℕ)) (sys : System w) (c source n : ℕ)
+unwaited-acquires : {w : ℕ} (config : Config) (log : Log w) (mail : AccessMessages w) (request : ℕ → MessageA w)
+    (s : State (List ℕ)) (sys : System w) (c source n : ℕ)
     → SimulationRelation config log mail request s sys → s.uses c source ≡ Acquires n
     → (s.block n).service ≡ Free → IsUnwaited c source s
-unwaited-acquires {w} config log mail request s sys c source n is used free i src own j e same = go own e (waits-used (is_caching config) s i c src own j is.invariant e)
+unwaited-acquires {w} config log mail request s sys c source n is used free i src own j e same =
+    go own e (waits-used (is_caching config) s i c src own j is.invariant e)
   where
     here : s.uses c src ≡ Acquires n
     here = ap (s.uses c) (sym same) ∙ used
@@ -292,11 +362,13 @@ unwaited-acquires {w} config log mail request s sys c source n is used free i sr
     number_is a b f = cc
 
     go : (b : Bool) → (s.block i).service ≡ Waits c b src j → s.uses c src ≡ (if b then Acquires i else InService i) → ⊥
-    go true f g = let at_n : i ≡ n = number_is n i (sym here ∙ g) in let no : Free ≡ Waits c true src j = sym free ∙ ap (λ l. (s.block l).service) (sym at_n) ∙ f in cc
+    go true f g = let at_n : i ≡ n = number_is n i (sym here ∙ g) in let no : Free ≡ Waits c true src j =
+        sym free ∙ ap (λ l. (s.block l).service) (sym at_n) ∙ f in cc
     go false f g = let no : Acquires n ≡ InService i = sym here ∙ g in cc
 
 pub caps_asked : (w : ℕ) (whole : Bool) (g : Grow) (source n : ℕ)
-    → cap_probed (acquisition {w = w} (acquire_opcode whole) g source n).opcode (acquisition {w = w} (acquire_opcode whole) g source n).param ≡ Some
+    → cap_probed (acquisition {w = w} (acquire_opcode whole) g source n).opcode
+    (acquisition {w = w} (acquire_opcode whole) g source n).param ≡ Some
     (cap_asked (AcquireOpen whole g))
 caps_asked w true grow.NtoB source n = refl
 caps_asked w true grow.NtoT source n = refl
@@ -309,8 +381,10 @@ caps_asked w false grow.BtoT source n = refl
 abbrev pub acquire_wanted : {w : ℕ} (c n : ℕ) (s : State (List ℕ)) → IsWanted w c n s → MessageA w
 acquire_wanted c n s is = acquisition (acquire_opcode is.whole) is.grow ((s.block n).source c) n
 
-pub ready-acquire : {w : ℕ} (config : Config) (log : Log w) (h : AbstractState w) (sys : System w) (c n k : ℕ) → SimulationRelation config log h.mail h.request h.state sys → (asked : IsWanted w c n h.state)
-    → IsComing config c k (acquire_wanted c n h.state asked) sys.manager → beats_of (message.A (acquire_wanted c n h.state asked)) ≡ suc k
+pub ready-acquire : {w : ℕ} (config : Config) (log : Log w) (h : AbstractState w) (sys : System w) (c n k : ℕ)
+    → SimulationRelation config log h.mail h.request h.state sys → (asked : IsWanted w c n h.state)
+    → IsComing config c k (acquire_wanted c n h.state asked) sys.manager
+    → beats_of (message.A (acquire_wanted c n h.state asked)) ≡ suc k
     → must_wait config (link_of c) (beat.A (a_beat_of (acquire_wanted c n h.state asked) k)) sys.manager.trace ≡ false
     → IsReady (next_tracker sys) c Acquire n h
 ready-acquire config log h sys c n k is asked comes last moves = (
@@ -320,15 +394,20 @@ ready-acquire config log h sys c n k is asked comes last moves = (
 )
 
 -- after an Acquire that was taken
-pub at_manager-acquire_taken : {w : ℕ} (config : Config) (log : Log w) (h : AbstractState w) (sys : System w) (c n k : ℕ) (rest : List Packet) → SimulationRelation config log h.mail h.request h.state sys
+pub at_manager-acquire_taken : {w : ℕ} (config : Config) (log : Log w) (h : AbstractState w) (sys : System w)
+    (c n k : ℕ) (rest : List Packet) → SimulationRelation config log h.mail h.request h.state sys
     → (h.state.link c).a ≡ packet Acquire n ∷ rest → (asked : IsWanted w c n h.state)
-    → IsComing config c k (acquire_wanted c n h.state asked) sys.manager → beats_of (message.A (acquire_wanted c n h.state asked)) ≡ suc k
+    → IsComing config c k (acquire_wanted c n h.state asked) sys.manager
+    → beats_of (message.A (acquire_wanted c n h.state asked)) ≡ suc k
     → must_wait config (link_of c) (beat.A (a_beat_of (acquire_wanted c n h.state asked) k)) sys.manager.trace ≡ false
-    → IsManagerOf config (kind_taken config (next_tracker sys) c Acquire n rest h) (end_after config c k (acquire_wanted c n h.state asked) sys.manager)
+    → IsManagerOf config (kind_taken config (next_tracker sys) c Acquire n rest h)
+    (end_after config c k (acquire_wanted c n h.state asked) sys.manager)
 at_manager-acquire_taken {w} config log h sys c n k rest is first asked comes last moves =
-    subst (λ (i : AcquirePhase). IsManagerOf config (acquire_taken clients config.profile c n i tracker rest h) after) (sym asked.wants)
+    subst (λ (i : AcquirePhase). IsManagerOf config (acquire_taken clients config.profile c n i tracker rest h) after)
+    (sym asked.wants)
     (go (some_below clients (λ d. is_probed c true j (b.pair d).recorded d)) refl
-    (subst (λ (i : AcquirePhase). IsInvariant (is_caching config) (acquire_taken clients config.profile c n i tracker rest h).state) asked.wants inv))
+    (subst (λ (i : AcquirePhase). IsInvariant (is_caching config) (acquire_taken clients config.profile c n i tracker
+    rest h).state) asked.wants inv))
   where
     b : Block (List ℕ)
     b = h.state.block n
@@ -366,7 +445,8 @@ at_manager-acquire_taken {w} config log h sys c n k rest is first asked comes la
     unwaited : IsUnwaited c m.source h.state
     unwaited = unwaited-acquires config log h.mail h.request h.state sys c m.source n is asked.used ready.0
 
-    nobody : is_nobody (probed config (service_for c m e.trace) j (with_beat c m k e.trace)) ≡ not (some_below clients (λ d. is_probed c true j (b.pair d).recorded d))
+    nobody : is_nobody (probed config (service_for c m e.trace) j (with_beat c m k e.trace)) ≡ not
+        (some_below clients (λ d. is_probed c true j (b.pair d).recorded d))
     nobody = probed-some config log h.mail h.request h.state sys c k n true j m is acquires (same_block n)
 
     given : Cap
@@ -374,12 +454,15 @@ at_manager-acquire_taken {w} config log h sys c n k rest is first asked comes la
 
     -- the state afterwards
     state_of : Bool → State (List ℕ)
-    state_of x = if x then acquire_served c n (b.source c) tracker j rest h.state else acquire_granted c n tracker (is_granted_data asked.whole asked.grow (b.pair c).recorded) given rest h.state
+    state_of x = if x then acquire_served c n (b.source c) tracker j rest h.state else acquire_granted c n tracker
+        (is_granted_data asked.whole asked.grow (b.pair c).recorded) given rest h.state
 
-    go : (x : Bool) → some_below clients (λ d. is_probed c true j (b.pair d).recorded d) ≡ x → IsInvariant (is_caching config) (state_of x)
+    go : (x : Bool) → some_below clients (λ d. is_probed c true j (b.pair d).recorded d) ≡ x
+        → IsInvariant (is_caching config) (state_of x)
         → IsAtManager config h.mail (set n m h.request) (state_of x) after
     go true f kept =
-        at_manager-probing (is_caching config) config h.mail h.request c k n true m.source j m h.state (state_of true) e kept (λ i. refl)
+        at_manager-probing (is_caching config) config h.mail h.request c k n true m.source j m h.state (state_of true) e
+        kept (λ i. refl)
         (record {
           comes = comes;
           last = last;
@@ -391,14 +474,18 @@ at_manager-acquire_taken {w} config log h sys c n k rest is first asked comes la
         })
         (nobody ∙ ap not f) tt (at_manager-matched config log h.mail h.request h.state sys is)
     go false f kept =
-        at_manager-granted (is_caching config) config h.mail h.request c k n (is_granted_data asked.whole asked.grow (b.pair c).recorded) given m h.state (state_of false) e kept (λ i. refl)
+        at_manager-granted (is_caching config) config h.mail h.request c k n
+        (is_granted_data asked.whole asked.grow (b.pair c).recorded) given m h.state (state_of false) e kept
+        (λ i. refl)
         (record {
           comes = comes;
           last = last;
           acquires = acquires;
           block = same_block n;
-          given = ap (cap_granted config.profile m.opcode m.param) (unheld-same config log h.mail h.request h.state sys c k n m is);
+          given = ap (cap_granted config.profile m.opcode m.param) (unheld-same config log h.mail h.request h.state sys
+              c k n m is);
           unwaited = unwaited;
         })
-        (reaction-performed config log h.mail h.request h.state sys c k n true m is comes last acquires (same_block n) (rw caps f))
+        (reaction-performed config log h.mail h.request h.state sys c k n true m is comes last acquires (same_block n)
+        (rw caps f))
         (at_manager-matched config log h.mail h.request h.state sys is)

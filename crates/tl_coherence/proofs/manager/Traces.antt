@@ -1,50 +1,50 @@
 -- The values of a trace that all else follows from, as one block changes, and where nothing changes to the manager.
+use Rattle.tl_coherence.proofs.manager.Imports.{MessageA, a_beat_of, ProbeOf, Cap, Trace, on_link, pending, request_of}
+use Rattle.tl_coherence.proofs.manager.Imports.{recorded, services, service_of_block, is_unprobed, ok, Service, Free}
+use Rattle.tl_coherence.proofs.manager.Imports.{Waits, GrantSent, GrantTaken, Block, State, client_in, service_with}
+use Rattle.tl_coherence.proofs.manager.Imports.{IsFor}
 use Rattle.std.proofs.Common.{◌≡◌, ℕ, Bool, not, Option, Some, sym, ◌∙◌, ap, ap₂, inl, inr}
 use Rattle.std.proofs.lemmas.Bool.{cases_eq}
-use Rattle.tl_burst.specs.declared.message.MessageA.{MessageA}
-use Rattle.tl_burst.specs.statement.Burst.{a_beat_of}
-use Rattle.tl_params.specs.declared.key.Key.TheVariants.{ProbeOf}
-use Rattle.tl_params.specs.declared.param.Cap.{Cap}
-use Rattle.tl_rules.specs.statement.Conformance.{Trace, on_link}
-use Rattle.tl_rules.specs.statement.History.{pending, request_of}
-use Rattle.tl_manager.specs.statement.Holders.{recorded}
-use Rattle.tl_manager.specs.statement.Service.{services, service_of_block}
-use Rattle.tl_coherence.specs.protocol.Phase.{is_unprobed, ok}
-use Rattle.tl_coherence.specs.protocol.Protocol.{Service, Free, Waits, GrantSent, GrantTaken, Block, State}
-use Rattle.tl_coherence.specs.refinement.ManagerRelation.{client_in, service_with}
-use Rattle.tl_coherence.specs.refinement.SourceRelation.{IsFor}
 use Rattle.tl_coherence.proofs.manager.Accounts.{IsTraced}
 
 -- ---- one block changes
 
 -- what an event shows of the block that it changes, and of all others
-pub record IsTracedAt {w : ℕ} {X : Type 0} (n : ℕ) (request after : ℕ → MessageA w) (s u : State X) (t v : Trace w) : Type 0 where
+pub record IsTracedAt {w : ℕ} {X : Type 0} (n : ℕ) (request after : ℕ → MessageA w) (s u : State X)
+    (t v : Trace w) : Type 0 where
   pub other_blocks : (i : ℕ) → (i ≡ n → ⊥) → u.block i ≡ s.block i
   pub other_requests : (i : ℕ) → (i ≡ n → ⊥) → after i ≡ request i
   pub recorded_here : (c : ℕ) → recorded c n v ≡ ((u.block n).pair c).recorded
   pub recorded_else : (c i : ℕ) → (i ≡ n → ⊥) → recorded c i v ≡ recorded c i t
   pub probes_here : (c : ℕ) → pending (ProbeOf n) (on_link c v) ≡ not (is_unprobed ((u.block n).pair c).probing)
   pub probes_else : (c i : ℕ) → (i ≡ n → ⊥) → pending (ProbeOf i) (on_link c v) ≡ pending (ProbeOf i) (on_link c t)
-  pub serving_here : service_of_block n (services v) ≡ service_with (client_in (u.block n).service) (u.block n).tracker (after n)
+  pub serving_here : service_of_block n (services v) ≡ service_with (client_in (u.block n).service) (u.block n).tracker
+      (after n)
   pub serving_else : (i : ℕ) → (i ≡ n → ⊥) → service_of_block i (services v) ≡ service_of_block i (services t)
   pub request_here : IsFor (u.block n).service n (after n)
-  pub asked_here : (r source : ℕ) (own : Bool) (k : Cap) → (u.block n).service ≡ Waits r own source k → request_of source (on_link r v) ≡ Some (a_beat_of (after n) 0)
-  pub asked_else : (i r source : ℕ) (own : Bool) (k : Cap) → (i ≡ n → ⊥) → (s.block i).service ≡ Waits r own source k → request_of source (on_link r v) ≡ request_of source (on_link r t)
+  pub asked_here : (r source : ℕ) (own : Bool) (k : Cap) → (u.block n).service ≡ Waits r own source k
+      → request_of source (on_link r v) ≡ Some (a_beat_of (after n) 0)
+  pub asked_else : (i r source : ℕ) (own : Bool) (k : Cap) → (i ≡ n → ⊥) → (s.block i).service ≡ Waits r own source k
+      → request_of source (on_link r v) ≡ request_of source (on_link r t)
 
-pub traced-at : {w : ℕ} {X : Type 0} (n : ℕ) (request after : ℕ → MessageA w) (s u : State X) (t v : Trace w) → IsTracedAt n request after s u t v → IsTraced request s t → IsTraced after u v
+pub traced-at : {w : ℕ} {X : Type 0} (n : ℕ) (request after : ℕ → MessageA w) (s u : State X) (t v : Trace w)
+    → IsTracedAt n request after s u t v → IsTraced request s t → IsTraced after u v
 traced-at {w} {X} n request after s u t v at is = record {
   recorded_is = λ c i. elim (cases_eq i n) [
     | inl same ↦ rw same (at.recorded_here c)
-    | inr other ↦ at.recorded_else c i other ∙ is.recorded_is c i ∙ ap (λ (b : Block X). (b.pair c).recorded) (sym (at.other_blocks i other))
+    | inr other ↦ at.recorded_else c i other ∙ is.recorded_is c i ∙ ap (λ (b : Block X). (b.pair c).recorded)
+        (sym (at.other_blocks i other))
   ];
   probes = λ c i. elim (cases_eq i n) [
     | inl same ↦ rw same (at.probes_here c)
-    | inr other ↦ at.probes_else c i other ∙ is.probes c i ∙ ap (λ (b : Block X). not (is_unprobed (b.pair c).probing)) (sym (at.other_blocks i other))
+    | inr other ↦ at.probes_else c i other ∙ is.probes c i ∙ ap (λ (b : Block X). not (is_unprobed (b.pair c).probing))
+        (sym (at.other_blocks i other))
   ];
   serving_is = λ i. elim (cases_eq i n) [
     | inl same ↦ rw same at.serving_here
     | inr other ↦ at.serving_else i other ∙ is.serving_is i
-        ∙ ap₂ (λ (b : Block X) (m : MessageA w). service_with (client_in b.service) b.tracker m) (sym (at.other_blocks i other))
+        ∙ ap₂ (λ (b : Block X) (m : MessageA w). service_with (client_in b.service) b.tracker m)
+        (sym (at.other_blocks i other))
         (sym (at.other_requests i other))
   ];
   requests = λ i. elim (cases_eq i n) [
@@ -52,10 +52,13 @@ traced-at {w} {X} n request after s u t v at is = record {
     | inr other ↦ rw (at.other_blocks i other, at.other_requests i other) (is.requests i)
   ];
   asked = λ i r source own k e. elim (cases_eq i n) [
-    | inl same ↦ let here : (u.block n).service ≡ Waits r own source k = rw same at e in rw same (at.asked_here r source own k here)
+    | inl same ↦ let here : (u.block n).service ≡ Waits r own source k = rw same at e in
+        rw same (at.asked_here r source own k here)
     | inr other ↦
-        let before : (s.block i).service ≡ Waits r own source k = ap (λ (b : Block X). b.service) (sym (at.other_blocks i other)) ∙ e in
-        at.asked_else i r source own k other before ∙ is.asked i r source own k before ∙ ap (λ (m : MessageA w). Some (a_beat_of m 0)) (sym (at.other_requests i other))
+        let before : (s.block i).service ≡ Waits r own source k =
+        ap (λ (b : Block X). b.service) (sym (at.other_blocks i other)) ∙ e in
+        at.asked_else i r source own k other before ∙ is.asked i r source own k before ∙ ap
+        (λ (m : MessageA w). Some (a_beat_of m 0)) (sym (at.other_requests i other))
   ];
 }
 
@@ -82,7 +85,8 @@ same_client Free after e = ap client_in e
 same_client (Waits r own source k) after e = ap client_in e
 same_client (GrantTaken r) after e = ap client_in e
 
-same_for : {w : ℕ} (service after : Service) (n : ℕ) (m : MessageA w) → SameService service after → IsFor service n m → IsFor after n m
+same_for : {w : ℕ} (service after : Service) (n : ℕ) (m : MessageA w) → SameService service after → IsFor service n m
+    → IsFor after n m
 same_for (GrantSent q d k) (GrantTaken r) n m e ok = ok
 same_for (GrantSent q d k) Free n m e ok = absurd cc
 same_for (GrantSent q d k) (Waits r own source j) n m e ok = absurd cc
@@ -91,7 +95,8 @@ same_for Free after n m e ok = rw e ok
 same_for (Waits r own source k) after n m e ok = rw e ok
 same_for (GrantTaken r) after n m e ok = rw e ok
 
-pub same_waits : (service after : Service) (r source : ℕ) (own : Bool) (k : Cap) → SameService service after → after ≡ Waits r own source k → service ≡ Waits r own source k
+pub same_waits : (service after : Service) (r source : ℕ) (own : Bool) (k : Cap) → SameService service after
+    → after ≡ Waits r own source k → service ≡ Waits r own source k
 same_waits (GrantSent q d j) (GrantTaken i) r source own k e f = absurd cc
 same_waits (GrantSent q d j) Free r source own k e f = absurd cc
 same_waits (GrantSent q d j) (Waits i o src l) r source own k e f = absurd cc
@@ -100,12 +105,14 @@ same_waits Free after r source own k e f = sym e ∙ f
 same_waits (Waits i o src l) after r source own k e f = sym e ∙ f
 same_waits (GrantTaken i) after r source own k e f = sym e ∙ f
 
-pub traced-same : {w : ℕ} {X : Type 0} (request : ℕ → MessageA w) (s u : State X) (t : Trace w) → IsSameToManager s u → IsTraced request s t → IsTraced request u t
+pub traced-same : {w : ℕ} {X : Type 0} (request : ℕ → MessageA w) (s u : State X) (t : Trace w) → IsSameToManager s u
+    → IsTraced request s t → IsTraced request u t
 traced-same {w} {X} request s u t same is = record {
   recorded_is = λ c n. is.recorded_is c n ∙ sym (same.recorded_same c n);
   probes = λ c n. is.probes c n ∙ ap not (sym (same.quiet_same c n));
   serving_is = λ n. is.serving_is n ∙ ap₂ (λ (o : Option ℕ) (i : ℕ). service_with o i (request n))
       (sym (same_client (s.block n).service (u.block n).service (same.service_same n))) (sym (same.tracker_same n));
   requests = λ n. same_for (s.block n).service (u.block n).service n (request n) (same.service_same n) (is.requests n);
-  asked = λ n r source own k e. is.asked n r source own k (same_waits (s.block n).service (u.block n).service r source own k (same.service_same n) e);
+  asked = λ n r source own k e. is.asked n r source own k (same_waits (s.block n).service (u.block n).service r source
+      own k (same.service_same n) e);
 }

@@ -1,31 +1,29 @@
 -- Events that the manager doesn't see: clients that are asked, and beats that clients take. What it knows stays so.
+use Rattle.tl_coherence.proofs.manager.Imports.{Message, MessageA, Config, Cap, Grow, Prune, block_at, End}
+use Rattle.tl_coherence.proofs.manager.Imports.{AbstractState, kind_taken, IsInvariant, ClientBlock, is_unprobed}
+use Rattle.tl_coherence.proofs.manager.Imports.{Service, Free, Waits, GrantSent, GrantTaken, Block, State, SourceFree}
+use Rattle.tl_coherence.proofs.manager.Imports.{InService, on, packet, view, is_granting, AccessMessages, Kind, Request}
+use Rattle.tl_coherence.proofs.manager.Imports.{Acquire, Probe, ProbeAck, Release, Answer, Grant, ReleaseAck, GrantAck}
+use Rattle.tl_coherence.proofs.manager.Imports.{Packet, set, IsServedWith}
 use Rattle.std.proofs.Common.{◌≡◌, ℕ, Bool, true, false, ◌==◌, List, ◌∷◌, refl, sym, ◌∙◌, ap, ap₂, inl, inr}
 use Rattle.std.proofs.lemmas.Bool.{cases_eq, eqb-true}
-use Rattle.tl_burst.specs.declared.message.Message.{Message}
 use Rattle.tl_burst.specs.declared.message.Message.TheVariants as message
-use Rattle.tl_burst.specs.declared.message.MessageA.{MessageA}
-use Rattle.tl_params.specs.declared.config.Config.{Config}
-use Rattle.tl_params.specs.declared.param.Cap.{Cap}
-use Rattle.tl_params.specs.declared.param.Grow.{Grow}
-use Rattle.tl_params.specs.declared.param.Prune.{Prune}
-use Rattle.tl_rules.specs.statement.History.{block_at}
 use Rattle.tl_client.specs.declared.operation.Op.{Op}
 use Rattle.tl_client.specs.declared.operation.Op.TheVariants as op
 use Rattle.tl_client.specs.declared.reply.Reply.{Reply}
 use Rattle.tl_client.specs.declared.reply.Reply.TheVariants as reply
 use Rattle.tl_client.specs.statement.Ask.{copy_stored, whole_grow}
 use Rattle.tl_client.specs.statement.Send.{access}
-use Rattle.tl_manager.specs.statement.End.{End}
-use Rattle.tl_coherence.specs.refinement.AbstractStep.{AbstractState, asked, is_whole, taken_by_client, kind_taken}
-use Rattle.tl_coherence.specs.protocol.Invariant.{IsInvariant}
-use Rattle.tl_coherence.specs.protocol.Phase.{ClientBlock, ProbeSent, is_unprobed}
-use Rattle.tl_coherence.specs.protocol.PhaseSteps.{after_acquire, after_release, after_probe, after_grant, after_release_ack}
-use Rattle.tl_coherence.specs.protocol.Protocol.{Service, Free, Waits, GrantSent, GrantTaken, Block, State, SourceFree, InService, on, packet, shown, view, is_granting}
-use Rattle.tl_coherence.specs.protocol.Protocol.{acquiring_block, releasing_block, stored_block, probed_block, taken_block, let_go_block, access_asked, acquire_asked}
-use Rattle.tl_coherence.specs.protocol.Protocol.{release_asked, block_stored, probe_taken, answer_taken, grant_taken, release_ack_taken}
-use Rattle.tl_coherence.specs.refinement.PacketMessages.{AccessMessages, cap_sent}
-use Rattle.tl_coherence.specs.protocol.Packet.{Kind, Request, Acquire, Probe, ProbeAck, Release, Answer, Grant, ReleaseAck, GrantAck, Packet, set, set_at}
-use Rattle.tl_coherence.specs.refinement.SimulationRelation.{IsServedWith}
+use Rattle.tl_coherence.specs.refinement.AbstractStep.{asked, is_whole, taken_by_client}
+use Rattle.tl_coherence.specs.protocol.Phase.{ProbeSent}
+use Rattle.tl_coherence.specs.protocol.PhaseSteps.{after_acquire, after_release, after_probe, after_grant}
+use Rattle.tl_coherence.specs.protocol.PhaseSteps.{after_release_ack}
+use Rattle.tl_coherence.specs.protocol.Protocol.{shown, acquiring_block, releasing_block, stored_block, probed_block}
+use Rattle.tl_coherence.specs.protocol.Protocol.{taken_block, let_go_block, access_asked, acquire_asked, release_asked}
+use Rattle.tl_coherence.specs.protocol.Protocol.{block_stored, probe_taken, answer_taken, grant_taken}
+use Rattle.tl_coherence.specs.protocol.Protocol.{release_ack_taken}
+use Rattle.tl_coherence.specs.refinement.PacketMessages.{cap_sent}
+use Rattle.tl_coherence.specs.protocol.Packet.{set_at}
 use Rattle.tl_coherence.proofs.manager.Traces.{IsSameToManager, SameService}
 use Rattle.tl_coherence.proofs.manager.Choices.{waits-used}
 use Rattle.tl_coherence.proofs.protocol.FollowKept.{IsAskable, asked-kept}
@@ -50,7 +48,8 @@ pub record IsSameBlock {X : Type 0} (b new : Block X) : Type 0 where
   pub service_same : SameService b.service new.service
   pub memory_same : new.memory ≡ b.memory
 
-pub same-blocks : {X : Type 0} (n : ℕ) (new : Block X) (s u : State X) → ((i : ℕ) → u.block i ≡ set n new s.block i) → IsSameBlock (s.block n) new
+pub same-blocks : {X : Type 0} (n : ℕ) (new : Block X) (s u : State X) → ((i : ℕ) → u.block i ≡ set n new s.block i)
+    → IsSameBlock (s.block n) new
     → IsSameToManager s u × ((i : ℕ) → (u.block i).memory ≡ (s.block i).memory)
 same-blocks {X} n new s u blocks is = (
   record {
@@ -65,19 +64,23 @@ same-blocks {X} n new s u blocks is = (
   λ i. same (λ (b : Block X). b.memory) is.memory_same i,
 )
   where
-    same : {A : Type 0} (part : Block X → A) → part new ≡ part (s.block n) → (i : ℕ) → part (u.block i) ≡ part (s.block i)
+    same : {A : Type 0} (part : Block X → A) → part new ≡ part (s.block n) → (i : ℕ)
+        → part (u.block i) ≡ part (s.block i)
     same part e i = ap part (blocks i) ∙ set-part part n new s.block e i
 
 -- and what is kept of the manager's end stays
-pub at_manager-unseen : {w : ℕ} (caching : ℕ → Bool) (config : Config) (mail : AccessMessages w) (request : ℕ → MessageA w) (n : ℕ) (new : Block (List ℕ))
+pub at_manager-unseen : {w : ℕ} (caching : ℕ → Bool) (config : Config) (mail : AccessMessages w) (request : ℕ
+    → MessageA w) (n : ℕ) (new : Block (List ℕ))
     (s u : State (List ℕ)) (e : End w) → IsInvariant caching u
-    → ((i : ℕ) → u.block i ≡ set n new s.block i) → IsSameBlock (s.block n) new → IsAtManager config mail request s e → IsAtManager config mail request u e
+    → ((i : ℕ) → u.block i ≡ set n new s.block i) → IsSameBlock (s.block n) new → IsAtManager config mail request s e
+    → IsAtManager config mail request u e
 at_manager-unseen caching config mail request n new s u e inv blocks same is =
     let all = same-blocks n new s u blocks same in
     at_manager-same caching config mail request s u e inv all.0 all.1 is
 
 -- where no block changes at all
-pub at_manager-untouched : {w : ℕ} (caching : ℕ → Bool) (config : Config) (mail : AccessMessages w) (request : ℕ → MessageA w) (s u : State (List ℕ)) (e : End w)
+pub at_manager-untouched : {w : ℕ} (caching : ℕ → Bool) (config : Config) (mail : AccessMessages w) (request : ℕ
+    → MessageA w) (s u : State (List ℕ)) (e : End w)
     → IsInvariant caching u → ((i : ℕ) → u.block i ≡ s.block i)
     → IsAtManager config mail request s e → IsAtManager config mail request u e
 at_manager-untouched caching config mail request s u e inv blocks is =
@@ -91,94 +94,127 @@ at_manager-untouched caching config mail request s u e inv blocks is =
     (λ i. ap (λ (b : Block (List ℕ)). b.memory) (blocks i)) is
 
 -- a client's pair in place of one that is the same to the manager
-same-pair : {X : Type 0} (c : ℕ) (p : ClientBlock) (b : Block X) → p.recorded ≡ (b.pair c).recorded → is_unprobed p.probing ≡ is_unprobed (b.pair c).probing
+same-pair : {X : Type 0} (c : ℕ) (p : ClientBlock) (b : Block X) → p.recorded ≡ (b.pair c).recorded
+    → is_unprobed p.probing ≡ is_unprobed (b.pair c).probing
     → (new : Block X) → new.pair ≡ set c p b.pair → new.tracker ≡ b.tracker
     → SameService b.service new.service → new.memory ≡ b.memory → IsSameBlock b new
 same-pair c p b recorded quiet new pairs tracker service memory = record {
-  recorded_same = λ d. ap (λ (f : ℕ → ClientBlock). (f d).recorded) pairs ∙ set-part (λ (q : ClientBlock). q.recorded) c p b.pair recorded d;
-  quiet_same = λ d. ap (λ (f : ℕ → ClientBlock). is_unprobed (f d).probing) pairs ∙ set-part (λ (q : ClientBlock). is_unprobed q.probing) c p b.pair quiet d;
+  recorded_same = λ d. ap (λ (f : ℕ → ClientBlock). (f d).recorded) pairs ∙ set-part (λ (q : ClientBlock). q.recorded) c
+      p b.pair recorded d;
+  quiet_same = λ d. ap (λ (f : ℕ → ClientBlock). is_unprobed (f d).probing) pairs ∙ set-part
+      (λ (q : ClientBlock). is_unprobed q.probing) c p b.pair quiet d;
   tracker_same = tracker;
   service_same = service;
   memory_same = memory;
 }
 
-same-acquiring : {X : Type 0} (c source : ℕ) (whole : Bool) (g : Grow) (bytes : X) (b : Block X) → IsSameBlock b (acquiring_block c source whole g bytes b)
-same-acquiring c source whole g bytes b = same-pair c (after_acquire whole g (b.pair c)) b refl refl (acquiring_block c source whole g bytes b) refl refl (same-again b.service) refl
+same-acquiring : {X : Type 0} (c source : ℕ) (whole : Bool) (g : Grow) (bytes : X) (b : Block X)
+    → IsSameBlock b (acquiring_block c source whole g bytes b)
+same-acquiring c source whole g bytes b = same-pair c (after_acquire whole g (b.pair c)) b refl refl
+    (acquiring_block c source whole g bytes b) refl refl (same-again b.service) refl
 
 same-releasing : {X : Type 0} (c source : ℕ) (r : Prune) (b : Block X) → IsSameBlock b (releasing_block c source r b)
-same-releasing c source r b = same-pair c (after_release r (b.pair c)) b refl refl (releasing_block c source r b) refl refl (same-again b.service) refl
+same-releasing c source r b = same-pair c (after_release r (b.pair c)) b refl refl (releasing_block c source r b) refl
+    refl (same-again b.service) refl
 
 same-stored : {X : Type 0} (c : ℕ) (bytes : X) (b : Block X) → IsSameBlock b (stored_block c bytes b)
-same-stored c bytes b = record { recorded_same = λ d. refl; quiet_same = λ d. refl; tracker_same = refl; service_same = same-again b.service; memory_same = refl }
+same-stored c bytes b = record {
+  recorded_same = λ d. refl;
+  quiet_same = λ d. refl;
+  tracker_same = refl;
+  service_same =
+      same-again b.service;
+  memory_same = refl;
+}
 
-same-probed : {X : Type 0} (c : ℕ) (k j : Cap) (b : Block X) → (b.pair c).probing ≡ ProbeSent j → IsSameBlock b (probed_block c k b)
-same-probed c k j b sent = same-pair c (after_probe k (b.pair c)) b refl (sym (ap is_unprobed sent)) (probed_block c k b) refl refl (same-again b.service) refl
+same-probed : {X : Type 0} (c : ℕ) (k j : Cap) (b : Block X) → (b.pair c).probing ≡ ProbeSent j
+    → IsSameBlock b (probed_block c k b)
+same-probed c k j b sent = same-pair c (after_probe k (b.pair c)) b refl (sym (ap is_unprobed sent))
+    (probed_block c k b) refl refl (same-again b.service) refl
 
-same-taken : {X : Type 0} (c : ℕ) (whole d : Bool) (k j : Cap) (b : Block X) → b.service ≡ GrantSent c d j → IsSameBlock b (taken_block c whole d k b)
-same-taken c whole d k j b sent = same-pair c (after_grant k (b.pair c)) b refl refl (taken_block c whole d k b) refl refl (rw sent refl) refl
+same-taken : {X : Type 0} (c : ℕ) (whole d : Bool) (k j : Cap) (b : Block X) → b.service ≡ GrantSent c d j
+    → IsSameBlock b (taken_block c whole d k b)
+same-taken c whole d k j b sent = same-pair c (after_grant k (b.pair c)) b refl refl (taken_block c whole d k b) refl
+    refl (rw sent refl) refl
 
 same-let_go : {X : Type 0} (c : ℕ) (b : Block X) → IsSameBlock b (let_go_block c b)
-same-let_go c b = same-pair c (after_release_ack (b.pair c)) b refl refl (let_go_block c b) refl refl (same-again b.service) refl
+same-let_go c b = same-pair c (after_release_ack (b.pair c)) b refl refl (let_go_block c b) refl refl
+    (same-again b.service) refl
 
 -- ---- a client is asked
 
 -- an access that starts has a source of which no request waits
-asked_with : {w : ℕ} (caching : ℕ → Bool) (c source n : ℕ) (i : Message w) (mail : AccessMessages w) (s : State (List ℕ)) (m : MessageA w) → IsInvariant caching s → s.uses c source ≡ SourceFree
-    → (service : Service) → (s.block n).service ≡ service → IsServedWith mail service m → IsServedWith (record { request = set_at c source i mail.request; answer = mail.answer }) service m
+asked_with : {w : ℕ} (caching : ℕ → Bool) (c source n : ℕ) (i : Message w) (mail : AccessMessages w)
+    (s : State (List ℕ)) (m : MessageA w) → IsInvariant caching s → s.uses c source ≡ SourceFree
+    → (service : Service) → (s.block n).service ≡ service → IsServedWith mail service m
+    → IsServedWith (record { request = set_at c source i mail.request; answer = mail.answer }) service m
 asked_with caching c source n i mail s m inv closed Free e ok = tt
 asked_with caching c source n i mail s m inv closed (Waits r true src k) e ok = tt
 asked_with {w} caching c source n i mail s m inv closed (Waits r false src k) e ok = elim (cases_eq r c) [
   | inl client ↦ elim (cases_eq src source) [
     | inl number ↦
-        absurd (let used : s.uses r src ≡ InService n = waits-used caching s n r src false k inv e in let no : SourceFree ≡ InService n = sym closed ∙ ap₂ s.uses (sym client) (sym number) ∙ used in cc)
+        absurd (let used : s.uses r src ≡ InService n = waits-used caching s n r src false k inv e in
+        let no : SourceFree ≡ InService n = sym closed ∙ ap₂ s.uses (sym client) (sym number) ∙ used in cc)
     | inr other ↦
-        rw client (ap (λ (f : ℕ → Message w). f src) (set-same c (set source i (mail.request c)) mail.request) ∙ set-other source src i (mail.request c) other
+        rw client (ap (λ (f : ℕ → Message w). f src) (set-same c (set source i (mail.request c)) mail.request)
+        ∙ set-other source src i (mail.request c) other
         ∙ ap (λ j. mail.request j src) (sym client) ∙ ok)
   ]
-  | inr other ↦ ap (λ (f : ℕ → Message w). f src) (set-other c r (set source i (mail.request c)) mail.request other) ∙ ok
+  | inr other ↦ ap (λ (f : ℕ → Message w). f src) (set-other c r (set source i (mail.request c)) mail.request other)
+      ∙ ok
 ]
 asked_with caching c source n i mail s m inv closed (GrantSent q d k) e ok = tt
 asked_with caching c source n i mail s m inv closed (GrantTaken q) e ok = tt
 
-at_manager-access : {w : ℕ} (caching : ℕ → Bool) (config : Config) (c source : ℕ) (m : MessageA w) (h : AbstractState w) (e : End w) → IsInvariant caching h.state
+at_manager-access : {w : ℕ} (caching : ℕ → Bool) (config : Config) (c source : ℕ) (m : MessageA w) (h : AbstractState w)
+    (e : End w) → IsInvariant caching h.state
     → h.state.uses c source ≡ SourceFree → IsInvariant caching (access_asked c source h.state)
     → IsManagerOf config h e → IsManagerOf config (asked c (op.Access (message.A m)) (reply.Started source) h) e
 at_manager-access {w} caching config c source m h e inv closed after is =
     let now : IsAtManager config h.mail h.request (access_asked c source h.state) e =
-    at_manager-untouched caching config h.mail h.request h.state (access_asked c source h.state) e after (λ i. refl) is in
+    at_manager-untouched caching config h.mail h.request h.state (access_asked c source h.state) e after (λ i. refl) is
+    in
     record {
       managed = now.managed;
       served = now.served;
-      served_with = λ n. asked_with caching c source n (access source m) h.mail h.state (h.request n) inv closed (h.state.block n).service refl (is.served_with n);
+      served_with = λ n. asked_with caching c source n (access source m) h.mail h.state (h.request n) inv closed
+          (h.state.block n).service refl (is.served_with n);
       manager_kept = now.manager_kept;
       memory = now.memory;
       all_live = now.all_live;
     }
 
 -- what is kept of the manager's end stays as a client is asked
-pub at_manager-asked : {w : ℕ} (caching : ℕ → Bool) (config : Config) (c : ℕ) (o : Op w) (r : Reply) (h : AbstractState w) (e : End w) → IsInvariant caching h.state
+pub at_manager-asked : {w : ℕ} (caching : ℕ → Bool) (config : Config) (c : ℕ) (o : Op w) (r : Reply)
+    (h : AbstractState w) (e : End w) → IsInvariant caching h.state
     → IsAskable caching c o r h → IsManagerOf config h e → IsManagerOf config (asked c o r h) e
 at_manager-asked {w} caching config c o r h e inv may is = go o r may (asked-kept caching c o r h inv may)
   where
-    go : (o : Op w) (r : Reply) → IsAskable caching c o r h → IsInvariant caching (asked c o r h).state → IsManagerOf config (asked c o r h) e
+    go : (o : Op w) (r : Reply) → IsAskable caching c o r h → IsInvariant caching (asked c o r h).state
+        → IsManagerOf config (asked c o r h) e
     go (op.Load address size) r may after = is
     go (op.Store address size value) reply.Stored may after =
         let bytes = copy_stored address size value ((h.state.block (block_at address)).copy c) in
-        at_manager-unseen caching config h.mail h.request (block_at address) (stored_block c bytes (h.state.block (block_at address))) h.state
+        at_manager-unseen caching config h.mail h.request (block_at address)
+        (stored_block c bytes (h.state.block (block_at address))) h.state
         (block_stored c (block_at address) bytes h.state) e after (λ i. refl)
         (same-stored c bytes (h.state.block (block_at address))) is
     go (op.Acquire n g) (reply.Started source) may after =
-        at_manager-unseen caching config h.mail h.request n (acquiring_block c source false g ((h.state.block n).waiting c) (h.state.block n)) h.state
+        at_manager-unseen caching config h.mail h.request n
+        (acquiring_block c source false g ((h.state.block n).waiting c) (h.state.block n)) h.state
         (acquire_asked c n source false g ((h.state.block n).waiting c) h.state) e after (λ i. refl)
         (same-acquiring c source false g ((h.state.block n).waiting c) (h.state.block n)) is
     go (op.AcquireWhole n bytes) (reply.Started source) may after =
         let g = whole_grow ((h.state.block n).pair c).held in
-        at_manager-unseen caching config h.mail h.request n (acquiring_block c source true g bytes (h.state.block n)) h.state (acquire_asked c n source true g bytes h.state) e after (λ i. refl)
+        at_manager-unseen caching config h.mail h.request n (acquiring_block c source true g bytes (h.state.block n))
+        h.state (acquire_asked c n source true g bytes h.state) e after (λ i. refl)
         (same-acquiring c source true g bytes (h.state.block n)) is
     go (op.Release n p) (reply.Started source) may after =
-        at_manager-unseen caching config h.mail h.request n (releasing_block c source p (h.state.block n)) h.state (release_asked c n source p h.state) e after
+        at_manager-unseen caching config h.mail h.request n (releasing_block c source p (h.state.block n)) h.state
+        (release_asked c n source p h.state) e after
         (λ i. refl) (same-releasing c source p (h.state.block n)) is
-    go (op.Access (message.A m)) (reply.Started source) may after = at_manager-access caching config c source m h e inv may after is
+    go (op.Access (message.A m)) (reply.Started source) may after = at_manager-access caching config c source m h e inv
+        may after is
     go (op.Store address size value) (reply.Value v) may after = is
     go (op.Store address size value) reply.Miss may after = is
     go (op.Store address size value) (reply.Started source) may after = is
@@ -215,9 +251,11 @@ is_to_clients ReleaseAck = true
 is_to_clients _ = false
 
 -- what is kept of the manager's end stays as a client takes a message
-pub at_manager-client_taken : {w : ℕ} (caching : ℕ → Bool) (config : Config) (tracker c : ℕ) (kind : Kind) (n : ℕ) (rest : List Packet) (h : AbstractState w)
+pub at_manager-client_taken : {w : ℕ} (caching : ℕ → Bool) (config : Config) (tracker c : ℕ) (kind : Kind) (n : ℕ)
+    (rest : List Packet) (h : AbstractState w)
     (e : End w) → is_to_clients kind ≡ true → IsInvariant caching h.state
-    → on kind (h.state.link c) ≡ packet kind n ∷ rest → IsInvariant caching (kind_taken config tracker c kind n rest h).state → IsManagerOf config h e
+    → on kind (h.state.link c) ≡ packet kind n ∷ rest
+    → IsInvariant caching (kind_taken config tracker c kind n rest h).state → IsManagerOf config h e
     → IsManagerOf config (kind_taken config tracker c kind n rest h) e
 at_manager-client_taken caching config tracker c Request n rest h e kind inv first after is = absurd cc
 at_manager-client_taken caching config tracker c Acquire n rest h e kind inv first after is = absurd cc
@@ -226,23 +264,31 @@ at_manager-client_taken caching config tracker c Release n rest h e kind inv fir
 at_manager-client_taken caching config tracker c GrantAck n rest h e kind inv first after is = absurd cc
 at_manager-client_taken caching config tracker c Probe n rest h e kind inv first after is =
     let k = cap_sent ((h.state.block n).pair c).probing in
-    let sent = sent-is ((h.state.block n).pair c).probing (holds-first Probe (h.state.link c).b rest (packet Probe n) (λ i. shown Probe c (h.state.block i)) first refl (inv.transfers c Probe refl)) in
-    at_manager-unseen caching config h.mail h.request n (probed_block c k (h.state.block n)) h.state (probe_taken c n k rest h.state) e after (λ i. refl) (same-probed c k k (h.state.block n) sent) is
+    let sent = sent-is ((h.state.block n).pair c).probing (holds-first Probe (h.state.link c).b rest (packet Probe n)
+    (λ i. shown Probe c (h.state.block i)) first refl (inv.transfers c Probe refl)) in
+    at_manager-unseen caching config h.mail h.request n (probed_block c k (h.state.block n)) h.state
+    (probe_taken c n k rest h.state) e after (λ i. refl) (same-probed c k k (h.state.block n) sent) is
 at_manager-client_taken caching config tracker c Answer n rest h e kind inv first after is =
     at_manager-untouched caching config h.mail h.request h.state (answer_taken c n rest h.state) e after (λ i. refl) is
 at_manager-client_taken caching config tracker c ReleaseAck n rest h e kind inv first after is =
-    at_manager-unseen caching config h.mail h.request n (let_go_block c (h.state.block n)) h.state (release_ack_taken c n rest h.state) e after (λ i. refl) (same-let_go c (h.state.block n)) is
-at_manager-client_taken {w} caching config tracker c Grant n rest h e kind inv first after is = go (h.state.block n).service refl after
+    at_manager-unseen caching config h.mail h.request n (let_go_block c (h.state.block n)) h.state
+    (release_ack_taken c n rest h.state) e after (λ i. refl) (same-let_go c (h.state.block n)) is
+at_manager-client_taken {w} caching config tracker c Grant n rest h e kind inv first after is =
+    go (h.state.block n).service refl after
   where
-    go : (service : Service) → (h.state.block n).service ≡ service → IsInvariant caching (taken_by_client c n service rest h).state → IsManagerOf config (taken_by_client c n service rest h) e
+    go : (service : Service) → (h.state.block n).service ≡ service
+        → IsInvariant caching (taken_by_client c n service rest h).state
+        → IsManagerOf config (taken_by_client c n service rest h) e
     go Free f kept = is
     go (Waits r own source k) f kept = is
     go (GrantTaken q) f kept = is
     go (GrantSent q d k) f kept =
         let seen : is_granting (view (GrantSent q d k) c) ≡ true =
-        rw f at (holds-first Grant (h.state.link c).d rest (packet Grant n) (λ i. shown Grant c (h.state.block i)) first refl
+        rw f at (holds-first Grant (h.state.link c).d rest (packet Grant n) (λ i. shown Grant c (h.state.block i)) first
+        refl
         (inv.transfers c Grant refl)) in
         let same : c ≡ q = eqb-true c q (granting-own (c == q) d k seen) in
         let whole = is_whole ((h.state.block n).pair c).acquiring in
-        at_manager-unseen caching config h.mail h.request n (taken_block c whole d k (h.state.block n)) h.state (grant_taken c n whole d k rest h.state) e kept
+        at_manager-unseen caching config h.mail h.request n (taken_block c whole d k (h.state.block n)) h.state
+        (grant_taken c n whole d k rest h.state) e kept
         (λ i. refl) (same-taken c whole d k k (h.state.block n) (f ∙ rw same refl)) is

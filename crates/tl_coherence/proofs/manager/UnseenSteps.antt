@@ -1,15 +1,14 @@
 -- Steps of the whole that the manager doesn't see: an event of a client that there isn't, a client that is asked, and a
 -- delivery to a client.
-use Rattle.std.proofs.Common.{◌≡◌, subst, ℕ, Bool, true, false, ◌&&◌, List, [], ◌∷◌, Option, Some, None, refl, sym, ◌∙◌, ap}
+use Rattle.tl_coherence.proofs.manager.Imports.{Beat, Link, Channel, Message, unfinished, Config, AbstractState}
+use Rattle.tl_coherence.proofs.manager.Imports.{kind_taken, IsInvariant, Log, packet, is_on, on, System, Kind, Request}
+use Rattle.tl_coherence.proofs.manager.Imports.{Acquire, Probe, ProbeAck, Release, Answer, Grant, ReleaseAck, GrantAck}
+use Rattle.tl_coherence.proofs.manager.Imports.{Packet, SimulationRelation, is_caching}
+use Rattle.std.proofs.Common.{◌≡◌, subst, ℕ, Bool, true, false, ◌&&◌, List, [], ◌∷◌, Option, Some, None, refl, sym, ◌∙◌}
+use Rattle.std.proofs.Common.{ap}
 use Rattle.std.proofs.lemmas.Bool.{true_from_ne_false}
 use Rattle.std.specs.Prelude.{if◌then◌else◌, Result, Ok, Err}
-use Rattle.tl_beat.specs.declared.beat.Beat.{Beat}
-use Rattle.tl_beat.specs.declared.beat.Link.{Link}
-use Rattle.tl_beat.specs.declared.channel.Channel.{Channel}
 use Rattle.tl_beat.specs.declared.channel.Channel.TheVariants as channel
-use Rattle.tl_burst.specs.declared.message.Message.{Message}
-use Rattle.tl_burst.specs.statement.Messages.{unfinished}
-use Rattle.tl_params.specs.declared.config.Config.{Config}
 use Rattle.tl_params.specs.declared.rule.Rule.{Rule}
 use Rattle.tl_client.specs.declared.operation.Op.{Op}
 use Rattle.tl_client.specs.declared.verdict.Verdict.{Verdict}
@@ -22,16 +21,13 @@ use Rattle.tl_coherence.specs.declared.event.Event.TheVariants.{Ask, Deliver}
 use Rattle.tl_coherence.specs.declared.event.Outcome.TheVariants as outcome
 use Rattle.tl_coherence.specs.statement.Draining.{is_moving}
 use Rattle.tl_coherence.specs.refinement.AbstractStep as follow
-use Rattle.tl_coherence.specs.refinement.AbstractStep.{AbstractState, abstract_step_by, is_last, kind_taken, packet_taken, delivered, abstract_step}
-use Rattle.tl_coherence.specs.protocol.Invariant.{IsInvariant}
-use Rattle.tl_coherence.specs.statement.Log.{Log}
+use Rattle.tl_coherence.specs.refinement.AbstractStep.{abstract_step_by, is_last, packet_taken, delivered}
+use Rattle.tl_coherence.specs.refinement.AbstractStep.{abstract_step}
 use Rattle.tl_coherence.specs.refinement.ChannelRelation.{receiver}
 use Rattle.tl_coherence.specs.protocol.Protocol as protocol
-use Rattle.tl_coherence.specs.protocol.Protocol.{packet, packets_on, is_on, on}
+use Rattle.tl_coherence.specs.protocol.Protocol.{packets_on}
 use Rattle.tl_coherence.specs.statement.Step.{Step, handed_by, judged, is_to_client, client_of, stepped}
-use Rattle.tl_coherence.specs.statement.System.{System, terms_at, with_client, with_channel}
-use Rattle.tl_coherence.specs.protocol.Packet.{Kind, Request, Acquire, Probe, ProbeAck, Release, Answer, Grant, ReleaseAck, GrantAck, Packet}
-use Rattle.tl_coherence.specs.refinement.SimulationRelation.{SimulationRelation, is_caching}
+use Rattle.tl_coherence.specs.statement.System.{terms_at, with_client, with_channel}
 use Rattle.tl_coherence.proofs.manager.Admitted.{first_counts}
 use Rattle.tl_coherence.proofs.protocol.FollowKept.{IsAskable}
 use Rattle.tl_coherence.proofs.manager.ManagersEnd.{at_manager-matched}
@@ -54,34 +50,44 @@ at_manager-nobody {w} config log h sys event is none = rw none (go event)
 
 -- ---- a client is asked
 
-pub at_manager-ask : {w : ℕ} (config : Config) (log : Log w) (h : AbstractState w) (sys : System w) (c : ℕ) (o : Op w) (terms : client.EndConfig)
+pub at_manager-ask : {w : ℕ} (config : Config) (log : Log w) (h : AbstractState w) (sys : System w) (c : ℕ) (o : Op w)
+    (terms : client.EndConfig)
     → SimulationRelation config log h.mail h.request h.state sys → terms_at config c ≡ Some terms
     → IsAskable (is_caching config) c o (client_ask.asked terms o (sys.clients c)).reply h
     → IsManagerOf config (abstract_step config (Ask c o) sys h) (stepped config (Ask c o) sys).after.manager
 at_manager-ask {w} config log h sys c o terms is there may =
     let a = client_ask.asked terms o (sys.clients c) in
-    subst (λ (s : Step w). IsManagerOf config (abstract_step_by config (Ask c o) s.outcome sys h) s.after.manager) (sym (stepped-asked config c o sys terms there))
-    (subst (IsManagerOf config (follow.asked c o a.reply h)) (sym (manager-with_messages (handed_by c a.message) (with_client c a.after sys)))
-    (at_manager-asked (is_caching config) config c o a.reply h sys.manager is.invariant may (at_manager-matched config log h.mail h.request h.state sys is)))
+    subst (λ (s : Step w). IsManagerOf config (abstract_step_by config (Ask c o) s.outcome sys h) s.after.manager)
+    (sym (stepped-asked config c o sys terms there))
+    (subst (IsManagerOf config (follow.asked c o a.reply h))
+    (sym (manager-with_messages (handed_by c a.message) (with_client c a.after sys)))
+    (at_manager-asked (is_caching config) config c o a.reply h sys.manager is.invariant may
+    (at_manager-matched config log h.mail h.request h.state sys is)))
 
 -- ---- a delivery to a client
 
-manager-judged : {w : ℕ} (r : Result (Verdict × Option (Message w)) Rule) (link : ℕ) (ch : Channel) (x : Beat w) (rest : List (Beat w)) (e : client.Endpoint w)
+manager-judged : {w : ℕ} (r : Result (Verdict × Option (Message w)) Rule) (link : ℕ) (ch : Channel) (x : Beat w)
+    (rest : List (Beat w)) (e : client.Endpoint w)
     (s : System w) → (judged r link ch x rest e s).after.manager ≡ s.manager
 manager-judged (Err rule) link ch x rest e s = refl
 manager-judged (Ok (verdict.Stalled, m)) link ch x rest e s = refl
-manager-judged (Ok (verdict.Taken, m)) link ch x rest e s = manager-with_messages (handed_by link m) (with_client link e (with_channel link ch rest s))
-manager-judged (Ok (verdict.Done source f, m)) link ch x rest e s = manager-with_messages (handed_by link m) (with_client link e (with_channel link ch rest s))
+manager-judged (Ok (verdict.Taken, m)) link ch x rest e s =
+    manager-with_messages (handed_by link m) (with_client link e (with_channel link ch rest s))
+manager-judged (Ok (verdict.Done source f, m)) link ch x rest e s =
+    manager-with_messages (handed_by link m) (with_client link e (with_channel link ch rest s))
 
-pub manager-to-client : {w : ℕ} (config : Config) (link : Link) (ch : Channel) (sys : System w) (terms : client.EndConfig) → terms_at config link.0 ≡ Some terms
+pub manager-to-client : {w : ℕ} (config : Config) (link : Link) (ch : Channel) (sys : System w)
+    (terms : client.EndConfig) → terms_at config link.0 ≡ Some terms
     → is_to_client ch ≡ true → (stepped config (Deliver link ch) sys).after.manager ≡ sys.manager
 manager-to-client {w} config link ch sys terms there up = go (sys.channels link.0 ch) refl
   where
-    go : (xs : List (Beat w)) → sys.channels link.0 ch ≡ xs → (stepped config (Deliver link ch) sys).after.manager ≡ sys.manager
+    go : (xs : List (Beat w)) → sys.channels link.0 ch ≡ xs
+        → (stepped config (Deliver link ch) sys).after.manager ≡ sys.manager
     go [] e = ap (λ (s : Step w). s.after.manager) (stepped-empty config link ch sys terms there e)
     go (x ∷ rest) e =
         let o = offered terms ch x (sys.clients link.0) in
-        ap (λ (s : Step w). s.after.manager) (stepped-to-client config link ch sys terms x rest there e up) ∙ manager-judged o.answer link.0 ch x rest o.after sys
+        ap (λ (s : Step w). s.after.manager) (stepped-to-client config link ch sys terms x rest there e up)
+        ∙ manager-judged o.answer link.0 ch x rest o.after sys
 
 -- the kinds of a channel to clients
 to_clients : (ch : Channel) (k : Kind) → is_to_client ch ≡ true → (is_on ch k ≡ false → ⊥) → is_to_clients k ≡ true
@@ -121,13 +127,18 @@ on-channel channel.E GrantAck l e = refl
 on-channel ch k l e = absurd cc
 
 -- where the invariant is kept, so is what is kept of the manager's end
-pub at_manager-to_client : {w : ℕ} (config : Config) (log : Log w) (h : AbstractState w) (sys : System w) (link : Link) (ch : Channel) (terms : client.EndConfig)
-    → SimulationRelation config log h.mail h.request h.state sys → terms_at config link.0 ≡ Some terms → is_to_client ch ≡ true
+pub at_manager-to_client : {w : ℕ} (config : Config) (log : Log w) (h : AbstractState w) (sys : System w) (link : Link)
+    (ch : Channel) (terms : client.EndConfig)
+    → SimulationRelation config log h.mail h.request h.state sys → terms_at config link.0 ≡ Some terms
+    → is_to_client ch ≡ true
     → IsInvariant (is_caching config) (abstract_step config (Deliver link ch) sys h).state
-    → IsManagerOf config (abstract_step config (Deliver link ch) sys h) (stepped config (Deliver link ch) sys).after.manager
+    → IsManagerOf config (abstract_step config (Deliver link ch) sys h)
+    (stepped config (Deliver link ch) sys).after.manager
 at_manager-to_client {w} config log h sys link ch terms is there up kept =
-    subst (IsManagerOf config (abstract_step config (Deliver link ch) sys h)) (sym (manager-to-client config link ch sys terms there up))
-    (go (is_moving (stepped config (Deliver link ch) sys).outcome && is_last (sys.channels c ch) (unfinished ch (receiver ch c sys))) kept)
+    subst (IsManagerOf config (abstract_step config (Deliver link ch) sys h))
+    (sym (manager-to-client config link ch sys terms there up))
+    (go (is_moving (stepped config (Deliver link ch) sys).outcome && is_last (sys.channels c ch)
+    (unfinished ch (receiver ch c sys))) kept)
   where
     c : ℕ
     c = link.0
@@ -135,11 +146,13 @@ at_manager-to_client {w} config log h sys link ch terms is there up kept =
     known : IsManagerOf config h sys.manager
     known = at_manager-matched config log h.mail h.request h.state sys is
 
-    taken : (xs : List Packet) → packets_on ch (h.state.link c) ≡ xs → IsInvariant (is_caching config) (packet_taken config (next_tracker sys) c xs h).state
+    taken : (xs : List Packet) → packets_on ch (h.state.link c) ≡ xs
+        → IsInvariant (is_caching config) (packet_taken config (next_tracker sys) c xs h).state
         → IsManagerOf config (packet_taken config (next_tracker sys) c xs h) sys.manager
     taken [] e inv = known
     taken (y ∷ ys) e inv =
-        at_manager-client_taken (is_caching config) config (next_tracker sys) c y.kind y.number ys h sys.manager (to_clients ch y.kind up here) is.invariant first inv known
+        at_manager-client_taken (is_caching config) config (next_tracker sys) c y.kind y.number ys h sys.manager
+        (to_clients ch y.kind up here) is.invariant first inv known
       where
         here : is_on ch y.kind ≡ false → ⊥
         here off = first_counts y ys (rw e at (is.invariant.own_kinds c ch y.kind y.number off))
@@ -147,7 +160,9 @@ at_manager-to_client {w} config log h sys link ch terms is there up kept =
         first : on y.kind (h.state.link c) ≡ packet y.kind y.number ∷ ys
         first = on-channel ch y.kind (h.state.link c) (true_from_ne_false (is_on ch y.kind) here) ∙ e
 
-    go : (b : Bool) → IsInvariant (is_caching config) (if b then packet_taken config (next_tracker sys) c (packets_on ch (h.state.link c)) h else h).state
-        → IsManagerOf config (if b then packet_taken config (next_tracker sys) c (packets_on ch (h.state.link c)) h else h) sys.manager
+    go : (b : Bool) → IsInvariant (is_caching config) (if b then packet_taken config (next_tracker sys) c
+        (packets_on ch (h.state.link c)) h else h).state
+        → IsManagerOf config (if b then packet_taken config (next_tracker sys) c (packets_on ch (h.state.link c)) h else
+        h) sys.manager
     go true inv = taken (packets_on ch (h.state.link c)) refl inv
     go false inv = known

@@ -1,34 +1,34 @@
 -- The one-memory machine beside the protocol, after an operation that a client is asked for.
-use Rattle.std.proofs.Common.{◌≡◌, ℕ, Bool, true, false, ◌&&◌, List, Option, Some, None, length, refl, sym, ◌∙◌, ap, subst, ◌⊎◌, inl, inr}
+use Rattle.tl_coherence.proofs.memory.Imports.{MessageA, Memory, IsBlock, block_at, same_perm, Op, Reply}
+use Rattle.tl_coherence.proofs.memory.Imports.{MemoryRelation, AbstractState, Machine, Open, Requests, Releases}
+use Rattle.tl_coherence.proofs.memory.Imports.{with_open, after_reply, ClientBlock, AcquireOpen, Block, State}
+use Rattle.tl_coherence.proofs.memory.Imports.{SourceState, SourceFree, Asked, InService, Replied, Acquires}
+use Rattle.tl_coherence.proofs.memory.Imports.{AccessMessages, set_at}
+use Rattle.std.proofs.Common.{◌≡◌, ℕ, Bool, true, false, ◌&&◌, List, Option, Some, None, length, refl, sym, ◌∙◌, ap}
+use Rattle.std.proofs.Common.{subst, ◌⊎◌, inl, inr}
 use Rattle.std.specs.Prelude.{◌==◌, ⊤}
 use Rattle.std.proofs.lemmas.Bool.{cases_eq}
 use Rattle.tl_burst.specs.declared.message.Message.TheVariants as message
-use Rattle.tl_burst.specs.declared.message.MessageA.{MessageA}
 use Rattle.tl_params.specs.declared.param.Grow.{Grow}
 use Rattle.tl_params.specs.declared.perm.Perm.TheVariants as perm
 use Rattle.tl_params.specs.declared.param.Prune.{Prune}
-use Rattle.tl_rules.specs.statement.Effect.{Memory, IsBlock}
-use Rattle.tl_rules.specs.statement.History.{block_at}
-use Rattle.tl_rules.specs.statement.Conformance.{same_perm}
-use Rattle.tl_client.specs.declared.operation.Op.{Op}
 use Rattle.tl_client.specs.declared.operation.Op.TheVariants as op
-use Rattle.tl_client.specs.declared.reply.Reply.{Reply}
 use Rattle.tl_client.specs.declared.reply.Reply.TheVariants as reply
 use Rattle.tl_client.specs.statement.Ask.{copy_stored, is_word, whole_grow}
 use Rattle.tl_client.specs.statement.Send.{access}
 use Rattle.tl_client.proofs.Stores.{word_room}
-use Rattle.tl_coherence.specs.refinement.MemoryRelation.{op_of, MemoryRelation}
-use Rattle.tl_coherence.specs.refinement.AbstractStep.{AbstractState, asked}
+use Rattle.tl_coherence.specs.refinement.MemoryRelation.{op_of}
+use Rattle.tl_coherence.specs.refinement.AbstractStep.{asked}
 use Rattle.tl_coherence.specs.protocol.Invariant.{acquires_of, IsInvariant}
-use Rattle.tl_coherence.specs.statement.Machine.{Machine, Open, Requests, Releases, with_open, with_number, after_reply}
-use Rattle.tl_coherence.specs.protocol.Phase.{ClientBlock, AcquirePhase, NoAcquire, AcquireOpen}
+use Rattle.tl_coherence.specs.statement.Machine.{with_number}
+use Rattle.tl_coherence.specs.protocol.Phase.{AcquirePhase, NoAcquire}
 use Rattle.tl_coherence.specs.protocol.PhaseSteps.{after_acquire, after_release}
-use Rattle.tl_coherence.specs.protocol.Protocol.{Block, State, SourceState, SourceFree, Asked, InService, Replied, Acquires, is_wanting, access_asked, acquiring_block, acquire_asked}
+use Rattle.tl_coherence.specs.protocol.Protocol.{is_wanting, access_asked, acquiring_block, acquire_asked}
 use Rattle.tl_coherence.specs.protocol.Protocol.{releasing_block, release_asked, stored_block, block_stored}
-use Rattle.tl_coherence.specs.refinement.PacketMessages.{AccessMessages}
-use Rattle.tl_coherence.specs.protocol.Packet.{set, set_at}
+use Rattle.tl_coherence.specs.protocol.Packet.{set}
 use Rattle.tl_coherence.specs.refinement.SimulationRelation.{AreSized}
-use Rattle.tl_coherence.proofs.memory.Beside.{IsElsewhere, IsSameAcquire, set_at-there, open-here, open-there, open-releases, open-requests, beside-still, beside-used, beside-let}
+use Rattle.tl_coherence.proofs.memory.Beside.{IsElsewhere, IsSameAcquire, set_at-there, open-here, open-there}
+use Rattle.tl_coherence.proofs.memory.Beside.{open-releases, open-requests, beside-still, beside-used, beside-let}
 use Rattle.tl_coherence.proofs.protocol.FollowKept.{IsAskable}
 use Rattle.tl_coherence.proofs.memory.OneMemory.{block-stored, block-unstored}
 use Rattle.tl_coherence.proofs.simulation.SizedAfter.{IsSizedAsk}
@@ -39,19 +39,24 @@ use Rattle.tl_coherence.proofs.queues.Perms.{trunk-some}
 
 -- what other sources acquire is as before, where one client's part of a block changes, and it acquires the block with
 -- no other source
-pub acquires-else : (c n source : ℕ) (new : Block (List ℕ)) (p : ClientBlock) (s s' : State (List ℕ)) → ((i : ℕ) → s'.block i ≡ set n new s.block i) → ((d : ℕ) → new.pair d ≡ set c p (s.block n).pair d)
-    → ((d : ℕ) → (d ≡ c → ⊥) → new.waiting d ≡ (s.block n).waiting d) → ((i : ℕ) → (i ≡ source → ⊥) → s.uses c i ≡ Acquires n → ⊥)
+pub acquires-else : (c n source : ℕ) (new : Block (List ℕ)) (p : ClientBlock) (s s' : State (List ℕ))
+    → ((i : ℕ) → s'.block i ≡ set n new s.block i) → ((d : ℕ) → new.pair d ≡ set c p (s.block n).pair d)
+    → ((d : ℕ) → (d ≡ c → ⊥) → new.waiting d ≡ (s.block n).waiting d)
+    → ((i : ℕ) → (i ≡ source → ⊥) → s.uses c i ≡ Acquires n → ⊥)
     → (d i : ℕ) → IsElsewhere c source d i → IsSameAcquire d s s' (s.uses d i)
 acquires-else c n source new p s s' blocks pairs waits alone d i else_ = go (s.uses d i) refl
   where
-    here : (d ≡ c → ⊥) → (((s'.block n).pair d).acquiring ≡ ((s.block n).pair d).acquiring) × ((s'.block n).waiting d ≡ (s.block n).waiting d)
+    here : (d ≡ c → ⊥) → (((s'.block n).pair d).acquiring ≡ ((s.block n).pair d).acquiring)
+        × ((s'.block n).waiting d ≡ (s.block n).waiting d)
     here ne =
         let at : s'.block n ≡ new = blocks n ∙ set-same n new s.block in (
-          ap (λ (b : Block (List ℕ)). (b.pair d).acquiring) at ∙ ap (λ (q : ClientBlock). q.acquiring) (pairs d ∙ set-other c d p (s.block n).pair ne),
+          ap (λ (b : Block (List ℕ)). (b.pair d).acquiring) at ∙ ap (λ (q : ClientBlock). q.acquiring)
+              (pairs d ∙ set-other c d p (s.block n).pair ne),
           ap (λ (b : Block (List ℕ)). b.waiting d) at ∙ waits d ne,
         )
 
-    there : (k : ℕ) → (k ≡ n → ⊥) → (((s'.block k).pair d).acquiring ≡ ((s.block k).pair d).acquiring) × ((s'.block k).waiting d ≡ (s.block k).waiting d)
+    there : (k : ℕ) → (k ≡ n → ⊥) → (((s'.block k).pair d).acquiring ≡ ((s.block k).pair d).acquiring)
+        × ((s'.block k).waiting d ≡ (s.block k).waiting d)
     there k ne =
         let at : s'.block k ≡ s.block k = blocks k ∙ set-other n k new s.block ne in
         (ap (λ (b : Block (List ℕ)). (b.pair d).acquiring) at, ap (λ (b : Block (List ℕ)). b.waiting d) at)
@@ -65,16 +70,19 @@ acquires-else c n source new p s s' blocks pairs waits alone d i else_ = go (s.u
     go (InService k) e = tt
     go Replied e = tt
     go (Acquires k) e = elim (cases_eq k n) [
-      | inl same ↦ subst (λ (j : ℕ). (((s'.block j).pair d).acquiring ≡ ((s.block j).pair d).acquiring) × ((s'.block j).waiting d ≡ (s.block j).waiting d)) (sym same) (here (apart k e same))
+      | inl same ↦ subst (λ (j : ℕ). (((s'.block j).pair d).acquiring ≡ ((s.block j).pair d).acquiring)
+          × ((s'.block j).waiting d ≡ (s.block j).waiting d)) (sym same) (here (apart k e same))
       | inr other ↦ there k other
     ]
 
 -- who acquires nothing of a block has no source for it
-pub calm-none : (caching : ℕ → Bool) (s : State (List ℕ)) (c n i : ℕ) → IsInvariant caching s → ((s.block n).pair c).acquiring ≡ NoAcquire → s.uses c i ≡ Acquires n → ⊥
+pub calm-none : (caching : ℕ → Bool) (s : State (List ℕ)) (c n i : ℕ) → IsInvariant caching s
+    → ((s.block n).pair c).acquiring ≡ NoAcquire → s.uses c i ≡ Acquires n → ⊥
 calm-none caching s c n i inv calm e =
     let named = inv.named.acquires c i n in
     let yes : acquires_of n (s.uses c i) ≡ true = ap (acquires_of n) e ∙ same_number n in
-    let no : (is_wanting ((s.block n).pair c).acquiring && (i == (s.block n).source c)) ≡ false = ap (λ (x : AcquirePhase). is_wanting x && (i == (s.block n).source c)) calm in
+    let no : (is_wanting ((s.block n).pair c).acquiring && (i == (s.block n).source c)) ≡ false =
+    ap (λ (x : AcquirePhase). is_wanting x && (i == (s.block n).source c)) calm in
     let differ : true ≡ false = sym yes ∙ named ∙ no in cc
 
 -- ---- what is asked
@@ -89,28 +97,36 @@ IsReply (op.Access (message.D m)) (reply.Started source) = ⊥
 IsReply (op.Access (message.E m)) (reply.Started source) = ⊥
 IsReply o r = ⊤
 
-truth_as : (f : Memory) (n i : ℕ) (new : Block (List ℕ)) (block : ℕ → Block (List ℕ)) → new.truth ≡ (block n).truth → IsBlock f i (block i).truth → IsBlock f i (set n new block i).truth
-truth_as f n i new block e h = subst (λ (bytes : List ℕ). IsBlock f i bytes) (sym (set-part (λ (b : Block (List ℕ)). b.truth) n new block e i)) h
+truth_as : (f : Memory) (n i : ℕ) (new : Block (List ℕ)) (block : ℕ → Block (List ℕ)) → new.truth ≡ (block n).truth
+    → IsBlock f i (block i).truth → IsBlock f i (set n new block i).truth
+truth_as f n i new block e h =
+    subst (λ (bytes : List ℕ). IsBlock f i bytes) (sym (set-part (λ (b : Block (List ℕ)). b.truth) n new block e i)) h
 
-pub beside-acquire_asked : {w : ℕ} (caching : ℕ → Bool) (c n source : ℕ) (whole : Bool) (g : Grow) (bytes : List ℕ) (o : Op w) (mail : AccessMessages w)
+pub beside-acquire_asked : {w : ℕ} (caching : ℕ → Bool) (c n source : ℕ) (whole : Bool) (g : Grow) (bytes : List ℕ)
+    (o : Op w) (mail : AccessMessages w)
     (s : State (List ℕ)) (m : Machine w) → IsInvariant caching s → ((s.block n).pair c).acquiring ≡ NoAcquire
-    → op_of (AcquireOpen whole g) n bytes ≡ o → MemoryRelation mail s m → MemoryRelation mail (acquire_asked c n source whole g bytes s) (with_open c Requests source (Some (record { asked = o; answer = None })) m)
-beside-acquire_asked {w} caching c n source whole g bytes o mail s m inv calm is h = beside-used c source (Acquires n) mail mail s s' m m' (record {
-  memory = λ i. truth_as m.memory n i new s.block refl (h.memory i);
-  uses = λ d i. refl;
-  lets = λ d i. refl;
-  here =
-      open-here c Requests source (Some (record { asked = o; answer = None })) m
-      ∙ ap (λ (y : Op w). Some (record { asked = y; answer = None })) (sym is)
-      ∙ sym (ap (λ (b : Block (List ℕ)). opened_as (b.pair c).acquiring (b.waiting c)) (set-same n new s.block)
-      ∙ ap (λ (p : ClientBlock). opened_as p.acquiring (set c bytes (s.block n).waiting c)) (set-same c after (s.block n).pair)
-      ∙ ap (opened_as (AcquireOpen whole g)) (set-same c bytes (s.block n).waiting));
-  there = λ d i else_. open-there c Requests source (Some (record { asked = o; answer = None })) m d i else_;
-  releases = λ d i. open-releases c source (Some (record { asked = o; answer = None })) m d i;
-  requests = λ d i else_. refl;
-  answers = λ d i else_. refl;
-  acquires = acquires-else c n source new after s s' (λ i. refl) (λ d. refl) (λ d ne. set-other c d bytes (s.block n).waiting ne) (λ i ne e. calm-none caching s c n i inv calm e);
-}) h
+    → op_of (AcquireOpen whole g) n bytes ≡ o → MemoryRelation mail s m
+    → MemoryRelation mail (acquire_asked c n source whole g bytes s)
+    (with_open c Requests source (Some (record { asked = o; answer = None })) m)
+beside-acquire_asked {w} caching c n source whole g bytes o mail s m inv calm is h =
+    beside-used c source (Acquires n) mail mail s s' m m' (record {
+      memory = λ i. truth_as m.memory n i new s.block refl (h.memory i);
+      uses = λ d i. refl;
+      lets = λ d i. refl;
+      here =
+          open-here c Requests source (Some (record { asked = o; answer = None })) m
+          ∙ ap (λ (y : Op w). Some (record { asked = y; answer = None })) (sym is)
+          ∙ sym (ap (λ (b : Block (List ℕ)). opened_as (b.pair c).acquiring (b.waiting c)) (set-same n new s.block)
+          ∙ ap (λ (p : ClientBlock). opened_as p.acquiring (set c bytes (s.block n).waiting c))
+          (set-same c after (s.block n).pair)
+          ∙ ap (opened_as (AcquireOpen whole g)) (set-same c bytes (s.block n).waiting));
+      there = λ d i else_. open-there c Requests source (Some (record { asked = o; answer = None })) m d i else_;
+      releases = λ d i. open-releases c source (Some (record { asked = o; answer = None })) m d i;
+      requests = λ d i else_. refl;
+      answers = λ d i else_. refl;
+      acquires = acquires-else c n source new after s s' (λ i. refl) (λ d. refl)
+          (λ d ne. set-other c d bytes (s.block n).waiting ne) (λ i ne e. calm-none caching s c n i inv calm e);
+    }) h
   where
     after : ClientBlock
     after = after_acquire whole g ((s.block n).pair c)
@@ -127,8 +143,10 @@ beside-acquire_asked {w} caching c n source whole g bytes o mail s m inv calm is
     opened_as : AcquirePhase → List ℕ → Option (Open w)
     opened_as x y = Some (record { asked = op_of x n y; answer = None })
 
-pub beside-release_asked : {w : ℕ} (c n source : ℕ) (r : Prune) (mail : AccessMessages w) (s : State (List ℕ)) (m : Machine w) → MemoryRelation mail s m
-    → MemoryRelation mail (release_asked c n source r s) (with_open c Releases source (Some (record { asked = op.Release n r; answer = None })) m)
+pub beside-release_asked : {w : ℕ} (c n source : ℕ) (r : Prune) (mail : AccessMessages w) (s : State (List ℕ))
+    (m : Machine w) → MemoryRelation mail s m
+    → MemoryRelation mail (release_asked c n source r s)
+    (with_open c Releases source (Some (record { asked = op.Release n r; answer = None })) m)
 beside-release_asked {w} c n source r mail s m h =
     beside-let c source (Some n) mail s (release_asked c n source r s) m
     (with_open c Releases source (Some (record { asked = op.Release n r; answer = None })) m) (record {
@@ -136,11 +154,13 @@ beside-release_asked {w} c n source r mail s m h =
       uses = λ d i. refl;
       lets = λ d i. refl;
       here = (r, open-here c Releases source (Some (record { asked = op.Release n r; answer = None })) m);
-      there = λ d i else_. open-there c Releases source (Some (record { asked = op.Release n r; answer = None })) m d i else_;
+      there = λ d i else_. open-there c Releases source (Some (record { asked = op.Release n r; answer = None })) m d i
+          else_;
       requests = λ d i. open-requests c source (Some (record { asked = op.Release n r; answer = None })) m d i;
       acquires = λ d i. (
         set-part (λ (b : Block (List ℕ)). (b.pair d).acquiring) n new s.block
-            (set-part (λ (p : ClientBlock). p.acquiring) c (after_release r ((s.block n).pair c)) (s.block n).pair refl d) i,
+            (set-part (λ (p : ClientBlock). p.acquiring) c (after_release r ((s.block n).pair c)) (s.block n).pair refl
+            d) i,
         set-part (λ (b : Block (List ℕ)). b.waiting d) n new s.block refl i,
       );
     }) h
@@ -148,17 +168,29 @@ beside-release_asked {w} c n source r mail s m h =
     new : Block (List ℕ)
     new = releasing_block c source r (s.block n)
 
-pub beside-access_asked : {w : ℕ} (c source : ℕ) (a : MessageA w) (mail : AccessMessages w) (s : State (List ℕ)) (m : Machine w) → MemoryRelation mail s m
-    → MemoryRelation (record { request = set_at c source (access source a) mail.request; answer = mail.answer }) (access_asked c source s)
+pub beside-access_asked : {w : ℕ} (c source : ℕ) (a : MessageA w) (mail : AccessMessages w) (s : State (List ℕ))
+    (m : Machine w) → MemoryRelation mail s m
+    → MemoryRelation (record { request = set_at c source (access source a) mail.request; answer = mail.answer })
+    (access_asked c source s)
     (with_open c Requests source (Some (record { asked = op.Access (message.A a); answer = None })) m)
 beside-access_asked {w} c source a mail s m h =
-    beside-used c source Asked mail (record { request = set_at c source (access source a) mail.request; answer = mail.answer }) s (access_asked c source s) m
+    beside-used c source Asked mail (record {
+      request = set_at c source (access source a) mail.request;
+      answer =
+          mail.answer;
+    }) s (access_asked c source s) m
     (with_open c Requests source (Some (record { asked = op.Access (message.A a); answer = None })) m) (record {
       memory = h.memory;
       uses = λ d i. refl;
       lets = λ d i. refl;
-      here = (a, set_at-same c source (access source a) mail.request, open-here c Requests source (Some (record { asked = op.Access (message.A a); answer = None })) m);
-      there = λ d i else_. open-there c Requests source (Some (record { asked = op.Access (message.A a); answer = None })) m d i else_;
+      here = (
+        a,
+        set_at-same c source (access source a) mail.request,
+        open-here c Requests source
+            (Some (record { asked = op.Access (message.A a); answer = None })) m,
+      );
+      there = λ d i else_. open-there c Requests source
+          (Some (record { asked = op.Access (message.A a); answer = None })) m d i else_;
       releases = λ d i. open-releases c source (Some (record { asked = op.Access (message.A a); answer = None })) m d i;
       requests = λ d i else_. set_at-there c source (access source a) mail.request d i else_;
       answers = λ d i else_. refl;
@@ -172,17 +204,24 @@ beside-access_asked {w} c source a mail s m h =
     same_blocks d Replied = tt
     same_blocks d (Acquires n) = (refl, refl)
 
-pub beside-block_stored : {w : ℕ} (caching : ℕ → Bool) (c address size value : ℕ) (mail : AccessMessages w) (s : State (List ℕ)) (m : Machine w) → IsInvariant caching s
+pub beside-block_stored : {w : ℕ} (caching : ℕ → Bool) (c address size value : ℕ) (mail : AccessMessages w)
+    (s : State (List ℕ)) (m : Machine w) → IsInvariant caching s
     → AreSized (s.block (block_at address)) → is_word address size ≡ true
     → same_perm ((s.block (block_at address)).pair c).held perm.Trunk ≡ true → MemoryRelation mail s m
-    → MemoryRelation mail (block_stored c (block_at address) (copy_stored address size value ((s.block (block_at address)).copy c)) s) (record m { memory = with_number address size value m.memory })
+    → MemoryRelation mail (block_stored c (block_at address)
+    (copy_stored address size value ((s.block (block_at address)).copy c)) s)
+    (record m { memory = with_number address size value m.memory })
 beside-block_stored {w} caching c address size value mail s m inv sized word trunk h =
     beside-still mail s s' m (record m { memory = with_number address size value m.memory }) (record {
       memory = λ i. bytes i (cases_eq i n);
       uses = λ d i. refl;
       lets = λ d i. refl;
       opened = λ d pool i. refl;
-      acquires = λ d i. (set-part (λ (b : Block (List ℕ)). (b.pair d).acquiring) n new s.block refl i, set-part (λ (b : Block (List ℕ)). b.waiting d) n new s.block refl i);
+      acquires = λ d i. (
+        set-part (λ (b : Block (List ℕ)). (b.pair d).acquiring) n new s.block refl i,
+        set-part
+            (λ (b : Block (List ℕ)). b.waiting d) n new s.block refl i,
+      );
     }) h
   where
     n : ℕ
@@ -201,17 +240,23 @@ beside-block_stored {w} caching c address size value mail s m inv sized word tru
     same = (inv.blocks n).copies c (trunk-some ((s.block n).pair c).held trunk)
 
     here : IsBlock (with_number address size value m.memory) n (copy_stored address size value copy)
-    here = block-stored address size value copy m.memory (word_room address size word) (ap length same ∙ sized.truth) (subst (λ (b : List ℕ). IsBlock m.memory n b) (sym same) (h.memory n))
+    here = block-stored address size value copy m.memory (word_room address size word) (ap length same ∙ sized.truth)
+        (subst (λ (b : List ℕ). IsBlock m.memory n b) (sym same) (h.memory n))
 
-    bytes : (i : ℕ) → (i ≡ n) ⊎ (i ≡ n → ⊥) → IsBlock (with_number address size value m.memory) i (set n new s.block i).truth
+    bytes : (i : ℕ) → (i ≡ n) ⊎ (i ≡ n → ⊥) → IsBlock (with_number address size value m.memory) i
+        (set n new s.block i).truth
     bytes i (inl at) =
         subst (λ (j : ℕ). IsBlock (with_number address size value m.memory) j (set n new s.block j).truth) (sym at)
-        (subst (λ (b : Block (List ℕ)). IsBlock (with_number address size value m.memory) n b.truth) (sym (set-same n new s.block)) here)
+        (subst (λ (b : Block (List ℕ)). IsBlock (with_number address size value m.memory) n b.truth)
+        (sym (set-same n new s.block)) here)
     bytes i (inr other) =
-        subst (λ (b : Block (List ℕ)). IsBlock (with_number address size value m.memory) i b.truth) (sym (set-other n i new s.block other))
-        (block-unstored address size value i (s.block i).truth m.memory (word_room address size word) other (h.memory i))
+        subst (λ (b : Block (List ℕ)). IsBlock (with_number address size value m.memory) i b.truth)
+        (sym (set-other n i new s.block other))
+        (block-unstored address size value i (s.block i).truth m.memory (word_room address size word) other
+        (h.memory i))
 
-pub beside-asked : {w : ℕ} (caching : ℕ → Bool) (c : ℕ) (o : Op w) (r : Reply) (h : AbstractState w) (m : Machine w) → IsInvariant caching h.state
+pub beside-asked : {w : ℕ} (caching : ℕ → Bool) (c : ℕ) (o : Op w) (r : Reply) (h : AbstractState w) (m : Machine w)
+    → IsInvariant caching h.state
     → ((n : ℕ) → AreSized (h.state.block n)) → IsReply o r → IsAskable caching c o r h → IsSizedAsk c o r h
     → MemoryRelation h.mail h.state m → MemoryRelation (asked c o r h).mail (asked c o r h).state (after_reply c o r m)
 beside-asked caching c (op.Load address size) (reply.Value v) h m inv sized is may word b = b
@@ -226,23 +271,27 @@ beside-asked caching c (op.Store address size value) reply.Miss h m inv sized is
 beside-asked caching c (op.Store address size value) (reply.Started source) h m inv sized is may word b = absurd is
 beside-asked caching c (op.Store address size value) (reply.Busy why) h m inv sized is may word b = b
 beside-asked caching c (op.Acquire n g) (reply.Started source) h m inv sized is may word b =
-    beside-acquire_asked caching c n source false g ((h.state.block n).waiting c) (op.Acquire n g) h.mail h.state m inv may.2 refl b
+    beside-acquire_asked caching c n source false g ((h.state.block n).waiting c) (op.Acquire n g) h.mail h.state m inv
+    may.2 refl b
 beside-asked caching c (op.Acquire n g) (reply.Value v) h m inv sized is may word b = b
 beside-asked caching c (op.Acquire n g) reply.Stored h m inv sized is may word b = b
 beside-asked caching c (op.Acquire n g) reply.Miss h m inv sized is may word b = b
 beside-asked caching c (op.Acquire n g) (reply.Busy why) h m inv sized is may word b = b
 beside-asked caching c (op.AcquireWhole n bytes) (reply.Started source) h m inv sized is may word b =
-    beside-acquire_asked caching c n source true (whole_grow ((h.state.block n).pair c).held) bytes (op.AcquireWhole n bytes) h.mail h.state m inv may.2 refl b
+    beside-acquire_asked caching c n source true (whole_grow ((h.state.block n).pair c).held) bytes
+    (op.AcquireWhole n bytes) h.mail h.state m inv may.2 refl b
 beside-asked caching c (op.AcquireWhole n bytes) (reply.Value v) h m inv sized is may word b = b
 beside-asked caching c (op.AcquireWhole n bytes) reply.Stored h m inv sized is may word b = b
 beside-asked caching c (op.AcquireWhole n bytes) reply.Miss h m inv sized is may word b = b
 beside-asked caching c (op.AcquireWhole n bytes) (reply.Busy why) h m inv sized is may word b = b
-beside-asked caching c (op.Release n p) (reply.Started source) h m inv sized is may word b = beside-release_asked c n source p h.mail h.state m b
+beside-asked caching c (op.Release n p) (reply.Started source) h m inv sized is may word b =
+    beside-release_asked c n source p h.mail h.state m b
 beside-asked caching c (op.Release n p) (reply.Value v) h m inv sized is may word b = b
 beside-asked caching c (op.Release n p) reply.Stored h m inv sized is may word b = b
 beside-asked caching c (op.Release n p) reply.Miss h m inv sized is may word b = b
 beside-asked caching c (op.Release n p) (reply.Busy why) h m inv sized is may word b = b
-beside-asked caching c (op.Access (message.A a)) (reply.Started source) h m inv sized is may word b = beside-access_asked c source a h.mail h.state m b
+beside-asked caching c (op.Access (message.A a)) (reply.Started source) h m inv sized is may word b =
+    beside-access_asked c source a h.mail h.state m b
 beside-asked caching c (op.Access (message.A a)) (reply.Value v) h m inv sized is may word b = b
 beside-asked caching c (op.Access (message.A a)) reply.Stored h m inv sized is may word b = b
 beside-asked caching c (op.Access (message.A a)) reply.Miss h m inv sized is may word b = b

@@ -1,36 +1,37 @@
 -- The one-memory machine beside the protocol, after each message that is taken.
-use Rattle.std.proofs.Common.{◌≡◌, subst, ℕ, ◌≤◌, Bool, true, false, not, ◌&&◌, List, [], ◌∷◌, Option, Some, None, length, refl, sym, ◌∙◌, ap, ◌⊎◌, inl, inr}
+use Rattle.tl_coherence.proofs.memory.Imports.{Message, MessageA, Config, Cap, IsBlock, effect, block_at, Op}
+use Rattle.tl_coherence.proofs.memory.Imports.{cap_probed, MemoryRelation, AbstractState, some_below, bytes_at}
+use Rattle.tl_coherence.proofs.memory.Imports.{performs, Machine, Open, Requests, Releases, with_open, with_memory}
+use Rattle.tl_coherence.proofs.memory.Imports.{memory_after, after_end, ClientBlock, AcquireOpen, Block, State}
+use Rattle.tl_coherence.proofs.memory.Imports.{SourceState, SourceFree, InService, Replied, Acquires, is_probed}
+use Rattle.tl_coherence.proofs.memory.Imports.{performing, AccessMessages, set_at}
+use Rattle.std.proofs.Common.{◌≡◌, subst, ℕ, ◌≤◌, Bool, true, false, not, ◌&&◌, List, [], ◌∷◌, Option, Some, None}
+use Rattle.std.proofs.Common.{length, refl, sym, ◌∙◌, ap, ◌⊎◌, inl, inr}
 use Rattle.std.specs.Prelude.{◌==◌, if◌then◌else◌, ⊤}
 use Rattle.std.proofs.lemmas.Bool.{cases_eq, ne_eqb}
 use Rattle.std.proofs.Math.Bool.{and-false}
-use Rattle.tl_burst.specs.declared.message.Message.{Message}
 use Rattle.tl_burst.specs.declared.message.Message.TheVariants as message
-use Rattle.tl_burst.specs.declared.message.MessageA.{MessageA}
-use Rattle.tl_params.specs.declared.config.Config.{Config}
-use Rattle.tl_params.specs.declared.param.Cap.{Cap}
 use Rattle.tl_params.specs.declared.param.Report.{Report}
 use Rattle.tl_params.specs.declared.profile.Profile.{Profile}
-use Rattle.tl_rules.specs.statement.Effect.{IsBlock, effect}
-use Rattle.tl_rules.specs.statement.History.{block_at}
-use Rattle.tl_client.specs.declared.operation.Op.{Op}
 use Rattle.tl_client.specs.declared.operation.Op.TheVariants as op
-use Rattle.tl_manager.specs.statement.Holders.{cap_probed}
-use Rattle.tl_coherence.specs.refinement.MemoryRelation.{op_of, IsOpened, IsLet, MemoryRelation}
-use Rattle.tl_coherence.specs.refinement.AbstractStep.{AbstractState, some_below, bytes_at, performs, answers, probes_some, access_taken, request_taken, acquire_taken, granted_after, last_taken, ack_taken, is_whole}
+use Rattle.tl_coherence.specs.refinement.MemoryRelation.{op_of, IsOpened, IsLet}
+use Rattle.tl_coherence.specs.refinement.AbstractStep.{answers, probes_some, access_taken, request_taken, acquire_taken}
+use Rattle.tl_coherence.specs.refinement.AbstractStep.{granted_after, last_taken, ack_taken, is_whole}
 use Rattle.tl_coherence.specs.protocol.Invariant.{acquires_of, IsInvariant}
-use Rattle.tl_coherence.specs.statement.Machine.{Machine, Open, Requests, Releases, with_open, with_memory, memory_after, after_end}
-use Rattle.tl_coherence.specs.protocol.Phase.{ClientBlock, ProbeAnswered, AcquirePhase, NoAcquire, AcquireOpen, is_unreleased, is_unprobed}
-use Rattle.tl_coherence.specs.protocol.PhaseSteps.{after_served, after_grant_sent, after_report, after_release_ack, after_grant}
-use Rattle.tl_coherence.specs.protocol.Protocol.{Service, Free, Waits, GrantSent, GrantTaken, Block, State, SourceState, SourceFree, InService, Replied, Acquires, is_wanting, is_probed}
-use Rattle.tl_coherence.specs.protocol.Protocol.{written, performed_block, served_block, granted_at_once, reported_block, ended_block, granted_block, granted_pair}
-use Rattle.tl_coherence.specs.protocol.Protocol.{taken_block, granted_truth, let_go_block, access_answered, access_served, report_taken, report_answers, answer_taken}
-use Rattle.tl_coherence.specs.protocol.Protocol.{grant_taken, release_ack_taken}
-use Rattle.tl_coherence.specs.statement.OneMemory.{performing}
-use Rattle.tl_coherence.specs.refinement.PacketMessages.{AccessMessages}
-use Rattle.tl_coherence.specs.protocol.Packet.{Kind, Request, ProbeAck, Packet, set, set_at}
-use Rattle.tl_coherence.proofs.memory.Beside.{open-here, open-there, open-releases, open-requests, beside-still, beside-used, beside-let, same_acquire}
+use Rattle.tl_coherence.specs.protocol.Phase.{ProbeAnswered, AcquirePhase, NoAcquire, is_unreleased, is_unprobed}
+use Rattle.tl_coherence.specs.protocol.PhaseSteps.{after_served, after_grant_sent, after_report, after_release_ack}
+use Rattle.tl_coherence.specs.protocol.PhaseSteps.{after_grant}
+use Rattle.tl_coherence.specs.protocol.Protocol.{Service, Free, Waits, GrantSent, GrantTaken, is_wanting, written}
+use Rattle.tl_coherence.specs.protocol.Protocol.{performed_block, served_block, granted_at_once, reported_block}
+use Rattle.tl_coherence.specs.protocol.Protocol.{ended_block, granted_block, granted_pair, taken_block, granted_truth}
+use Rattle.tl_coherence.specs.protocol.Protocol.{let_go_block, access_answered, access_served, report_taken}
+use Rattle.tl_coherence.specs.protocol.Protocol.{report_answers, answer_taken, grant_taken, release_ack_taken}
+use Rattle.tl_coherence.specs.protocol.Packet.{Kind, Request, ProbeAck, Packet, set}
+use Rattle.tl_coherence.proofs.memory.Beside.{open-here, open-there, open-releases, open-requests, beside-still}
+use Rattle.tl_coherence.proofs.memory.Beside.{beside-used, beside-let, same_acquire}
 use Rattle.tl_coherence.proofs.memory.BesideAsked.{acquires-else}
-use Rattle.tl_coherence.proofs.memory.BesideTaken.{IsPerformed, beside-performed, memory-unprobed, memory-reported, intent-reply}
+use Rattle.tl_coherence.proofs.memory.BesideTaken.{IsPerformed, beside-performed, memory-unprobed, memory-reported}
+use Rattle.tl_coherence.proofs.memory.BesideTaken.{intent-reply}
 use Rattle.tl_coherence.proofs.memory.OneMemory.{block-besides}
 use Rattle.tl_manager.proofs.Blocks.{block-put}
 use Rattle.tl_coherence.proofs.queues.Tokens.{same_number, set-same, set-other, set-part}
@@ -45,7 +46,8 @@ access_list c source _ _ = (c, source) ∷ []
 
 abbrev pub request_accesses : {w : ℕ} → ℕ → ℕ → ℕ → Message w → AbstractState w → List (ℕ × ℕ)
 request_accesses clients c source (message.A m) h =
-    access_list c source (probes_some clients c false (cap_probed m.opcode m.param) (h.state.block (block_at m.address)).pair) (cap_probed m.opcode m.param)
+    access_list c source (probes_some clients c false (cap_probed m.opcode m.param)
+    (h.state.block (block_at m.address)).pair) (cap_probed m.opcode m.param)
 request_accesses clients c source _ h = []
 
 abbrev pub last_accesses : Service → List (ℕ × ℕ)
@@ -56,55 +58,69 @@ last_accesses _ = []
 abbrev pub accesses_by : {w : ℕ} → Config → ℕ → Kind → ℕ → AbstractState w → List (ℕ × ℕ)
 accesses_by config c Request i h = request_accesses (length config.clients.items) c i (h.mail.request c i) h
 accesses_by config c ProbeAck n h =
-    if some_below (length config.clients.items) (λ d. not (d == c) && not (is_unprobed ((h.state.block n).pair d).probing))
+    if some_below (length config.clients.items)
+    (λ d. not (d == c) && not (is_unprobed ((h.state.block n).pair d).probing))
     then []
     else last_accesses (h.state.block n).service
 accesses_by config c _ i h = []
 
 -- ---- one block changes, and no source
 
-pub beside_block : {w : ℕ} (n : ℕ) (new : Block (List ℕ)) (mail : AccessMessages w) (s s' : State (List ℕ)) (m : Machine w) → ((i : ℕ) → s'.block i ≡ set n new s.block i)
+pub beside_block : {w : ℕ} (n : ℕ) (new : Block (List ℕ)) (mail : AccessMessages w) (s s' : State (List ℕ))
+    (m : Machine w) → ((i : ℕ) → s'.block i ≡ set n new s.block i)
     → ((d i : ℕ) → s'.uses d i ≡ s.uses d i) → ((d i : ℕ) → s'.lets d i ≡ s.lets d i)
-    → new.truth ≡ (s.block n).truth → ((d : ℕ) → (new.pair d).acquiring ≡ ((s.block n).pair d).acquiring) → ((d : ℕ) → new.waiting d ≡ (s.block n).waiting d) → MemoryRelation mail s m → MemoryRelation mail s' m
+    → new.truth ≡ (s.block n).truth → ((d : ℕ) → (new.pair d).acquiring ≡ ((s.block n).pair d).acquiring)
+    → ((d : ℕ) → new.waiting d ≡ (s.block n).waiting d) → MemoryRelation mail s m → MemoryRelation mail s' m
 beside_block {w} n new mail s s' m blocks uses lets truth acquiring waiting h = beside-still mail s s' m m (record {
   memory = λ i. subst (λ (bytes : List ℕ). IsBlock m.memory i bytes)
-      (sym (ap (λ (b : Block (List ℕ)). b.truth) (blocks i) ∙ set-part (λ (b : Block (List ℕ)). b.truth) n new s.block truth i)) (h.memory i);
+      (sym (ap (λ (b : Block (List ℕ)). b.truth) (blocks i) ∙ set-part (λ (b : Block (List ℕ)). b.truth) n new s.block
+      truth i)) (h.memory i);
   uses = uses;
   lets = lets;
   opened = λ d pool i. refl;
   acquires = λ d i. (
-    ap (λ (b : Block (List ℕ)). (b.pair d).acquiring) (blocks i) ∙ set-part (λ (b : Block (List ℕ)). (b.pair d).acquiring) n new s.block (acquiring d) i,
-    ap (λ (b : Block (List ℕ)). b.waiting d) (blocks i) ∙ set-part (λ (b : Block (List ℕ)). b.waiting d) n new s.block (waiting d) i,
+    ap (λ (b : Block (List ℕ)). (b.pair d).acquiring) (blocks i) ∙ set-part
+        (λ (b : Block (List ℕ)). (b.pair d).acquiring) n new s.block (acquiring d) i,
+    ap (λ (b : Block (List ℕ)). b.waiting d) (blocks i) ∙ set-part (λ (b : Block (List ℕ)). b.waiting d) n new s.block
+        (waiting d) i,
   );
 }) h
 
 -- one client's pair changes, and not what it acquires
-pub same_acquiring : (c : ℕ) (p : ClientBlock) (f : ℕ → ClientBlock) → p.acquiring ≡ (f c).acquiring → (d : ℕ) → (set c p f d).acquiring ≡ (f d).acquiring
+pub same_acquiring : (c : ℕ) (p : ClientBlock) (f : ℕ → ClientBlock) → p.acquiring ≡ (f c).acquiring → (d : ℕ)
+    → (set c p f d).acquiring ≡ (f d).acquiring
 same_acquiring c p f e d = set-part (λ (q : ClientBlock). q.acquiring) c p f e d
 
-served_acquiring : (r : ℕ) (own : Bool) (k : Cap) (pair : ℕ → ClientBlock) (d : ℕ) → (if own && (d == r) then pair d else after_served k (pair d)).acquiring ≡ (pair d).acquiring
+served_acquiring : (r : ℕ) (own : Bool) (k : Cap) (pair : ℕ → ClientBlock) (d : ℕ)
+    → (if own && (d == r) then pair d else after_served k (pair d)).acquiring ≡ (pair d).acquiring
 served_acquiring r own k pair d = go (own && (d == r))
   where
     go : (x : Bool) → (if x then pair d else after_served k (pair d)).acquiring ≡ (pair d).acquiring
     go true = refl
     go false = refl
 
-granted_acquiring : (c q : ℕ) (r : Report) (k : Cap) (pair : ℕ → ClientBlock) (d : ℕ) → (granted_pair c q r k pair d).acquiring ≡ (pair d).acquiring
+granted_acquiring : (c q : ℕ) (r : Report) (k : Cap) (pair : ℕ → ClientBlock) (d : ℕ)
+    → (granted_pair c q r k pair d).acquiring ≡ (pair d).acquiring
 granted_acquiring c q r k pair d = elim (cases_eq d q) [
   | inl same ↦ ap (λ (j : ℕ). (granted_pair c q r k pair j).acquiring) same
-      ∙ ap (λ (p : ClientBlock). p.acquiring) (set-same q (after_grant_sent k (pair q)) (set c (after_report r (pair c)) pair))
+      ∙ ap (λ (p : ClientBlock). p.acquiring)
+      (set-same q (after_grant_sent k (pair q)) (set c (after_report r (pair c)) pair))
       ∙ sym (ap (λ (j : ℕ). (pair j).acquiring) same)
-  | inr other ↦ ap (λ (p : ClientBlock). p.acquiring) (set-other q d (after_grant_sent k (pair q)) (set c (after_report r (pair c)) pair) other) ∙ same_acquiring c (after_report r (pair c)) pair refl d
+  | inr other ↦ ap (λ (p : ClientBlock). p.acquiring)
+      (set-other q d (after_grant_sent k (pair q)) (set c (after_report r (pair c)) pair) other) ∙ same_acquiring c
+      (after_report r (pair c)) pair refl d
 ]
 
 -- ---- a request
 
-beside_served : {w : ℕ} (config : Config) (c source : ℕ) (x : MessageA w) (tracker : ℕ) (k : Cap) (rest : List Packet) (mail : AccessMessages w) (s : State (List ℕ))
+beside_served : {w : ℕ} (config : Config) (c source : ℕ) (x : MessageA w) (tracker : ℕ) (k : Cap) (rest : List Packet)
+    (mail : AccessMessages w) (s : State (List ℕ))
     (m : Machine w) → IsPerformed config c source x mail s m
     → MemoryRelation mail s m → MemoryRelation mail (access_served c (block_at x.address) source tracker k rest s) m
 beside_served {w} config c source x tracker k rest mail s m is h =
     beside-used c source (InService n) mail mail s s' m m (record {
-      memory = λ i. subst (λ (bytes : List ℕ). IsBlock m.memory i bytes) (sym (set-part (λ (b : Block (List ℕ)). b.truth) n new s.block refl i)) (h.memory i);
+      memory = λ i. subst (λ (bytes : List ℕ). IsBlock m.memory i bytes)
+          (sym (set-part (λ (b : Block (List ℕ)). b.truth) n new s.block refl i)) (h.memory i);
       uses = λ d i. refl;
       lets = λ d i. refl;
       here = is.opened;
@@ -114,7 +130,8 @@ beside_served {w} config c source x tracker k rest mail s m is h =
       answers = λ d i else_. refl;
       acquires = λ d i else_. same_acquire d s s' (s.uses d i)
           (λ j. (
-            set-part (λ (b : Block (List ℕ)). (b.pair d).acquiring) n new s.block (served_acquiring c false k (s.block n).pair d) j,
+            set-part (λ (b : Block (List ℕ)). (b.pair d).acquiring) n new s.block
+                (served_acquiring c false k (s.block n).pair d) j,
             set-part (λ (b : Block (List ℕ)). b.waiting d) n new s.block refl j,
           ));
     }) h
@@ -128,14 +145,27 @@ beside_served {w} config c source x tracker k rest mail s m is h =
     s' : State (List ℕ)
     s' = access_served c n source tracker k rest s
 
-beside_answered : {w : ℕ} (config : Config) (c source : ℕ) (x : MessageA w) (rest : List Packet) (mail : AccessMessages w) (s : State (List ℕ)) (m : Machine w) → IsPerformed config c source x mail s m
-    → ((s.block (block_at x.address)).memory ≡ (s.block (block_at x.address)).truth) ⊎ (cap_probed x.opcode x.param ≡ None) → MemoryRelation mail s m
-    → MemoryRelation (record { request = mail.request; answer = set_at c source (answers x (s.block (block_at x.address)).memory) mail.answer })
+beside_answered : {w : ℕ} (config : Config) (c source : ℕ) (x : MessageA w) (rest : List Packet)
+    (mail : AccessMessages w) (s : State (List ℕ)) (m : Machine w) → IsPerformed config c source x mail s m
+    → ((s.block (block_at x.address)).memory ≡ (s.block (block_at x.address)).truth)
+    ⊎ (cap_probed x.opcode x.param ≡ None) → MemoryRelation mail s m
+    → MemoryRelation (record {
+      request = mail.request;
+      answer =
+          set_at c source (answers x (s.block (block_at x.address)).memory) mail.answer;
+    })
     (access_answered c (block_at x.address) source (performs x) rest s) (performing ((c, source) ∷ []) m)
 beside_answered {w} config c source x rest mail s m is same h =
-    beside-performed config c source x (s.block n).memory mail s (access_answered c n source (performs x) rest s) m is (λ f block. reply_same same)
-    (λ i ne. ap (λ (b : Block (List ℕ)). b.truth) (set-other n i new s.block ne)) (ap (λ (b : Block (List ℕ)). b.truth) (set-same n new s.block))
-    (λ d i. refl) (λ d i. refl) (λ d i. (set-part (λ (b : Block (List ℕ)). (b.pair d).acquiring) n new s.block refl i, set-part (λ (b : Block (List ℕ)). b.waiting d) n new s.block refl i)) h
+    beside-performed config c source x (s.block n).memory mail s (access_answered c n source (performs x) rest s) m is
+    (λ f block. reply_same same)
+    (λ i ne. ap (λ (b : Block (List ℕ)). b.truth) (set-other n i new s.block ne))
+    (ap (λ (b : Block (List ℕ)). b.truth) (set-same n new s.block))
+    (λ d i. refl) (λ d i. refl)
+    (λ d i. (
+      set-part (λ (b : Block (List ℕ)). (b.pair d).acquiring) n new s.block refl i,
+      set-part
+          (λ (b : Block (List ℕ)). b.waiting d) n new s.block refl i,
+    )) h
   where
     n : ℕ
     n = block_at x.address
@@ -144,16 +174,21 @@ beside_answered {w} config c source x rest mail s m is same h =
     new = performed_block (performs x) (s.block n)
 
     reply_same : ((s.block n).memory ≡ (s.block n).truth) ⊎ (cap_probed x.opcode x.param ≡ None)
-        → (effect (message.A x) (bytes_at n (s.block n).truth)).1 ≡ (effect (message.A x) (bytes_at n (s.block n).memory)).1
+        → (effect (message.A x) (bytes_at n (s.block n).truth)).1
+        ≡ (effect (message.A x) (bytes_at n (s.block n).memory)).1
     reply_same (inl e) = ap (λ (b : List ℕ). (effect (message.A x) (bytes_at n b)).1) (sym e)
     reply_same (inr e) = intent-reply x (bytes_at n (s.block n).truth) (bytes_at n (s.block n).memory) e
 
-pub beside-request : {w : ℕ} (caching : ℕ → Bool) (config : Config) (c source tracker : ℕ) (x : MessageA w) (rest : List Packet) (h : AbstractState w) (m : Machine w) → IsInvariant caching h.state
-    → ((d : ℕ) → length config.clients.items ≤ d → caching d ≡ false) → IsPerformed config c source x h.mail h.state m → MemoryRelation h.mail h.state m
-    → MemoryRelation (request_taken (length config.clients.items) c source (message.A x) tracker rest h).mail (request_taken (length config.clients.items) c source (message.A x) tracker rest h).state
+pub beside-request : {w : ℕ} (caching : ℕ → Bool) (config : Config) (c source tracker : ℕ) (x : MessageA w)
+    (rest : List Packet) (h : AbstractState w) (m : Machine w) → IsInvariant caching h.state
+    → ((d : ℕ) → length config.clients.items ≤ d → caching d ≡ false) → IsPerformed config c source x h.mail h.state m
+    → MemoryRelation h.mail h.state m
+    → MemoryRelation (request_taken (length config.clients.items) c source (message.A x) tracker rest h).mail
+    (request_taken (length config.clients.items) c source (message.A x) tracker rest h).state
     (performing (request_accesses (length config.clients.items) c source (message.A x) h) m)
 unfolding performing
-beside-request {w} caching config c source tracker x rest h m inv plain is beside = go (probes_some clients c false (cap_probed x.opcode x.param) b.pair) (cap_probed x.opcode x.param) refl refl
+beside-request {w} caching config c source tracker x rest h m inv plain is beside =
+    go (probes_some clients c false (cap_probed x.opcode x.param) b.pair) (cap_probed x.opcode x.param) refl refl
   where
     clients : ℕ
     clients = length config.clients.items
@@ -161,22 +196,29 @@ beside-request {w} caching config c source tracker x rest h m inv plain is besid
     b : Block (List ℕ)
     b = h.state.block (block_at x.address)
 
-    go : (p : Bool) (o : Option Cap) → probes_some clients c false (cap_probed x.opcode x.param) b.pair ≡ p → cap_probed x.opcode x.param ≡ o
-        → MemoryRelation (access_taken c source x tracker p o rest h).mail (access_taken c source x tracker p o rest h).state (performing (access_list c source p o) m)
+    go : (p : Bool) (o : Option Cap) → probes_some clients c false (cap_probed x.opcode x.param) b.pair ≡ p
+        → cap_probed x.opcode x.param ≡ o
+        → MemoryRelation (access_taken c source x tracker p o rest h).mail
+        (access_taken c source x tracker p o rest h).state (performing (access_list c source p o) m)
     go true (Some k) e f = beside_served config c source x tracker k rest h.mail h.state m is beside
     go true None e f = beside_answered config c source x rest h.mail h.state m is (inr f) beside
     go false None e f = beside_answered config c source x rest h.mail h.state m is (inr f) beside
     go false (Some k) e f =
         let none : some_below clients (λ d. is_probed c false k (b.pair d).recorded d) ≡ false = rw f at e in
-        beside_answered config c source x rest h.mail h.state m is (inl (memory-unprobed clients caching c k b plain (inv.blocks (block_at x.address)) (low_cap x.opcode x.param k f) none)) beside
+        beside_answered config c source x rest h.mail h.state m is
+        (inl (memory-unprobed clients caching c k b plain (inv.blocks (block_at x.address))
+        (low_cap x.opcode x.param k f) none)) beside
 
 -- ---- an Acquire
 
-pub beside-acquire : {w : ℕ} (clients : ℕ) (p : Profile) (c n : ℕ) (x : AcquirePhase) (tracker : ℕ) (rest : List Packet) (h : AbstractState w) (m : Machine w) → MemoryRelation h.mail h.state m
-    → MemoryRelation (acquire_taken clients p c n x tracker rest h).mail (acquire_taken clients p c n x tracker rest h).state m
+pub beside-acquire : {w : ℕ} (clients : ℕ) (p : Profile) (c n : ℕ) (x : AcquirePhase) (tracker : ℕ) (rest : List Packet)
+    (h : AbstractState w) (m : Machine w) → MemoryRelation h.mail h.state m
+    → MemoryRelation (acquire_taken clients p c n x tracker rest h).mail
+    (acquire_taken clients p c n x tracker rest h).state m
 beside-acquire clients p c n NoAcquire tracker rest h m beside = beside
 beside-acquire {w} clients p c n (AcquireOpen whole g) tracker rest h m beside =
-    either _ _ _ (beside_block n (served_block c true (b.source c) tracker _ b) h.mail h.state _ m (λ i. refl) (λ d i. refl) (λ d i. refl) refl
+    either _ _ _ (beside_block n (served_block c true (b.source c) tracker _ b) h.mail h.state _ m (λ i. refl)
+    (λ d i. refl) (λ d i. refl) refl
     (λ d. served_acquiring c true _ b.pair d) (λ d. refl) beside)
     (beside_block n (granted_at_once c tracker _ _ b) h.mail h.state _ m (λ i. refl) (λ d i. refl) (λ d i. refl) refl
     (λ d. same_acquiring c (after_grant_sent _ (b.pair c)) b.pair refl d) (λ d. refl) beside)
@@ -184,7 +226,8 @@ beside-acquire {w} clients p c n (AcquireOpen whole g) tracker rest h m beside =
     b : Block (List ℕ)
     b = h.state.block n
 
-    either : (y : Bool) (s t : State (List ℕ)) → MemoryRelation h.mail s m → MemoryRelation h.mail t m → MemoryRelation h.mail (if y then s else t) m
+    either : (y : Bool) (s t : State (List ℕ)) → MemoryRelation h.mail s m → MemoryRelation h.mail t m
+        → MemoryRelation h.mail (if y then s else t) m
     either true s t f g = f
     either false s t f g = g
 
@@ -192,26 +235,33 @@ beside-acquire {w} clients p c n (AcquireOpen whole g) tracker rest h m beside =
 
 -- the access that waits, with what its source has open
 abbrev pub IsWaiting : {w : ℕ} → Config → ℕ → Service → AbstractState w → Machine w → Type 0
-IsWaiting config n (Waits q false source k) h m = IsPerformed config q source (h.request n) h.mail h.state m × (block_at (h.request n).address ≡ n)
+IsWaiting config n (Waits q false source k) h m = IsPerformed config q source (h.request n) h.mail h.state m
+    × (block_at (h.request n).address ≡ n)
 IsWaiting config n _ h m = ⊤
 
-beside_ended : {w : ℕ} (caching : ℕ → Bool) (config : Config) (c q n source : ℕ) (r : Report) (k : Cap) (rest : List Packet) (h : AbstractState w) (m : Machine w) → IsInvariant caching h.state
-    → (h.state.block n).service ≡ Waits q false source k → ((h.state.block n).pair c).probing ≡ ProbeAnswered r → ((d : ℕ) → (d ≡ c → ⊥) → is_unprobed ((h.state.block n).pair d).probing ≡ true)
-    → IsPerformed config q source (h.request n) h.mail h.state m → block_at (h.request n).address ≡ n → MemoryRelation h.mail h.state m
+beside_ended : {w : ℕ} (caching : ℕ → Bool) (config : Config) (c q n source : ℕ) (r : Report) (k : Cap)
+    (rest : List Packet) (h : AbstractState w) (m : Machine w) → IsInvariant caching h.state
+    → (h.state.block n).service ≡ Waits q false source k → ((h.state.block n).pair c).probing ≡ ProbeAnswered r
+    → ((d : ℕ) → (d ≡ c → ⊥) → is_unprobed ((h.state.block n).pair d).probing ≡ true)
+    → IsPerformed config q source (h.request n) h.mail h.state m → block_at (h.request n).address ≡ n
+    → MemoryRelation h.mail h.state m
     → MemoryRelation (record {
       request = h.mail.request;
       answer =
-          set_at q source (answers (h.request n) (written r (h.state.block n).truth (h.state.block n).memory)) h.mail.answer;
+          set_at q source (answers (h.request n) (written r (h.state.block n).truth (h.state.block n).memory))
+          h.mail.answer;
     })
     (report_answers c q n source r (performs (h.request n)) rest h.state)
     (performing ((q, source) ∷ []) m)
 beside_ended {w} caching config c q n source r k rest h m inv waits answered settled is at beside =
     beside-performed config q source x (written r b.truth b.memory) h.mail h.state s' m is (λ f block. reply_same)
     (λ i ne. ap (λ (y : Block (List ℕ)). y.truth) (set-other n i new h.state.block (λ e. ne (e ∙ sym at))))
-    (subst (λ (j : ℕ). (set n new h.state.block j).truth ≡ performs x (h.state.block j).truth) (sym at) (ap (λ (y : Block (List ℕ)). y.truth) (set-same n new h.state.block)))
+    (subst (λ (j : ℕ). (set n new h.state.block j).truth ≡ performs x (h.state.block j).truth) (sym at)
+    (ap (λ (y : Block (List ℕ)). y.truth) (set-same n new h.state.block)))
     (λ d i. refl) (λ d i. refl)
     (λ d i. (
-      set-part (λ (y : Block (List ℕ)). (y.pair d).acquiring) n new h.state.block (same_acquiring c (after_report r (b.pair c)) b.pair refl d) i,
+      set-part (λ (y : Block (List ℕ)). (y.pair d).acquiring) n new h.state.block
+          (same_acquiring c (after_report r (b.pair c)) b.pair refl d) i,
       set-part (λ (y : Block (List ℕ)). y.waiting d) n new h.state.block refl i,
     )) beside
   where
@@ -232,35 +282,47 @@ beside_ended {w} caching config c q n source r k rest h m inv waits answered set
 
     reply_same : (effect (message.A x) (bytes_at (block_at x.address) (h.state.block (block_at x.address)).truth)).1
         ≡ (effect (message.A x) (bytes_at (block_at x.address) (written r b.truth b.memory))).1
-    reply_same = ap (λ (bytes : List ℕ). (effect (message.A x) (bytes_at (block_at x.address) bytes)).1) (ap (λ (j : ℕ). (h.state.block j).truth) at ∙ sym told)
+    reply_same = ap (λ (bytes : List ℕ). (effect (message.A x) (bytes_at (block_at x.address) bytes)).1)
+        (ap (λ (j : ℕ). (h.state.block j).truth) at ∙ sym told)
 
-beside_last : {w : ℕ} (caching : ℕ → Bool) (config : Config) (clients : ℕ) (p : Profile) (c n : ℕ) (r : Report) (v : Service) (rest : List Packet) (h : AbstractState w)
+beside_last : {w : ℕ} (caching : ℕ → Bool) (config : Config) (clients : ℕ) (p : Profile) (c n : ℕ) (r : Report)
+    (v : Service) (rest : List Packet) (h : AbstractState w)
     (m : Machine w) → IsInvariant caching h.state → (h.state.block n).service ≡ v
-    → ((h.state.block n).pair c).probing ≡ ProbeAnswered r → ((d : ℕ) → (d ≡ c → ⊥) → is_unprobed ((h.state.block n).pair d).probing ≡ true) → IsWaiting config n v h m → MemoryRelation h.mail h.state m
-    → MemoryRelation (last_taken clients p c n r v rest h).mail (last_taken clients p c n r v rest h).state (performing (last_accesses v) m)
+    → ((h.state.block n).pair c).probing ≡ ProbeAnswered r
+    → ((d : ℕ) → (d ≡ c → ⊥) → is_unprobed ((h.state.block n).pair d).probing ≡ true) → IsWaiting config n v h m
+    → MemoryRelation h.mail h.state m
+    → MemoryRelation (last_taken clients p c n r v rest h).mail (last_taken clients p c n r v rest h).state
+    (performing (last_accesses v) m)
 unfolding performing
 beside_last caching config clients p c n r Free rest h m inv e answered settled is beside = beside
 beside_last caching config clients p c n r (GrantSent q d k) rest h m inv e answered settled is beside = beside
 beside_last caching config clients p c n r (GrantTaken q) rest h m inv e answered settled is beside = beside
 beside_last caching config clients p c n r (Waits q false source k) rest h m inv e answered settled is beside =
     beside_ended caching config c q n source r k rest h m inv e answered settled is.0 is.1 beside
-beside_last {w} caching config clients p c n r (Waits q true source k) rest h m inv e answered settled is beside = go ((h.state.block n).pair q).acquiring
+beside_last {w} caching config clients p c n r (Waits q true source k) rest h m inv e answered settled is beside =
+    go ((h.state.block n).pair q).acquiring
   where
-    go : (x : AcquirePhase) → MemoryRelation (granted_after clients p c q n r x rest h).mail (granted_after clients p c q n r x rest h).state m
+    go : (x : AcquirePhase) → MemoryRelation (granted_after clients p c q n r x rest h).mail
+        (granted_after clients p c q n r x rest h).state m
     go NoAcquire = beside
-    go (AcquireOpen whole g) = beside_block n (granted_block c q r _ _ (h.state.block n)) h.mail h.state _ m (λ i. refl) (λ d i. refl) (λ d i. refl) refl
+    go (AcquireOpen whole g) = beside_block n (granted_block c q r _ _ (h.state.block n)) h.mail h.state _ m (λ i. refl)
+        (λ d i. refl) (λ d i. refl) refl
         (λ d. granted_acquiring c q r _ (h.state.block n).pair d) (λ d. refl) beside
 
-pub beside-report : {w : ℕ} (caching : ℕ → Bool) (config : Config) (c n : ℕ) (r : Report) (rest : List Packet) (h : AbstractState w) (m : Machine w)
+pub beside-report : {w : ℕ} (caching : ℕ → Bool) (config : Config) (c n : ℕ) (r : Report) (rest : List Packet)
+    (h : AbstractState w) (m : Machine w)
     → IsInvariant caching h.state → ((h.state.block n).pair c).probing ≡ ProbeAnswered r
-    → (some_below (length config.clients.items) (λ d. not (d == c) && not (is_unprobed ((h.state.block n).pair d).probing)) ≡ false → (d : ℕ) → (d ≡ c → ⊥)
+    → (some_below (length config.clients.items)
+    (λ d. not (d == c) && not (is_unprobed ((h.state.block n).pair d).probing)) ≡ false → (d : ℕ) → (d ≡ c → ⊥)
     → is_unprobed ((h.state.block n).pair d).probing ≡ true)
     → IsWaiting config n (h.state.block n).service h m → MemoryRelation h.mail h.state m
     → MemoryRelation (ack_taken (length config.clients.items) config.profile c n r rest h).mail
-    (ack_taken (length config.clients.items) config.profile c n r rest h).state (performing (accesses_by config c ProbeAck n h) m)
+    (ack_taken (length config.clients.items) config.profile c n r rest h).state
+    (performing (accesses_by config c ProbeAck n h) m)
 unfolding performing
 beside-report {w} caching config c n r rest h m inv answered settled is beside =
-    go (some_below (length config.clients.items) (λ d. not (d == c) && not (is_unprobed ((h.state.block n).pair d).probing))) refl
+    go (some_below (length config.clients.items)
+    (λ d. not (d == c) && not (is_unprobed ((h.state.block n).pair d).probing))) refl
   where
     reported : AbstractState w
     reported = record h { state = report_taken c n r rest h.state }
@@ -268,28 +330,41 @@ beside-report {w} caching config c n r rest h m inv answered settled is beside =
     last : AbstractState w
     last = last_taken (length config.clients.items) config.profile c n r (h.state.block n).service rest h
 
-    go : (y : Bool) → some_below (length config.clients.items) (λ d. not (d == c) && not (is_unprobed ((h.state.block n).pair d).probing)) ≡ y
-        → MemoryRelation (if y then reported else last).mail (if y then reported else last).state (performing (if y then [] else last_accesses (h.state.block n).service) m)
-    go true e = beside_block n (reported_block c r (h.state.block n)) h.mail h.state reported.state m (λ i. refl) (λ d i. refl) (λ d i. refl) refl
-        (λ d. same_acquiring c (after_report r ((h.state.block n).pair c)) (h.state.block n).pair refl d) (λ d. refl) beside
-    go false e = beside_last caching config (length config.clients.items) config.profile c n r (h.state.block n).service rest h m inv refl answered (settled e) is beside
+    go : (y : Bool) → some_below (length config.clients.items)
+        (λ d. not (d == c) && not (is_unprobed ((h.state.block n).pair d).probing)) ≡ y
+        → MemoryRelation (if y then reported else last).mail (if y then reported else last).state
+        (performing (if y then [] else last_accesses (h.state.block n).service) m)
+    go true e = beside_block n (reported_block c r (h.state.block n)) h.mail h.state reported.state m (λ i. refl)
+        (λ d i. refl) (λ d i. refl) refl
+        (λ d. same_acquiring c (after_report r ((h.state.block n).pair c)) (h.state.block n).pair refl d) (λ d. refl)
+        beside
+    go false e = beside_last caching config (length config.clients.items) config.profile c n r (h.state.block n).service
+        rest h m inv refl answered (settled e) is beside
 
 -- ---- responses
 
-pub beside-answer : {w : ℕ} (c source : ℕ) (rest : List Packet) (mail : AccessMessages w) (s : State (List ℕ)) (m : Machine w) → s.uses c source ≡ Replied → MemoryRelation mail s m
+pub beside-answer : {w : ℕ} (c source : ℕ) (rest : List Packet) (mail : AccessMessages w) (s : State (List ℕ))
+    (m : Machine w) → s.uses c source ≡ Replied → MemoryRelation mail s m
     → MemoryRelation mail (answer_taken c source rest s) (after_end c Requests source (m.opened c Requests source) m)
-beside-answer {w} c source rest mail s m used h = go (m.opened c Requests source) refl (replied (s.uses c source) used (h.requests c source))
+beside-answer {w} c source rest mail s m used h =
+    go (m.opened c Requests source) refl (replied (s.uses c source) used (h.requests c source))
   where
-    replied : (u : SourceState) → u ≡ Replied → IsOpened c source mail s u (m.opened c Requests source) → IsOpened c source mail s Replied (m.opened c Requests source)
+    replied : (u : SourceState) → u ≡ Replied → IsOpened c source mail s u (m.opened c Requests source)
+        → IsOpened c source mail s Replied (m.opened c Requests source)
     replied u e i = rw e at i
 
-    go : (o : Option (Open w)) → m.opened c Requests source ≡ o → IsOpened c source mail s Replied (m.opened c Requests source)
+    go : (o : Option (Open w)) → m.opened c Requests source ≡ o
+        → IsOpened c source mail s Replied (m.opened c Requests source)
         → MemoryRelation mail (answer_taken c source rest s) (after_end c Requests source o m)
-    go None e i = absurd (let no : Some (record { asked = op.Access (message.A i.1.0); answer = Some i.0 }) ≡ None = sym i.1.2 ∙ e in cc)
+    go None e i = absurd (let no : Some (record { asked = op.Access (message.A i.1.0); answer = Some i.0 }) ≡ None =
+        sym i.1.2 ∙ e in cc)
     go (Some o) e i =
-        let asked : o ≡ record { asked = op.Access (message.A i.1.0); answer = Some i.0 } = some_is o (record { asked = op.Access (message.A i.1.0); answer = Some i.0 }) (sym e ∙ i.1.2) in
-        subst (λ (y : Open w). MemoryRelation mail (answer_taken c source rest s) (after_end c Requests source (Some y) m)) (sym asked)
-        (beside-used c source SourceFree mail mail s (answer_taken c source rest s) m (with_open c Requests source None m) (record {
+        let asked : o ≡ record { asked = op.Access (message.A i.1.0); answer = Some i.0 } =
+        some_is o (record { asked = op.Access (message.A i.1.0); answer = Some i.0 }) (sym e ∙ i.1.2) in
+        subst (λ (y : Open w). MemoryRelation mail (answer_taken c source rest s)
+        (after_end c Requests source (Some y) m)) (sym asked)
+        (beside-used c source SourceFree mail mail s (answer_taken c source rest s) m
+        (with_open c Requests source None m) (record {
           memory = h.memory;
           uses = λ d j. refl;
           lets = λ d j. refl;
@@ -305,18 +380,22 @@ beside-answer {w} c source rest mail s m used h = go (m.opened c Requests source
         some_is x y e = cc
 
 -- the client's Acquire of the block is the one with its source
-only_source : (caching : ℕ → Bool) (s : State (List ℕ)) (c n i : ℕ) → IsInvariant caching s → (i ≡ (s.block n).source c → ⊥) → s.uses c i ≡ Acquires n → ⊥
+only_source : (caching : ℕ → Bool) (s : State (List ℕ)) (c n i : ℕ) → IsInvariant caching s
+    → (i ≡ (s.block n).source c → ⊥) → s.uses c i ≡ Acquires n → ⊥
 only_source caching s c n i inv ne e =
     let yes : acquires_of n (s.uses c i) ≡ true = ap (acquires_of n) e ∙ same_number n in
-    let named : acquires_of n (s.uses c i) ≡ (is_wanting ((s.block n).pair c).acquiring && (i == (s.block n).source c)) = inv.named.acquires c i n in
+    let named : acquires_of n (s.uses c i) ≡ (is_wanting ((s.block n).pair c).acquiring && (i == (s.block n).source c))
+    = inv.named.acquires c i n in
     let no : (is_wanting ((s.block n).pair c).acquiring && (i == (s.block n).source c)) ≡ false =
     ap (λ (b : Bool). is_wanting ((s.block n).pair c).acquiring && b) (ne_eqb i ((s.block n).source c) ne)
     ∙ and-false (is_wanting ((s.block n).pair c).acquiring) in
     let differ : true ≡ false = sym yes ∙ named ∙ no in cc
 
-pub beside-grant : {w : ℕ} (caching : ℕ → Bool) (c n : ℕ) (d : Bool) (k : Cap) (rest : List Packet) (mail : AccessMessages w) (s : State (List ℕ)) (m : Machine w)
+pub beside-grant : {w : ℕ} (caching : ℕ → Bool) (c n : ℕ) (d : Bool) (k : Cap) (rest : List Packet)
+    (mail : AccessMessages w) (s : State (List ℕ)) (m : Machine w)
     → IsInvariant caching s → is_wanting ((s.block n).pair c).acquiring ≡ true → MemoryRelation mail s m
-    → MemoryRelation mail (grant_taken c n (is_whole ((s.block n).pair c).acquiring) d k rest s) (after_end c Requests ((s.block n).source c) (m.opened c Requests ((s.block n).source c)) m)
+    → MemoryRelation mail (grant_taken c n (is_whole ((s.block n).pair c).acquiring) d k rest s)
+    (after_end c Requests ((s.block n).source c) (m.opened c Requests ((s.block n).source c)) m)
 beside-grant {w} caching c n d k rest mail s m inv wants h =
     subst (λ (o : Option (Open w)). MemoryRelation mail s' (after_end c Requests source o m)) (sym opened)
     (beside-used c source SourceFree mail mail s s' m ended (record {
@@ -328,7 +407,8 @@ beside-grant {w} caching c n d k rest mail s m inv wants h =
       releases = λ e i. open-releases c source None (with_memory (memory_after asked m.memory) m) e i;
       requests = λ e i else_. refl;
       answers = λ e i else_. refl;
-      acquires = acquires-else c n source new (after_grant k (b.pair c)) s s' (λ i. refl) (λ e. refl) (λ e ne. refl) (λ i ne e. only_source caching s c n i inv ne e);
+      acquires = acquires-else c n source new (after_grant k (b.pair c)) s s' (λ i. refl) (λ e. refl) (λ e ne. refl)
+          (λ i ne e. only_source caching s c n i inv ne e);
     }) h)
   where
     b : Block (List ℕ)
@@ -358,15 +438,18 @@ beside-grant {w} caching c n d k rest mail s m inv wants h =
     opened : m.opened c Requests source ≡ Some (record { asked = asked; answer = None })
     opened = acquires (s.uses c source) used (h.requests c source)
       where
-        acquires : (u : SourceState) → u ≡ Acquires n → IsOpened c source mail s u (m.opened c Requests source) → IsOpened c source mail s (Acquires n) (m.opened c Requests source)
+        acquires : (u : SourceState) → u ≡ Acquires n → IsOpened c source mail s u (m.opened c Requests source)
+            → IsOpened c source mail s (Acquires n) (m.opened c Requests source)
         acquires u e i = rw e at i
 
-    here : (x : AcquirePhase) (waits : List ℕ) → is_wanting x ≡ true → IsBlock (memory_after (op_of {w = w} x n waits) m.memory) n (granted_truth (is_whole x) waits b.truth)
+    here : (x : AcquirePhase) (waits : List ℕ) → is_wanting x ≡ true
+        → IsBlock (memory_after (op_of {w = w} x n waits) m.memory) n (granted_truth (is_whole x) waits b.truth)
     here NoAcquire waits e = absurd cc
     here (AcquireOpen true g) waits e = block-put m.memory n waits
     here (AcquireOpen false g) waits e = h.memory n
 
-    there : (x : AcquirePhase) (waits : List ℕ) (i : ℕ) → is_wanting x ≡ true → (i ≡ n → ⊥) → IsBlock (memory_after (op_of {w = w} x n waits) m.memory) i (s.block i).truth
+    there : (x : AcquirePhase) (waits : List ℕ) (i : ℕ) → is_wanting x ≡ true → (i ≡ n → ⊥)
+        → IsBlock (memory_after (op_of {w = w} x n waits) m.memory) i (s.block i).truth
     there NoAcquire waits i e ne = absurd cc
     there (AcquireOpen true g) waits i e ne = block-besides m.memory n i waits (s.block i).truth ne (h.memory i)
     there (AcquireOpen false g) waits i e ne = h.memory i
@@ -374,17 +457,22 @@ beside-grant {w} caching c n d k rest mail s m inv wants h =
     block_now : (i : ℕ) → (i ≡ n) ⊎ (i ≡ n → ⊥) → IsBlock (memory_after asked m.memory) i (set n new s.block i).truth
     block_now i (inl same) =
         subst (λ (j : ℕ). IsBlock (memory_after asked m.memory) j (set n new s.block j).truth) (sym same)
-        (subst (λ (y : Block (List ℕ)). IsBlock (memory_after asked m.memory) n y.truth) (sym (set-same n new s.block)) (here (b.pair c).acquiring (b.waiting c) wants))
-    block_now i (inr other) = subst (λ (y : Block (List ℕ)). IsBlock (memory_after asked m.memory) i y.truth) (sym (set-other n i new s.block other))
+        (subst (λ (y : Block (List ℕ)). IsBlock (memory_after asked m.memory) n y.truth) (sym (set-same n new s.block))
+        (here (b.pair c).acquiring (b.waiting c) wants))
+    block_now i (inr other) = subst (λ (y : Block (List ℕ)). IsBlock (memory_after asked m.memory) i y.truth)
+        (sym (set-other n i new s.block other))
         (there (b.pair c).acquiring (b.waiting c) i wants other)
 
-pub beside-release_ack : {w : ℕ} (caching : ℕ → Bool) (c n : ℕ) (rest : List Packet) (mail : AccessMessages w) (s : State (List ℕ)) (m : Machine w) → IsInvariant caching s
+pub beside-release_ack : {w : ℕ} (caching : ℕ → Bool) (c n : ℕ) (rest : List Packet) (mail : AccessMessages w)
+    (s : State (List ℕ)) (m : Machine w) → IsInvariant caching s
     → is_unreleased ((s.block n).pair c).letting ≡ false → MemoryRelation mail s m
-    → MemoryRelation mail (release_ack_taken c n rest s) (after_end c Releases ((s.block n).release_source c) (m.opened c Releases ((s.block n).release_source c)) m)
+    → MemoryRelation mail (release_ack_taken c n rest s) (after_end c Releases ((s.block n).release_source c)
+    (m.opened c Releases ((s.block n).release_source c)) m)
 beside-release_ack {w} caching c n rest mail s m inv acked h =
     subst (λ (o : Option (Open w)). MemoryRelation mail s' (after_end c Releases source o m)) (sym released.1)
     (beside-let c source None mail s s' m (with_open c Releases source None m) (record {
-      memory = λ i. subst (λ (bytes : List ℕ). IsBlock m.memory i bytes) (sym (set-part (λ (y : Block (List ℕ)). y.truth) n new s.block refl i)) (h.memory i);
+      memory = λ i. subst (λ (bytes : List ℕ). IsBlock m.memory i bytes)
+          (sym (set-part (λ (y : Block (List ℕ)). y.truth) n new s.block refl i)) (h.memory i);
       uses = λ e i. refl;
       lets = λ e i. refl;
       here = open-here c Releases source None m;
@@ -412,5 +500,6 @@ beside-release_ack {w} caching c n rest mail s m inv acked h =
     released : IsLet (Some n) (m.opened c Releases source)
     released = go (s.lets c source) let_is (h.releases c source)
       where
-        go : (l : Option ℕ) → l ≡ Some n → IsLet l (m.opened c Releases source) → IsLet (Some n) (m.opened c Releases source)
+        go : (l : Option ℕ) → l ≡ Some n → IsLet l (m.opened c Releases source)
+            → IsLet (Some n) (m.opened c Releases source)
         go l e i = rw e at i

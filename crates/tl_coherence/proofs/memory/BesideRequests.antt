@@ -1,32 +1,29 @@
--- The one-memory machine beside the protocol after a beat of a request is taken: an access that is answered is performed.
-use Rattle.std.proofs.Common.{◌≡◌, subst, ℕ, suc, Bool, true, false, not, List, [], ◌∷◌, Option, Some, None, length, refl, sym, ◌∙◌, ap, ◌⊎◌, inl, inr}
+-- The one-memory machine beside the protocol after a beat of a request is taken: an access that is answered is
+-- performed.
+use Rattle.tl_coherence.proofs.memory.Imports.{Message, MessageA, Config, Cap, block_at, Memory, effect, cap_probed}
+use Rattle.tl_coherence.proofs.memory.Imports.{IsAccess, MemoryRelation, AbstractState, bytes_at, some_below, Log}
+use Rattle.tl_coherence.proofs.memory.Imports.{Machine, Requests, AcquireOpen, Block, is_probed, accesses_answered}
+use Rattle.tl_coherence.proofs.memory.Imports.{performing}
+use Rattle.std.proofs.Common.{◌≡◌, subst, ℕ, suc, Bool, true, false, not, List, [], ◌∷◌, Option, Some, None, length}
+use Rattle.std.proofs.Common.{refl, sym, ◌∙◌, ap, ◌⊎◌, inl, inr}
 use Rattle.tl_beat.specs.declared.beat.Beat.TheVariants as beat
-use Rattle.tl_burst.specs.declared.message.Message.{Message}
 use Rattle.tl_burst.specs.declared.message.Message.TheVariants as message
-use Rattle.tl_burst.specs.declared.message.MessageA.{MessageA}
 use Rattle.tl_burst.specs.statement.Burst.{a_beat_of, beats_of}
-use Rattle.tl_params.specs.declared.config.Config.{Config}
-use Rattle.tl_params.specs.declared.param.Cap.{Cap}
 use Rattle.tl_rules.specs.declared.answer.Answer.{Answer}
 use Rattle.tl_rules.specs.declared.answer.Answer.TheVariants as answer
-use Rattle.tl_rules.specs.statement.History.{block_at}
 use Rattle.std.specs.Prelude.{if◌then◌else◌}
 use Rattle.tl_rules.specs.statement.Conformance.{Trace}
-use Rattle.tl_rules.specs.statement.Effect.{Memory, effect, answer_of}
+use Rattle.tl_rules.specs.statement.Effect.{answer_of}
 use Rattle.tl_client.proofs.HeldAfter.{same_block}
-use Rattle.tl_manager.specs.statement.Handing.{Handed, Reaction, probes, access_answer, grant_opcode, is_granted_data, grant}
-use Rattle.tl_manager.specs.statement.Holders.{recorded, cap_probed, probed}
+use Rattle.tl_manager.specs.statement.Handing.{Handed, Reaction, probes, access_answer, grant_opcode, is_granted_data}
+use Rattle.tl_manager.specs.statement.Handing.{grant}
+use Rattle.tl_manager.specs.statement.Holders.{recorded, probed}
 use Rattle.tl_manager.specs.statement.Service.{Service, is_access_answer}
 use Rattle.tl_manager.specs.statement.Reaction.{reaction}
 use Rattle.tl_manager.proofs.Events.{performed-acquire}
-use Rattle.tl_coherence.specs.refinement.MemoryRelation.{IsAccess, MemoryRelation}
-use Rattle.tl_coherence.specs.refinement.AbstractStep.{AbstractState, bytes_at, probes_some, some_below, request_taken, kind_taken}
+use Rattle.tl_coherence.specs.refinement.AbstractStep.{probes_some, request_taken, kind_taken}
 use Rattle.tl_coherence.specs.protocol.Invariant.{cap_asked}
-use Rattle.tl_coherence.specs.statement.Log.{Log}
-use Rattle.tl_coherence.specs.statement.Machine.{Machine, Performs, Requests}
-use Rattle.tl_coherence.specs.protocol.Phase.{AcquireOpen}
-use Rattle.tl_coherence.specs.protocol.Protocol.{Block, is_probed}
-use Rattle.tl_coherence.specs.statement.OneMemory.{accesses_answered, performing}
+use Rattle.tl_coherence.specs.statement.Machine.{Performs}
 use Rattle.tl_coherence.specs.statement.System.{System}
 use Rattle.tl_coherence.specs.protocol.Packet.{Request, Acquire, Packet}
 use Rattle.tl_coherence.specs.refinement.SimulationRelation.{SimulationRelation, is_caching}
@@ -38,7 +35,8 @@ use Rattle.tl_coherence.proofs.memory.BesideTaken.{IsPerformed}
 use Rattle.tl_coherence.proofs.manager.Choices.{plain-past}
 use Rattle.tl_coherence.proofs.protocol.Heads.{IsAsked, IsWanted}
 use Rattle.tl_coherence.proofs.manager.RequestsHanded.{handed-answered}
-use Rattle.tl_coherence.proofs.manager.RequestsTaken.{next_tracker, probed-some, reaction-performed, caps_asked, acquire_wanted}
+use Rattle.tl_coherence.proofs.manager.RequestsTaken.{next_tracker, probed-some, reaction-performed, caps_asked}
+use Rattle.tl_coherence.proofs.manager.RequestsTaken.{acquire_wanted}
 use Rattle.tl_coherence.proofs.queues.Codes.{acquires-so}
 
 -- ---- which accesses are answered
@@ -48,15 +46,18 @@ unfolding accesses_answered
 accesses-probes w n j [] = refl
 accesses-probes w n j (d ∷ clients) = accesses-probes w n j clients
 
-pub accesses-answer : {w : ℕ} (c : ℕ) (m : MessageA w) (r : Answer) → accesses_answered ((link_of c, access_answer m r) ∷ []) ≡ (c, m.source) ∷ []
+pub accesses-answer : {w : ℕ} (c : ℕ) (m : MessageA w) (r : Answer)
+    → accesses_answered ((link_of c, access_answer m r) ∷ []) ≡ (c, m.source) ∷ []
 unfolding accesses_answered
 accesses-answer c m answer.Ack = refl
 accesses-answer c m answer.Hint = refl
 accesses-answer c m (answer.Data payload) = refl
 
-accesses-grant : {w : ℕ} (config : Config) (c : ℕ) (v : Service w) (t : Trace w) (memory : Memory) → accesses_answered ((link_of c, grant config v t memory) ∷ []) ≡ []
+accesses-grant : {w : ℕ} (config : Config) (c : ℕ) (v : Service w) (t : Trace w) (memory : Memory)
+    → accesses_answered ((link_of c, grant config v t memory) ∷ []) ≡ []
 unfolding accesses_answered
-accesses-grant config c v t memory = go (is_granted_data v.request.opcode v.request.param (recorded v.link.0 (block_at v.request.address) t))
+accesses-grant config c v t memory =
+    go (is_granted_data v.request.opcode v.request.param (recorded v.link.0 (block_at v.request.address) t))
   where
     one : List (ℕ × ℕ)
     one = (c, v.request.source) ∷ []
@@ -69,9 +70,11 @@ accesses-grant config c v t memory = go (is_granted_data v.request.opcode v.requ
 
 -- at most one access is answered, and it can be performed
 abbrev pub IsOnce : {w : ℕ} → List (ℕ × ℕ) → AbstractState w → Machine w → Type 0
-IsOnce l h m = (l ≡ []) ⊎ ((q : ℕ) × (source : ℕ) × (l ≡ (q, source) ∷ []) × IsAccess source (h.mail.request q source) None (m.opened q Requests source))
+IsOnce l h m = (l ≡ []) ⊎ ((q : ℕ) × (source : ℕ) × (l ≡ (q, source) ∷ []) × IsAccess source (h.mail.request q source)
+    None (m.opened q Requests source))
 
-pub once-performs : {w : ℕ} (l : List (ℕ × ℕ)) (h : AbstractState w) (m : Machine w) → IsOnce l h m → Performs l m (performing l m)
+pub once-performs : {w : ℕ} (l : List (ℕ × ℕ)) (h : AbstractState w) (m : Machine w) → IsOnce l h m
+    → Performs l m (performing l m)
 unfolding Performs performing
 once-performs l h m (inl none) = rw none refl
 once-performs l h m (inr (q, source, one, opened)) =
@@ -85,9 +88,11 @@ pub request-accesses : {w : ℕ} (config : Config) (log : Log w) (h : AbstractSt
     → SimulationRelation config log h.mail h.request h.state sys → (asked : IsAsked config c source h.mail h.state)
     → IsComing config c k asked.request sys.manager → beats_of (message.A asked.request) ≡ suc k
     → accesses_answered (reaction config (link_of c) (beat.A (a_beat_of asked.request k)) sys.manager).handed
-    ≡ access_list c source (probes_some (length config.clients.items) c false (cap_probed asked.request.opcode asked.request.param)
+    ≡ access_list c source (probes_some (length config.clients.items) c false
+    (cap_probed asked.request.opcode asked.request.param)
     (h.state.block (block_at asked.request.address)).pair) (cap_probed asked.request.opcode asked.request.param)
-request-accesses {w} config log h sys c source k is asked comes last = accesses (probes_some clients c false (cap_probed m.opcode m.param) b.pair) (cap_probed m.opcode m.param) refl refl
+request-accesses {w} config log h sys c source k is asked comes last =
+    accesses (probes_some clients c false (cap_probed m.opcode m.param) b.pair) (cap_probed m.opcode m.param) refl refl
   where
     m : MessageA w
     m = asked.request
@@ -104,25 +109,34 @@ request-accesses {w} config log h sys c source k is asked comes last = accesses 
     done : Handed w
     done = (reaction config (link_of c) (beat.A (a_beat_of m k)) sys.manager).handed
 
-    answered : probes_some clients c false (cap_probed m.opcode m.param) b.pair ≡ false → accesses_answered done ≡ (c, source) ∷ []
+    answered : probes_some clients c false (cap_probed m.opcode m.param) b.pair ≡ false
+        → accesses_answered done ≡ (c, source) ∷ []
     answered none =
-        ap accesses_answered (handed-answered config log h.mail h.request h.state sys c source k is asked comes last none)
-        ∙ accesses-answer c m (answer_of (message.A m) (effect (message.A m) (bytes_at n b.memory)).1) ∙ ap (λ i. (c, i) ∷ []) asked.source_is
+        ap accesses_answered (handed-answered config log h.mail h.request h.state sys c source k is asked comes last
+        none)
+        ∙ accesses-answer c m (answer_of (message.A m) (effect (message.A m) (bytes_at n b.memory)).1) ∙ ap
+        (λ i. (c, i) ∷ []) asked.source_is
 
-    accesses : (p : Bool) (o : Option Cap) → probes_some clients c false (cap_probed m.opcode m.param) b.pair ≡ p → cap_probed m.opcode m.param ≡ o → accesses_answered done ≡ access_list c source p o
+    accesses : (p : Bool) (o : Option Cap) → probes_some clients c false (cap_probed m.opcode m.param) b.pair ≡ p
+        → cap_probed m.opcode m.param ≡ o → accesses_answered done ≡ access_list c source p o
     accesses true None f g = absurd (let no : false ≡ true = rw g at f in cc)
     accesses false None f g = answered f
     accesses false (Some j) f g = answered f
     accesses true (Some j) f g =
         let some : some_below clients (λ d. is_probed c false j (b.pair d).recorded d) ≡ true = rw g at f in
-        ap (λ (d : Reaction w). accesses_answered d.handed) (reaction-probing config c k n j m sys.manager comes last refl g
+        ap (λ (d : Reaction w). accesses_answered d.handed) (reaction-probing config c k n j m sys.manager comes last
+        refl g
         (probed-some config log h.mail h.request h.state sys c k n false j m is asked.access refl ∙ ap not some))
-        ∙ accesses-probes w n j (probed config (service_for c m sys.manager.trace) j (with_beat c m k sys.manager.trace))
+        ∙ accesses-probes w n j (probed config (service_for c m sys.manager.trace) j
+        (with_beat c m k sys.manager.trace))
 
-pub request-once : {w : ℕ} (config : Config) (log : Log w) (h : AbstractState w) (sys : System w) (c source k : ℕ) (machine : Machine w)
+pub request-once : {w : ℕ} (config : Config) (log : Log w) (h : AbstractState w) (sys : System w) (c source k : ℕ)
+    (machine : Machine w)
     → SimulationRelation config log h.mail h.request h.state sys → (asked : IsAsked config c source h.mail h.state)
-    → IsComing config c k asked.request sys.manager → beats_of (message.A asked.request) ≡ suc k → MemoryRelation h.mail h.state machine
-    → IsOnce (accesses_answered (reaction config (link_of c) (beat.A (a_beat_of asked.request k)) sys.manager).handed) h machine
+    → IsComing config c k asked.request sys.manager → beats_of (message.A asked.request) ≡ suc k
+    → MemoryRelation h.mail h.state machine
+    → IsOnce (accesses_answered (reaction config (link_of c) (beat.A (a_beat_of asked.request k)) sys.manager).handed) h
+    machine
 request-once {w} config log h sys c source k machine is asked comes last beside =
     go (probes_some (length config.clients.items) c false (cap_probed asked.request.opcode asked.request.param)
     (h.state.block (block_at asked.request.address)).pair) (cap_probed asked.request.opcode asked.request.param)
@@ -131,25 +145,34 @@ request-once {w} config log h sys c source k machine is asked comes last beside 
     opened : IsAccess source (h.mail.request c source) None (machine.opened c Requests source)
     opened = rw asked.used at (beside.requests c source)
 
-    go : (p : Bool) (o : Option Cap) → accesses_answered (reaction config (link_of c) (beat.A (a_beat_of asked.request k)) sys.manager).handed ≡ access_list c source p o
-        → IsOnce (accesses_answered (reaction config (link_of c) (beat.A (a_beat_of asked.request k)) sys.manager).handed) h machine
+    go : (p : Bool) (o : Option Cap)
+        → accesses_answered (reaction config (link_of c) (beat.A (a_beat_of asked.request k)) sys.manager).handed
+        ≡ access_list c source p o
+        → IsOnce (accesses_answered (reaction config (link_of c) (beat.A (a_beat_of asked.request k))
+        sys.manager).handed) h machine
     go true (Some j) e = inl e
     go true None e = inr (c, source, e, opened)
     go false (Some j) e = inr (c, source, e, opened)
     go false None e = inr (c, source, e, opened)
 
-pub beside-request_taken : {w : ℕ} (config : Config) (log : Log w) (h : AbstractState w) (sys : System w) (c source k : ℕ) (rest : List Packet) (machine : Machine w)
+pub beside-request_taken : {w : ℕ} (config : Config) (log : Log w) (h : AbstractState w) (sys : System w)
+    (c source k : ℕ) (rest : List Packet) (machine : Machine w)
     → SimulationRelation config log h.mail h.request h.state sys → (asked : IsAsked config c source h.mail h.state)
-    → IsComing config c k asked.request sys.manager → beats_of (message.A asked.request) ≡ suc k → MemoryRelation h.mail h.state machine
-    → MemoryRelation (kind_taken config (next_tracker sys) c Request source rest h).mail (kind_taken config (next_tracker sys) c Request source rest h).state
-    (performing (accesses_answered (reaction config (link_of c) (beat.A (a_beat_of asked.request k)) sys.manager).handed) machine)
+    → IsComing config c k asked.request sys.manager → beats_of (message.A asked.request) ≡ suc k
+    → MemoryRelation h.mail h.state machine
+    → MemoryRelation (kind_taken config (next_tracker sys) c Request source rest h).mail
+    (kind_taken config (next_tracker sys) c Request source rest h).state
+    (performing (accesses_answered (reaction config (link_of c) (beat.A (a_beat_of asked.request k))
+    sys.manager).handed) machine)
 beside-request_taken {w} config log h sys c source k rest machine is asked comes last beside =
-    subst (λ (i : Message w). MemoryRelation (request_taken clients c source i tracker rest h).mail (request_taken clients c source i tracker rest h).state
+    subst (λ (i : Message w). MemoryRelation (request_taken clients c source i tracker rest h).mail
+    (request_taken clients c source i tracker rest h).state
     (performing (accesses_answered done) machine)) (sym asked.is_it)
     (subst (λ (l : List (ℕ × ℕ)). MemoryRelation (request_taken clients c source (message.A m) tracker rest h).mail
     (request_taken clients c source (message.A m) tracker rest h).state (performing l machine))
     (sym (request-accesses config log h sys c source k is asked comes last))
-    (beside-request (is_caching config) config c source tracker m rest h machine is.invariant (plain-past config) performed_so beside))
+    (beside-request (is_caching config) config c source tracker m rest h machine is.invariant (plain-past config)
+    performed_so beside))
   where
     m : MessageA w
     m = asked.request
@@ -181,10 +204,14 @@ beside-request_taken {w} config log h sys c source k rest machine is asked comes
 
 -- ---- an Acquire
 
-pub acquire-accesses : {w : ℕ} (config : Config) (log : Log w) (h : AbstractState w) (sys : System w) (c n k : ℕ) → SimulationRelation config log h.mail h.request h.state sys → (asked : IsWanted w c n h.state)
-    → IsComing config c k (acquire_wanted c n h.state asked) sys.manager → beats_of (message.A (acquire_wanted c n h.state asked)) ≡ suc k
-    → accesses_answered (reaction config (link_of c) (beat.A (a_beat_of (acquire_wanted c n h.state asked) k)) sys.manager).handed ≡ []
-acquire-accesses {w} config log h sys c n k is asked comes last = none (some_below clients (λ d. is_probed c true j (b.pair d).recorded d)) refl
+pub acquire-accesses : {w : ℕ} (config : Config) (log : Log w) (h : AbstractState w) (sys : System w) (c n k : ℕ)
+    → SimulationRelation config log h.mail h.request h.state sys → (asked : IsWanted w c n h.state)
+    → IsComing config c k (acquire_wanted c n h.state asked) sys.manager
+    → beats_of (message.A (acquire_wanted c n h.state asked)) ≡ suc k
+    → accesses_answered (reaction config (link_of c) (beat.A (a_beat_of (acquire_wanted c n h.state asked) k))
+    sys.manager).handed ≡ []
+acquire-accesses {w} config log h sys c n k is asked comes last =
+    none (some_below clients (λ d. is_probed c true j (b.pair d).recorded d)) refl
   where
     b : Block (List ℕ)
     b = h.state.block n
@@ -201,24 +228,36 @@ acquire-accesses {w} config log h sys c n k is asked comes last = none (some_bel
     caps : cap_probed m.opcode m.param ≡ Some j
     caps = caps_asked w asked.whole asked.grow (b.source c) n
 
-    none : (x : Bool) → some_below clients (λ d. is_probed c true j (b.pair d).recorded d) ≡ x → accesses_answered (reaction config (link_of c) (beat.A (a_beat_of m k)) sys.manager).handed ≡ []
+    none : (x : Bool) → some_below clients (λ d. is_probed c true j (b.pair d).recorded d) ≡ x
+        → accesses_answered (reaction config (link_of c) (beat.A (a_beat_of m k)) sys.manager).handed ≡ []
     none true f =
         ap (λ (d : Reaction w). accesses_answered d.handed)
         (reaction-probing config c k n j m sys.manager comes last (same_block n) caps
-        (probed-some config log h.mail h.request h.state sys c k n true j m is (acquires-so asked.whole) (same_block n) ∙ ap not f))
-        ∙ accesses-probes w n j (probed config (service_for c m sys.manager.trace) j (with_beat c m k sys.manager.trace))
+        (probed-some config log h.mail h.request h.state sys c k n true j m is (acquires-so asked.whole) (same_block n)
+        ∙ ap not f))
+        ∙ accesses-probes w n j (probed config (service_for c m sys.manager.trace) j
+        (with_beat c m k sys.manager.trace))
     none false f =
         ap (λ (d : Reaction w). accesses_answered d.handed)
-        (reaction-performed config log h.mail h.request h.state sys c k n true m is comes last (acquires-so asked.whole) (same_block n) (rw caps f)
-        ∙ performed-acquire config (service_for c m sys.manager.trace) (with_beat c m k sys.manager.trace) sys.manager.memory (acquires-so asked.whole))
-        ∙ accesses-grant config c (service_for c m sys.manager.trace) (with_beat c m k sys.manager.trace) sys.manager.memory
+        (reaction-performed config log h.mail h.request h.state sys c k n true m is comes last (acquires-so asked.whole)
+        (same_block n) (rw caps f)
+        ∙ performed-acquire config (service_for c m sys.manager.trace) (with_beat c m k sys.manager.trace)
+        sys.manager.memory (acquires-so asked.whole))
+        ∙ accesses-grant config c (service_for c m sys.manager.trace) (with_beat c m k sys.manager.trace)
+        sys.manager.memory
 
-pub beside-acquire_taken : {w : ℕ} (config : Config) (log : Log w) (h : AbstractState w) (sys : System w) (c n k : ℕ) (rest : List Packet) (machine : Machine w)
+pub beside-acquire_taken : {w : ℕ} (config : Config) (log : Log w) (h : AbstractState w) (sys : System w) (c n k : ℕ)
+    (rest : List Packet) (machine : Machine w)
     → SimulationRelation config log h.mail h.request h.state sys → (asked : IsWanted w c n h.state)
-    → IsComing config c k (acquire_wanted c n h.state asked) sys.manager → beats_of (message.A (acquire_wanted c n h.state asked)) ≡ suc k → MemoryRelation h.mail h.state machine
-    → MemoryRelation (kind_taken config (next_tracker sys) c Acquire n rest h).mail (kind_taken config (next_tracker sys) c Acquire n rest h).state
-    (performing (accesses_answered (reaction config (link_of c) (beat.A (a_beat_of (acquire_wanted c n h.state asked) k)) sys.manager).handed) machine)
+    → IsComing config c k (acquire_wanted c n h.state asked) sys.manager
+    → beats_of (message.A (acquire_wanted c n h.state asked)) ≡ suc k → MemoryRelation h.mail h.state machine
+    → MemoryRelation (kind_taken config (next_tracker sys) c Acquire n rest h).mail
+    (kind_taken config (next_tracker sys) c Acquire n rest h).state
+    (performing (accesses_answered
+    (reaction config (link_of c) (beat.A (a_beat_of (acquire_wanted c n h.state asked) k)) sys.manager).handed)
+    machine)
 unfolding performing
 beside-acquire_taken {w} config log h sys c n k rest machine is asked comes last beside =
     rw (acquire-accesses config log h sys c n k is asked comes last)
-    (beside-acquire (length config.clients.items) config.profile c n ((h.state.block n).pair c).acquiring (next_tracker sys) rest h machine beside)
+    (beside-acquire (length config.clients.items) config.profile c n ((h.state.block n).pair c).acquiring
+    (next_tracker sys) rest h machine beside)

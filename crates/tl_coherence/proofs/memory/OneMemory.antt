@@ -1,16 +1,16 @@
 -- The one memory, block by block: after an access, a Store, and a store of a whole block.
-use Rattle.std.proofs.Common.{◌≡◌, ℕ, zero, suc, ◌+◌, ◌-◌, ◌*◌, ◌/◌, ◌%◌, ◌^◌, ◌<◌, ◌≤◌, Bool, true, false, ◌&&◌, List, [], ◌∷◌, Option, Some, None, length, refl, sym, ◌∙◌, ap, ◌⊎◌, inl, inr, arith}
+use Rattle.tl_coherence.proofs.memory.Imports.{OpA, MessageA, Memory, IsBlock, effect, block_at, bytes_at, performs}
+use Rattle.std.proofs.Common.{◌≡◌, ℕ, zero, suc, ◌+◌, ◌-◌, ◌*◌, ◌/◌, ◌%◌, ◌^◌, ◌<◌, ◌≤◌, Bool, true, false, ◌&&◌, List}
+use Rattle.std.proofs.Common.{[], ◌∷◌, Option, Some, None, length, refl, sym, ◌∙◌, ap, ◌⊎◌, inl, inr, arith}
 use Rattle.std.specs.Prelude.{◌≢◌, if◌then◌else◌, slice_index, get_or, nat_le, nat_lt}
 use Rattle.std.proofs.lemmas.Bool.{cases_lt, ne_eqb, le-leb, lt-ltb, leb-true, ltb-true, and_parts}
 use Rattle.tl_beat.specs.statement.Width.{IsWidth}
-use Rattle.tl_beat.specs.declared.opcode.OpA.{OpA}
 use Rattle.tl_beat.specs.declared.opcode.OpA.TheVariants as a
 use Rattle.tl_burst.specs.declared.message.Message.TheVariants.{A}
-use Rattle.tl_burst.specs.declared.message.MessageA.{MessageA}
 use Rattle.tl_burst.specs.statement.Burst.{beats_of, IsBlankAfter, reaches}
 use Rattle.tl_params.specs.declared.level.Level.{Level}
-use Rattle.tl_rules.specs.statement.Effect.{Memory, IsBlock, bytes_from, byte_of, effect}
-use Rattle.tl_rules.specs.statement.History.{block_at, is_acquire}
+use Rattle.tl_rules.specs.statement.Effect.{bytes_from, byte_of}
+use Rattle.tl_rules.specs.statement.History.{is_acquire}
 use Rattle.tl_rules.proofs.Blocks.{effect_elsewhere}
 use Rattle.tl_rules.proofs.Legal.{access_at_uh}
 use Rattle.tl_client.specs.statement.Ask.{copy_stored}
@@ -19,7 +19,6 @@ use Rattle.tl_client.proofs.Stores.{stored-inside, stored-outside, length-stored
 use Rattle.tl_manager.specs.code.Kept.{illegal_message_at}
 use Rattle.tl_manager.specs.statement.Reaction.{with_block}
 use Rattle.tl_manager.proofs.Written.{bytes_are}
-use Rattle.tl_coherence.specs.refinement.AbstractStep.{bytes_at, performs}
 use Rattle.tl_coherence.specs.statement.Machine.{with_number}
 use Rattle.tl_coherence.proofs.manager.Memories.{performed-block, performed-reply, byte_in}
 use Rattle.tl_manager.proofs.Memories.{access_code}
@@ -29,24 +28,30 @@ use Rattle.tl_manager.proofs.Memories.{access_code}
 pub block-of-bytes : (f : Memory) (n : ℕ) (bytes : List ℕ) → bytes_from f (64 * n) 64 ≡ bytes → IsBlock f n bytes
 block-of-bytes f n bytes e i lt = sym (ap (λ (b : List ℕ). slice_index b i) (sym e) ∙ byte_in f (64 * n) 64 i lt)
 
-pub bytes-of-block : (f : Memory) (n : ℕ) (bytes : List ℕ) → IsBlock f n bytes → length bytes ≡ 64 → bytes_from f (64 * n) 64 ≡ bytes
+pub bytes-of-block : (f : Memory) (n : ℕ) (bytes : List ℕ) → IsBlock f n bytes → length bytes ≡ 64
+    → bytes_from f (64 * n) 64 ≡ bytes
 bytes-of-block f n bytes is long = rw long at (bytes_are f (64 * n) bytes (λ i lt. is i (omega (arith, lt, long))))
 
 -- ---- an access
 
-elsewhere : {w : ℕ} (o : Option Level) (m : MessageA w) (f : Memory) (x : ℕ) → IsWidth w → is_acquire m.opcode ≡ false → illegal_message_at o (A m) ≡ None
+elsewhere : {w : ℕ} (o : Option Level) (m : MessageA w) (f : Memory) (x : ℕ) → IsWidth w → is_acquire m.opcode ≡ false
+    → illegal_message_at o (A m) ≡ None
     → IsBlankAfter (beats_of (A m)) (A m) → x / 64 ≢ m.address / 64 → (effect (A m) f).0 x ≡ f x
 elsewhere None m f x width access lawful blank ne = absurd cc
-elsewhere (Some l) m f x width access lawful blank ne = effect_elsewhere (A m) width (access_at_uh l m width (access_code m.opcode access) lawful) blank f x ne
+elsewhere (Some l) m f x width access lawful blank ne =
+    effect_elsewhere (A m) width (access_at_uh l m width (access_code m.opcode access) lawful) blank f x ne
 
 -- the blocks after an access, of which one is its own
-pub blocks-performed : {w : ℕ} (o : Option Level) (m : MessageA w) (f : Memory) (truth : ℕ → List ℕ) → IsWidth w → is_acquire m.opcode ≡ false
+pub blocks-performed : {w : ℕ} (o : Option Level) (m : MessageA w) (f : Memory) (truth : ℕ → List ℕ) → IsWidth w
+    → is_acquire m.opcode ≡ false
     → illegal_message_at o (A m) ≡ None → IsBlankAfter (beats_of (A m)) (A m)
     → length (truth (block_at m.address)) ≡ 64 → ((n : ℕ) → IsBlock f n (truth n))
-    → IsBlock (effect (A m) f).0 (block_at m.address) (performs m (truth (block_at m.address))) × ((n : ℕ) → (n ≡ block_at m.address → ⊥) → IsBlock (effect (A m) f).0 n (truth n))
+    → IsBlock (effect (A m) f).0 (block_at m.address) (performs m (truth (block_at m.address)))
+    × ((n : ℕ) → (n ≡ block_at m.address → ⊥) → IsBlock (effect (A m) f).0 n (truth n))
 blocks-performed {w} o m f truth width access lawful blank long is = (
   block-of-bytes (effect (A m) f).0 (block_at m.address) (performs m (truth (block_at m.address)))
-      (performed-block o m f width lawful ∙ ap (performs m) (bytes-of-block f (block_at m.address) (truth (block_at m.address)) (is (block_at m.address)) long)),
+      (performed-block o m f width lawful ∙ ap (performs m)
+      (bytes-of-block f (block_at m.address) (truth (block_at m.address)) (is (block_at m.address)) long)),
   λ n ne i lt. elsewhere o m f (64 * n + i) width access lawful blank (apart n i lt ne) ∙ is n i lt,
 )
   where
@@ -54,14 +59,17 @@ blocks-performed {w} o m f truth width access lawful blank long is = (
     apart n i lt ne e = ne (omega (arith, lt, e))
 
 -- its reply, by the bytes of its block
-pub reply-performed : {w : ℕ} (o : Option Level) (m : MessageA w) (f : Memory) (bytes : List ℕ) → IsWidth w → illegal_message_at o (A m) ≡ None
+pub reply-performed : {w : ℕ} (o : Option Level) (m : MessageA w) (f : Memory) (bytes : List ℕ) → IsWidth w
+    → illegal_message_at o (A m) ≡ None
     → IsBlock f (block_at m.address) bytes → length bytes ≡ 64
     → (effect (A m) f).1 ≡ (effect (A m) (bytes_at (block_at m.address) bytes)).1
 reply-performed o m f bytes width lawful is long =
-    performed-reply o m f width lawful ∙ ap (λ (b : List ℕ). (effect (A m) (bytes_at (block_at m.address) b)).1) (bytes-of-block f (block_at m.address) bytes is long)
+    performed-reply o m f width lawful ∙ ap (λ (b : List ℕ). (effect (A m) (bytes_at (block_at m.address) b)).1)
+    (bytes-of-block f (block_at m.address) bytes is long)
 
 -- the source makes no difference
-pub effect-sourced : {w : ℕ} (source : ℕ) (m : MessageA w) (f : Memory) → effect (A (sourced source m)) f ≡ effect (A m) f
+pub effect-sourced : {w : ℕ} (source : ℕ) (m : MessageA w) (f : Memory)
+    → effect (A (sourced source m)) f ≡ effect (A m) f
 unfolding effect
 effect-sourced {w} source m f = go m.opcode refl
   where
@@ -77,7 +85,8 @@ effect-sourced {w} source m f = go m.opcode refl
 
 -- ---- a whole block
 
-pub block-besides : (f : Memory) (n k : ℕ) (bytes old : List ℕ) → (k ≡ n → ⊥) → IsBlock f k old → IsBlock (with_block n bytes f) k old
+pub block-besides : (f : Memory) (n k : ℕ) (bytes old : List ℕ) → (k ≡ n → ⊥) → IsBlock f k old
+    → IsBlock (with_block n bytes f) k old
 block-besides f n k bytes old ne is i lt =
     let here : (64 * k + i) / 64 ≡ k = omega (arith, lt) in
     rw (here, ne_eqb k n ne) (is i lt)
@@ -89,7 +98,8 @@ get_slice [] i lt = absurd (omega (arith, lt))
 get_slice (x ∷ xs) zero lt = refl
 get_slice (x ∷ xs) (suc i) lt = get_slice xs i (omega (arith, lt))
 
-pub block-stored : (address size value : ℕ) (copy : List ℕ) (f : Memory) → address % 64 + 2 ^ size ≤ 64 → length copy ≡ 64 → IsBlock f (block_at address) copy
+pub block-stored : (address size value : ℕ) (copy : List ℕ) (f : Memory) → address % 64 + 2 ^ size ≤ 64
+    → length copy ≡ 64 → IsBlock f (block_at address) copy
     → IsBlock (with_number address size value f) (block_at address) (copy_stored address size value copy)
 block-stored address size value copy f room long is i lt = go (reaches address size x) refl
   where
@@ -105,27 +115,33 @@ block-stored address size value copy f room long is i lt = go (reaches address s
     inside : address ≤ x → x < address + 2 ^ size → byte_of value (x - address) ≡ slice_index new i
     inside from to =
         let place : address % 64 + (x - address) ≡ i = omega (arith, lt, from, to) in
-        sym (slice_new ∙ ap (λ j. get_or new j 0) (sym place) ∙ stored-inside address size value (x - address) copy long room (omega (arith, from, to)))
+        sym (slice_new ∙ ap (λ j. get_or new j 0) (sym place) ∙ stored-inside address size value (x - address) copy long
+        room (omega (arith, from, to)))
 
     outside : (i < address % 64) ⊎ (address % 64 + 2 ^ size ≤ i) → f x ≡ slice_index new i
-    outside side = is i lt ∙ get_slice copy i (omega (arith, lt, long)) ∙ sym (slice_new ∙ stored-outside address size value i copy long room side)
+    outside side = is i lt ∙ get_slice copy i (omega (arith, lt, long)) ∙ sym
+        (slice_new ∙ stored-outside address size value i copy long room side)
 
     go : (b : Bool) → reaches address size x ≡ b → (if b then byte_of value (x - address) else f x) ≡ slice_index new i
-    go true e = let parts = and_parts (nat_le address x) (nat_lt x (address + 2 ^ size)) e in inside (leb-true address x parts.0) (ltb-true x (address + 2 ^ size) parts.1)
+    go true e = let parts = and_parts (nat_le address x) (nat_lt x (address + 2 ^ size)) e in
+        inside (leb-true address x parts.0) (ltb-true x (address + 2 ^ size) parts.1)
     go false e = elim (cases_lt x address) [
       | inl below ↦ outside (inl (omega (arith, lt, below)))
       | inr from ↦ elim (cases_lt x (address + 2 ^ size)) [
         | inl to ↦ absurd (let yes : (nat_le address x && nat_lt x (address + 2 ^ size)) ≡ true =
-            rw (le-leb address x from, lt-ltb x (address + 2 ^ size) to) refl in let no : true ≡ false = sym yes ∙ e in cc)
+            rw (le-leb address x from, lt-ltb x (address + 2 ^ size) to) refl in let no : true ≡ false = sym yes ∙ e in
+            cc)
         | inr above ↦ outside (inr (omega (arith, lt, above, from)))
       ]
     ]
 
-pub block-unstored : (address size value k : ℕ) (old : List ℕ) (f : Memory) → address % 64 + 2 ^ size ≤ 64 → (k ≡ block_at address → ⊥) → IsBlock f k old
+pub block-unstored : (address size value k : ℕ) (old : List ℕ) (f : Memory) → address % 64 + 2 ^ size ≤ 64
+    → (k ≡ block_at address → ⊥) → IsBlock f k old
     → IsBlock (with_number address size value f) k old
 block-unstored address size value k old f room ne is i lt = go (reaches address size (64 * k + i)) refl
   where
-    go : (b : Bool) → reaches address size (64 * k + i) ≡ b → (if b then byte_of value (64 * k + i - address) else f (64 * k + i)) ≡ slice_index old i
+    go : (b : Bool) → reaches address size (64 * k + i) ≡ b
+        → (if b then byte_of value (64 * k + i - address) else f (64 * k + i)) ≡ slice_index old i
     go false e = is i lt
     go true e =
         let parts = and_parts (nat_le address (64 * k + i)) (nat_lt (64 * k + i) (address + 2 ^ size)) e in

@@ -1,10 +1,9 @@
 -- Runs of the one-memory machine, and exact stalls.
+use Rattle.tl_coherence.proofs.memory.Imports.{Message, Config, Log, one_memory_after}
 use Rattle.std.proofs.Common.{◌≡◌, List, [], ◌∷◌, refl, sym, ◌∙◌}
 use Rattle.std.specs.Prelude.{ℕ, Bool, true, false, Result, Ok, Err, Option, ⊤}
 use Rattle.tl_beat.specs.declared.beat.Beat.{Beat}
 use Rattle.tl_beat.specs.declared.channel.Channel.{Channel}
-use Rattle.tl_burst.specs.declared.message.Message.{Message}
-use Rattle.tl_params.specs.declared.config.Config.{Config}
 use Rattle.tl_params.specs.declared.rule.Rule.{Rule}
 use Rattle.tl_client.specs.declared.verdict.Verdict.{Verdict}
 use Rattle.tl_client.specs.declared.verdict.Verdict.TheVariants as verdict
@@ -18,10 +17,8 @@ use Rattle.tl_manager.specs.statement.Offer as manager
 use Rattle.tl_manager.proofs.Stalls.{stalls-answered}
 use Rattle.tl_coherence.specs.statement.Delivery.{is_stall}
 use Rattle.tl_coherence.specs.statement.Headline.{Continues}
-use Rattle.tl_coherence.specs.statement.Log.{Log}
 use Rattle.tl_coherence.specs.statement.Machine.{Run}
 use Rattle.tl_coherence.specs.statement.Movable.{stalls}
-use Rattle.tl_coherence.specs.statement.OneMemory.{one_memory_after}
 use Rattle.tl_coherence.specs.statement.Step.{delivered, is_to_client, judged, manager_took}
 use Rattle.tl_coherence.specs.statement.System.{System}
 
@@ -32,10 +29,12 @@ unfoldable pub AllContinue : {w : ℕ} → Config → Log w → Type 0
 AllContinue config [] = ⊤
 AllContinue config (x ∷ log) = Continues config x log × AllContinue config log
 
-pub run-continued : {w : ℕ} (config : Config) (log : Log w) → AllContinue config log → Run config log (one_memory_after config log)
+pub run-continued : {w : ℕ} (config : Config) (log : Log w) → AllContinue config log
+    → Run config log (one_memory_after config log)
 unfolding Run one_memory_after AllContinue
 run-continued config [] all = refl
-run-continued config (x ∷ log) all = (one_memory_after config log, all.0.0, all.0.1, run-continued config log all.1, all.0.2, all.0.3)
+run-continued config (x ∷ log) all =
+    (one_memory_after config log, all.0.0, all.0.1, run-continued config log all.1, all.0.2, all.0.3)
 
 -- ---- stalls: a delivery that isn't refused is stalled exactly where the channel holds a beat that isn't movable
 
@@ -54,23 +53,29 @@ IsTaken config terms link ch x s =
     (is_to_client ch ≡ true → IsTakenUp (offered terms ch x (s.clients link)).answer)
     × (is_to_client ch ≡ false → IsTakenIn (manager.offered config (record { 0 = link }) ch x s.manager))
 
-stall-judged : {w : ℕ} (answer : Result (Verdict × Option (Message w)) Rule) (link : ℕ) (ch : Channel) (x : Beat w) (rest : List (Beat w)) (e : client.Endpoint w) (s : System w)
+stall-judged : {w : ℕ} (answer : Result (Verdict × Option (Message w)) Rule) (link : ℕ) (ch : Channel) (x : Beat w)
+    (rest : List (Beat w)) (e : client.Endpoint w) (s : System w)
     → IsTakenUp answer → is_stall (judged answer link ch x rest e s).outcome ≡ is_stalled answer
 stall-judged (Err rule) link ch x rest e s taken = absurd taken
 stall-judged (Ok (verdict.Stalled, m)) link ch x rest e s taken = refl
 stall-judged (Ok (verdict.Taken, m)) link ch x rest e s taken = refl
 stall-judged (Ok (verdict.Done source finish, m)) link ch x rest e s taken = refl
 
-stall-managed : {w : ℕ} (answer : manager.Reception w × manager_end.End w) (link : ℕ) (ch : Channel) (x : Beat w) (rest : List (Beat w)) (s : System w)
+stall-managed : {w : ℕ} (answer : manager.Reception w × manager_end.End w) (link : ℕ) (ch : Channel) (x : Beat w)
+    (rest : List (Beat w)) (s : System w)
     → IsTakenIn answer → is_stall (manager_took link ch x rest answer s).outcome ≡ kept.is_stalled answer.0
 stall-managed (manager.Refused rule, e) link ch x rest s taken = absurd taken
 stall-managed (manager.Stalled, e) link ch x rest s taken = refl
 stall-managed (manager.Sent handed, e) link ch x rest s taken = refl
 
-pub stall-delivered : {w : ℕ} (config : Config) (terms : EndConfig) (link : ℕ) (ch : Channel) (x : Beat w) (rest : List (Beat w)) (s : System w)
-    → IsTaken config terms link ch x s → is_stall (delivered config terms link ch (x ∷ rest) s).outcome ≡ stalls config terms link ch x s
+pub stall-delivered : {w : ℕ} (config : Config) (terms : EndConfig) (link : ℕ) (ch : Channel) (x : Beat w)
+    (rest : List (Beat w)) (s : System w)
+    → IsTaken config terms link ch x s → is_stall (delivered config terms link ch (x ∷ rest) s).outcome ≡ stalls config
+    terms link ch x s
 stall-delivered {w} config terms link ch x rest s taken = go (is_to_client ch) refl
   where
-    go : (b : Bool) → is_to_client ch ≡ b → is_stall (delivered config terms link ch (x ∷ rest) s).outcome ≡ stalls config terms link ch x s
+    go : (b : Bool) → is_to_client ch ≡ b → is_stall (delivered config terms link ch (x ∷ rest) s).outcome ≡ stalls
+        config terms link ch x s
     go true e = rw e (stall-judged _ link ch x rest _ s (taken.0 e) ∙ sym (stalls-offered terms ch x (s.clients link)))
-    go false e = rw e (stall-managed _ link ch x rest s (taken.1 e) ∙ sym (stalls-answered config (record { 0 = link }) ch x s.manager))
+    go false e = rw e (stall-managed _ link ch x rest s (taken.1 e) ∙ sym
+        (stalls-answered config (record { 0 = link }) ch x s.manager))

@@ -1,18 +1,14 @@
 -- What is outstanding after a log is what is open: the starts of the log are its ends and what is open after it.
+use Rattle.tl_coherence.proofs.outstanding.Imports.{IsWidth, Config, Outcome, AbstractState, abstract_step}
+use Rattle.tl_coherence.proofs.outstanding.Imports.{starts_request, starts_release, outstanding, Log, system_after}
+use Rattle.tl_coherence.proofs.outstanding.Imports.{open_requests, open_releases, State, one_if, SimulationRelation}
 use Rattle.std.proofs.Common.{◌≡◌, ℕ, ◌+◌, Bool, true, false, [], ◌∷◌, length, refl, ◌∙◌, ap, arith}
 use Rattle.std.specs.Prelude.{◌*◌, ◌/◌, if◌then◌else◌, filter}
-use Rattle.tl_beat.specs.statement.Width.{IsWidth}
-use Rattle.tl_params.specs.declared.config.Config.{Config}
 use Rattle.tl_coherence.specs.declared.event.Event.{Event}
-use Rattle.tl_coherence.specs.declared.event.Outcome.{Outcome}
-use Rattle.tl_coherence.specs.refinement.AbstractStep.{AbstractState, first_state, abstract_step}
-use Rattle.tl_coherence.specs.statement.Load.{starts_request, starts_release, ends_request, ends_release, number, requests, releases, outstanding, load}
-use Rattle.tl_coherence.specs.statement.Log.{Log, system_after}
-use Rattle.tl_coherence.specs.bound.Rank.{total, open_requests, open_releases}
-use Rattle.tl_coherence.specs.protocol.Protocol.{State}
+use Rattle.tl_coherence.specs.refinement.AbstractStep.{first_state}
+use Rattle.tl_coherence.specs.statement.Load.{ends_request, ends_release, number, requests, releases, load}
+use Rattle.tl_coherence.specs.bound.Rank.{total}
 use Rattle.tl_coherence.specs.statement.Step.{stepped}
-use Rattle.tl_coherence.specs.protocol.Packet.{one_if}
-use Rattle.tl_coherence.specs.refinement.SimulationRelation.{SimulationRelation}
 use Rattle.tl_coherence.proofs.protocol.OpenCounts.{clients_in, sources_in, IsBalance}
 use Rattle.tl_coherence.proofs.outstanding.Outstanding.{counted-followed}
 use Rattle.tl_coherence.proofs.queues.Sums.{total-zero}
@@ -22,10 +18,12 @@ pub record AreCounted {w : ℕ} {X : Type 0} (config : Config) (log : Log w) (s 
   pub requests_are : number starts_request log ≡ number (λ e o. ends_request o) log + open_requests config s
   pub releases_are : number starts_release log ≡ number (λ e o. ends_release o) log + open_releases config s
 
-pub number-next : {w : ℕ} (test : Event w → Outcome w → Bool) (event : Event w) (o : Outcome w) (log : Log w) → number test ((event, o) ∷ log) ≡ number test log + one_if (test event o)
+pub number-next : {w : ℕ} (test : Event w → Outcome w → Bool) (event : Event w) (o : Outcome w) (log : Log w)
+    → number test ((event, o) ∷ log) ≡ number test log + one_if (test event o)
 number-next {w} test event o log = go (test event o)
   where
-    go : (b : Bool) → length (if b then (event, o) ∷ filter (λ x. test x.0 x.1) log else filter (λ x. test x.0 x.1) log) ≡ number test log + one_if b
+    go : (b : Bool) → length (if b then (event, o) ∷ filter (λ x. test x.0 x.1) log else filter (λ x. test x.0 x.1) log)
+        ≡ number test log + one_if b
     go true = omega arith
     go false = omega arith
 
@@ -34,40 +32,64 @@ pub counted-first : {w : ℕ} (config : Config) → AreCounted {w = w} config []
 counted-first config =
     let requests_none : open_requests config first_state ≡ 0 =
     total-zero (clients_in config) (λ c. total (sources_in config c) (λ i. 0) + 0)
-    (λ c few. let none : total (sources_in config c) (λ i. 0) ≡ 0 = total-zero (sources_in config c) (λ i. 0) (λ i lt. refl) in omega (arith, none)) in
+    (λ c few. let none : total (sources_in config c) (λ i. 0) ≡ 0 =
+    total-zero (sources_in config c) (λ i. 0) (λ i lt. refl) in omega (arith, none)) in
     let releases_none : open_releases config first_state ≡ 0 =
-    total-zero (clients_in config) (λ c. total (sources_in config c) (λ i. 0)) (λ c few. total-zero (sources_in config c) (λ i. 0) (λ i lt. refl)) in
+    total-zero (clients_in config) (λ c. total (sources_in config c) (λ i. 0))
+    (λ c few. total-zero (sources_in config c) (λ i. 0) (λ i lt. refl)) in
     record { requests_are = omega (arith, requests_none); releases_are = omega (arith, releases_none) }
 
-counted-balance : {w : ℕ} {X : Type 0} (config : Config) (log : Log w) (s s' : State X) (event : Event w) (o : Outcome w)
+counted-balance : {w : ℕ} {X : Type 0} (config : Config) (log : Log w) (s s' : State X) (event : Event w)
+    (o : Outcome w)
     → IsBalance config s s' (starts_request event o) (ends_request o) (starts_release event o) (ends_release o)
     → AreCounted config log s → AreCounted config ((event, o) ∷ log) s'
 counted-balance config log s s' event o is before = record {
-  requests_are = omega (arith, is.requests, before.requests_are, number-next starts_request event o log, number-next (λ e p. ends_request p) event o log);
-  releases_are = omega (arith, is.releases, before.releases_are, number-next starts_release event o log, number-next (λ e p. ends_release p) event o log);
+  requests_are = omega (
+    arith,
+    is.requests,
+    before.requests_are,
+    number-next starts_request event o log,
+    number-next
+        (λ e p. ends_request p) event o log,
+  );
+  releases_are = omega (
+    arith,
+    is.releases,
+    before.releases_are,
+    number-next starts_release event o log,
+    number-next
+        (λ e p. ends_release p) event o log,
+  );
 }
 
 -- and every event keeps it
 pub counted-next : {w : ℕ} (config : Config) (log : Log w) (h : AbstractState w) (event : Event w) → IsWidth w
     → SimulationRelation config log h.mail h.request h.state (system_after config log) → AreCounted config log h.state
-    → AreCounted config ((event, (stepped config event (system_after config log)).outcome) ∷ log) (abstract_step config event (system_after config log) h).state
+    → AreCounted config ((event, (stepped config event (system_after config log)).outcome) ∷ log)
+    (abstract_step config event (system_after config log) h).state
 counted-next config log h event width matched before =
-    counted-balance config log h.state (abstract_step config event (system_after config log) h).state event (stepped config event (system_after config log)).outcome
+    counted-balance config log h.state (abstract_step config event (system_after config log) h).state event
+    (stepped config event (system_after config log)).outcome
     (counted-followed config log h width matched event) before
 
 -- what is outstanding is what is open
-pub requests-open : {w : ℕ} {X : Type 0} (config : Config) (log : Log w) (s : State X) → AreCounted config log s → requests log ≡ open_requests config s
+pub requests-open : {w : ℕ} {X : Type 0} (config : Config) (log : Log w) (s : State X) → AreCounted config log s
+    → requests log ≡ open_requests config s
 unfolding requests
 requests-open config log s is = omega (arith, is.requests_are)
 
-pub releases-open : {w : ℕ} {X : Type 0} (config : Config) (log : Log w) (s : State X) → AreCounted config log s → releases log ≡ open_releases config s
+pub releases-open : {w : ℕ} {X : Type 0} (config : Config) (log : Log w) (s : State X) → AreCounted config log s
+    → releases log ≡ open_releases config s
 unfolding releases
 releases-open config log s is = omega (arith, is.releases_are)
 
-pub outstanding-open : {w : ℕ} {X : Type 0} (config : Config) (log : Log w) (s : State X) → AreCounted config log s → outstanding log ≡ open_requests config s + open_releases config s
+pub outstanding-open : {w : ℕ} {X : Type 0} (config : Config) (log : Log w) (s : State X) → AreCounted config log s
+    → outstanding log ≡ open_requests config s + open_releases config s
 outstanding-open config log s is = omega (arith, requests-open config log s is, releases-open config log s is)
 
 -- and the load is that of what is open
-pub load-open : {w : ℕ} {X : Type 0} (config : Config) (log : Log w) (s : State X) → AreCounted config log s → load log ≡ (64 / w + 33) * open_requests config s + (64 / w + 1) * open_releases config s
-load-open {w} config log s is = ap (λ (n : ℕ). (64 / w + 33) * n + (64 / w + 1) * releases log) (requests-open config log s is)
+pub load-open : {w : ℕ} {X : Type 0} (config : Config) (log : Log w) (s : State X) → AreCounted config log s
+    → load log ≡ (64 / w + 33) * open_requests config s + (64 / w + 1) * open_releases config s
+load-open {w} config log s is = ap (λ (n : ℕ). (64 / w + 33) * n + (64 / w + 1) * releases log)
+    (requests-open config log s is)
     ∙ ap (λ (n : ℕ). (64 / w + 33) * open_requests config s + (64 / w + 1) * n) (releases-open config log s is)

@@ -1,26 +1,19 @@
 -- A delivery is next exactly while something is outstanding.
-use Rattle.std.proofs.Common.{◌≡◌, ℕ, zero, suc, ◌+◌, ◌<◌, Bool, true, false, List, [], ◌∷◌, length, refl, sym, ◌∙◌, ap, ◌⊎◌, inl, inr, arith, Option, Some, None}
+use Rattle.tl_coherence.proofs.outstanding.Imports.{IsWidth, Beat, Channel, MessageA, Config, EndConfig, outstanding}
+use Rattle.tl_coherence.proofs.outstanding.Imports.{Log, system_after, next_delivery, is_used, is_let, open_requests}
+use Rattle.tl_coherence.proofs.outstanding.Imports.{open_releases, State, SourceState, SourceFree, Asked, Acquires}
+use Rattle.tl_coherence.proofs.outstanding.Imports.{terms_at, Packet, one_if, SimulationRelation}
+use Rattle.std.proofs.Common.{◌≡◌, ℕ, zero, suc, ◌+◌, ◌<◌, Bool, true, false, List, [], ◌∷◌, length, refl, sym, ◌∙◌, ap}
+use Rattle.std.proofs.Common.{◌⊎◌, inl, inr, arith, Option, Some, None}
 use Rattle.std.specs.Prelude.{◌==◌, is_none}
 use Rattle.std.proofs.lemmas.Bool.{cases_eq, eqb-true}
-use Rattle.tl_beat.specs.statement.Width.{IsWidth}
-use Rattle.tl_beat.specs.declared.beat.Beat.{Beat}
 use Rattle.tl_beat.specs.declared.beat.Link.{Link}
-use Rattle.tl_beat.specs.declared.channel.Channel.{Channel}
 use Rattle.tl_beat.specs.declared.channel.Channel.TheVariants as channel
-use Rattle.tl_burst.specs.declared.message.MessageA.{MessageA}
-use Rattle.tl_params.specs.declared.config.Config.{Config}
-use Rattle.tl_client.specs.statement.Endpoint.{EndConfig}
 use Rattle.tl_coherence.specs.statement.Coherent.{IsCoherent}
-use Rattle.tl_coherence.specs.statement.Load.{outstanding}
-use Rattle.tl_coherence.specs.statement.Log.{Log, system_after}
-use Rattle.tl_coherence.specs.statement.Movable.{next_delivery}
-use Rattle.tl_coherence.specs.bound.Rank.{total, is_used, is_let, open_requests, open_releases}
-use Rattle.tl_coherence.specs.protocol.Protocol.{State, SourceState, SourceFree, Asked, InService, Replied, Acquires}
+use Rattle.tl_coherence.specs.bound.Rank.{total}
+use Rattle.tl_coherence.specs.protocol.Protocol.{InService, Replied}
 use Rattle.tl_coherence.specs.statement.OneMemory.{one_memory_after}
 use Rattle.tl_coherence.specs.refinement.PacketMessages.{AccessMessages}
-use Rattle.tl_coherence.specs.statement.System.{terms_at}
-use Rattle.tl_coherence.specs.protocol.Packet.{Packet, one_if}
-use Rattle.tl_coherence.specs.refinement.SimulationRelation.{SimulationRelation}
 use Rattle.tl_coherence.proofs.simulation.Bounded.{matched-bounded}
 use Rattle.tl_coherence.proofs.protocol.Capacities.{AreBounded}
 use Rattle.tl_coherence.proofs.outstanding.Counted.{AreCounted, outstanding-open}
@@ -59,29 +52,40 @@ nothing_in [] e = refl
 nothing_in (x ∷ xs) e = absurd (omega (arith, e))
 
 -- nothing is counted where nothing is open
-pub none-counted : {X : Type 0} (config : Config) (s : State X) → IsClosed s → ((c : ℕ) → (s.link c).e ≡ []) → open_requests config s + open_releases config s ≡ 0
+pub none-counted : {X : Type 0} (config : Config) (s : State X) → IsClosed s → ((c : ℕ) → (s.link c).e ≡ [])
+    → open_requests config s + open_releases config s ≡ 0
 none-counted config s closed no_acks =
-    let requests : open_requests config s ≡ 0 = total-zero (clients_in config) (λ c. total (sources_in config c) (λ i. one_if (is_used (s.uses c i))) + length (s.link c).e) (λ c few.
+    let requests : open_requests config s ≡ 0 =
+    total-zero (clients_in config) (λ c. total (sources_in config c) (λ i. one_if (is_used (s.uses c i))) + length
+    (s.link c).e) (λ c few.
     let uses : total (sources_in config c) (λ i. one_if (is_used (s.uses c i))) ≡ 0 =
-    total-zero (sources_in config c) (λ i. one_if (is_used (s.uses c i))) (λ i lt. ap (λ (u : SourceState). one_if (is_used u)) (closed.uses c i)) in
+    total-zero (sources_in config c) (λ i. one_if (is_used (s.uses c i)))
+    (λ i lt. ap (λ (u : SourceState). one_if (is_used u)) (closed.uses c i)) in
     let acks : length (s.link c).e ≡ 0 = ap length (no_acks c) in
     omega (arith, uses, acks)) in
-    let releases : open_releases config s ≡ 0 = total-zero (clients_in config) (λ c. total (sources_in config c) (λ i. one_if (is_let (s.lets c i)))) (λ c few.
-    total-zero (sources_in config c) (λ i. one_if (is_let (s.lets c i))) (λ i lt. ap (λ (o : Option ℕ). one_if (is_let o)) (closed.lets c i))) in
+    let releases : open_releases config s ≡ 0 =
+    total-zero (clients_in config) (λ c. total (sources_in config c) (λ i. one_if (is_let (s.lets c i)))) (λ c few.
+    total-zero (sources_in config c) (λ i. one_if (is_let (s.lets c i)))
+    (λ i lt. ap (λ (o : Option ℕ). one_if (is_let o)) (closed.lets c i))) in
     omega (arith, requests, releases)
 
-module _ {w : ℕ} (config : Config) (log : Log w) (mail : AccessMessages w) (request : ℕ → MessageA w) (s : State (List ℕ)) (matched : SimulationRelation config log mail request s (system_after config log))
+module _ {w : ℕ} (config : Config) (log : Log w) (mail : AccessMessages w) (request : ℕ → MessageA w)
+    (s : State (List ℕ)) (matched : SimulationRelation config log mail request s (system_after config log))
     (width : IsWidth w) (none : open_requests config s + open_releases config s ≡ 0) where
   -- the two sums of one client
-  of_client : (c : ℕ) → c < clients_in config → (total (sources_in config c) (λ i. one_if (is_used (s.uses c i))) + length (s.link c).e ≡ 0)
+  of_client : (c : ℕ) → c < clients_in config
+      → (total (sources_in config c) (λ i. one_if (is_used (s.uses c i))) + length (s.link c).e ≡ 0)
       × (total (sources_in config c) (λ i. one_if (is_let (s.lets c i))) ≡ 0)
   of_client c few = (
-    total-none (clients_in config) (λ d. total (sources_in config d) (λ i. one_if (is_used (s.uses d i))) + length (s.link d).e) (omega (arith, none)) c few,
-    total-none (clients_in config) (λ d. total (sources_in config d) (λ i. one_if (is_let (s.lets d i)))) (omega (arith, none)) c few,
+    total-none (clients_in config) (λ d. total (sources_in config d) (λ i. one_if (is_used (s.uses d i))) + length
+        (s.link d).e) (omega (arith, none)) c few,
+    total-none (clients_in config) (λ d. total (sources_in config d) (λ i. one_if (is_let (s.lets d i))))
+        (omega (arith, none)) c few,
   )
 
   bounds : (c : ℕ) → AreBounded c (sources_in config c) config.trackers s
-  bounds c = matched-bounded config log mail request s (system_after config log) matched c (sources-own config log c width)
+  bounds c = matched-bounded config log mail request s (system_after config log) matched c
+      (sources-own config log c width)
 
   closed_use : (c source : ℕ) (terms : EndConfig) → terms_at config c ≡ Some terms → s.uses c source ≡ SourceFree
   closed_use c source terms at = go (s.uses c source) refl
@@ -92,7 +96,8 @@ module _ {w : ℕ} (config : Config) (log : Log w) (mail : AccessMessages w) (re
           total-none (sources_in config c) (λ i. one_if (is_used (s.uses c i))) (omega (arith, both)) source lt
 
       used : (u : SourceState) → s.uses c source ≡ u → (u ≡ SourceFree → ⊥) → s.uses c source ≡ SourceFree
-      used u e open_ = not_used (s.uses c source) (zero_there ((bounds c).requests source (λ closed. open_ (sym e ∙ closed))))
+      used u e open_ = not_used (s.uses c source)
+          (zero_there ((bounds c).requests source (λ closed. open_ (sym e ∙ closed))))
 
       go : (u : SourceState) → s.uses c source ≡ u → s.uses c source ≡ SourceFree
       go SourceFree e = e
@@ -107,13 +112,19 @@ module _ {w : ℕ} (config : Config) (log : Log w) (mail : AccessMessages w) (re
       go : (o : Option ℕ) → s.lets c source ≡ o → s.lets c source ≡ None
       go None e = e
       go (Some n) e =
-          not_let (s.lets c source) (total-none (sources_in config c) (λ i. one_if (is_let (s.lets c i))) (of_client c (client_below config c terms at)).1 source ((bounds c).releases source n e))
+          not_let (s.lets c source) (total-none (sources_in config c) (λ i. one_if (is_let (s.lets c i)))
+          (of_client c (client_below config c terms at)).1 source ((bounds c).releases source n e))
 
   no_ack : (c : ℕ) (terms : EndConfig) → terms_at config c ≡ Some terms → (s.link c).e ≡ []
-  no_ack c terms at = let both = (of_client c (client_below config c terms at)).0 in nothing_in (s.link c).e (omega (arith, both))
+  no_ack c terms at = let both = (of_client c (client_below config c terms at)).0 in
+      nothing_in (s.link c).e (omega (arith, both))
 
   pub closed-when-counted : IsClosed s
-  closed-when-counted = record { uses = λ c source. use_is c source (terms_at config c) refl; lets = λ c source. let_is c source (terms_at config c) refl }
+  closed-when-counted = record {
+    uses = λ c source. use_is c source (terms_at config c) refl;
+    lets =
+        λ c source. let_is c source (terms_at config c) refl;
+  }
     where
       use_is : (c source : ℕ) (o : Option EndConfig) → terms_at config c ≡ o → s.uses c source ≡ SourceFree
       use_is c source None at = matched.strangers c source at
@@ -131,12 +142,17 @@ module _ {w : ℕ} (config : Config) (log : Log w) (mail : AccessMessages w) (re
       go (Some terms) at = no_ack c terms at
 
 -- A delivery is next exactly while something is outstanding.
-pub next-while-outstanding : {w : ℕ} (config : Config) (log : Log w) (mail : AccessMessages w) (request : ℕ → MessageA w) (s : State (List ℕ)) (matched : SimulationRelation config log mail request s (system_after config log))
+pub next-while-outstanding : {w : ℕ} (config : Config) (log : Log w) (mail : AccessMessages w) (request : ℕ
+    → MessageA w) (s : State (List ℕ)) (matched : SimulationRelation config log mail request s
+    (system_after config log))
     → IsCoherent (system_after config log) log (one_memory_after config log) → 0 < config.trackers
-    → ((c : ℕ) (terms : EndConfig) (ch : Channel) (x : Beat w) (rest : List (Beat w)) → terms_at config c ≡ Some terms → (system_after config log).channels c ch ≡ x ∷ rest
+    → ((c : ℕ) (terms : EndConfig) (ch : Channel) (x : Beat w) (rest : List (Beat w)) → terms_at config c ≡ Some terms
+    → (system_after config log).channels c ch ≡ x ∷ rest
     → IsFirst config terms c ch x (system_after config log))
-    → IsWidth w → AreCounted config log s → is_none (next_delivery config (system_after config log)) ≡ (outstanding log == 0)
-next-while-outstanding {w} config log mail request s matched coherent trackers firsts width counted = go (next_delivery config (system_after config log)) refl (outstanding log == 0) refl
+    → IsWidth w → AreCounted config log s
+    → is_none (next_delivery config (system_after config log)) ≡ (outstanding log == 0)
+next-while-outstanding {w} config log mail request s matched coherent trackers firsts width counted =
+    go (next_delivery config (system_after config log)) refl (outstanding log == 0) refl
   where
     sum : outstanding log ≡ open_requests config s + open_releases config s
     sum = outstanding-open config log s counted
@@ -144,20 +160,24 @@ next-while-outstanding {w} config log mail request s matched coherent trackers f
     zero_is : (n : ℕ) → n ≡ 0 → (n == 0) ≡ true
     zero_is n e = rw e refl
 
-    go : (o : Option (Link × Channel)) → next_delivery config (system_after config log) ≡ o → (b : Bool) → (outstanding log == 0) ≡ b → is_none o ≡ b
+    go : (o : Option (Link × Channel)) → next_delivery config (system_after config log) ≡ o → (b : Bool)
+        → (outstanding log == 0) ≡ b → is_none o ≡ b
     go None e true f = refl
     go None e false f =
         let bare = bare-when-standing config log mail request s matched coherent trackers firsts e width in
-        let none = none-counted config s (closed-when-standing config log mail request s matched coherent trackers firsts width e) bare.silent.e in
+        let none = none-counted config s (closed-when-standing config log mail request s matched coherent trackers
+        firsts width e) bare.silent.e in
         absurd (let yes = zero_is (outstanding log) (sum ∙ none) in let both : true ≡ false = sym yes ∙ f in cc)
     go (Some d) e false f = refl
     go (Some d) e true f =
         let none : open_requests config s + open_releases config s ≡ 0 = sym sum ∙ eqb-true (outstanding log) 0 f in
         let stands = standing-when-closed config log mail request s matched coherent trackers firsts
-        (closed-when-counted config log mail request s matched width none) (no-acks-counted config log mail request s matched width none) in
+        (closed-when-counted config log mail request s matched width none)
+        (no-acks-counted config log mail request s matched width none) in
         absurd (let both : Some d ≡ None = sym e ∙ stands in cc)
 
 -- where no delivery is next, nothing is outstanding
-pub none-outstanding : {w : ℕ} (config : Config) (log : Log w) → is_none (next_delivery config (system_after config log)) ≡ (outstanding log == 0)
+pub none-outstanding : {w : ℕ} (config : Config) (log : Log w)
+    → is_none (next_delivery config (system_after config log)) ≡ (outstanding log == 0)
     → next_delivery config (system_after config log) ≡ None → outstanding log ≡ 0
 none-outstanding config log moving none = eqb-true (outstanding log) 0 (sym moving ∙ ap is_none none)

@@ -1,38 +1,31 @@
 -- A delivery is movable exactly where a channel carries a message.
+use Rattle.tl_coherence.proofs.outstanding.Imports.{IsWidth, Beat, Channel, Message, MessageA, Config, block_at}
+use Rattle.tl_coherence.proofs.outstanding.Imports.{EndConfig, Log, system_after, next_delivery, State, terms_at}
+use Rattle.tl_coherence.proofs.outstanding.Imports.{Packet, Release, ReleaseAck, one_if, SimulationRelation}
 use Rattle.std.proofs.Common.{◌≡◌, ℕ, ◌<◌, Bool, true, false, List, [], ◌∷◌, refl, sym, ◌∙◌, ap, arith}
 use Rattle.std.specs.Prelude.{not, map, nat_le, Option, Some, None}
 use Rattle.std.proofs.lemmas.Bool.Decides.{nat_tests}
 use Rattle.std.proofs.Math.Bool.{and-false}
 use Rattle.std.proofs.lemmas.Bool.{true_from_ne_false}
-use Rattle.tl_beat.specs.statement.Width.{IsWidth}
-use Rattle.tl_beat.specs.declared.beat.Beat.{Beat}
 use Rattle.tl_beat.specs.declared.beat.Beat.TheVariants as beat
-use Rattle.tl_beat.specs.declared.channel.Channel.{Channel}
 use Rattle.tl_beat.specs.declared.channel.Channel.TheVariants as channel
-use Rattle.tl_burst.specs.declared.message.Message.{Message}
-use Rattle.tl_burst.specs.declared.message.MessageA.{MessageA}
 use Rattle.tl_burst.specs.statement.Messages.{unfinished}
-use Rattle.tl_params.specs.declared.config.Config.{Config}
 use Rattle.tl_params.specs.declared.key.Key.TheVariants.{ReleaseOf}
 use Rattle.tl_rules.specs.statement.Conformance.{on_link}
-use Rattle.tl_rules.specs.statement.History.{block_at, ends, pending}
-use Rattle.tl_client.specs.statement.Endpoint.{EndConfig}
+use Rattle.tl_rules.specs.statement.History.{ends, pending}
 use Rattle.tl_manager.specs.statement.Service as manager
 use Rattle.tl_manager.specs.statement.Service.{services, service_of_block}
 use Rattle.tl_coherence.specs.refinement.Carried.{IsCarried}
 use Rattle.tl_coherence.specs.statement.Coherent.{IsCoherent}
 use Rattle.tl_coherence.specs.statement.Delivery.{Moves}
-use Rattle.tl_coherence.specs.statement.Log.{Log, system_after}
 use Rattle.tl_coherence.specs.refinement.ManagerRelation.{client_in, service_with}
 use Rattle.tl_coherence.specs.refinement.ChannelRelation.{receiver}
-use Rattle.tl_coherence.specs.statement.Movable.{is_movable, next_delivery}
+use Rattle.tl_coherence.specs.statement.Movable.{is_movable}
 use Rattle.tl_coherence.specs.protocol.Phase.{ReleasePhase, NoRelease, ReleaseSent, ReleaseAcked, is_unreleased}
-use Rattle.tl_coherence.specs.protocol.Protocol.{Service, State, packets_on, shown}
+use Rattle.tl_coherence.specs.protocol.Protocol.{Service, packets_on, shown}
 use Rattle.tl_coherence.specs.statement.OneMemory.{one_memory_after}
 use Rattle.tl_coherence.specs.refinement.PacketMessages.{AccessMessages, message_of, messages_on}
-use Rattle.tl_coherence.specs.statement.System.{terms_at}
-use Rattle.tl_coherence.specs.protocol.Packet.{Packet, Release, ReleaseAck, one_if, count}
-use Rattle.tl_coherence.specs.refinement.SimulationRelation.{SimulationRelation}
+use Rattle.tl_coherence.specs.protocol.Packet.{count}
 use Rattle.tl_coherence.proofs.queues.Carried.{carried-none}
 use Rattle.tl_coherence.proofs.protocol.QuiescentBlock.{IsSilent, free-when_silent}
 use Rattle.tl_coherence.proofs.links.Stalling.{IsFirst, exact, started-releasing}
@@ -45,70 +38,90 @@ no_tokens : {w : ℕ} (f : Packet → Message w) (xs : List Packet) → map f xs
 no_tokens f [] e = refl
 no_tokens f (x ∷ xs) e = absurd cc
 
-found_first : {w : ℕ} (n : ℕ) (s : manager.Service w) (ss : List (manager.Service w)) → block_at s.request.address ≡ n → service_of_block n (s ∷ ss) ≡ Some s
+found_first : {w : ℕ} (n : ℕ) (s : manager.Service w) (ss : List (manager.Service w)) → block_at s.request.address ≡ n
+    → service_of_block n (s ∷ ss) ≡ Some s
 found_first n s ss e = rw (e, same_number n) refl
 
 none_served : {w : ℕ} (ss : List (manager.Service w)) → ((n : ℕ) → service_of_block n ss ≡ None) → ss ≡ []
 none_served [] none = refl
 none_served (s ∷ ss) none =
-    absurd (let both : Some s ≡ None = sym (found_first (block_at s.request.address) s ss refl) ∙ none (block_at s.request.address) in cc)
+    absurd (let both : Some s ≡ None = sym (found_first (block_at s.request.address) s ss refl) ∙ none
+    (block_at s.request.address) in cc)
 
 few_test : (n : ℕ) → 0 < n → nat_le n 0 ≡ false
 few_test n lt = grind (arith, nat_tests, lt)
 
-module _ {w : ℕ} (config : Config) (log : Log w) (mail : AccessMessages w) (request : ℕ → MessageA w) (s : State (List ℕ)) (matched : SimulationRelation config log mail request s (system_after config log))
+module _ {w : ℕ} (config : Config) (log : Log w) (mail : AccessMessages w) (request : ℕ → MessageA w)
+    (s : State (List ℕ)) (matched : SimulationRelation config log mail request s (system_after config log))
     (coherent : IsCoherent (system_after config log) log (one_memory_after config log)) (trackers : 0 < config.trackers)
-    (firsts : (c : ℕ) (terms : EndConfig) (ch : Channel) (x : Beat w) (rest : List (Beat w)) → terms_at config c ≡ Some terms
+    (firsts : (c : ℕ) (terms : EndConfig) (ch : Channel) (x : Beat w) (rest : List (Beat w))
+    → terms_at config c ≡ Some terms
     → (system_after config log).channels c ch ≡ x ∷ rest → IsFirst config terms c ch x (system_after config log)) where
   -- a channel without a beat has no message
   no_message : (c : ℕ) (ch : Channel) → (system_after config log).channels c ch ≡ [] → packets_on ch (s.link c) ≡ []
-  no_message c ch none = no_tokens (message_of mail s c) (packets_on ch (s.link c)) (carried-none _ (messages_on ch mail s c) (rw none at (matched.carried c ch)))
+  no_message c ch none = no_tokens (message_of mail s c) (packets_on ch (s.link c))
+      (carried-none _ (messages_on ch mail s c) (rw none at (matched.carried c ch)))
 
   -- and without a message it has no beat
   no_beat : (c : ℕ) (ch : Channel) → packets_on ch (s.link c) ≡ [] → (system_after config log).channels c ch ≡ []
   no_beat c ch none = go (messages_on ch mail s c) (ap (map (message_of mail s c)) none) (matched.carried c ch)
     where
-      go : (ms : List (Message w)) → ms ≡ [] → IsCarried (unfinished ch (receiver ch c (system_after config log))) ms ((system_after config log).channels c ch) → (system_after config log).channels c ch ≡ []
+      go : (ms : List (Message w)) → ms ≡ [] → IsCarried (unfinished ch (receiver ch c (system_after config log))) ms
+          ((system_after config log).channels c ch) → (system_after config log).channels c ch ≡ []
       go [] e h = h.1
       go (m ∷ ms) e h = absurd cc
 
   -- a channel whose first beat is movable, if there is one, is empty where no delivery is next
   module _ (none : next_delivery config (system_after config log) ≡ None) where
     nothing_first : (c : ℕ) (terms : EndConfig) (ch : Channel) → terms_at config c ≡ Some terms
-        → ((x : Beat w) (rest : List (Beat w)) → (system_after config log).channels c ch ≡ x ∷ rest → is_movable config c ch (system_after config log) ≡ true) → (system_after config log).channels c ch ≡ []
+        → ((x : Beat w) (rest : List (Beat w)) → (system_after config log).channels c ch ≡ x ∷ rest
+        → is_movable config c ch (system_after config log) ≡ true) → (system_after config log).channels c ch ≡ []
     nothing_first c terms ch is moves = go ((system_after config log).channels c ch) refl
       where
         go : (beats : List (Beat w)) → (system_after config log).channels c ch ≡ beats → beats ≡ []
         go [] e = refl
-        go (x ∷ rest) e = absurd (let both : true ≡ false = sym (moves x rest e) ∙ nothing-moves config (system_after config log) c terms ch is none in cc)
+        go (x ∷ rest) e = absurd (let both : true ≡ false =
+            sym (moves x rest e) ∙ nothing-moves config (system_after config log) c terms ch is none in cc)
 
-    moving : (c : ℕ) (terms : EndConfig) (ch : Channel) (x : Beat w) (rest : List (Beat w)) → terms_at config c ≡ Some terms → (system_after config log).channels c ch ≡ x ∷ rest → Moves config log c x
-    moving c terms ch x rest is e = (exact config log mail request s matched coherent c terms is ch (λ y more f. firsts c terms ch y more is f)).moves x rest e
+    moving : (c : ℕ) (terms : EndConfig) (ch : Channel) (x : Beat w) (rest : List (Beat w))
+        → terms_at config c ≡ Some terms → (system_after config log).channels c ch ≡ x ∷ rest → Moves config log c x
+    moving c terms ch x rest is e =
+        (exact config log mail request s matched coherent c terms is ch
+        (λ y more f. firsts c terms ch y more is f)).moves x rest e
 
-    empty_e : (c : ℕ) (terms : EndConfig) → terms_at config c ≡ Some terms → (system_after config log).channels c channel.E ≡ []
-    empty_e c terms is = nothing_first c terms channel.E is (λ x rest e. go x (firsts c terms channel.E x rest is e) (moving c terms channel.E x rest is e))
+    empty_e : (c : ℕ) (terms : EndConfig) → terms_at config c ≡ Some terms
+        → (system_after config log).channels c channel.E ≡ []
+    empty_e c terms is = nothing_first c terms channel.E is (λ x rest e. go x (firsts c terms channel.E x rest is e)
+        (moving c terms channel.E x rest is e))
       where
-        go : (x : Beat w) → IsFirst config terms c channel.E x (system_after config log) → Moves config log c x → is_movable config c channel.E (system_after config log) ≡ true
+        go : (x : Beat w) → IsFirst config terms c channel.E x (system_after config log) → Moves config log c x
+            → is_movable config c channel.E (system_after config log) ≡ true
         go (beat.E y) first m = m
         go (beat.A y) first m = absurd (let on = first.on in cc)
         go (beat.B y) first m = absurd (let on = first.on in cc)
         go (beat.C y) first m = absurd (let on = first.on in cc)
         go (beat.D y) first m = absurd (let on = first.on in cc)
 
-    empty_d : (c : ℕ) (terms : EndConfig) → terms_at config c ≡ Some terms → (system_after config log).channels c channel.D ≡ []
-    empty_d c terms is = nothing_first c terms channel.D is (λ x rest e. go x (firsts c terms channel.D x rest is e) (moving c terms channel.D x rest is e))
+    empty_d : (c : ℕ) (terms : EndConfig) → terms_at config c ≡ Some terms
+        → (system_after config log).channels c channel.D ≡ []
+    empty_d c terms is = nothing_first c terms channel.D is (λ x rest e. go x (firsts c terms channel.D x rest is e)
+        (moving c terms channel.D x rest is e))
       where
-        go : (x : Beat w) → IsFirst config terms c channel.D x (system_after config log) → Moves config log c x → is_movable config c channel.D (system_after config log) ≡ true
+        go : (x : Beat w) → IsFirst config terms c channel.D x (system_after config log) → Moves config log c x
+            → is_movable config c channel.D (system_after config log) ≡ true
         go (beat.D y) first m = m
         go (beat.A y) first m = absurd (let on = first.on in cc)
         go (beat.B y) first m = absurd (let on = first.on in cc)
         go (beat.C y) first m = absurd (let on = first.on in cc)
         go (beat.E y) first m = absurd (let on = first.on in cc)
 
-    empty_c : (c : ℕ) (terms : EndConfig) → terms_at config c ≡ Some terms → (system_after config log).channels c channel.C ≡ []
-    empty_c c terms is = nothing_first c terms channel.C is (λ x rest e. go x (firsts c terms channel.C x rest is e) (moving c terms channel.C x rest is e))
+    empty_c : (c : ℕ) (terms : EndConfig) → terms_at config c ≡ Some terms
+        → (system_after config log).channels c channel.C ≡ []
+    empty_c c terms is = nothing_first c terms channel.C is (λ x rest e. go x (firsts c terms channel.C x rest is e)
+        (moving c terms channel.C x rest is e))
       where
-        go : (x : Beat w) → IsFirst config terms c channel.C x (system_after config log) → Moves config log c x → is_movable config c channel.C (system_after config log) ≡ true
+        go : (x : Beat w) → IsFirst config terms c channel.C x (system_after config log) → Moves config log c x
+            → is_movable config c channel.C (system_after config log) ≡ true
         go (beat.C y) first m = m
         go (beat.A y) first m = absurd (let on = first.on in cc)
         go (beat.B y) first m = absurd (let on = first.on in cc)
@@ -116,7 +129,8 @@ module _ {w : ℕ} (config : Config) (log : Log w) (mail : AccessMessages w) (re
         go (beat.E y) first m = absurd (let on = first.on in cc)
 
     -- no Release is outstanding, since neither it nor its ReleaseAck is on its way
-    none_releasing : (c n : ℕ) (terms : EndConfig) → terms_at config c ≡ Some terms → pending (ReleaseOf n) ((system_after config log).clients c).past ≡ false
+    none_releasing : (c n : ℕ) (terms : EndConfig) → terms_at config c ≡ Some terms
+        → pending (ReleaseOf n) ((system_after config log).clients c).past ≡ false
     unfolding count
     none_releasing c n terms is = (matched.known c).releases n ∙ go ((s.block n).pair c).letting refl
       where
@@ -133,16 +147,23 @@ module _ {w : ℕ} (config : Config) (log : Log w) (mail : AccessMessages w) (re
         go : (x : ReleasePhase) → ((s.block n).pair c).letting ≡ x → not (is_unreleased x) ≡ false
         go NoRelease e = refl
         go (ReleaseSent r) e =
-            let no = none_shown (shown Release c (s.block n)) (rw no_c at (matched.invariant.transfers c Release refl n)) in
-            absurd (let it : shown Release c (s.block n) ≡ true = rw e refl in let both : true ≡ false = sym it ∙ no in cc)
+            let no = none_shown (shown Release c (s.block n))
+            (rw no_c at (matched.invariant.transfers c Release refl n)) in
+            absurd (let it : shown Release c (s.block n) ≡ true = rw e refl in let both : true ≡ false = sym it ∙ no in
+            cc)
         go ReleaseAcked e =
-            let no = none_shown (shown ReleaseAck c (s.block n)) (rw no_d at (matched.invariant.transfers c ReleaseAck refl n)) in
-            absurd (let it : shown ReleaseAck c (s.block n) ≡ true = rw e refl in let both : true ≡ false = sym it ∙ no in cc)
+            let no = none_shown (shown ReleaseAck c (s.block n))
+            (rw no_d at (matched.invariant.transfers c ReleaseAck refl n)) in
+            absurd (let it : shown ReleaseAck c (s.block n) ≡ true = rw e refl in let both : true ≡ false =
+            sym it ∙ no in cc)
 
-    empty_b : (c : ℕ) (terms : EndConfig) → terms_at config c ≡ Some terms → (system_after config log).channels c channel.B ≡ []
-    empty_b c terms is = nothing_first c terms channel.B is (λ x rest e. go x (firsts c terms channel.B x rest is e) (moving c terms channel.B x rest is e))
+    empty_b : (c : ℕ) (terms : EndConfig) → terms_at config c ≡ Some terms
+        → (system_after config log).channels c channel.B ≡ []
+    empty_b c terms is = nothing_first c terms channel.B is (λ x rest e. go x (firsts c terms channel.B x rest is e)
+        (moving c terms channel.B x rest is e))
       where
-        go : (x : Beat w) → IsFirst config terms c channel.B x (system_after config log) → Moves config log c x → is_movable config c channel.B (system_after config log) ≡ true
+        go : (x : Beat w) → IsFirst config terms c channel.B x (system_after config log) → Moves config log c x
+            → is_movable config c channel.B (system_after config log) ≡ true
         go (beat.B y) first m = true_from_ne_false _ (λ still.
             let p = started-releasing config log mail request s matched coherent c (block_at y.address) (m.0 still) in
             absurd (let both : true ≡ false = sym p ∙ none_releasing c (block_at y.address) terms is in cc))
@@ -153,7 +174,8 @@ module _ {w : ℕ} (config : Config) (log : Log w) (mail : AccessMessages w) (re
 
     -- so no block is in service, and each request finds a tracker
     module _ (width : IsWidth w) where
-      by_client : (ch : Channel) → ((c : ℕ) (terms : EndConfig) → terms_at config c ≡ Some terms → (system_after config log).channels c ch ≡ []) → (c : ℕ) → packets_on ch (s.link c) ≡ []
+      by_client : (ch : Channel) → ((c : ℕ) (terms : EndConfig) → terms_at config c ≡ Some terms
+          → (system_after config log).channels c ch ≡ []) → (c : ℕ) → packets_on ch (s.link c) ≡ []
       by_client ch empties c = go (terms_at config c) refl
         where
           go : (o : Option EndConfig) → terms_at config c ≡ o → packets_on ch (s.link c) ≡ []
@@ -161,19 +183,30 @@ module _ {w : ℕ} (config : Config) (log : Log w) (mail : AccessMessages w) (re
           go (Some terms) is = no_message c ch (empties c terms is)
 
       silent : IsSilent s
-      silent = record { b = by_client channel.B empty_b; c = by_client channel.C empty_c; d = by_client channel.D empty_d; e = by_client channel.E empty_e }
+      silent = record {
+        b = by_client channel.B empty_b;
+        c = by_client channel.C empty_c;
+        d =
+            by_client channel.D empty_d;
+        e = by_client channel.E empty_e;
+      }
 
       none_in_service : services (system_after config log).manager.trace ≡ []
       none_in_service = none_served (services (system_after config log).manager.trace) (λ n.
-          matched.managed.serving_is n ∙ ap (λ (x : Service). service_with (client_in x) (s.block n).tracker (request n)) (free-when_silent _ s n matched.invariant silent))
+          matched.managed.serving_is n ∙ ap (λ (x : Service). service_with (client_in x) (s.block n).tracker
+          (request n)) (free-when_silent _ s n matched.invariant silent))
 
-      empty_a : (c : ℕ) (terms : EndConfig) → terms_at config c ≡ Some terms → (system_after config log).channels c channel.A ≡ []
-      empty_a c terms is = nothing_first c terms channel.A is (λ x rest e. go x (firsts c terms channel.A x rest is e) (moving c terms channel.A x rest is e))
+      empty_a : (c : ℕ) (terms : EndConfig) → terms_at config c ≡ Some terms
+          → (system_after config log).channels c channel.A ≡ []
+      empty_a c terms is = nothing_first c terms channel.A is (λ x rest e. go x (firsts c terms channel.A x rest is e)
+          (moving c terms channel.A x rest is e))
         where
-          go : (x : Beat w) → IsFirst config terms c channel.A x (system_after config log) → Moves config log c x → is_movable config c channel.A (system_after config log) ≡ true
+          go : (x : Beat w) → IsFirst config terms c channel.A x (system_after config log) → Moves config log c x
+              → is_movable config c channel.A (system_after config log) ≡ true
           go (beat.A y) first m =
               let free : nat_le config.trackers 0 ≡ false = few_test config.trackers trackers in
-              m ∙ rw (none_in_service, free) (rw (and-false (ends (beat.A y) (on_link c (system_after config log).manager.trace))) refl)
+              m ∙ rw (none_in_service, free)
+              (rw (and-false (ends (beat.A y) (on_link c (system_after config log).manager.trace))) refl)
           go (beat.B y) first m = absurd (let on = first.on in cc)
           go (beat.C y) first m = absurd (let on = first.on in cc)
           go (beat.D y) first m = absurd (let on = first.on in cc)
@@ -187,9 +220,11 @@ module _ {w : ℕ} (config : Config) (log : Log w) (mail : AccessMessages w) (re
   closed-when-standing width none = closed-when_bare _ s matched.invariant (bare-when-standing none width)
 
   -- where nothing is open, and no GrantAck is on its way, no delivery is next
-  pub standing-when-closed : IsClosed s → ((c : ℕ) → (s.link c).e ≡ []) → next_delivery config (system_after config log) ≡ None
+  pub standing-when-closed : IsClosed s → ((c : ℕ) → (s.link c).e ≡ [])
+      → next_delivery config (system_after config log) ≡ None
   standing-when-closed closed no_acks = no-next config (system_after config log)
-      (λ c ch. empty-still config (system_after config log) c ch (no_beat c ch (bare_on ch c (bare-when-closed _ s matched.invariant closed no_acks))))
+      (λ c ch. empty-still config (system_after config log) c ch
+      (no_beat c ch (bare_on ch c (bare-when-closed _ s matched.invariant closed no_acks))))
     where
       bare_on : (ch : Channel) (c : ℕ) → IsBare s → packets_on ch (s.link c) ≡ []
       bare_on channel.A c bare = bare.a c

@@ -1,44 +1,48 @@
--- What is open after the first token of a channel is taken: an answer ends a request, a Grant turns one into a GrantAck,
+-- What is open after the first token of a channel is taken: an answer ends a request, a Grant turns one into a
+-- GrantAck,
 -- a GrantAck ends it, a ReleaseAck ends a Release, and all else leaves what is open.
-use Rattle.std.proofs.Common.{◌≡◌, subst, ℕ, suc, ◌+◌, ◌<◌, Bool, true, false, not, ◌&&◌, List, [], ◌∷◌, ◌++◌, length, refl, sym, ◌∙◌, ap, arith, Option, Some, None}
+use Rattle.tl_coherence.proofs.outstanding.Imports.{Message, MessageA, Config, block_at, AbstractState, Log, is_used}
+use Rattle.tl_coherence.proofs.outstanding.Imports.{is_let, State, SourceState, SourceFree, Asked, Acquires, packet}
+use Rattle.tl_coherence.proofs.outstanding.Imports.{System, Request, Acquire, Release, ReleaseAck, Packet, one_if}
+use Rattle.tl_coherence.proofs.outstanding.Imports.{SimulationRelation, is_caching}
+use Rattle.std.proofs.Common.{◌≡◌, subst, ℕ, suc, ◌+◌, ◌<◌, Bool, true, false, not, ◌&&◌, List, [], ◌∷◌, ◌++◌, length}
+use Rattle.std.proofs.Common.{refl, sym, ◌∙◌, ap, arith, Option, Some, None}
 use Rattle.std.specs.Prelude.{◌==◌, if◌then◌else◌}
 use Rattle.std.proofs.lemmas.List.{length-append}
-use Rattle.tl_burst.specs.declared.message.Message.{Message}
 use Rattle.tl_burst.specs.declared.message.Message.TheVariants as message
-use Rattle.tl_burst.specs.declared.message.MessageA.{MessageA}
-use Rattle.tl_params.specs.declared.config.Config.{Config}
 use Rattle.tl_params.specs.declared.param.Cap.{Cap}
 use Rattle.tl_params.specs.declared.param.Prune.{Prune}
 use Rattle.tl_params.specs.declared.param.Report.{Report}
 use Rattle.tl_params.specs.declared.profile.Profile.{Profile}
-use Rattle.tl_rules.specs.statement.History.{block_at}
 use Rattle.tl_manager.specs.statement.Holders.{cap_probed}
 use Rattle.tl_coherence.specs.refinement.AbstractStep as follow
-use Rattle.tl_coherence.specs.refinement.AbstractStep.{AbstractState, with_state, some_below, probes_some, access_taken, request_taken, acquire_taken, is_unheld, gift, granted_after}
-use Rattle.tl_coherence.specs.refinement.AbstractStep.{last_taken, ack_taken, is_whole, taken_by_client, kind_taken}
+use Rattle.tl_coherence.specs.refinement.AbstractStep.{with_state, some_below, probes_some, access_taken, request_taken}
+use Rattle.tl_coherence.specs.refinement.AbstractStep.{acquire_taken, is_unheld, gift, granted_after, last_taken}
+use Rattle.tl_coherence.specs.refinement.AbstractStep.{ack_taken, is_whole, taken_by_client, kind_taken}
 use Rattle.tl_coherence.specs.protocol.Invariant.{IsInvariant, cap_asked, serves_with}
-use Rattle.tl_coherence.specs.statement.Log.{Log}
 use Rattle.tl_coherence.specs.protocol.Phase.{AcquirePhase, NoAcquire, AcquireOpen, is_unprobed}
 use Rattle.tl_coherence.specs.protocol.PhaseSteps.{is_granted_data}
-use Rattle.tl_coherence.specs.bound.Rank.{is_used, is_let}
-use Rattle.tl_coherence.specs.protocol.Protocol.{Service, Free, Waits, GrantSent, GrantTaken, Block, State, Link, SourceState, SourceFree, Asked, InService, Replied, Acquires, packet}
-use Rattle.tl_coherence.specs.protocol.Protocol.{on, is_probed, with_probe, answered_link, served_link, probed_link, popped_link, ended_link, granted_link, let_link}
-use Rattle.tl_coherence.specs.protocol.Protocol.{taken_link, access_answered, access_served, acquire_granted, acquire_served, probe_taken, report_taken, report_answers}
-use Rattle.tl_coherence.specs.protocol.Protocol.{report_grants, release_taken, answer_taken, grant_taken, release_ack_taken, grant_ack_taken}
+use Rattle.tl_coherence.specs.protocol.Protocol.{Service, Free, Waits, GrantSent, GrantTaken, Block, Link, InService}
+use Rattle.tl_coherence.specs.protocol.Protocol.{Replied, on, is_probed, with_probe, answered_link, served_link}
+use Rattle.tl_coherence.specs.protocol.Protocol.{probed_link, popped_link, ended_link, granted_link, let_link}
+use Rattle.tl_coherence.specs.protocol.Protocol.{taken_link, access_answered, access_served, acquire_granted}
+use Rattle.tl_coherence.specs.protocol.Protocol.{acquire_served, probe_taken, report_taken, report_answers}
+use Rattle.tl_coherence.specs.protocol.Protocol.{report_grants, release_taken, answer_taken, grant_taken}
+use Rattle.tl_coherence.specs.protocol.Protocol.{release_ack_taken, grant_ack_taken}
 use Rattle.tl_coherence.specs.refinement.PacketMessages.{report_told}
-use Rattle.tl_coherence.specs.statement.System.{System}
-use Rattle.tl_coherence.specs.protocol.Packet.{Kind, Request, Acquire, Probe, ProbeAck, Release, Answer, Grant, ReleaseAck, GrantAck, Packet, one_if, set}
-use Rattle.tl_coherence.specs.refinement.SimulationRelation.{SimulationRelation, is_caching}
+use Rattle.tl_coherence.specs.protocol.Packet.{Kind, Probe, ProbeAck, Answer, Grant, GrantAck, set}
 use Rattle.tl_coherence.proofs.protocol.Capacities.{AreBounded}
 use Rattle.tl_coherence.proofs.protocol.HeadOfD.{answer-due, grant-due, ack-due}
 use Rattle.tl_coherence.proofs.protocol.Heads.{asked-first}
-use Rattle.tl_coherence.proofs.protocol.OpenCounts.{marked-set, set_at-part, acks-set, acks-same, clients_in, sources_in, IsBalance, requests-split, balance-same}
+use Rattle.tl_coherence.proofs.protocol.OpenCounts.{marked-set, set_at-part, acks-set, acks-same, clients_in}
+use Rattle.tl_coherence.proofs.protocol.OpenCounts.{sources_in, IsBalance, requests-split, balance-same}
 use Rattle.tl_coherence.proofs.queues.Tokens.{same_number, set-part}
 use Rattle.tl_coherence.proofs.protocol.BothParts.{serves_of-is}
 
 -- ---- links whose channel E stays
 
-served_e : {X : Type 0} (r : ℕ) (own : Bool) (n : ℕ) (k : Cap) (rest : List Packet) (b : Block X) (link : ℕ → Link) (d : ℕ) → (served_link r own n k rest b link d).e ≡ (link d).e
+served_e : {X : Type 0} (r : ℕ) (own : Bool) (n : ℕ) (k : Cap) (rest : List Packet) (b : Block X) (link : ℕ → Link)
+    (d : ℕ) → (served_link r own n k rest b link d).e ≡ (link d).e
 served_e {X} r own n k rest b link d = go (is_probed r own k (b.pair d).recorded d) (d == r)
   where
     go : (x y : Bool) → (with_probe n x (if y then record (link d) { a = rest } else link d)).e ≡ (link d).e
@@ -53,15 +57,18 @@ set_e c l link same d = set-part (λ (x : Link). x.e) c l link same d
 popped_e : (c : ℕ) (rest : List Packet) (link : ℕ → Link) (d : ℕ) → (popped_link c rest link d).e ≡ (link d).e
 popped_e c rest link d = set_e c (record (link c) { c = rest }) link refl d
 
-ended_e : (c q : ℕ) (x : Packet) (rest : List Packet) (link : ℕ → Link) (d : ℕ) → (ended_link c q x rest link d).e ≡ (link d).e
+ended_e : (c q : ℕ) (x : Packet) (rest : List Packet) (link : ℕ → Link) (d : ℕ)
+    → (ended_link c q x rest link d).e ≡ (link d).e
 ended_e c q x rest link d = go (d == q) ∙ popped_e c rest link d
   where
-    go : (b : Bool) → (if b then record (popped_link c rest link d) { d = (popped_link c rest link d).d ++ x ∷ [] } else popped_link c rest link d).e ≡ (popped_link c rest link d).e
+    go : (b : Bool) → (if b then record (popped_link c rest link d) { d = (popped_link c rest link d).d ++ x ∷ [] } else
+        popped_link c rest link d).e ≡ (popped_link c rest link d).e
     go true = refl
     go false = refl
 
 granted_e : (c q n : ℕ) (rest : List Packet) (link : ℕ → Link) (d : ℕ) → (granted_link c q n rest link d).e ≡ (link d).e
-granted_e c q n rest link d = set_e q (record (link q) { d = (link q).d ++ packet Grant n ∷ [] }) (popped_link c rest link) (sym (popped_e c rest link q)) d ∙ popped_e c rest link d
+granted_e c q n rest link d = set_e q (record (link q) { d = (link q).d ++ packet Grant n ∷ [] })
+    (popped_link c rest link) (sym (popped_e c rest link q)) d ∙ popped_e c rest link d
 
 -- ---- events that leave what is open
 
@@ -69,72 +76,143 @@ module _ {X : Type 0} (config : Config) (s : State X) where
   unchanged : IsBalance config s s false false false false
   unchanged = record { requests = refl; releases = refl }
 
-  access-answered : (c n source : ℕ) (f : X → X) (rest : List Packet) → s.uses c source ≡ Asked → IsBalance config s (access_answered c n source f rest s) false false false false
+  access-answered : (c n source : ℕ) (f : X → X) (rest : List Packet) → s.uses c source ≡ Asked
+      → IsBalance config s (access_answered c n source f rest s) false false false false
   access-answered c n source f rest used =
-      balance-same config s (access_answered c n source f rest s) (set_at-part is_used c source Replied s.uses (sym (ap is_used used))) (λ d i. refl)
+      balance-same config s (access_answered c n source f rest s)
+      (set_at-part is_used c source Replied s.uses (sym (ap is_used used))) (λ d i. refl)
       (set_e c (answered_link (packet Answer source) rest (s.link c)) s.link refl)
 
-  access-served : (c n source tracker : ℕ) (k : Cap) (rest : List Packet) → s.uses c source ≡ Asked → IsBalance config s (access_served c n source tracker k rest s) false false false false
+  access-served : (c n source tracker : ℕ) (k : Cap) (rest : List Packet) → s.uses c source ≡ Asked
+      → IsBalance config s (access_served c n source tracker k rest s) false false false false
   access-served c n source tracker k rest used =
-      balance-same config s (access_served c n source tracker k rest s) (set_at-part is_used c source (InService n) s.uses (sym (ap is_used used))) (λ d i. refl)
+      balance-same config s (access_served c n source tracker k rest s)
+      (set_at-part is_used c source (InService n) s.uses (sym (ap is_used used))) (λ d i. refl)
       (served_e c false n k rest (s.block n) s.link)
 
-  acquire-granted : (c n tracker : ℕ) (d : Bool) (k : Cap) (rest : List Packet) → IsBalance config s (acquire_granted c n tracker d k rest s) false false false false
-  acquire-granted c n tracker d k rest = balance-same config s (acquire_granted c n tracker d k rest s) (λ i j. refl) (λ i j. refl)
+  acquire-granted : (c n tracker : ℕ) (d : Bool) (k : Cap) (rest : List Packet)
+      → IsBalance config s (acquire_granted c n tracker d k rest s) false false false false
+  acquire-granted c n tracker d k rest = balance-same config s (acquire_granted c n tracker d k rest s) (λ i j. refl)
+      (λ i j. refl)
       (set_e c (answered_link (packet Grant n) rest (s.link c)) s.link refl)
 
-  acquire-served : (c n source tracker : ℕ) (k : Cap) (rest : List Packet) → IsBalance config s (acquire_served c n source tracker k rest s) false false false false
-  acquire-served c n source tracker k rest = balance-same config s (acquire_served c n source tracker k rest s) (λ i j. refl) (λ i j. refl) (served_e c true n k rest (s.block n) s.link)
+  acquire-served : (c n source tracker : ℕ) (k : Cap) (rest : List Packet)
+      → IsBalance config s (acquire_served c n source tracker k rest s) false false false false
+  acquire-served c n source tracker k rest = balance-same config s (acquire_served c n source tracker k rest s)
+      (λ i j. refl) (λ i j. refl) (served_e c true n k rest (s.block n) s.link)
 
-  probe-taken : (c n : ℕ) (k : Cap) (rest : List Packet) → IsBalance config s (probe_taken c n k rest s) false false false false
-  probe-taken c n k rest = balance-same config s (probe_taken c n k rest s) (λ i j. refl) (λ i j. refl) (set_e c (probed_link n rest (s.link c)) s.link refl)
+  probe-taken : (c n : ℕ) (k : Cap) (rest : List Packet) → IsBalance config s (probe_taken c n k rest s) false false
+      false false
+  probe-taken c n k rest = balance-same config s (probe_taken c n k rest s) (λ i j. refl) (λ i j. refl)
+      (set_e c (probed_link n rest (s.link c)) s.link refl)
 
-  report-taken : (c n : ℕ) (r : Report) (rest : List Packet) → IsBalance config s (report_taken c n r rest s) false false false false
-  report-taken c n r rest = balance-same config s (report_taken c n r rest s) (λ i j. refl) (λ i j. refl) (popped_e c rest s.link)
+  report-taken : (c n : ℕ) (r : Report) (rest : List Packet) → IsBalance config s (report_taken c n r rest s) false
+      false false false
+  report-taken c n r rest = balance-same config s (report_taken c n r rest s) (λ i j. refl) (λ i j. refl)
+      (popped_e c rest s.link)
 
-  report-answers : (c q n source : ℕ) (r : Report) (f : X → X) (rest : List Packet) → s.uses q source ≡ InService n → IsBalance config s (report_answers c q n source r f rest s) false false false false
+  report-answers : (c q n source : ℕ) (r : Report) (f : X → X) (rest : List Packet) → s.uses q source ≡ InService n
+      → IsBalance config s (report_answers c q n source r f rest s) false false false false
   report-answers c q n source r f rest used =
-      balance-same config s (report_answers c q n source r f rest s) (set_at-part is_used q source Replied s.uses (sym (ap is_used used))) (λ d i. refl)
+      balance-same config s (report_answers c q n source r f rest s)
+      (set_at-part is_used q source Replied s.uses (sym (ap is_used used))) (λ d i. refl)
       (ended_e c q (packet Answer source) rest s.link)
 
-  report-grants : (c q n : ℕ) (r : Report) (d : Bool) (k : Cap) (rest : List Packet) → IsBalance config s (report_grants c q n r d k rest s) false false false false
-  report-grants c q n r d k rest = balance-same config s (report_grants c q n r d k rest s) (λ i j. refl) (λ i j. refl) (granted_e c q n rest s.link)
+  report-grants : (c q n : ℕ) (r : Report) (d : Bool) (k : Cap) (rest : List Packet)
+      → IsBalance config s (report_grants c q n r d k rest s) false false false false
+  report-grants c q n r d k rest = balance-same config s (report_grants c q n r d k rest s) (λ i j. refl) (λ i j. refl)
+      (granted_e c q n rest s.link)
 
-  release-taken : (c n : ℕ) (r : Prune) (rest : List Packet) → IsBalance config s (release_taken c n r rest s) false false false false
-  release-taken c n r rest = balance-same config s (release_taken c n r rest s) (λ i j. refl) (λ i j. refl) (set_e c (let_link n rest (s.link c)) s.link refl)
+  release-taken : (c n : ℕ) (r : Prune) (rest : List Packet) → IsBalance config s (release_taken c n r rest s) false
+      false false false
+  release-taken c n r rest = balance-same config s (release_taken c n r rest s) (λ i j. refl) (λ i j. refl)
+      (set_e c (let_link n rest (s.link c)) s.link refl)
 
   -- ---- events that end something
 
-  answer-taken : (c source : ℕ) (rest : List Packet) → c < clients_in config → source < sources_in config c → s.uses c source ≡ Replied
+  answer-taken : (c source : ℕ) (rest : List Packet) → c < clients_in config → source < sources_in config c
+      → s.uses c source ≡ Replied
       → IsBalance config s (answer_taken c source rest s) false true false false
   answer-taken c source rest few lt used =
       let u = marked-set is_used (clients_in config) (sources_in config) c source SourceFree s.uses few lt in
       let was : one_if (is_used (s.uses c source)) ≡ 1 = ap (λ (x : SourceState). one_if (is_used x)) used in
-      let a = acks-same (clients_in config) (answer_taken c source rest s).link s.link (set_e c (record (s.link c) { d = rest }) s.link refl) in
-      record { requests = omega (arith, u, was, a, requests-split config s, requests-split config (answer_taken c source rest s)); releases = refl }
+      let a = acks-same (clients_in config) (answer_taken c source rest s).link s.link
+      (set_e c (record (s.link c) { d = rest }) s.link refl) in
+      record {
+        requests = omega (
+          arith,
+          u,
+          was,
+          a,
+          requests-split config s,
+          requests-split config
+              (answer_taken c source rest s),
+        );
+        releases = refl;
+      }
 
-  grant-taken : (c n : ℕ) (whole d : Bool) (k : Cap) (rest : List Packet) → c < clients_in config → (s.block n).source c < sources_in config c → s.uses c ((s.block n).source c) ≡ Acquires n
+  grant-taken : (c n : ℕ) (whole d : Bool) (k : Cap) (rest : List Packet) → c < clients_in config
+      → (s.block n).source c < sources_in config c → s.uses c ((s.block n).source c) ≡ Acquires n
       → IsBalance config s (grant_taken c n whole d k rest s) false false false false
   grant-taken c n whole d k rest few lt used =
-      let u = marked-set is_used (clients_in config) (sources_in config) c ((s.block n).source c) SourceFree s.uses few lt in
-      let was : one_if (is_used (s.uses c ((s.block n).source c))) ≡ 1 = ap (λ (x : SourceState). one_if (is_used x)) used in
+      let u = marked-set is_used (clients_in config) (sources_in config) c ((s.block n).source c) SourceFree s.uses few
+      lt in
+      let was : one_if (is_used (s.uses c ((s.block n).source c))) ≡ 1 =
+      ap (λ (x : SourceState). one_if (is_used x)) used in
       let a = acks-set (clients_in config) c (taken_link n rest (s.link c)) s.link few in
-      let more : length ((s.link c).e ++ packet GrantAck n ∷ []) ≡ length (s.link c).e + 1 = length-append (s.link c).e (packet GrantAck n ∷ []) in
-      record { requests = omega (arith, u, was, a, more, requests-split config s, requests-split config (grant_taken c n whole d k rest s)); releases = refl }
+      let more : length ((s.link c).e ++ packet GrantAck n ∷ []) ≡ length (s.link c).e + 1 =
+      length-append (s.link c).e (packet GrantAck n ∷ []) in
+      record {
+        requests = omega (
+          arith,
+          u,
+          was,
+          a,
+          more,
+          requests-split config s,
+          requests-split config
+              (grant_taken c n whole d k rest s),
+        );
+        releases = refl;
+      }
 
-  release-ack-taken : (c n : ℕ) (rest : List Packet) → c < clients_in config → (s.block n).release_source c < sources_in config c → s.lets c ((s.block n).release_source c) ≡ Some n
+  release-ack-taken : (c n : ℕ) (rest : List Packet) → c < clients_in config
+      → (s.block n).release_source c < sources_in config c → s.lets c ((s.block n).release_source c) ≡ Some n
       → IsBalance config s (release_ack_taken c n rest s) false false false true
   release-ack-taken c n rest few lt used =
-      let l = marked-set is_let (clients_in config) (sources_in config) c ((s.block n).release_source c) None s.lets few lt in
-      let was : one_if (is_let (s.lets c ((s.block n).release_source c))) ≡ 1 = ap (λ (x : Option ℕ). one_if (is_let x)) used in
-      let a = acks-same (clients_in config) (release_ack_taken c n rest s).link s.link (set_e c (record (s.link c) { d = rest }) s.link refl) in
-      record { requests = omega (arith, a, requests-split config s, requests-split config (release_ack_taken c n rest s)); releases = omega (arith, l, was) }
+      let l = marked-set is_let (clients_in config) (sources_in config) c ((s.block n).release_source c) None s.lets few
+      lt in
+      let was : one_if (is_let (s.lets c ((s.block n).release_source c))) ≡ 1 =
+      ap (λ (x : Option ℕ). one_if (is_let x)) used in
+      let a = acks-same (clients_in config) (release_ack_taken c n rest s).link s.link
+      (set_e c (record (s.link c) { d = rest }) s.link refl) in
+      record {
+        requests = omega (
+          arith,
+          a,
+          requests-split config s,
+          requests-split config
+              (release_ack_taken c n rest s),
+        );
+        releases = omega (arith, l, was);
+      }
 
-  grant-ack-taken : (c n : ℕ) (rest : List Packet) → c < clients_in config → (s.link c).e ≡ packet GrantAck n ∷ rest → IsBalance config s (grant_ack_taken c n rest s) false true false false
+  grant-ack-taken : (c n : ℕ) (rest : List Packet) → c < clients_in config → (s.link c).e ≡ packet GrantAck n ∷ rest
+      → IsBalance config s (grant_ack_taken c n rest s) false true false false
   grant-ack-taken c n rest few first =
       let a = acks-set (clients_in config) c (record (s.link c) { e = rest }) s.link few in
       let more : length (s.link c).e ≡ suc (length rest) = ap length first in
-      record { requests = omega (arith, a, more, requests-split config s, requests-split config (grant_ack_taken c n rest s)); releases = refl }
+      record {
+        requests = omega (
+          arith,
+          a,
+          more,
+          requests-split config s,
+          requests-split config
+              (grant_ack_taken c n rest s),
+        );
+        releases = refl;
+      }
 
 -- ---- all kinds
 
@@ -153,8 +231,11 @@ module _ {w : ℕ} (config : Config) (h : AbstractState w) where
   abbrev Stays : AbstractState w → Type 0
   Stays h' = IsBalance config h.state h'.state false false false false
 
-  request-kind : (clients c source tracker : ℕ) (m : MessageA w) (rest : List Packet) → h.state.uses c source ≡ Asked → Stays (request_taken clients c source (message.A m) tracker rest h)
-  request-kind clients c source tracker m rest used = go (probes_some clients c false (cap_probed m.opcode m.param) (h.state.block n).pair) (cap_probed m.opcode m.param)
+  request-kind : (clients c source tracker : ℕ) (m : MessageA w) (rest : List Packet) → h.state.uses c source ≡ Asked
+      → Stays (request_taken clients c source (message.A m) tracker rest h)
+  request-kind clients c source tracker m rest used =
+      go (probes_some clients c false (cap_probed m.opcode m.param) (h.state.block n).pair)
+      (cap_probed m.opcode m.param)
     where
       n : ℕ
       n = block_at m.address
@@ -165,63 +246,85 @@ module _ {w : ℕ} (config : Config) (h : AbstractState w) where
       go false None = access-answered config h.state c n source (follow.performs m) rest used
       go false (Some k) = access-answered config h.state c n source (follow.performs m) rest used
 
-  acquire-kind : (clients : ℕ) (p : Profile) (c n tracker : ℕ) (x : AcquirePhase) (rest : List Packet) → Stays (acquire_taken clients p c n x tracker rest h)
+  acquire-kind : (clients : ℕ) (p : Profile) (c n tracker : ℕ) (x : AcquirePhase) (rest : List Packet)
+      → Stays (acquire_taken clients p c n x tracker rest h)
   acquire-kind clients p c n tracker NoAcquire rest = unchanged config h.state
-  acquire-kind clients p c n tracker (AcquireOpen whole g) rest = go (some_below clients (λ i. is_probed c true (cap_asked (AcquireOpen whole g)) (b.pair i).recorded i))
+  acquire-kind clients p c n tracker (AcquireOpen whole g) rest =
+      go (some_below clients (λ i. is_probed c true (cap_asked (AcquireOpen whole g)) (b.pair i).recorded i))
     where
       b : Block (List ℕ)
       b = h.state.block n
 
       go : (x : Bool) → IsBalance config h.state
-          (if x then acquire_served c n (b.source c) tracker (cap_asked (AcquireOpen whole g)) rest h.state else acquire_granted c n tracker
-          (is_granted_data whole g (b.pair c).recorded) (gift p whole g (is_unheld clients b.pair)) rest h.state) false false false false
+          (if x then acquire_served c n (b.source c) tracker (cap_asked (AcquireOpen whole g)) rest h.state else
+          acquire_granted c n tracker
+          (is_granted_data whole g (b.pair c).recorded) (gift p whole g (is_unheld clients b.pair)) rest h.state) false
+          false false false
       go true = acquire-served config h.state c n (b.source c) tracker (cap_asked (AcquireOpen whole g)) rest
-      go false = acquire-granted config h.state c n tracker (is_granted_data whole g (b.pair c).recorded) (gift p whole g (is_unheld clients b.pair)) rest
+      go false = acquire-granted config h.state c n tracker (is_granted_data whole g (b.pair c).recorded)
+          (gift p whole g (is_unheld clients b.pair)) rest
 
-  granted-kind : (clients : ℕ) (p : Profile) (c q n : ℕ) (r : Report) (x : AcquirePhase) (rest : List Packet) → Stays (granted_after clients p c q n r x rest h)
+  granted-kind : (clients : ℕ) (p : Profile) (c q n : ℕ) (r : Report) (x : AcquirePhase) (rest : List Packet)
+      → Stays (granted_after clients p c q n r x rest h)
   granted-kind clients p c q n r NoAcquire rest = unchanged config h.state
   granted-kind clients p c q n r (AcquireOpen whole g) rest = report-grants config h.state c q n r _ _ rest
 
-  last-kind : (caching : ℕ → Bool) (clients : ℕ) (p : Profile) (c n : ℕ) (r : Report) (service : Service) (rest : List Packet) → IsInvariant caching h.state
+  last-kind : (caching : ℕ → Bool) (clients : ℕ) (p : Profile) (c n : ℕ) (r : Report) (service : Service)
+      (rest : List Packet) → IsInvariant caching h.state
       → (h.state.block n).service ≡ service → Stays (last_taken clients p c n r service rest h)
   last-kind caching clients p c n r Free rest inv e = unchanged config h.state
   last-kind caching clients p c n r (GrantSent q d k) rest inv e = unchanged config h.state
   last-kind caching clients p c n r (GrantTaken q) rest inv e = unchanged config h.state
-  last-kind caching clients p c n r (Waits q true source k) rest inv e = granted-kind clients p c q n r ((h.state.block n).pair q).acquiring rest
+  last-kind caching clients p c n r (Waits q true source k) rest inv e =
+      granted-kind clients p c q n r ((h.state.block n).pair q).acquiring rest
   last-kind caching clients p c n r (Waits q false source k) rest inv e =
       let with : serves_with q source (h.state.block n) ≡ true = rw (e, same_number q, same_number source) refl in
-      report-answers config h.state c q n source r (follow.performs (h.request n)) rest (serves_of-is n (h.state.uses q source) (inv.named.serves q source n ∙ with))
+      report-answers config h.state c q n source r (follow.performs (h.request n)) rest
+      (serves_of-is n (h.state.uses q source) (inv.named.serves q source n ∙ with))
 
-  ack-kind : (caching : ℕ → Bool) (clients : ℕ) (p : Profile) (c n : ℕ) (r : Report) (rest : List Packet) → IsInvariant caching h.state → Stays (ack_taken clients p c n r rest h)
-  ack-kind caching clients p c n r rest inv = go (some_below clients (λ i. not (i == c) && not (is_unprobed ((h.state.block n).pair i).probing)))
+  ack-kind : (caching : ℕ → Bool) (clients : ℕ) (p : Profile) (c n : ℕ) (r : Report) (rest : List Packet)
+      → IsInvariant caching h.state → Stays (ack_taken clients p c n r rest h)
+  ack-kind caching clients p c n r rest inv =
+      go (some_below clients (λ i. not (i == c) && not (is_unprobed ((h.state.block n).pair i).probing)))
     where
-      go : (x : Bool) → Stays (if x then with_state (report_taken c n r rest h.state) h else last_taken clients p c n r (h.state.block n).service rest h)
+      go : (x : Bool) → Stays (if x then with_state (report_taken c n r rest h.state) h else last_taken clients p c n r
+          (h.state.block n).service rest h)
       go true = report-taken config h.state c n r rest
       go false = last-kind caching clients p c n r (h.state.block n).service rest inv refl
 
 -- What is open, after the first token of a channel of a client's link is taken.
-pub balance-kind : {w : ℕ} (config : Config) (log : Log w) (tracker c : ℕ) (k : Kind) (i : ℕ) (rest : List Packet) (h : AbstractState w) (sys : System w)
+pub balance-kind : {w : ℕ} (config : Config) (log : Log w) (tracker c : ℕ) (k : Kind) (i : ℕ) (rest : List Packet)
+    (h : AbstractState w) (sys : System w)
     → SimulationRelation config log h.mail h.request h.state sys → c < clients_in config
     → AreBounded c (sources_in config c) config.trackers h.state → on k (h.state.link c) ≡ packet k i ∷ rest
-    → IsBalance config h.state (kind_taken config tracker c k i rest h).state false (is_ending k) false (is_letting_go k)
+    → IsBalance config h.state (kind_taken config tracker c k i rest h).state false (is_ending k) false
+    (is_letting_go k)
 balance-kind {w} config log tracker c Request i rest h sys is few own first =
     let asked = asked-first config log h.mail h.request h.state sys c i rest is first in
-    subst (λ (m : Message w). IsBalance config h.state (request_taken (clients_in config) c i m tracker rest h).state false false false false) (sym asked.is_it)
+    subst (λ (m : Message w). IsBalance config h.state (request_taken (clients_in config) c i m tracker rest h).state
+    false false false false) (sym asked.is_it)
     (request-kind config h (clients_in config) c i tracker asked.request rest asked.used)
-balance-kind config log tracker c Acquire n rest h sys is few own first = acquire-kind config h (clients_in config) config.profile c n tracker ((h.state.block n).pair c).acquiring rest
+balance-kind config log tracker c Acquire n rest h sys is few own first =
+    acquire-kind config h (clients_in config) config.profile c n tracker ((h.state.block n).pair c).acquiring rest
 balance-kind config log tracker c Probe n rest h sys is few own first = probe-taken config h.state c n _ rest
 balance-kind config log tracker c ProbeAck n rest h sys is few own first =
-    ack-kind config h (is_caching config) (clients_in config) config.profile c n (report_told ((h.state.block n).pair c).probing) rest is.invariant
+    ack-kind config h (is_caching config) (clients_in config) config.profile c n
+    (report_told ((h.state.block n).pair c).probing) rest is.invariant
 balance-kind config log tracker c Release n rest h sys is few own first = release-taken config h.state c n _ rest
 balance-kind config log tracker c Answer source rest h sys is few own first =
     let due = answer-due (is_caching config) c source rest h.mail h.state is.invariant (is.answered c source) first in
-    answer-taken config h.state c source rest few (own.requests source (λ closed. absurd (let both : Replied ≡ SourceFree = sym due.used ∙ closed in cc))) due.used
+    answer-taken config h.state c source rest few
+    (own.requests source (λ closed. absurd (let both : Replied ≡ SourceFree = sym due.used ∙ closed in cc)))
+    due.used
 balance-kind config log tracker c Grant n rest h sys is few own first =
     let due = grant-due (is_caching config) c n rest h.state is.invariant first in
-    subst (λ (v : Service). IsBalance config h.state (taken_by_client c n v rest h).state false false false false) (sym due.service)
+    subst (λ (v : Service). IsBalance config h.state (taken_by_client c n v rest h).state false false false false)
+    (sym due.service)
     (grant-taken config h.state c n (is_whole ((h.state.block n).pair c).acquiring) due.data_too due.k rest few
-    (own.requests ((h.state.block n).source c) (λ closed. absurd (let both : Acquires n ≡ SourceFree = sym due.used ∙ closed in cc))) due.used)
+    (own.requests ((h.state.block n).source c) (λ closed. absurd (let both : Acquires n ≡ SourceFree =
+    sym due.used ∙ closed in cc))) due.used)
 balance-kind config log tracker c ReleaseAck n rest h sys is few own first =
     let let_ = ack-due (is_caching config) c n rest h.state is.invariant first in
     release-ack-taken config h.state c n rest few (own.releases ((h.state.block n).release_source c) n let_) let_
-balance-kind config log tracker c GrantAck n rest h sys is few own first = grant-ack-taken config h.state c n rest few first
+balance-kind config log tracker c GrantAck n rest h sys is few own first =
+    grant-ack-taken config h.state c n rest few first

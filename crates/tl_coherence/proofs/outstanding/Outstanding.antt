@@ -1,48 +1,44 @@
--- What is outstanding is what is open: at every event the requests and Releases that it starts and ends are those that it
+-- What is outstanding is what is open: at every event the requests and Releases that it starts and ends are those that
+-- it
 -- opens and closes.
-use Rattle.std.proofs.Common.{◌≡◌, subst, ℕ, zero, suc, ◌+◌, ◌<◌, Bool, true, false, List, [], ◌∷◌, refl, sym, ◌∙◌, ap, arith, Option, Some, None}
+use Rattle.tl_coherence.proofs.outstanding.Imports.{IsWidth, Beat, Channel, Message, Config, EndConfig, Outcome}
+use Rattle.tl_coherence.proofs.outstanding.Imports.{AbstractState, abstract_step, starts_request, starts_release, Log}
+use Rattle.tl_coherence.proofs.outstanding.Imports.{system_after, open_requests, open_releases, packet, System}
+use Rattle.tl_coherence.proofs.outstanding.Imports.{terms_at, Request, Acquire, Release, ReleaseAck, Packet, one_if}
+use Rattle.tl_coherence.proofs.outstanding.Imports.{SimulationRelation, is_caching}
+use Rattle.std.proofs.Common.{◌≡◌, subst, ℕ, zero, suc, ◌+◌, ◌<◌, Bool, true, false, List, [], ◌∷◌, refl, sym, ◌∙◌, ap}
+use Rattle.std.proofs.Common.{arith, Option, Some, None}
 use Rattle.std.specs.Prelude.{◌==◌, if◌then◌else◌, map, Result, Ok, Err}
-use Rattle.tl_beat.specs.statement.Width.{IsWidth}
-use Rattle.tl_beat.specs.declared.beat.Beat.{Beat}
 use Rattle.tl_beat.specs.declared.beat.Beat.TheVariants as beat
 use Rattle.tl_beat.specs.declared.beat.BeatD.{BeatD}
 use Rattle.tl_beat.specs.declared.beat.Link.{Link}
-use Rattle.tl_beat.specs.declared.channel.Channel.{Channel}
 use Rattle.tl_beat.specs.declared.channel.Channel.TheVariants as channel
 use Rattle.tl_beat.specs.declared.opcode.OpD.{OpD}
 use Rattle.tl_beat.specs.declared.opcode.OpD.TheVariants as opd
-use Rattle.tl_burst.specs.declared.message.Message.{Message}
 use Rattle.tl_burst.specs.declared.message.MessageD.{MessageD}
 use Rattle.tl_burst.specs.statement.Burst.{beat_of, beats_of, d_beat_of}
 use Rattle.tl_burst.specs.statement.Messages.{channel_of, unfinished}
 use Rattle.tl_burst.specs.statement.Part.{completes}
-use Rattle.tl_params.specs.declared.config.Config.{Config}
 use Rattle.tl_params.specs.declared.rule.Rule.{Rule}
 use Rattle.tl_rules.specs.statement.History.{is_release_ack}
 use Rattle.tl_client.specs.declared.verdict.Verdict.{Verdict}
 use Rattle.tl_client.specs.declared.verdict.Verdict.TheVariants as verdict
 use Rattle.tl_client.specs.statement.Endpoint as client
-use Rattle.tl_client.specs.statement.Endpoint.{EndConfig}
 use Rattle.tl_client.specs.statement.Offer as offer
 use Rattle.tl_client.specs.statement.Offer.{finish_of}
 use Rattle.tl_manager.specs.statement.Handing.{grant_opcode}
 use Rattle.tl_manager.specs.statement.Service.{is_access_answer}
 use Rattle.tl_coherence.specs.declared.event.Event.{Event}
 use Rattle.tl_coherence.specs.declared.event.Event.TheVariants.{Ask, Deliver}
-use Rattle.tl_coherence.specs.declared.event.Outcome.{Outcome}
 use Rattle.tl_coherence.specs.declared.event.Outcome.TheVariants as outcome
 use Rattle.tl_coherence.specs.statement.Draining.{is_moving}
-use Rattle.tl_coherence.specs.refinement.AbstractStep.{AbstractState, abstract_step, abstract_step_by, kind_taken, packet_taken}
-use Rattle.tl_coherence.specs.statement.Load.{starts_request, starts_release, ends_request, ends_release}
-use Rattle.tl_coherence.specs.statement.Log.{Log, system_after}
+use Rattle.tl_coherence.specs.refinement.AbstractStep.{abstract_step_by, kind_taken, packet_taken}
+use Rattle.tl_coherence.specs.statement.Load.{ends_request, ends_release}
 use Rattle.tl_coherence.specs.refinement.ChannelRelation.{receiver}
-use Rattle.tl_coherence.specs.bound.Rank.{open_requests, open_releases}
-use Rattle.tl_coherence.specs.protocol.Protocol.{Block, packet, is_on, on}
+use Rattle.tl_coherence.specs.protocol.Protocol.{Block, is_on, on}
 use Rattle.tl_coherence.specs.refinement.PacketMessages.{message_of, message_of_kind, block_message}
 use Rattle.tl_coherence.specs.statement.Step.{Step, is_to_client, outcome_of, stepped, stepped_at, delivered}
-use Rattle.tl_coherence.specs.statement.System.{System, terms_at}
-use Rattle.tl_coherence.specs.protocol.Packet.{Kind, Request, Acquire, Probe, ProbeAck, Release, Answer, Grant, ReleaseAck, GrantAck, Packet, one_if}
-use Rattle.tl_coherence.specs.refinement.SimulationRelation.{SimulationRelation, is_caching}
+use Rattle.tl_coherence.specs.protocol.Packet.{Kind, Probe, ProbeAck, Answer, Grant, GrantAck}
 use Rattle.tl_coherence.proofs.simulation.Bounded.{matched-bounded}
 use Rattle.tl_coherence.proofs.protocol.Capacities.{AreBounded}
 use Rattle.tl_coherence.proofs.queues.Carried.{IsNext}
@@ -98,7 +94,8 @@ finish-ends x source opd.ReleaseAck param size address payload = (refl, refl)
 
 -- ---- what a message of the manager's channels ends
 
-manager-kind : (ch : Channel) (k : Kind) → is_to_client ch ≡ false → is_on ch k ≡ true → (is_ending k ≡ is_e ch) × (is_letting_go k ≡ false)
+manager-kind : (ch : Channel) (k : Kind) → is_to_client ch ≡ false → is_on ch k ≡ true → (is_ending k ≡ is_e ch)
+    × (is_letting_go k ≡ false)
 manager-kind channel.A Request down own = (refl, refl)
 manager-kind channel.A Acquire down own = (refl, refl)
 manager-kind channel.C ProbeAck down own = (refl, refl)
@@ -151,7 +148,8 @@ answer_verdict : {w : ℕ} → Result (Verdict × Option (Message w)) Rule → V
 answer_verdict (Ok p) = p.0
 answer_verdict (Err rule) = verdict.Stalled
 
-probe-verdict : {w : ℕ} (x : Beat w) (e : client.Endpoint w) (v : Verdict) (m : Option (Message w)) → channel_of x ≡ channel.B → (offer.taken x e).answer ≡ Ok (v, m) → v ≡ verdict.Taken
+probe-verdict : {w : ℕ} (x : Beat w) (e : client.Endpoint w) (v : Verdict) (m : Option (Message w))
+    → channel_of x ≡ channel.B → (offer.taken x e).answer ≡ Ok (v, m) → v ≡ verdict.Taken
 unfolding answer_verdict
 probe-verdict {w} (beat.B y) e v m of_b answer = sym (ap (answer_verdict {w = w}) answer)
 probe-verdict (beat.A y) e v m of_b answer = absurd cc
@@ -159,20 +157,28 @@ probe-verdict (beat.C y) e v m of_b answer = absurd cc
 probe-verdict (beat.D y) e v m of_b answer = absurd cc
 probe-verdict (beat.E y) e v m of_b answer = absurd cc
 
-probe-ends : {w : ℕ} (x : Beat w) (e : client.Endpoint w) (v : Verdict) (m : Option (Message w)) → channel_of x ≡ channel.B → (offer.taken x e).answer ≡ Ok (v, m) → Ends (outcome_of x v) false false
+probe-ends : {w : ℕ} (x : Beat w) (e : client.Endpoint w) (v : Verdict) (m : Option (Message w))
+    → channel_of x ≡ channel.B → (offer.taken x e).answer ≡ Ok (v, m) → Ends (outcome_of x v) false false
 probe-ends {w} x e v m of_b answer =
     let ends = moved-ends x in
-    subst (λ (u : Verdict). Ends (outcome_of x u) false false) (sym (probe-verdict x e v m of_b answer)) (ends.0 ∙ ap is_e of_b, ends.1)
+    subst (λ (u : Verdict). Ends (outcome_of x u) false false) (sym (probe-verdict x e v m of_b answer))
+    (ends.0 ∙ ap is_e of_b, ends.1)
 
 -- the first beat of channel B is one of a Probe
-first-probe : {w : ℕ} (c : ℕ) (h : AbstractState w) (sys : System w) (x : Beat w) (queue : List (Beat w)) (first : IsFirst channel.B c h.mail h.state sys x queue)
+first-probe : {w : ℕ} (c : ℕ) (h : AbstractState w) (sys : System w) (x : Beat w) (queue : List (Beat w))
+    (first : IsFirst channel.B c h.mail h.state sys x queue)
     → (channel_of x ≡ channel.B) × ((is_ending first.kind ≡ false) × (is_letting_go first.kind ≡ false))
 first-probe {w} c h sys x queue first = go first.kind first.own first.next
   where
-    go : (k : Kind) → is_on channel.B k ≡ true → IsNext x (unfinished channel.B (receiver channel.B c sys)) (message_of_kind k h.mail h.state c first.number)
+    go : (k : Kind) → is_on channel.B k ≡ true → IsNext x (unfinished channel.B (receiver channel.B c sys))
+        (message_of_kind k h.mail h.state c first.number)
         (map (message_of h.mail h.state c) first.rest) queue
         → (channel_of x ≡ channel.B) × ((is_ending k ≡ false) × (is_letting_go k ≡ false))
-    go Probe own next = (ap (λ (z : Beat w). channel_of z) next.beat_is ∙ probe_on_b w c first.number next.k (h.state.block first.number), (refl, refl))
+    go Probe own next = (
+      ap (λ (z : Beat w). channel_of z) next.beat_is ∙ probe_on_b w c first.number next.k
+          (h.state.block first.number),
+      (refl, refl),
+    )
     go Request own next = absurd cc
     go Acquire own next = absurd cc
     go ProbeAck own next = absurd cc
@@ -183,32 +189,40 @@ first-probe {w} c h sys x queue first = go first.kind first.own first.next
     go GrantAck own next = absurd cc
 
 -- a delivery that moves a beat is one of a client's link, which has that beat
-pub first-moved : {w : ℕ} (config : Config) (link : Link) (ch : Channel) (sys : System w) → is_moving (stepped config (Deliver link ch) sys).outcome ≡ true
-    → (x : Beat w) × (queue : List (Beat w)) × (terms : EndConfig) × ((sys.channels link.0 ch ≡ x ∷ queue) × (terms_at config link.0 ≡ Some terms))
+pub first-moved : {w : ℕ} (config : Config) (link : Link) (ch : Channel) (sys : System w)
+    → is_moving (stepped config (Deliver link ch) sys).outcome ≡ true
+    → (x : Beat w) × (queue : List (Beat w)) × (terms : EndConfig)
+    × ((sys.channels link.0 ch ≡ x ∷ queue) × (terms_at config link.0 ≡ Some terms))
 unfolding stepped
 first-moved {w} config link ch sys moving = go (terms_at config link.0) refl moving
   where
     First : Type 0
-    First = (x : Beat w) × (queue : List (Beat w)) × (terms : EndConfig) × ((sys.channels link.0 ch ≡ x ∷ queue) × (terms_at config link.0 ≡ Some terms))
+    First = (x : Beat w) × (queue : List (Beat w)) × (terms : EndConfig)
+        × ((sys.channels link.0 ch ≡ x ∷ queue) × (terms_at config link.0 ≡ Some terms))
 
-    at : (terms : EndConfig) → terms_at config link.0 ≡ Some terms → (beats : List (Beat w)) → sys.channels link.0 ch ≡ beats
+    at : (terms : EndConfig) → terms_at config link.0 ≡ Some terms → (beats : List (Beat w))
+        → sys.channels link.0 ch ≡ beats
         → is_moving (delivered config terms link.0 ch beats sys).outcome ≡ true → First
     at terms e [] f m = absurd cc
     at terms e (x ∷ queue) f m = (x, queue, terms, (f, e))
 
-    go : (o : Option EndConfig) → terms_at config link.0 ≡ o → is_moving (stepped_at config o (Deliver link ch) sys).outcome ≡ true → First
+    go : (o : Option EndConfig) → terms_at config link.0 ≡ o
+        → is_moving (stepped_at config o (Deliver link ch) sys).outcome ≡ true → First
     go None e m = absurd cc
     go (Some terms) e m = at terms e (sys.channels link.0 ch) refl m
 
 -- ---- one event
 
-module _ {w : ℕ} (config : Config) (log : Log w) (h : AbstractState w) (width : IsWidth w) (matched : SimulationRelation config log h.mail h.request h.state (system_after config log)) where
+module _ {w : ℕ} (config : Config) (log : Log w) (h : AbstractState w) (width : IsWidth w)
+    (matched : SimulationRelation config log h.mail h.request h.state (system_after config log)) where
   -- what this event, with this outcome, starts and ends is what is opened and closed
   abbrev pub IsCounted : Event w → Outcome w → AbstractState w → Type 0
-  IsCounted event o h' = IsBalance config h.state h'.state (starts_request event o) (ends_request o) (starts_release event o) (ends_release o)
+  IsCounted event o h' = IsBalance config h.state h'.state (starts_request event o) (ends_request o)
+      (starts_release event o) (ends_release o)
 
   bounds : (c : ℕ) → AreBounded c (sources_in config c) config.trackers h.state
-  bounds c = matched-bounded config log h.mail h.request h.state (system_after config log) matched c (sources-own config log c width)
+  bounds c = matched-bounded config log h.mail h.request h.state (system_after config log) matched c
+      (sources-own config log c width)
 
   counted-as : (link : Link) (ch : Channel) (o : Outcome w) (h' : AbstractState w) (ends lets : Bool) → Ends o ends lets
       → IsBalance config h.state h'.state false ends false lets → IsCounted (Deliver link ch) o h'
@@ -221,12 +235,17 @@ module _ {w : ℕ} (config : Config) (log : Log w) (h : AbstractState w) (width 
   unopened = record { requests = refl; releases = refl }
 
   -- the last beat of a message, or another one
-  counted-either : (link : Link) (ch : Channel) (o : Outcome w) (tracker : ℕ) (k : Kind) (i : ℕ) (rest : List Packet) (b : Bool) → link.0 < clients_in config
+  counted-either : (link : Link) (ch : Channel) (o : Outcome w) (tracker : ℕ) (k : Kind) (i : ℕ) (rest : List Packet)
+      (b : Bool) → link.0 < clients_in config
       → on k (h.state.link link.0) ≡ packet k i ∷ rest
-      → (b ≡ true → Ends o (is_ending k) (is_letting_go k)) → (b ≡ false → Ends o false false) → IsCounted (Deliver link ch) o (if b then kind_taken config tracker link.0 k i rest h else h)
-  counted-either link ch o tracker k i rest true few first last part = counted-as link ch o (kind_taken config tracker link.0 k i rest h) (is_ending k)
-      (is_letting_go k) (last refl) (balance-kind config log tracker link.0 k i rest h (system_after config log) matched few (bounds link.0) first)
-  counted-either link ch o tracker k i rest false few first last part = counted-as link ch o h false false (part refl) unopened
+      → (b ≡ true → Ends o (is_ending k) (is_letting_go k)) → (b ≡ false → Ends o false false)
+      → IsCounted (Deliver link ch) o (if b then kind_taken config tracker link.0 k i rest h else h)
+  counted-either link ch o tracker k i rest true few first last part =
+      counted-as link ch o (kind_taken config tracker link.0 k i rest h) (is_ending k)
+      (is_letting_go k) (last refl) (balance-kind config log tracker link.0 k i rest h (system_after config log) matched
+      few (bounds link.0) first)
+  counted-either link ch o tracker k i rest false few first last part =
+      counted-as link ch o h false false (part refl) unopened
 
   -- ---- what the manager takes
 
@@ -241,7 +260,8 @@ module _ {w : ℕ} (config : Config) (log : Log w) (h : AbstractState w) (width 
   whole_e c Grant n on_it = absurd cc
   whole_e c ReleaseAck n on_it = absurd cc
 
-  part_apart : (ch : Channel) (c : ℕ) (x : Beat w) (queue : List (Beat w)) → IsFirst ch c h.mail h.state (system_after config log) x queue
+  part_apart : (ch : Channel) (c : ℕ) (x : Beat w) (queue : List (Beat w))
+      → IsFirst ch c h.mail h.state (system_after config log) x queue
       → completes x (unfinished ch (receiver ch c (system_after config log))) ≡ false → is_e ch ≡ false
   part_apart channel.A c x queue first part = refl
   part_apart channel.B c x queue first part = refl
@@ -249,20 +269,28 @@ module _ {w : ℕ} (config : Config) (log : Log w) (h : AbstractState w) (width 
   part_apart channel.D c x queue first part = refl
   part_apart channel.E c x queue first part =
       let one = whole_e c first.kind first.number first.own in
-      let yes = first.next.completes_is ∙ one_whole first.next.k (beats_of (message_of_kind first.kind h.mail h.state c first.number)) one first.next.within in
+      let yes = first.next.completes_is ∙ one_whole first.next.k
+      (beats_of (message_of_kind first.kind h.mail h.state c first.number)) one first.next.within in
       absurd (let both : true ≡ false = sym yes ∙ part in cc)
 
-  counted-manager : (link : Link) (ch : Channel) (terms : EndConfig) (x : Beat w) (queue : List (Beat w)) → terms_at config link.0 ≡ Some terms
+  counted-manager : (link : Link) (ch : Channel) (terms : EndConfig) (x : Beat w) (queue : List (Beat w))
+      → terms_at config link.0 ≡ Some terms
       → is_to_client ch ≡ false → (system_after config log).channels link.0 ch ≡ x ∷ queue
       → is_moving (stepped config (Deliver link ch) (system_after config log)).outcome ≡ true
-      → IsCounted (Deliver link ch) (stepped config (Deliver link ch) (system_after config log)).outcome (abstract_step config (Deliver link ch) (system_after config log) h)
+      → IsCounted (Deliver link ch) (stepped config (Deliver link ch) (system_after config log)).outcome
+      (abstract_step config (Deliver link ch) (system_after config log) h)
   counted-manager link ch terms x queue known down beats moving =
-      subst (λ (o : Outcome w). IsCounted (Deliver link ch) o (abstract_step config (Deliver link ch) (system_after config log) h)) (sym (ap (λ (y : Step w). y.outcome) at.step_is))
+      subst (λ (o : Outcome w). IsCounted (Deliver link ch) o
+      (abstract_step config (Deliver link ch) (system_after config log) h))
+      (sym (ap (λ (y : Step w). y.outcome) at.step_is))
       (subst (λ (z : AbstractState w). IsCounted (Deliver link ch) (outcome.Moved x) z) (sym at.follows)
-      (counted-either link ch (outcome.Moved x) (next_tracker (system_after config log)) at.first.kind at.first.number at.first.rest
-      (completes x (unfinished ch (receiver ch link.0 (system_after config log)))) (client_below config link.0 terms known)
+      (counted-either link ch (outcome.Moved x) (next_tracker (system_after config log)) at.first.kind at.first.number
+      at.first.rest
+      (completes x (unfinished ch (receiver ch link.0 (system_after config log))))
+      (client_below config link.0 terms known)
       (on_same ch at.first.kind (h.state.link link.0) at.first.own ∙ at.first.tokens)
-      (λ last. (ends.0 ∙ sym kinds.0, ends.1 ∙ sym kinds.1)) (λ part. (ends.0 ∙ part_apart ch link.0 x queue at.first part, ends.1))))
+      (λ last. (ends.0 ∙ sym kinds.0, ends.1 ∙ sym kinds.1))
+      (λ part. (ends.0 ∙ part_apart ch link.0 x queue at.first part, ends.1))))
     where
       at : IsAtManager config log link ch h x queue
       at = at-manager config log link ch h terms x queue width matched known down beats moving
@@ -276,47 +304,69 @@ module _ {w : ℕ} (config : Config) (log : Log w) (h : AbstractState w) (width 
   -- ---- what a client takes
 
   -- the first token of the channel, and what its message ends
-  counted-client : (link : Link) (ch : Channel) (terms : EndConfig) (x : Beat w) (queue : List (Beat w)) → terms_at config link.0 ≡ Some terms → (system_after config log).channels link.0 ch ≡ x ∷ queue
-      → is_moving (stepped config (Deliver link ch) (system_after config log)).outcome ≡ true → (first : IsFirst ch link.0 h.mail h.state (system_after config log) x queue)
-      → IsTakenByClient terms link.0 ch x queue (system_after config log) (stepped config (Deliver link ch) (system_after config log))
-      → ((v : Verdict) (m : Option (Message w)) → (offer.taken x ((system_after config log).clients link.0)).answer ≡ Ok (v, m)
-      → (completes x (unfinished ch (receiver ch link.0 (system_after config log))) ≡ true → Ends (outcome_of x v) (is_ending first.kind) (is_letting_go first.kind))
-      × (completes x (unfinished ch (receiver ch link.0 (system_after config log))) ≡ false → Ends (outcome_of x v) false false))
-      → IsCounted (Deliver link ch) (stepped config (Deliver link ch) (system_after config log)).outcome (abstract_step config (Deliver link ch) (system_after config log) h)
+  counted-client : (link : Link) (ch : Channel) (terms : EndConfig) (x : Beat w) (queue : List (Beat w))
+      → terms_at config link.0 ≡ Some terms → (system_after config log).channels link.0 ch ≡ x ∷ queue
+      → is_moving (stepped config (Deliver link ch) (system_after config log)).outcome ≡ true
+      → (first : IsFirst ch link.0 h.mail h.state (system_after config log) x queue)
+      → IsTakenByClient terms link.0 ch x queue (system_after config log)
+      (stepped config (Deliver link ch) (system_after config log))
+      → ((v : Verdict) (m : Option (Message w)) → (offer.taken x ((system_after config log).clients link.0)).answer ≡ Ok
+      (v, m)
+      → (completes x (unfinished ch (receiver ch link.0 (system_after config log))) ≡ true
+      → Ends (outcome_of x v) (is_ending first.kind) (is_letting_go first.kind))
+      × (completes x (unfinished ch (receiver ch link.0 (system_after config log))) ≡ false
+      → Ends (outcome_of x v) false false))
+      → IsCounted (Deliver link ch) (stepped config (Deliver link ch) (system_after config log)).outcome
+      (abstract_step config (Deliver link ch) (system_after config log) h)
   counted-client link ch terms x queue known beats moving first t ends =
-      subst (λ (o : Outcome w). IsCounted (Deliver link ch) o (abstract_step config (Deliver link ch) (system_after config log) h)) (sym (ap (λ (y : Step w). y.outcome) t.step_is))
+      subst (λ (o : Outcome w). IsCounted (Deliver link ch) o
+      (abstract_step config (Deliver link ch) (system_after config log) h))
+      (sym (ap (λ (y : Step w). y.outcome) t.step_is))
       (subst (λ (z : AbstractState w). IsCounted (Deliver link ch) (outcome_of x t.verdict_is) z) (sym follows)
-      (counted-either link ch (outcome_of x t.verdict_is) (next_tracker (system_after config log)) first.kind first.number first.rest done (client_below config link.0 terms known)
-      (on_same ch first.kind (h.state.link link.0) first.own ∙ first.tokens) (ends t.verdict_is t.message t.answer).0 (ends t.verdict_is t.message t.answer).1))
+      (counted-either link ch (outcome_of x t.verdict_is) (next_tracker (system_after config log)) first.kind
+      first.number first.rest done (client_below config link.0 terms known)
+      (on_same ch first.kind (h.state.link link.0) first.own ∙ first.tokens) (ends t.verdict_is t.message t.answer).0
+      (ends t.verdict_is t.message t.answer).1))
     where
       done : Bool
       done = completes x (unfinished ch (receiver ch link.0 (system_after config log)))
 
-      follows : abstract_step config (Deliver link ch) (system_after config log) h ≡ (if done then kind_taken config (next_tracker (system_after config log)) link.0 first.kind first.number first.rest h else h)
+      follows : abstract_step config (Deliver link ch) (system_after config log)
+          h ≡ (if done then kind_taken config (next_tracker (system_after config log)) link.0 first.kind first.number
+          first.rest h else h)
       follows =
           followed-moving config link ch (system_after config log) h x queue moving beats
-          ∙ ap (λ (l : List Packet). if done then packet_taken config (next_tracker (system_after config log)) link.0 l h else h) first.tokens
+          ∙ ap (λ (l : List Packet). if done then packet_taken config (next_tracker (system_after config log)) link.0 l
+          h else h) first.tokens
 
-  counted-b : (link : Link) (terms : EndConfig) (x : Beat w) (queue : List (Beat w)) → terms_at config link.0 ≡ Some terms → (system_after config log).channels link.0 channel.B ≡ x ∷ queue
+  counted-b : (link : Link) (terms : EndConfig) (x : Beat w) (queue : List (Beat w))
+      → terms_at config link.0 ≡ Some terms → (system_after config log).channels link.0 channel.B ≡ x ∷ queue
       → is_moving (stepped config (Deliver link channel.B) (system_after config log)).outcome ≡ true
       → IsCounted (Deliver link channel.B) (stepped config (Deliver link channel.B) (system_after config log)).outcome
       (abstract_step config (Deliver link channel.B) (system_after config log) h)
   counted-b link terms x queue known beats moving =
-      counted-client link channel.B terms x queue known beats moving first (client-moves config link channel.B (system_after config log) terms x queue known beats refl moving) (λ v m answer.
+      counted-client link channel.B terms x queue known beats moving first
+      (client-moves config link channel.B (system_after config log) terms x queue known beats refl moving)
+      (λ v m answer.
       let none = probe-ends x ((system_after config log).clients link.0) v m probe.0 answer in
       (λ last. (none.0 ∙ sym probe.1.0, none.1 ∙ sym probe.1.1), λ part. none))
     where
       first : IsFirst channel.B link.0 h.mail h.state (system_after config log) x queue
-      first = first-token (is_caching config) channel.B link.0 h.mail h.state (system_after config log) x queue width matched.invariant matched.carried beats
+      first = first-token (is_caching config) channel.B link.0 h.mail h.state (system_after config log) x queue width
+          matched.invariant matched.carried beats
 
       probe : (channel_of x ≡ channel.B) × ((is_ending first.kind ≡ false) × (is_letting_go first.kind ≡ false))
       probe = first-probe link.0 h (system_after config log) x queue first
 
   -- a response, by the opcode of its message
-  response-ends : (c : ℕ) (k : Kind) (mm : MessageD w) (i : ℕ) (x : Beat w) → x ≡ beat.D (d_beat_of mm i) → is_access_answer mm.opcode ≡ is_ending k → is_release_ack mm.opcode ≡ is_letting_go k
-      → (v : Verdict) (m : Option (Message w)) → (offer.taken x ((system_after config log).clients c)).answer ≡ Ok (v, m)
-      → (completes x (unfinished channel.D ((system_after config log).clients c).past) ≡ true → Ends (outcome_of x v) (is_ending k) (is_letting_go k))
-      × (completes x (unfinished channel.D ((system_after config log).clients c).past) ≡ false → Ends (outcome_of x v) false false)
+  response-ends : (c : ℕ) (k : Kind) (mm : MessageD w) (i : ℕ) (x : Beat w) → x ≡ beat.D (d_beat_of mm i)
+      → is_access_answer mm.opcode ≡ is_ending k → is_release_ack mm.opcode ≡ is_letting_go k
+      → (v : Verdict) (m : Option (Message w)) → (offer.taken x ((system_after config log).clients c)).answer ≡ Ok
+      (v, m)
+      → (completes x (unfinished channel.D ((system_after config log).clients c).past) ≡ true
+      → Ends (outcome_of x v) (is_ending k) (is_letting_go k))
+      × (completes x (unfinished channel.D ((system_after config log).clients c).past) ≡ false
+      → Ends (outcome_of x v) false false)
   response-ends c k mm i x x_is access ack v m answer = (last, part)
     where
       e : client.Endpoint w
@@ -325,53 +375,71 @@ module _ {w : ℕ} (config : Config) (log : Log w) (h : AbstractState w) (width 
       y : BeatD w
       y = d_beat_of mm i
 
-      at : (b : Bool) → completes x (unfinished channel.D e.past) ≡ b → completes (beat.D y) (unfinished channel.D e.past) ≡ b
+      at : (b : Bool) → completes x (unfinished channel.D e.past) ≡ b
+          → completes (beat.D y) (unfinished channel.D e.past) ≡ b
       at b f = sym (ap (λ (z : Beat w). completes z (unfinished channel.D e.past)) x_is) ∙ f
 
       last : completes x (unfinished channel.D e.past) ≡ true → Ends (outcome_of x v) (is_ending k) (is_letting_go k)
       last f =
-          let same = (same_answers v (verdict.Done y.source (finish_at y e)) m (acked y.opcode y.sink) (offer.taken x e).answer answer
+          let same = (same_answers v (verdict.Done y.source (finish_at y e)) m (acked y.opcode y.sink)
+          (offer.taken x e).answer answer
           (ap (λ (z : Beat w). (offer.taken z e).answer) x_is ∙ answer-last y e (at true f))).0 in
           let ends = finish-ends x y.source y.opcode y.param y.size _ _ in
-          subst (λ (u : Verdict). Ends (outcome_of x u) (is_ending k) (is_letting_go k)) (sym same) (ends.0 ∙ access, ends.1 ∙ ack)
+          subst (λ (u : Verdict). Ends (outcome_of x u) (is_ending k) (is_letting_go k)) (sym same)
+          (ends.0 ∙ access, ends.1 ∙ ack)
 
       part : completes x (unfinished channel.D e.past) ≡ false → Ends (outcome_of x v) false false
       part f =
-          let same = (same_answers v verdict.Taken m None (offer.taken x e).answer answer (ap (λ (z : Beat w). (offer.taken z e).answer) x_is ∙ answer-part y e (at false f))).0 in
+          let same = (same_answers v verdict.Taken m None (offer.taken x e).answer answer
+          (ap (λ (z : Beat w). (offer.taken z e).answer) x_is ∙ answer-part y e (at false f))).0 in
           let ends = moved-ends x in
-          subst (λ (u : Verdict). Ends (outcome_of x u) false false) (sym same) (ends.0 ∙ ap (λ (z : Beat w). is_e (channel_of z)) x_is, ends.1)
+          subst (λ (u : Verdict). Ends (outcome_of x u) false false) (sym same)
+          (ends.0 ∙ ap (λ (z : Beat w). is_e (channel_of z)) x_is, ends.1)
 
-  counted-d : (link : Link) (terms : EndConfig) (x : Beat w) (queue : List (Beat w)) → terms_at config link.0 ≡ Some terms → (system_after config log).channels link.0 channel.D ≡ x ∷ queue
+  counted-d : (link : Link) (terms : EndConfig) (x : Beat w) (queue : List (Beat w))
+      → terms_at config link.0 ≡ Some terms → (system_after config log).channels link.0 channel.D ≡ x ∷ queue
       → is_moving (stepped config (Deliver link channel.D) (system_after config log)).outcome ≡ true
       → IsCounted (Deliver link channel.D) (stepped config (Deliver link channel.D) (system_after config log)).outcome
       (abstract_step config (Deliver link channel.D) (system_after config log) h)
   counted-d link terms x queue known beats moving =
       counted-client link channel.D terms x queue known beats moving first
-      (client-moves config link channel.D (system_after config log) terms x queue known beats refl moving) (kinds first.kind first.tokens first.own first.next)
+      (client-moves config link channel.D (system_after config log) terms x queue known beats refl moving)
+      (kinds first.kind first.tokens first.own first.next)
     where
       c : ℕ
       c = link.0
 
       first : IsFirst channel.D c h.mail h.state (system_after config log) x queue
-      first = first-token (is_caching config) channel.D c h.mail h.state (system_after config log) x queue width matched.invariant matched.carried beats
+      first = first-token (is_caching config) channel.D c h.mail h.state (system_after config log) x queue width
+          matched.invariant matched.carried beats
 
       Here : Kind → Type 0
-      Here k = (v : Verdict) (m : Option (Message w)) → (offer.taken x ((system_after config log).clients c)).answer ≡ Ok (v, m)
-          → (completes x (unfinished channel.D ((system_after config log).clients c).past) ≡ true → Ends (outcome_of x v) (is_ending k) (is_letting_go k))
-          × (completes x (unfinished channel.D ((system_after config log).clients c).past) ≡ false → Ends (outcome_of x v) false false)
+      Here k = (v : Verdict) (m : Option (Message w)) → (offer.taken x ((system_after config log).clients c)).answer
+          ≡ Ok (v, m)
+          → (completes x (unfinished channel.D ((system_after config log).clients c).past) ≡ true
+          → Ends (outcome_of x v) (is_ending k) (is_letting_go k))
+          × (completes x (unfinished channel.D ((system_after config log).clients c).past) ≡ false
+          → Ends (outcome_of x v) false false)
 
       kinds : (k : Kind) → (h.state.link c).d ≡ packet k first.number ∷ first.rest → is_on channel.D k ≡ true
-          → IsNext x (unfinished channel.D (receiver channel.D c (system_after config log))) (message_of_kind k h.mail h.state c first.number) (map (message_of h.mail h.state c) first.rest) queue → Here k
+          → IsNext x (unfinished channel.D (receiver channel.D c (system_after config log)))
+          (message_of_kind k h.mail h.state c first.number) (map (message_of h.mail h.state c) first.rest) queue
+          → Here k
       kinds Answer tokens own next =
-          let due = answer-due (is_caching config) c first.number first.rest h.mail h.state matched.invariant (matched.answered c first.number) tokens in
-          response-ends c Answer due.answer next.k x (next.beat_is ∙ ap (λ (m : Message w). beat_of m next.k) due.answer_is) due.answers_access (access_kind due.answer.opcode due.answers_access).1
+          let due = answer-due (is_caching config) c first.number first.rest h.mail h.state matched.invariant
+          (matched.answered c first.number) tokens in
+          response-ends c Answer due.answer next.k x (next.beat_is ∙ ap (λ (m : Message w). beat_of m next.k)
+          due.answer_is) due.answers_access (access_kind due.answer.opcode due.answers_access).1
       kinds Grant tokens own next =
           let due = grant-due (is_caching config) c first.number first.rest h.state matched.invariant tokens in
-          response-ends c Grant (grant_message due.data_too due.k ((h.state.block first.number).source c) (h.state.block first.number).tracker (h.state.block first.number).truth) next.k x
-          (next.beat_is ∙ ap (λ (m : Message w). beat_of m next.k) (grant-rendered c first.number h.state due)) (grant_kind due.data_too).0 (grant_kind due.data_too).1
+          response-ends c Grant (grant_message due.data_too due.k ((h.state.block first.number).source c)
+          (h.state.block first.number).tracker (h.state.block first.number).truth) next.k x
+          (next.beat_is ∙ ap (λ (m : Message w). beat_of m next.k) (grant-rendered c first.number h.state due))
+          (grant_kind due.data_too).0 (grant_kind due.data_too).1
       kinds ReleaseAck tokens own next =
           response-ends c ReleaseAck (ack_message ((h.state.block first.number).release_source c)) next.k x
-          (next.beat_is ∙ ap (λ (m : Message w). beat_of m next.k) (rendered_release_ack c first.number (h.state.block first.number))) refl refl
+          (next.beat_is ∙ ap (λ (m : Message w). beat_of m next.k)
+          (rendered_release_ack c first.number (h.state.block first.number))) refl refl
       kinds Request tokens own next = absurd cc
       kinds Acquire tokens own next = absurd cc
       kinds Probe tokens own next = absurd cc
@@ -381,17 +449,23 @@ module _ {w : ℕ} (config : Config) (log : Log w) (h : AbstractState w) (width 
 
   -- ---- any event
 
-  counted-delivery : (link : Link) (ch : Channel) (b : Bool) → is_moving (stepped config (Deliver link ch) (system_after config log)).outcome ≡ b
-      → IsCounted (Deliver link ch) (stepped config (Deliver link ch) (system_after config log)).outcome (abstract_step config (Deliver link ch) (system_after config log) h)
+  counted-delivery : (link : Link) (ch : Channel) (b : Bool)
+      → is_moving (stepped config (Deliver link ch) (system_after config log)).outcome ≡ b
+      → IsCounted (Deliver link ch) (stepped config (Deliver link ch) (system_after config log)).outcome
+      (abstract_step config (Deliver link ch) (system_after config log) h)
   counted-delivery link ch false still =
-      subst (λ (z : AbstractState w). IsCounted (Deliver link ch) (stepped config (Deliver link ch) (system_after config log)).outcome z) (sym (followed-still config link ch (system_after config log) h still))
-      (counted-as link ch (stepped config (Deliver link ch) (system_after config log)).outcome h false false (still-ends (stepped config (Deliver link ch) (system_after config log)).outcome still) unopened)
+      subst (λ (z : AbstractState w). IsCounted (Deliver link ch)
+      (stepped config (Deliver link ch) (system_after config log)).outcome z)
+      (sym (followed-still config link ch (system_after config log) h still))
+      (counted-as link ch (stepped config (Deliver link ch) (system_after config log)).outcome h false false
+      (still-ends (stepped config (Deliver link ch) (system_after config log)).outcome still) unopened)
   counted-delivery link ch true moving = go ch (first-moved config link ch (system_after config log) moving) moving
     where
       go : (i : Channel) → ((x : Beat w) × (queue : List (Beat w)) × (terms : EndConfig)
           × (((system_after config log).channels link.0 i ≡ x ∷ queue) × (terms_at config link.0 ≡ Some terms)))
           → is_moving (stepped config (Deliver link i) (system_after config log)).outcome ≡ true
-          → IsCounted (Deliver link i) (stepped config (Deliver link i) (system_after config log)).outcome (abstract_step config (Deliver link i) (system_after config log) h)
+          → IsCounted (Deliver link i) (stepped config (Deliver link i) (system_after config log)).outcome
+          (abstract_step config (Deliver link i) (system_after config log) h)
       go channel.A p m = counted-manager link channel.A p.2 p.0 p.1 p.3.1 refl p.3.0 m
       go channel.B p m = counted-b link p.2 p.0 p.1 p.3.1 p.3.0 m
       go channel.C p m = counted-manager link channel.C p.2 p.0 p.1 p.3.1 refl p.3.0 m
@@ -399,12 +473,17 @@ module _ {w : ℕ} (config : Config) (log : Log w) (h : AbstractState w) (width 
       go channel.E p m = counted-manager link channel.E p.2 p.0 p.1 p.3.1 refl p.3.0 m
 
   -- What an event starts and ends is what it opens and closes.
-  pub counted-followed : (event : Event w) → IsCounted event (stepped config event (system_after config log)).outcome (abstract_step config event (system_after config log) h)
+  pub counted-followed : (event : Event w) → IsCounted event (stepped config event (system_after config log)).outcome
+      (abstract_step config event (system_after config log) h)
   unfolding stepped
-  counted-followed (Deliver link ch) = counted-delivery link ch (is_moving (stepped config (Deliver link ch) (system_after config log)).outcome) refl
+  counted-followed (Deliver link ch) =
+      counted-delivery link ch (is_moving (stepped config (Deliver link ch) (system_after config log)).outcome) refl
   counted-followed (Ask c o) = go (terms_at config c) refl
     where
-      go : (t : Option EndConfig) → terms_at config c ≡ t → IsCounted (Ask c o) (stepped_at config t (Ask c o) (system_after config log)).outcome
-          (abstract_step_by config (Ask c o) (stepped_at config t (Ask c o) (system_after config log)).outcome (system_after config log) h)
+      go : (t : Option EndConfig) → terms_at config c ≡ t
+          → IsCounted (Ask c o) (stepped_at config t (Ask c o) (system_after config log)).outcome
+          (abstract_step_by config (Ask c o) (stepped_at config t (Ask c o) (system_after config log)).outcome
+          (system_after config log) h)
       go None e = record { requests = refl; releases = refl }
-      go (Some terms) e = balance-asked config log h (system_after config log) terms c o matched e (client_below config c terms e)
+      go (Some terms) e = balance-asked config log h (system_after config log) terms c o matched e
+          (client_below config c terms e)

@@ -1,41 +1,51 @@
 -- A ReleaseAck and a GrantAck that are taken keep the invariant.
+use Rattle.tl_coherence.proofs.protocol.Imports.{Channel, ClientBlock, View, Idle, Acknowledging, GrantedOther}
+use Rattle.tl_coherence.proofs.protocol.Imports.{ReleaseAcked, is_unreleased, is_unprobed, Kind, Request, Acquire}
+use Rattle.tl_coherence.proofs.protocol.Imports.{Probe, ProbeAck, Release, Answer, Grant, ReleaseAck, GrantAck, Packet}
+use Rattle.tl_coherence.proofs.protocol.Imports.{set, set_at, GrantTaken, Block, State, Link, view, packet, shows}
+use Rattle.tl_coherence.proofs.protocol.Imports.{is_transfer, is_wanting, is_unserved, is_sent, is_answered}
+use Rattle.tl_coherence.proofs.protocol.Imports.{is_releasing, is_acked, is_granting, is_acknowledging, Move, Stays}
+use Rattle.tl_coherence.proofs.protocol.Imports.{Pushes, Pops, AreMoved, agrees, is_own_move, channel_for, is_out}
+use Rattle.tl_coherence.proofs.protocol.Imports.{is_of, acquires_of, serves_of, acquires_with, serves_with}
+use Rattle.tl_coherence.proofs.protocol.Imports.{releases_with, tracks_with, IsWell, IsInvariant}
 use Rattle.std.proofs.Common.{◌≡◌, refl, sym, ◌∙◌, ap, inl, inr}
 use Rattle.std.specs.Prelude.{ℕ, Bool, true, false, not, List, ◌∷◌, ◌==◌, ◌&&◌, Some, None}
 use Rattle.std.proofs.lemmas.Bool.{cases_eq, ne_eqb}
 use Rattle.std.proofs.Math.Bool.{and-false}
-use Rattle.tl_beat.specs.declared.channel.Channel.{Channel}
 use Rattle.tl_beat.specs.declared.channel.Channel.TheVariants as channel
-use Rattle.tl_coherence.specs.protocol.Phase.{ClientBlock, View, Idle, Acknowledging, GrantedOther, ReleaseAcked, is_unreleased, is_unprobed}
 use Rattle.tl_coherence.specs.protocol.PhaseSteps.{after_release_ack}
-use Rattle.tl_coherence.specs.protocol.Packet.{Kind, Request, Acquire, Probe, ProbeAck, Release, Answer, Grant, ReleaseAck, GrantAck, Packet, set, set_at}
-use Rattle.tl_coherence.specs.protocol.Protocol.{GrantTaken, Block, State, Link, view, packet, shows, is_transfer, is_wanting, is_unserved, is_sent, is_answered}
-use Rattle.tl_coherence.specs.protocol.Protocol.{is_releasing, is_acked, is_granting, is_acknowledging, let_go_block, release_ack_taken, freed_block, grant_ack_taken}
-use Rattle.tl_coherence.specs.refinement.Move.{Move, Stays, Pushes, Pops, AreMoved, agrees, is_own_move, channel_for}
-use Rattle.tl_coherence.specs.protocol.Invariant.{is_out, is_of, acquires_of, serves_of, acquires_with, serves_with, releases_with, tracks_with, IsWell, IsInvariant}
-use Rattle.tl_coherence.proofs.queues.Moves.{moves_at, event-at, bare-at, names-block, names-set, names-set_at, invariant-moved, same_again}
+use Rattle.tl_coherence.specs.protocol.Protocol.{let_go_block, release_ack_taken, freed_block, grant_ack_taken}
+use Rattle.tl_coherence.proofs.queues.Moves.{moves_at, event-at, bare-at, names-block, names-set, names-set_at}
+use Rattle.tl_coherence.proofs.queues.Moves.{invariant-moved, same_again}
 use Rattle.tl_coherence.proofs.queues.Tokens.{same_number, set-same, set-other, set-part}
 use Rattle.tl_coherence.proofs.queues.PhaseSteps.{release_ack-ok, ack_taken-ok, ack_taken_other-ok}
-use Rattle.tl_coherence.proofs.protocol.Blocks.{gentle-same, awaited-same, asked_cap-same, alone-set, owned-set, outside-set, busy-inside}
+use Rattle.tl_coherence.proofs.protocol.Blocks.{gentle-same, awaited-same, asked_cap-same, alone-set, owned-set}
+use Rattle.tl_coherence.proofs.protocol.Blocks.{outside-set, busy-inside}
 use Rattle.tl_coherence.proofs.protocol.BothParts.{is_of-is}
 
 -- ---- a ReleaseAck
 
-pub let_go-block : {X : Type 0} (caching : ℕ → Bool) (c : ℕ) (b : Block X) → IsWell caching b → (b.pair c).letting ≡ ReleaseAcked → IsWell caching (let_go_block c b)
+pub let_go-block : {X : Type 0} (caching : ℕ → Bool) (c : ℕ) (b : Block X) → IsWell caching b
+    → (b.pair c).letting ≡ ReleaseAcked → IsWell caching (let_go_block c b)
 let_go-block caching c b h acked =
     let after : ClientBlock = after_release_ack (b.pair c) in
     let held_same = set-part (λ (p : ClientBlock). p.held) c after b.pair refl in
     let recorded_same = set-part (λ (p : ClientBlock). p.recorded) c after b.pair refl in
     record {
       phases = λ d. elim (cases_eq d c) [
-        | inl same ↦ rw (same, set-same c after b.pair) (release_ack-ok (b.pair c) (view b.service c) (h.phases c) acked)
+        | inl same ↦ rw (same, set-same c after b.pair) (release_ack-ok (b.pair c) (view b.service c) (h.phases c)
+            acked)
         | inr other ↦ rw (set-other c d after b.pair other) (h.phases d)
       ];
-      awaited = awaited-same b.service b.pair (set c after b.pair) (set-part (λ (p : ClientBlock). is_unprobed p.probing) c after b.pair refl) h.awaited;
-      asked_cap = asked_cap-same b.service b.pair (set c after b.pair) (set-part (λ (p : ClientBlock). p.acquiring) c after b.pair refl) h.asked_cap;
+      awaited = awaited-same b.service b.pair (set c after b.pair)
+          (set-part (λ (p : ClientBlock). is_unprobed p.probing) c after b.pair refl) h.awaited;
+      asked_cap = asked_cap-same b.service b.pair (set c after b.pair)
+          (set-part (λ (p : ClientBlock). p.acquiring) c after b.pair refl) h.asked_cap;
       own_source = h.own_source;
       alone = alone-set c after b.pair (gentle-same (b.pair c) after refl refl) h.alone;
       one_owner = owned-set c after b.pair (gentle-same (b.pair c) after refl refl) h.one_owner;
-      outside = outside-set caching c after b.pair (busy-inside caching c b.pair (λ p. is_acked p.letting) refl (rw acked refl) h.outside) h.outside;
+      outside = outside-set caching c after b.pair (busy-inside caching c b.pair (λ p. is_acked p.letting) refl
+          (rw acked refl) h.outside) h.outside;
       copies = λ d some. h.copies d (rw (held_same d) at some);
       memory = λ none. h.memory (λ d. rw (recorded_same d) at (none d));
     }
@@ -44,7 +54,8 @@ abbrev pub let_go_moves : ℕ → Channel → Move
 let_go_moves n channel.D = Pops ReleaseAck n
 let_go_moves n _ = Stays
 
-let_go_shows : (n : ℕ) (k : Kind) (p : ClientBlock) (v : View) → is_transfer k ≡ true → p.letting ≡ ReleaseAcked → agrees (let_go_moves n (channel_for k)) k n (shows k p v) (shows k (after_release_ack p) v) ≡ true
+let_go_shows : (n : ℕ) (k : Kind) (p : ClientBlock) (v : View) → is_transfer k ≡ true → p.letting ≡ ReleaseAcked
+    → agrees (let_go_moves n (channel_for k)) k n (shows k p v) (shows k (after_release_ack p) v) ≡ true
 let_go_shows n Request p v t e = absurd cc
 let_go_shows n Answer p v t e = absurd cc
 let_go_shows n Acquire p v t e = same_again (is_wanting p.acquiring && is_unserved v)
@@ -55,24 +66,31 @@ let_go_shows n Grant p v t e = same_again (is_granting v)
 let_go_shows n ReleaseAck p v t e = rw (same_number n) refl
 let_go_shows n GrantAck p v t e = same_again (is_acknowledging v)
 
-pub release_ack_taken-kept : {X : Type 0} (caching : ℕ → Bool) (c n : ℕ) (rest : List Packet) (s : State X) → IsInvariant caching s → (s.link c).d ≡ packet ReleaseAck n ∷ rest
+pub release_ack_taken-kept : {X : Type 0} (caching : ℕ → Bool) (c n : ℕ) (rest : List Packet) (s : State X)
+    → IsInvariant caching s → (s.link c).d ≡ packet ReleaseAck n ∷ rest
     → ((s.block n).pair c).letting ≡ ReleaseAcked → IsInvariant caching (release_ack_taken c n rest s)
 release_ack_taken-kept {X} caching c n rest s inv first acked =
-    invariant-moved caching n new (set c here s.link) (moves_at c (let_go_moves n)) (set_at c source None s.lets) s.tracked s inv
+    invariant-moved caching n new (set c here s.link) (moves_at c (let_go_moves n)) (set_at c source None s.lets)
+    s.tracked s inv
     (event-at caching c n new here (let_go_moves n) s (record {
       well = let_go-block caching c (s.block n) (inv.blocks n) acked;
       moved = moved;
       own = own;
       fits = λ k t. rw (set-same c after old) (let_go_shows n k (old c) (view (s.block n).service c) t acked);
-      others = λ d ne k t. ap (λ (p : ClientBlock). shows k p (view (s.block n).service d)) (set-other c d after old ne);
+      others = λ d ne k t. ap (λ (p : ClientBlock). shows k p (view (s.block n).service d))
+          (set-other c d after old ne);
       in_order = λ m e. absurd (let f : Stays ≡ Pushes ProbeAck m = e in cc);
     }))
     (bare-at c (let_go_moves n) refl refl)
     (record {
-      acquires = λ d. names-block acquires_of (acquires_with d) (s.uses d) n new s.block (λ i. rw (set-part (λ (p : ClientBlock). p.acquiring) c after old refl d) refl) (inv.named.acquires d);
+      acquires = λ d. names-block acquires_of (acquires_with d) (s.uses d) n new s.block
+          (λ i. rw (set-part (λ (p : ClientBlock). p.acquiring) c after old refl d) refl) (inv.named.acquires d);
       serves = λ d. names-block serves_of (serves_with d) (s.uses d) n new s.block (λ i. refl) (inv.named.serves d);
-      releases = names-set_at is_of releases_with c source None s.lets n new s.block (rw (set-same c after old) refl) (λ m ne. rw used (sym (ne_eqb m n ne)))
-          (λ i ne. rw (set-same c after old, ne_eqb i source ne) (sym (and-false (not (is_unreleased (old c).letting))))) (λ d i ne. rw (set-other c d after old ne) refl) inv.named.releases;
+      releases = names-set_at is_of releases_with c source None s.lets n new s.block (rw (set-same c after old) refl)
+          (λ m ne. rw used (sym (ne_eqb m n ne)))
+          (λ i ne. rw (set-same c after old, ne_eqb i source ne)
+          (sym (and-false (not (is_unreleased (old c).letting))))) (λ d i ne. rw (set-other c d after old ne) refl)
+          inv.named.releases;
       trackers = names-block is_of tracks_with s.tracked n new s.block (λ i. refl) inv.named.trackers;
     })
   where
@@ -110,7 +128,8 @@ release_ack_taken-kept {X} caching c n rest s inv first acked =
 
 -- ---- a GrantAck
 
-pub freed-block : {X : Type 0} (caching : ℕ → Bool) (c : ℕ) (b : Block X) → IsWell caching b → b.service ≡ GrantTaken c → IsWell caching (freed_block b)
+pub freed-block : {X : Type 0} (caching : ℕ → Bool) (c : ℕ) (b : Block X) → IsWell caching b → b.service ≡ GrantTaken c
+    → IsWell caching (freed_block b)
 freed-block caching c b h taken = record {
   phases = λ d. elim (cases_eq d c) [
     | inl same ↦ rw same (ack_taken-ok (b.pair c) (view b.service c) (h.phases c) (rw (taken, same_number c) refl))
@@ -134,7 +153,8 @@ abbrev pub freed_moves : ℕ → Channel → Move
 freed_moves n channel.E = Pops GrantAck n
 freed_moves n _ = Stays
 
-freed_shows : (n : ℕ) (k : Kind) (p : ClientBlock) → is_transfer k ≡ true → agrees (freed_moves n (channel_for k)) k n (shows k p Acknowledging) (shows k p Idle) ≡ true
+freed_shows : (n : ℕ) (k : Kind) (p : ClientBlock) → is_transfer k ≡ true
+    → agrees (freed_moves n (channel_for k)) k n (shows k p Acknowledging) (shows k p Idle) ≡ true
 freed_shows n Request p t = absurd cc
 freed_shows n Answer p t = absurd cc
 freed_shows n Acquire p t = same_again (is_wanting p.acquiring && true)
@@ -156,11 +176,13 @@ freed_beside Grant p = refl
 freed_beside ReleaseAck p = refl
 freed_beside GrantAck p = refl
 
-pub grant_ack_taken-kept : {X : Type 0} (caching : ℕ → Bool) (c n : ℕ) (rest : List Packet) (s : State X) → IsInvariant caching s → (s.link c).e ≡ packet GrantAck n ∷ rest
+pub grant_ack_taken-kept : {X : Type 0} (caching : ℕ → Bool) (c n : ℕ) (rest : List Packet) (s : State X)
+    → IsInvariant caching s → (s.link c).e ≡ packet GrantAck n ∷ rest
     → (s.block n).service ≡ GrantTaken c
     → IsInvariant caching (grant_ack_taken c n rest s)
 grant_ack_taken-kept {X} caching c n rest s inv first taken =
-    invariant-moved caching n new (set c here s.link) (moves_at c (freed_moves n)) s.lets (set tracker None s.tracked) s inv
+    invariant-moved caching n new (set c here s.link) (moves_at c (freed_moves n)) s.lets (set tracker None s.tracked) s
+    inv
     (event-at caching c n new here (freed_moves n) s (record {
       well = freed-block caching c (s.block n) (inv.blocks n) taken;
       moved = moved;
@@ -171,10 +193,13 @@ grant_ack_taken-kept {X} caching c n rest s inv first taken =
     }))
     (bare-at c (freed_moves n) refl refl)
     (record {
-      acquires = λ d. names-block acquires_of (acquires_with d) (s.uses d) n new s.block (λ i. refl) (inv.named.acquires d);
-      serves = λ d. names-block serves_of (serves_with d) (s.uses d) n new s.block (λ i. rw taken refl) (inv.named.serves d);
+      acquires = λ d. names-block acquires_of (acquires_with d) (s.uses d) n new s.block (λ i. refl)
+          (inv.named.acquires d);
+      serves = λ d. names-block serves_of (serves_with d) (s.uses d) n new s.block (λ i. rw taken refl)
+          (inv.named.serves d);
       releases = λ d. names-block is_of (releases_with d) (s.lets d) n new s.block (λ i. refl) (inv.named.releases d);
-      trackers = names-set is_of tracks_with s.tracked tracker None n new s.block refl (λ m ne. rw used (sym (ne_eqb m n ne))) (λ i ne. rw (taken, ne_eqb i tracker ne) refl) inv.named.trackers;
+      trackers = names-set is_of tracks_with s.tracked tracker None n new s.block refl
+          (λ m ne. rw used (sym (ne_eqb m n ne))) (λ i ne. rw (taken, ne_eqb i tracker ne) refl) inv.named.trackers;
     })
   where
     new : Block X

@@ -1,15 +1,17 @@
 -- An access that is answered as it is taken, and an answer that is taken, keep the invariant.
+use Rattle.tl_coherence.proofs.protocol.Imports.{Channel, same_perm, Kind, Request, Acquire, Probe, ProbeAck, Release}
+use Rattle.tl_coherence.proofs.protocol.Imports.{Answer, Grant, ReleaseAck, GrantAck, Packet, set, Block, State, Link}
+use Rattle.tl_coherence.proofs.protocol.Imports.{SourceFree, Asked, Replied, view, packet, shown, is_transfer, Move}
+use Rattle.tl_coherence.proofs.protocol.Imports.{Stays, Pushes, Pops, AreMoved, is_own_move, channel_for, is_of}
+use Rattle.tl_coherence.proofs.protocol.Imports.{acquires_of, serves_of, acquires_with, serves_with, releases_with}
+use Rattle.tl_coherence.proofs.protocol.Imports.{tracks_with, IsWell, IsInvariant}
 use Rattle.std.proofs.Common.{◌≡◌, refl, sym, ◌∙◌, ap, ◌⊎◌, inl, inr}
 use Rattle.std.specs.Prelude.{ℕ, Bool, true, false, List, ◌∷◌}
-use Rattle.tl_beat.specs.declared.channel.Channel.{Channel}
 use Rattle.tl_beat.specs.declared.channel.Channel.TheVariants as channel
 use Rattle.tl_params.specs.declared.perm.Perm.TheVariants as perm
-use Rattle.tl_rules.specs.statement.Conformance.{same_perm}
-use Rattle.tl_coherence.specs.protocol.Packet.{Kind, Request, Acquire, Probe, ProbeAck, Release, Answer, Grant, ReleaseAck, GrantAck, Packet, set}
-use Rattle.tl_coherence.specs.protocol.Protocol.{Block, State, Link, SourceFree, Asked, Replied, view, packet, shown, is_transfer, performed_block, answered_link, access_answered, answer_taken}
-use Rattle.tl_coherence.specs.refinement.Move.{Move, Stays, Pushes, Pops, AreMoved, is_own_move, channel_for}
-use Rattle.tl_coherence.specs.protocol.Invariant.{is_of, acquires_of, serves_of, acquires_with, serves_with, releases_with, tracks_with, IsWell, IsInvariant}
-use Rattle.tl_coherence.proofs.queues.Moves.{moves_at, event-at, bare-elsewhere, spares, spared-agrees, invariant-moved_access, names-block, names-set_at, invariant-moved_use}
+use Rattle.tl_coherence.specs.protocol.Protocol.{performed_block, answered_link, access_answered, answer_taken}
+use Rattle.tl_coherence.proofs.queues.Moves.{moves_at, event-at, bare-elsewhere, spares, spared-agrees}
+use Rattle.tl_coherence.proofs.queues.Moves.{invariant-moved_access, names-block, names-set_at, invariant-moved_use}
 use Rattle.tl_coherence.proofs.queues.Tokens.{same_number}
 use Rattle.tl_coherence.proofs.queues.Facts.{held_at_most}
 use Rattle.tl_coherence.proofs.queues.Perms.{nothing_below}
@@ -20,7 +22,8 @@ use Rattle.tl_coherence.proofs.queues.Perms.{nothing_below}
 abbrev pub Spares : {X : Type 0} → (X → X) → Block X → Type 0
 Spares f b = (f b.truth ≡ b.truth) ⊎ ((d : ℕ) → same_perm (b.pair d).recorded perm.None ≡ true)
 
-pub performed-block : {X : Type 0} (caching : ℕ → Bool) (f : X → X) (b : Block X) → IsWell caching b → Spares f b → IsWell caching (performed_block f b)
+pub performed-block : {X : Type 0} (caching : ℕ → Bool) (f : X → X) (b : Block X) → IsWell caching b → Spares f b
+    → IsWell caching (performed_block f b)
 performed-block {X} caching f b h spared = record {
   phases = h.phases;
   awaited = h.awaited;
@@ -36,7 +39,9 @@ performed-block {X} caching f b h spared = record {
     copy_is : (d : ℕ) → same_perm (b.pair d).held perm.None ≡ false → Spares f b → b.copy d ≡ f b.truth
     copy_is d some (inl same) = h.copies d some ∙ sym same
     copy_is d some (inr none) =
-        absurd (let no = nothing_below (b.pair d).held (b.pair d).recorded (held_at_most (b.pair d) (view b.service d) (h.phases d)) (none d) in let differs : true ≡ false = sym no ∙ some in cc)
+        absurd (let no = nothing_below (b.pair d).held (b.pair d).recorded
+        (held_at_most (b.pair d) (view b.service d) (h.phases d)) (none d) in let differs : true ≡ false =
+        sym no ∙ some in cc)
 
 -- ---- the whole
 
@@ -57,24 +62,30 @@ answer_spared source Grant t = refl
 answer_spared source ReleaseAck t = refl
 answer_spared source GrantAck t = refl
 
-pub access_answered-kept : {X : Type 0} (caching : ℕ → Bool) (c n source : ℕ) (f : X → X) (rest : List Packet) (s : State X) → IsInvariant caching s → (s.link c).a ≡ packet Request source ∷ rest
+pub access_answered-kept : {X : Type 0} (caching : ℕ → Bool) (c n source : ℕ) (f : X → X) (rest : List Packet)
+    (s : State X) → IsInvariant caching s → (s.link c).a ≡ packet Request source ∷ rest
     → s.uses c source ≡ Asked
     → Spares f (s.block n) → IsInvariant caching (access_answered c n source f rest s)
 access_answered-kept {X} caching c n source f rest s inv first asked spared =
-    invariant-moved_use caching n new (set c here s.link) (moves_at c (answer_moves source)) c source Replied s.tracked s inv
+    invariant-moved_use caching n new (set c here s.link) (moves_at c (answer_moves source)) c source Replied s.tracked
+    s inv
     (event-at caching c n new here (answer_moves source) s (record {
       well = performed-block caching f (s.block n) (inv.blocks n) spared;
       moved = moved;
       own = own;
-      fits = λ k t. spared-agrees (answer_moves source (channel_for k)) k n (shown k c (s.block n)) (answer_spared source k t);
+      fits = λ k t. spared-agrees (answer_moves source (channel_for k)) k n (shown k c (s.block n))
+          (answer_spared source k t);
       others = λ d ne k t. refl;
       in_order = λ m e. absurd (let f : Stays ≡ Pushes ProbeAck m = e in cc);
     }))
-    (rw (same_number c, same_number source) refl) (rw (same_number c, asked, same_number source) refl) (bare-elsewhere c (answer_moves source))
+    (rw (same_number c, same_number source) refl) (rw (same_number c, asked, same_number source) refl)
+    (bare-elsewhere c (answer_moves source))
     (record {
-      acquires = names-set_at acquires_of acquires_with c source Replied s.uses n new s.block (rw asked at (inv.named.acquires c source n))
+      acquires = names-set_at acquires_of acquires_with c source Replied s.uses n new s.block
+          (rw asked at (inv.named.acquires c source n))
           (λ m ne. rw asked refl) (λ i ne. refl) (λ d i ne. refl) inv.named.acquires;
-      serves = names-set_at serves_of serves_with c source Replied s.uses n new s.block (rw asked at (inv.named.serves c source n)) (λ m ne. rw asked refl)
+      serves = names-set_at serves_of serves_with c source Replied s.uses n new s.block
+          (rw asked at (inv.named.serves c source n)) (λ m ne. rw asked refl)
           (λ i ne. refl) (λ d i ne. refl) inv.named.serves;
       releases = λ d. names-block is_of (releases_with d) (s.lets d) n new s.block (λ i. refl) (inv.named.releases d);
       trackers = names-block is_of tracks_with s.tracked n new s.block (λ i. refl) inv.named.trackers;
@@ -116,19 +127,21 @@ done_spared source Grant t = refl
 done_spared source ReleaseAck t = refl
 done_spared source GrantAck t = refl
 
-pub answer_taken-kept : {X : Type 0} (caching : ℕ → Bool) (c source : ℕ) (rest : List Packet) (s : State X) → IsInvariant caching s → (s.link c).d ≡ packet Answer source ∷ rest
+pub answer_taken-kept : {X : Type 0} (caching : ℕ → Bool) (c source : ℕ) (rest : List Packet) (s : State X)
+    → IsInvariant caching s → (s.link c).d ≡ packet Answer source ∷ rest
     → s.uses c source ≡ Replied
     → IsInvariant caching (answer_taken c source rest s)
-answer_taken-kept caching c source rest s inv first replied = invariant-moved_access caching c source SourceFree here (done_moves source) s inv (record {
-  moved = moved;
-  own = own;
-  spared = done_spared source;
-  still = refl;
-  asked = rw replied refl;
-  replied = rw (same_number source) refl;
-  acquires = λ m. rw replied refl;
-  serves = λ m. rw replied refl;
-})
+answer_taken-kept caching c source rest s inv first replied = invariant-moved_access caching c source SourceFree here
+    (done_moves source) s inv (record {
+      moved = moved;
+      own = own;
+      spared = done_spared source;
+      still = refl;
+      asked = rw replied refl;
+      replied = rw (same_number source) refl;
+      acquires = λ m. rw replied refl;
+      serves = λ m. rw replied refl;
+    })
   where
     here : Link
     here = record (s.link c) { d = rest }

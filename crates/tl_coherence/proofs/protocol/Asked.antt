@@ -1,35 +1,38 @@
 -- What a client is asked keeps the invariant: an access, an Acquire, a Release and a store.
+use Rattle.tl_coherence.proofs.protocol.Imports.{Channel, Grow, Prune, Perm, prune_left, same_perm, ClientBlock, View}
+use Rattle.tl_coherence.proofs.protocol.Imports.{Own, NoRelease, NoAcquire, AcquireOpen, is_unacquired, is_unprobed}
+use Rattle.tl_coherence.proofs.protocol.Imports.{Kind, Request, Acquire, Probe, ProbeAck, Release, Answer, Grant}
+use Rattle.tl_coherence.proofs.protocol.Imports.{ReleaseAck, GrantAck, set, set_at, Block, State, Link, SourceFree}
+use Rattle.tl_coherence.proofs.protocol.Imports.{Asked, Acquires, view, packet, shows, shown, is_transfer, is_wanting}
+use Rattle.tl_coherence.proofs.protocol.Imports.{is_unserved, is_sent, is_answered, is_releasing, is_acked, is_granting}
+use Rattle.tl_coherence.proofs.protocol.Imports.{is_acknowledging, Move, Stays, Pushes, AreMoved, agrees, is_own_move}
+use Rattle.tl_coherence.proofs.protocol.Imports.{channel_for, is_out, is_of, acquires_of, serves_of, acquires_with}
+use Rattle.tl_coherence.proofs.protocol.Imports.{serves_with, releases_with, tracks_with, IsWell, IsInvariant}
 use Rattle.std.proofs.Common.{◌≡◌, refl, sym, ◌∙◌, ap, inl, inr}
 use Rattle.std.specs.Prelude.{ℕ, Bool, true, false, not, ◌&&◌, Some, None}
 use Rattle.std.proofs.lemmas.Bool.{cases_eq, ne_eqb}
-use Rattle.tl_beat.specs.declared.channel.Channel.{Channel}
 use Rattle.tl_beat.specs.declared.channel.Channel.TheVariants as channel
-use Rattle.tl_params.specs.declared.param.Grow.{Grow}
-use Rattle.tl_params.specs.declared.param.Prune.{Prune}
 use Rattle.tl_params.specs.declared.param.Prune.TheVariants as prune
-use Rattle.tl_params.specs.declared.perm.Perm.{Perm}
 use Rattle.tl_params.specs.declared.perm.Perm.TheVariants as perm
-use Rattle.tl_params.specs.statement.Param.{prune_left}
-use Rattle.tl_rules.specs.statement.Conformance.{same_perm}
-use Rattle.tl_coherence.specs.protocol.Phase.{ClientBlock, View, Own, NoRelease, NoAcquire, AcquireOpen, is_unacquired, is_unprobed, grow_fits}
+use Rattle.tl_coherence.specs.protocol.Phase.{grow_fits}
 use Rattle.tl_coherence.specs.protocol.PhaseSteps.{after_acquire, after_release}
-use Rattle.tl_coherence.specs.protocol.Packet.{Kind, Request, Acquire, Probe, ProbeAck, Release, Answer, Grant, ReleaseAck, GrantAck, set, set_at}
-use Rattle.tl_coherence.specs.protocol.Protocol.{Block, State, Link, SourceFree, Asked, Acquires, view, packet, shows, shown, is_transfer, is_wanting, is_unserved, is_sent}
-use Rattle.tl_coherence.specs.protocol.Protocol.{is_answered, is_releasing, is_acked, is_granting, is_acknowledging, with_a, with_c, acquiring_block, releasing_block}
-use Rattle.tl_coherence.specs.protocol.Protocol.{stored_block, access_asked, acquire_asked, release_asked, block_stored}
-use Rattle.tl_coherence.specs.refinement.Move.{Move, Stays, Pushes, AreMoved, agrees, is_own_move, channel_for}
-use Rattle.tl_coherence.specs.protocol.Invariant.{is_out, is_of, acquires_of, serves_of, acquires_with, serves_with, releases_with, tracks_with, IsWell, IsInvariant}
+use Rattle.tl_coherence.specs.protocol.Protocol.{with_a, with_c, acquiring_block, releasing_block, stored_block}
+use Rattle.tl_coherence.specs.protocol.Protocol.{access_asked, acquire_asked, release_asked, block_stored}
 use Rattle.tl_coherence.proofs.queues.Phases.{and_left}
 use Rattle.tl_coherence.proofs.queues.PhaseSteps.{acquire-ok, release-ok}
 use Rattle.tl_coherence.proofs.queues.Facts.{own_wants, held_at_most, held_out, unserved_calm}
-use Rattle.tl_coherence.proofs.protocol.Blocks.{awaited-same, asked_cap-same, asked_cap-other, own_source-other, gentle-same, alone-set, owned-set, outside-set}
-use Rattle.tl_coherence.proofs.queues.Moves.{moves_at, event-at, bare-at, bare-elsewhere, spares, invariant-moved_access, names-kept, names-block, names-set_at, invariant-moved, invariant-moved_use, same_again}
+use Rattle.tl_coherence.proofs.protocol.Blocks.{awaited-same, asked_cap-same, asked_cap-other, own_source-other}
+use Rattle.tl_coherence.proofs.protocol.Blocks.{gentle-same, alone-set, owned-set, outside-set}
+use Rattle.tl_coherence.proofs.queues.Moves.{moves_at, event-at, bare-at, bare-elsewhere, spares}
+use Rattle.tl_coherence.proofs.queues.Moves.{invariant-moved_access, names-kept, names-block, names-set_at}
+use Rattle.tl_coherence.proofs.queues.Moves.{invariant-moved, invariant-moved_use, same_again}
 use Rattle.tl_coherence.proofs.queues.Tokens.{same_number, set-same, set-other, set-part}
 use Rattle.tl_coherence.proofs.queues.Perms.{nothing_below}
 
 -- ---- blocks
 
-pub acquiring-block : {X : Type 0} (caching : ℕ → Bool) (c source : ℕ) (whole : Bool) (g : Grow) (bytes : X) (b : Block X) → IsWell caching b → caching c ≡ true → (b.pair c).acquiring ≡ NoAcquire
+pub acquiring-block : {X : Type 0} (caching : ℕ → Bool) (c source : ℕ) (whole : Bool) (g : Grow) (bytes : X)
+    (b : Block X) → IsWell caching b → caching c ≡ true → (b.pair c).acquiring ≡ NoAcquire
     → (b.pair c).letting ≡ NoRelease
     → grow_fits (b.pair c).held (AcquireOpen whole g) ≡ true → IsWell caching (acquiring_block c source whole g bytes b)
 acquiring-block caching c source whole g bytes b h inside calm kept fits =
@@ -38,21 +41,25 @@ acquiring-block caching c source whole g bytes b h inside calm kept fits =
     let recorded_same = set-part (λ (p : ClientBlock). p.recorded) c after b.pair refl in
     record {
       phases = λ d. elim (cases_eq d c) [
-        | inl same ↦ rw (same, set-same c after b.pair) (acquire-ok whole g (b.pair c) (view b.service c) (h.phases c) calm kept fits)
+        | inl same ↦ rw (same, set-same c after b.pair) (acquire-ok whole g (b.pair c) (view b.service c) (h.phases c)
+            calm kept fits)
         | inr other ↦ rw (set-other c d after b.pair other) (h.phases d)
       ];
-      awaited = awaited-same b.service b.pair (set c after b.pair) (set-part (λ (p : ClientBlock). is_unprobed p.probing) c after b.pair refl) h.awaited;
+      awaited = awaited-same b.service b.pair (set c after b.pair)
+          (set-part (λ (p : ClientBlock). is_unprobed p.probing) c after b.pair refl) h.awaited;
       asked_cap = asked_cap-other b.service c after b.pair (λ e. not_own e) h.asked_cap;
       own_source = own_source-other b.service c source b.source (λ e. not_own e) h.own_source;
       alone = alone-set c after b.pair (gentle-same (b.pair c) after refl refl) h.alone;
       one_owner = owned-set c after b.pair (gentle-same (b.pair c) after refl refl) h.one_owner;
-      outside = outside-set caching c after b.pair (λ e. absurd (let f : true ≡ false = sym inside ∙ e in cc)) h.outside;
+      outside = outside-set caching c after b.pair (λ e. absurd (let f : true ≡ false = sym inside ∙ e in cc))
+          h.outside;
       copies = λ d some. h.copies d (rw (held_same d) at some);
       memory = λ none. h.memory (λ d. rw (recorded_same d) at (none d));
     }
   where
     not_own : view b.service c ≡ Own → ⊥
-    not_own e = let f : not (is_unacquired (b.pair c).acquiring) ≡ true = own_wants (b.pair c) (view b.service c) (h.phases c) e in let g : false ≡ true = rw calm at f in absurd cc
+    not_own e = let f : not (is_unacquired (b.pair c).acquiring) ≡ true =
+        own_wants (b.pair c) (view b.service c) (h.phases c) e in let g : false ≡ true = rw calm at f in absurd cc
 
 -- what is given up was held
 left_some : (r : Prune) (p : Perm) → same_perm p (prune_left r) ≡ true → same_perm p perm.None ≡ false
@@ -62,22 +69,27 @@ left_some prune.BtoN perm.None e = absurd cc
 left_some r perm.Branch e = refl
 left_some r perm.Trunk e = refl
 
-pub releasing-block : {X : Type 0} (caching : ℕ → Bool) (c source : ℕ) (r : Prune) (b : Block X) → IsWell caching b → caching c ≡ true → (b.pair c).acquiring ≡ NoAcquire → (b.pair c).letting ≡ NoRelease
+pub releasing-block : {X : Type 0} (caching : ℕ → Bool) (c source : ℕ) (r : Prune) (b : Block X) → IsWell caching b
+    → caching c ≡ true → (b.pair c).acquiring ≡ NoAcquire → (b.pair c).letting ≡ NoRelease
     → same_perm (b.pair c).held (prune_left r) ≡ true → IsWell caching (releasing_block c source r b)
 releasing-block caching c source r b h inside calm kept fits =
     let after : ClientBlock = after_release r (b.pair c) in
     let recorded_same = set-part (λ (p : ClientBlock). p.recorded) c after b.pair refl in
     record {
       phases = λ d. elim (cases_eq d c) [
-        | inl same ↦ rw (same, set-same c after b.pair) (release-ok r (b.pair c) (view b.service c) (h.phases c) calm kept fits)
+        | inl same ↦ rw (same, set-same c after b.pair) (release-ok r (b.pair c) (view b.service c) (h.phases c) calm
+            kept fits)
         | inr other ↦ rw (set-other c d after b.pair other) (h.phases d)
       ];
-      awaited = awaited-same b.service b.pair (set c after b.pair) (set-part (λ (p : ClientBlock). is_unprobed p.probing) c after b.pair refl) h.awaited;
-      asked_cap = asked_cap-same b.service b.pair (set c after b.pair) (set-part (λ (p : ClientBlock). p.acquiring) c after b.pair refl) h.asked_cap;
+      awaited = awaited-same b.service b.pair (set c after b.pair)
+          (set-part (λ (p : ClientBlock). is_unprobed p.probing) c after b.pair refl) h.awaited;
+      asked_cap = asked_cap-same b.service b.pair (set c after b.pair)
+          (set-part (λ (p : ClientBlock). p.acquiring) c after b.pair refl) h.asked_cap;
       own_source = h.own_source;
       alone = alone-set c after b.pair (gentle-same (b.pair c) after refl refl) h.alone;
       one_owner = owned-set c after b.pair (gentle-same (b.pair c) after refl refl) h.one_owner;
-      outside = outside-set caching c after b.pair (λ e. absurd (let f : true ≡ false = sym inside ∙ e in cc)) h.outside;
+      outside = outside-set caching c after b.pair (λ e. absurd (let f : true ≡ false = sym inside ∙ e in cc))
+          h.outside;
       copies = λ d some. elim (cases_eq d c) [
         | inl same ↦ rw same (h.copies c (left_some r (b.pair c).held fits))
         | inr other ↦ h.copies d (rw (set-other c d after b.pair other) at some)
@@ -85,7 +97,8 @@ releasing-block caching c source r b h inside calm kept fits =
       memory = λ none. h.memory (λ d. rw (recorded_same d) at (none d));
     }
 
-pub stored-block : {X : Type 0} (caching : ℕ → Bool) (c : ℕ) (bytes : X) (b : Block X) → IsWell caching b → same_perm (b.pair c).held perm.Trunk ≡ true → IsWell caching (stored_block c bytes b)
+pub stored-block : {X : Type 0} (caching : ℕ → Bool) (c : ℕ) (bytes : X) (b : Block X) → IsWell caching b
+    → same_perm (b.pair c).held perm.Trunk ≡ true → IsWell caching (stored_block c bytes b)
 stored-block caching c bytes b h may = record {
   phases = h.phases;
   awaited = h.awaited;
@@ -96,7 +109,8 @@ stored-block caching c bytes b h may = record {
   outside = h.outside;
   copies = λ d some. elim (cases_eq d c) [
     | inl same ↦ rw same (set-same c bytes b.copy)
-    | inr other ↦ absurd (let none = nothing_below (b.pair d).held (b.pair d).recorded (held_at_most (b.pair d) (view b.service d) (h.phases d))
+    | inr other ↦ absurd (let none =
+        nothing_below (b.pair d).held (b.pair d).recorded (held_at_most (b.pair d) (view b.service d) (h.phases d))
         (h.one_owner c d owns other) in let differs : true ≡ false = sym none ∙ some in cc)
   ];
   memory = λ none. absurd (let differs : true ≡ false = sym out ∙ none c in cc);
@@ -126,17 +140,20 @@ access_spared source Grant t = refl
 access_spared source ReleaseAck t = refl
 access_spared source GrantAck t = refl
 
-pub access_asked-kept : {X : Type 0} (caching : ℕ → Bool) (c source : ℕ) (s : State X) → IsInvariant caching s → s.uses c source ≡ SourceFree → IsInvariant caching (access_asked c source s)
-access_asked-kept caching c source s inv closed = invariant-moved_access caching c source Asked (with_a (packet Request source) (s.link c)) (access_moves source) s inv (record {
-  moved = moved;
-  own = own;
-  spared = access_spared source;
-  still = refl;
-  asked = rw (closed, same_number source) refl;
-  replied = rw closed refl;
-  acquires = λ m. rw closed refl;
-  serves = λ m. rw closed refl;
-})
+pub access_asked-kept : {X : Type 0} (caching : ℕ → Bool) (c source : ℕ) (s : State X) → IsInvariant caching s
+    → s.uses c source ≡ SourceFree → IsInvariant caching (access_asked c source s)
+access_asked-kept caching c source s inv closed =
+    invariant-moved_access caching c source Asked (with_a (packet Request source) (s.link c)) (access_moves source) s
+    inv (record {
+      moved = moved;
+      own = own;
+      spared = access_spared source;
+      still = refl;
+      asked = rw (closed, same_number source) refl;
+      replied = rw closed refl;
+      acquires = λ m. rw closed refl;
+      serves = λ m. rw closed refl;
+    })
   where
     moved : AreMoved (access_moves source) (s.link c) (with_a (packet Request source) (s.link c))
     moved channel.A = refl
@@ -158,7 +175,8 @@ acquire_moves n channel.A = Pushes Acquire n
 acquire_moves n _ = Stays
 
 -- the client's Acquire isn't served before it is open
-acquire_shows : (n : ℕ) (k : Kind) (whole : Bool) (g : Grow) (p : ClientBlock) (v : View) → is_transfer k ≡ true → p.acquiring ≡ NoAcquire → is_unserved v ≡ true
+acquire_shows : (n : ℕ) (k : Kind) (whole : Bool) (g : Grow) (p : ClientBlock) (v : View) → is_transfer k ≡ true
+    → p.acquiring ≡ NoAcquire → is_unserved v ≡ true
     → agrees (acquire_moves n (channel_for k)) k n (shows k p v) (shows k (after_acquire whole g p) v) ≡ true
 acquire_shows n Request whole g p v t calm out = absurd cc
 acquire_shows n Answer whole g p v t calm out = absurd cc
@@ -170,29 +188,37 @@ acquire_shows n Grant whole g p v t calm out = same_again (is_granting v)
 acquire_shows n ReleaseAck whole g p v t calm out = same_again (is_acked p.letting)
 acquire_shows n GrantAck whole g p v t calm out = same_again (is_acknowledging v)
 
-pub acquire_asked-kept : {X : Type 0} (caching : ℕ → Bool) (c n source : ℕ) (whole : Bool) (g : Grow) (bytes : X) (s : State X) → IsInvariant caching s → caching c ≡ true → s.uses c source ≡ SourceFree
-    → ((s.block n).pair c).acquiring ≡ NoAcquire → ((s.block n).pair c).letting ≡ NoRelease → grow_fits ((s.block n).pair c).held (AcquireOpen whole g) ≡ true
+pub acquire_asked-kept : {X : Type 0} (caching : ℕ → Bool) (c n source : ℕ) (whole : Bool) (g : Grow) (bytes : X)
+    (s : State X) → IsInvariant caching s → caching c ≡ true → s.uses c source ≡ SourceFree
+    → ((s.block n).pair c).acquiring ≡ NoAcquire → ((s.block n).pair c).letting ≡ NoRelease
+    → grow_fits ((s.block n).pair c).held (AcquireOpen whole g) ≡ true
     → IsInvariant caching (acquire_asked c n source whole g bytes s)
 acquire_asked-kept {X} caching c n source whole g bytes s inv inside closed calm kept fits =
-    invariant-moved_use caching n new (set c here s.link) (moves_at c (acquire_moves n)) c source (Acquires n) s.tracked s inv
+    invariant-moved_use caching n new (set c here s.link) (moves_at c (acquire_moves n)) c source (Acquires n) s.tracked
+    s inv
     (event-at caching c n new here (acquire_moves n) s (record {
       well = acquiring-block caching c source whole g bytes (s.block n) (inv.blocks n) inside calm kept fits;
       moved = moved;
       own = own;
       fits = λ k t. rw (set-same c after old) (acquire_shows n k whole g (old c) (view (s.block n).service c) t calm
           (unserved_calm (old c) (view (s.block n).service c) ((inv.blocks n).phases c) calm));
-      others = λ d ne k t. ap (λ (p : ClientBlock). shows k p (view (s.block n).service d)) (set-other c d after old ne);
+      others = λ d ne k t. ap (λ (p : ClientBlock). shows k p (view (s.block n).service d))
+          (set-other c d after old ne);
       in_order = λ m e. absurd (let f : Stays ≡ Pushes ProbeAck m = e in cc);
     }))
     (rw (same_number c, closed) refl) (rw (same_number c, closed) refl) (bare-elsewhere c (acquire_moves n))
     (record {
       acquires = names-set_at acquires_of acquires_with c source (Acquires n) s.uses n new s.block
           (rw (same_number n, set-same c after old, set-same c source (s.block n).source, same_number source) refl)
-          (λ m ne. rw closed (ne_eqb m n ne)) (λ i ne. rw (set-same c after old, set-same c source (s.block n).source, ne_eqb i source ne, calm) refl)
-          (λ d i ne. rw (set-other c d after old ne, set-other c d source (s.block n).source ne) refl) inv.named.acquires;
-      serves = names-set_at serves_of serves_with c source (Acquires n) s.uses n new s.block (rw closed at (inv.named.serves c source n))
+          (λ m ne. rw closed (ne_eqb m n ne))
+          (λ i ne. rw (set-same c after old, set-same c source (s.block n).source, ne_eqb i source ne, calm) refl)
+          (λ d i ne. rw (set-other c d after old ne, set-other c d source (s.block n).source ne) refl)
+          inv.named.acquires;
+      serves = names-set_at serves_of serves_with c source (Acquires n) s.uses n new s.block
+          (rw closed at (inv.named.serves c source n))
           (λ m ne. rw closed refl) (λ i ne. refl) (λ d i ne. refl) inv.named.serves;
-      releases = λ d. names-block is_of (releases_with d) (s.lets d) n new s.block (λ i. rw (set-part (λ (p : ClientBlock). p.letting) c after old refl d) refl) (inv.named.releases d);
+      releases = λ d. names-block is_of (releases_with d) (s.lets d) n new s.block
+          (λ i. rw (set-part (λ (p : ClientBlock). p.letting) c after old refl d) refl) (inv.named.releases d);
       trackers = names-block is_of tracks_with s.tracked n new s.block (λ i. refl) inv.named.trackers;
     })
   where
@@ -227,7 +253,8 @@ abbrev pub release_moves : ℕ → Channel → Move
 release_moves n channel.C = Pushes Release n
 release_moves n _ = Stays
 
-release_shows : (n : ℕ) (k : Kind) (r : Prune) (p : ClientBlock) (v : View) → is_transfer k ≡ true → p.letting ≡ NoRelease
+release_shows : (n : ℕ) (k : Kind) (r : Prune) (p : ClientBlock) (v : View) → is_transfer k ≡ true
+    → p.letting ≡ NoRelease
     → agrees (release_moves n (channel_for k)) k n (shows k p v) (shows k (after_release r p) v) ≡ true
 release_shows n Request r p v t kept = absurd cc
 release_shows n Answer r p v t kept = absurd cc
@@ -239,26 +266,35 @@ release_shows n Grant r p v t kept = same_again (is_granting v)
 release_shows n ReleaseAck r p v t kept = rw kept refl
 release_shows n GrantAck r p v t kept = same_again (is_acknowledging v)
 
-pub release_asked-kept : {X : Type 0} (caching : ℕ → Bool) (c n source : ℕ) (r : Prune) (s : State X) → IsInvariant caching s → caching c ≡ true → s.lets c source ≡ None
-    → ((s.block n).pair c).acquiring ≡ NoAcquire → ((s.block n).pair c).letting ≡ NoRelease → same_perm ((s.block n).pair c).held (prune_left r) ≡ true → IsInvariant caching (release_asked c n source r s)
+pub release_asked-kept : {X : Type 0} (caching : ℕ → Bool) (c n source : ℕ) (r : Prune) (s : State X)
+    → IsInvariant caching s → caching c ≡ true → s.lets c source ≡ None
+    → ((s.block n).pair c).acquiring ≡ NoAcquire → ((s.block n).pair c).letting ≡ NoRelease
+    → same_perm ((s.block n).pair c).held (prune_left r) ≡ true → IsInvariant caching (release_asked c n source r s)
 release_asked-kept {X} caching c n source r s inv inside closed calm kept fits =
-    invariant-moved caching n new (set c here s.link) (moves_at c (release_moves n)) (set_at c source (Some n) s.lets) s.tracked s inv
+    invariant-moved caching n new (set c here s.link) (moves_at c (release_moves n)) (set_at c source (Some n) s.lets)
+    s.tracked s inv
     (event-at caching c n new here (release_moves n) s (record {
       well = releasing-block caching c source r (s.block n) (inv.blocks n) inside calm kept fits;
       moved = moved;
       own = own;
       fits = λ k t. rw (set-same c after old) (release_shows n k r (old c) (view (s.block n).service c) t kept);
-      others = λ d ne k t. ap (λ (p : ClientBlock). shows k p (view (s.block n).service d)) (set-other c d after old ne);
+      others = λ d ne k t. ap (λ (p : ClientBlock). shows k p (view (s.block n).service d))
+          (set-other c d after old ne);
       in_order = λ m e. absurd (let f : Pushes Release n ≡ Pushes ProbeAck m = e in cc);
     }))
     (bare-at c (release_moves n) refl refl)
     (record {
-      acquires = λ d. names-block acquires_of (acquires_with d) (s.uses d) n new s.block (λ i. rw (set-part (λ (p : ClientBlock). p.acquiring) c after old refl d) refl) (inv.named.acquires d);
+      acquires = λ d. names-block acquires_of (acquires_with d) (s.uses d) n new s.block
+          (λ i. rw (set-part (λ (p : ClientBlock). p.acquiring) c after old refl d) refl) (inv.named.acquires d);
       serves = λ d. names-block serves_of (serves_with d) (s.uses d) n new s.block (λ i. refl) (inv.named.serves d);
       releases = names-set_at is_of releases_with c source (Some n) s.lets n new s.block
-          (rw (same_number n, set-same c after old, set-same c source (s.block n).release_source, same_number source) refl)
-          (λ m ne. rw closed (ne_eqb m n ne)) (λ i ne. rw (set-same c after old, set-same c source (s.block n).release_source, ne_eqb i source ne, kept) refl)
-          (λ d i ne. rw (set-other c d after old ne, set-other c d source (s.block n).release_source ne) refl) inv.named.releases;
+          (rw (same_number n, set-same c after old, set-same c source (s.block n).release_source, same_number source)
+          refl)
+          (λ m ne. rw closed (ne_eqb m n ne))
+          (λ i ne. rw (set-same c after old, set-same c source (s.block n).release_source, ne_eqb i source ne, kept)
+          refl)
+          (λ d i ne. rw (set-other c d after old ne, set-other c d source (s.block n).release_source ne) refl)
+          inv.named.releases;
       trackers = names-block is_of tracks_with s.tracked n new s.block (λ i. refl) inv.named.trackers;
     })
   where
@@ -289,7 +325,8 @@ release_asked-kept {X} caching c n source r s inv inside closed calm kept fits =
     own channel.E = refl
 
 -- a store
-pub block_stored-kept : {X : Type 0} (caching : ℕ → Bool) (c n : ℕ) (bytes : X) (s : State X) → IsInvariant caching s → same_perm ((s.block n).pair c).held perm.Trunk ≡ true
+pub block_stored-kept : {X : Type 0} (caching : ℕ → Bool) (c n : ℕ) (bytes : X) (s : State X) → IsInvariant caching s
+    → same_perm ((s.block n).pair c).held perm.Trunk ≡ true
     → IsInvariant caching (block_stored c n bytes s)
 block_stored-kept {X} caching c n bytes s inv may =
     invariant-moved caching n new s.link (λ d ch. Stays) s.lets s.tracked s inv (record {

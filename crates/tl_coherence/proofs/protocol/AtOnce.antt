@@ -1,27 +1,25 @@
 -- An Acquire that is granted as it is taken keeps the invariant.
+use Rattle.tl_coherence.proofs.protocol.Imports.{Channel, Cap, Grow, Perm, cap_right, same_perm, ClientBlock, Idle}
+use Rattle.tl_coherence.proofs.protocol.Imports.{Granting, GrantedOther, AcquireOpen, same_cap, is_unacquired}
+use Rattle.tl_coherence.proofs.protocol.Imports.{is_unprobed, cap_fits, is_above, is_granted_data, after_grant_sent}
+use Rattle.tl_coherence.proofs.protocol.Imports.{Kind, Request, Acquire, Probe, ProbeAck, Release, Answer, Grant}
+use Rattle.tl_coherence.proofs.protocol.Imports.{ReleaseAck, GrantAck, Packet, set, Free, Block, State, Link, view}
+use Rattle.tl_coherence.proofs.protocol.Imports.{packet, shows, is_transfer, is_wanting, is_sent, is_answered}
+use Rattle.tl_coherence.proofs.protocol.Imports.{is_releasing, is_acked, Move, Stays, Pushes, Pops, AreMoved, agrees}
+use Rattle.tl_coherence.proofs.protocol.Imports.{is_own_move, channel_for, is_of, acquires_of, serves_of, acquires_with}
+use Rattle.tl_coherence.proofs.protocol.Imports.{serves_with, releases_with, tracks_with, IsWell, IsInvariant}
+use Rattle.tl_coherence.proofs.protocol.Imports.{cap_asked}
 use Rattle.std.proofs.Common.{◌≡◌, refl, sym, ◌∙◌, ◌⊎◌, inl, inr}
 use Rattle.std.specs.Prelude.{ℕ, Bool, true, false, not, List, ◌∷◌, Some, None}
 use Rattle.std.proofs.lemmas.Bool.{cases_eq, ne_eqb}
-use Rattle.tl_beat.specs.declared.channel.Channel.{Channel}
 use Rattle.tl_beat.specs.declared.channel.Channel.TheVariants as channel
-use Rattle.tl_params.specs.declared.param.Cap.{Cap}
 use Rattle.tl_params.specs.declared.param.Cap.TheVariants as cap
-use Rattle.tl_params.specs.declared.param.Grow.{Grow}
 use Rattle.tl_params.specs.declared.param.Grow.TheVariants as grow
-use Rattle.tl_params.specs.declared.perm.Perm.{Perm}
 use Rattle.tl_params.specs.declared.perm.Perm.TheVariants as perm
-use Rattle.tl_params.specs.statement.Param.{cap_right}
-use Rattle.tl_rules.specs.statement.Conformance.{same_perm}
-use Rattle.tl_coherence.specs.protocol.Phase.{ClientBlock, Idle, Granting, GrantedOther, AcquireOpen, same_cap, is_unacquired, is_unprobed, cap_fits}
-use Rattle.tl_coherence.specs.protocol.PhaseSteps.{is_above, is_granted_data, after_grant_sent}
-use Rattle.tl_coherence.specs.protocol.Packet.{Kind, Request, Acquire, Probe, ProbeAck, Release, Answer, Grant, ReleaseAck, GrantAck, Packet, set}
-use Rattle.tl_coherence.specs.protocol.Protocol.{Free, Block, State, Link, view, packet, shows, is_transfer, is_wanting, is_sent, is_answered, is_releasing, is_acked}
 use Rattle.tl_coherence.specs.protocol.Protocol.{granted_at_once, answered_link, acquire_granted}
-use Rattle.tl_coherence.specs.refinement.Move.{Move, Stays, Pushes, Pops, AreMoved, agrees, is_own_move, channel_for}
-use Rattle.tl_coherence.specs.protocol.Invariant.{is_of, acquires_of, serves_of, acquires_with, serves_with, releases_with, tracks_with, IsWell, IsInvariant}
-use Rattle.tl_coherence.proofs.queues.Moves.{moves_at, event-at, bare-at, names-block, names-set, invariant-moved, same_again}
+use Rattle.tl_coherence.proofs.queues.Moves.{moves_at, event-at, bare-at, names-block, names-set, invariant-moved}
+use Rattle.tl_coherence.proofs.queues.Moves.{same_again}
 use Rattle.tl_coherence.proofs.queues.Tokens.{same_number, set-same, set-other, set-part}
-use Rattle.tl_coherence.specs.protocol.Invariant.{cap_asked}
 use Rattle.tl_coherence.proofs.queues.PhaseSteps.{grant_at_once-ok, granted_other-ok}
 use Rattle.tl_coherence.proofs.queues.Facts.{quiet_at_rest, asked_low}
 use Rattle.tl_coherence.proofs.protocol.Granted.{gives, none_or_trunk, grows_to_trunk}
@@ -38,19 +36,23 @@ pub record IsGrantable {X : Type 0} (r : ℕ) (whole : Bool) (g : Grow) (gift : 
   pub low : (d : ℕ) → (d ≡ r → ⊥) → same_perm (b.pair d).recorded perm.Trunk ≡ false
   pub room : same_cap gift cap.ToT ≡ true → (d : ℕ) → (d ≡ r → ⊥) → same_perm (b.pair d).recorded perm.None ≡ true
 
-pub granted_at_once-block : {X : Type 0} (caching : ℕ → Bool) (r tracker : ℕ) (whole : Bool) (g : Grow) (gift : Cap) (b : Block X) → IsWell caching b → IsGrantable r whole g gift b
+pub granted_at_once-block : {X : Type 0} (caching : ℕ → Bool) (r tracker : ℕ) (whole : Bool) (g : Grow) (gift : Cap)
+    (b : Block X) → IsWell caching b → IsGrantable r whole g gift b
     → IsWell caching (granted_at_once r tracker (is_granted_data whole g (b.pair r).recorded) gift b)
 granted_at_once-block caching r tracker whole g gift b h is = record {
   phases = λ d. elim (cases_eq d r) [
-    | inl same ↦ rw (same, set-same r after b.pair, same_number r) (grant_at_once-ok whole g gift (b.pair r) (view b.service r) (h.phases r) (idle r) is.wants is.fits)
-    | inr other ↦ rw (set-other r d after b.pair other, ne_eqb d r other) (granted_other-ok (b.pair d) (view b.service d) (h.phases d) (idle d) (is.low d other))
+    | inl same ↦ rw (same, set-same r after b.pair, same_number r)
+        (grant_at_once-ok whole g gift (b.pair r) (view b.service r) (h.phases r) (idle r) is.wants is.fits)
+    | inr other ↦ rw (set-other r d after b.pair other, ne_eqb d r other)
+        (granted_other-ok (b.pair d) (view b.service d) (h.phases d) (idle d) (is.low d other))
   ];
   awaited = tt;
   asked_cap = tt;
   own_source = tt;
   alone = λ i j trunk probed ne. rw (quiet_same j) (quiet j);
   one_owner = λ i j trunk ne. owner (gives whole g gift is.fits) i j trunk ne;
-  outside = outside-set caching r after b.pair (busy-inside caching r b.pair (λ p. not (is_unacquired p.acquiring)) refl (rw is.wants refl) h.outside) h.outside;
+  outside = outside-set caching r after b.pair (busy-inside caching r b.pair (λ p. not (is_unacquired p.acquiring)) refl
+      (rw is.wants refl) h.outside) h.outside;
   copies = λ d some. h.copies d (rw (held_same d) at some);
   memory = λ none. h.memory (λ d. not_out (b.pair d) (view b.service d) (low d (cases_eq d r)));
 }
@@ -74,19 +76,25 @@ granted_at_once-block caching r tracker whole g gift b h is = record {
     low d (inl same) = rw same (asked_low whole g (b.pair r) (view b.service r) (h.phases r) (idle r) is.wants)
     low d (inr other) = is.low d other
 
-    owner : (same_cap gift cap.ToT ≡ true) ⊎ (same_perm (cap_right gift) perm.Trunk ≡ false) → (i j : ℕ) → same_perm (set r after b.pair i).recorded perm.Trunk ≡ true → (j ≡ i → ⊥)
+    owner : (same_cap gift cap.ToT ≡ true) ⊎ (same_perm (cap_right gift) perm.Trunk ≡ false) → (i j : ℕ)
+        → same_perm (set r after b.pair i).recorded perm.Trunk ≡ true → (j ≡ i → ⊥)
         → same_perm (set r after b.pair j).recorded perm.None ≡ true
     owner (inl top) i j trunk ne = elim (cases_eq i r) [
-      | inl same ↦ let differs : j ≡ r → ⊥ = λ e. ne (e ∙ sym same) in rw (set-other r j after b.pair differs) (is.room top j differs)
-      | inr differs ↦ absurd (none_or_trunk (b.pair i).recorded (is.room top i differs) (rw (set-other r i after b.pair differs) at trunk))
+      | inl same ↦ let differs : j ≡ r → ⊥ = λ e. ne (e ∙ sym same) in
+          rw (set-other r j after b.pair differs) (is.room top j differs)
+      | inr differs ↦ absurd (none_or_trunk (b.pair i).recorded (is.room top i differs)
+          (rw (set-other r i after b.pair differs) at trunk))
     ]
     owner (inr less) i j trunk ne = elim (cases_eq i r) [
-      | inl same ↦ absurd (let t : same_perm (cap_right gift) perm.Trunk ≡ true = rw (same, set-same r after b.pair) at trunk in cc)
-      | inr differs ↦ absurd (let t : same_perm (b.pair i).recorded perm.Trunk ≡ true = rw (set-other r i after b.pair differs) at trunk in let u = is.low i differs in cc)
+      | inl same ↦ absurd (let t : same_perm (cap_right gift) perm.Trunk ≡ true =
+          rw (same, set-same r after b.pair) at trunk in cc)
+      | inr differs ↦ absurd (let t : same_perm (b.pair i).recorded perm.Trunk ≡ true =
+          rw (set-other r i after b.pair differs) at trunk in let u = is.low i differs in cc)
     ]
 
 -- nobody is to be probed with the cap that an Acquire asks for: so nobody has Trunk
-pub low-unprobed : (whole : Bool) (g : Grow) (p : Perm) → is_above (cap_asked (AcquireOpen whole g)) p ≡ false → same_perm p perm.Trunk ≡ false
+pub low-unprobed : (whole : Bool) (g : Grow) (p : Perm) → is_above (cap_asked (AcquireOpen whole g)) p ≡ false
+    → same_perm p perm.Trunk ≡ false
 low-unprobed whole g perm.None e = refl
 low-unprobed whole g perm.Branch e = refl
 low-unprobed whole grow.NtoB perm.Trunk e = absurd cc
@@ -94,7 +102,8 @@ low-unprobed whole grow.NtoT perm.Trunk e = absurd cc
 low-unprobed whole grow.BtoT perm.Trunk e = absurd cc
 
 -- and nobody is recorded where it asks for Trunk
-pub none-unprobed : (whole : Bool) (g : Grow) (p : Perm) → grows_to_trunk g ≡ true → is_above (cap_asked (AcquireOpen whole g)) p ≡ false → same_perm p perm.None ≡ true
+pub none-unprobed : (whole : Bool) (g : Grow) (p : Perm) → grows_to_trunk g ≡ true
+    → is_above (cap_asked (AcquireOpen whole g)) p ≡ false → same_perm p perm.None ≡ true
 none-unprobed whole g perm.None t e = refl
 none-unprobed whole grow.NtoB p t e = absurd cc
 none-unprobed whole grow.NtoT perm.Branch t e = absurd cc
@@ -109,8 +118,10 @@ once_moves n channel.A = Pops Acquire n
 once_moves n channel.D = Pushes Grant n
 once_moves n _ = Stays
 
-once_shows : (n : ℕ) (k : Kind) (p : ClientBlock) (d : Bool) (gift : Cap) → is_transfer k ≡ true → is_wanting p.acquiring ≡ true
-    → agrees (once_moves n (channel_for k)) k n (shows k p Idle) (shows k (after_grant_sent gift p) (Granting d gift)) ≡ true
+once_shows : (n : ℕ) (k : Kind) (p : ClientBlock) (d : Bool) (gift : Cap) → is_transfer k ≡ true
+    → is_wanting p.acquiring ≡ true
+    → agrees (once_moves n (channel_for k)) k n (shows k p Idle) (shows k (after_grant_sent gift p) (Granting d gift))
+    ≡ true
 once_shows n Request p d gift t e = absurd cc
 once_shows n Answer p d gift t e = absurd cc
 once_shows n Acquire p d gift t e = rw (e, same_number n) refl
@@ -132,25 +143,34 @@ beside_shows Grant p = refl
 beside_shows ReleaseAck p = refl
 beside_shows GrantAck p = refl
 
-pub acquire_granted-kept : {X : Type 0} (caching : ℕ → Bool) (r n tracker : ℕ) (whole : Bool) (g : Grow) (gift : Cap) (rest : List Packet) (s : State X) → IsInvariant caching s
+pub acquire_granted-kept : {X : Type 0} (caching : ℕ → Bool) (r n tracker : ℕ) (whole : Bool) (g : Grow) (gift : Cap)
+    (rest : List Packet) (s : State X) → IsInvariant caching s
     → (s.link r).a ≡ packet Acquire n ∷ rest
-    → IsGrantable r whole g gift (s.block n) → s.tracked tracker ≡ None → IsInvariant caching (acquire_granted r n tracker (is_granted_data whole g ((s.block n).pair r).recorded) gift rest s)
+    → IsGrantable r whole g gift (s.block n) → s.tracked tracker ≡ None
+    → IsInvariant caching (acquire_granted r n tracker (is_granted_data whole g ((s.block n).pair r).recorded) gift rest
+    s)
 acquire_granted-kept {X} caching r n tracker whole g gift rest s inv first is unused =
-    invariant-moved caching n new (set r here s.link) (moves_at r (once_moves n)) s.lets (set tracker (Some n) s.tracked) s inv
+    invariant-moved caching n new (set r here s.link) (moves_at r (once_moves n)) s.lets
+    (set tracker (Some n) s.tracked) s inv
     (event-at caching r n new here (once_moves n) s (record {
       well = granted_at_once-block caching r tracker whole g gift (s.block n) (inv.blocks n) is;
       moved = moved;
       own = own;
-      fits = λ k t. rw (is.free, set-same r after old, same_number r) (once_shows n k (old r) with_data gift t (rw is.wants refl));
+      fits = λ k t. rw (is.free, set-same r after old, same_number r)
+          (once_shows n k (old r) with_data gift t (rw is.wants refl));
       others = λ d ne k t. rw (is.free, set-other r d after old ne, ne_eqb d r ne) (beside_shows k (old d));
       in_order = λ m e. absurd (let f : Stays ≡ Pushes ProbeAck m = e in cc);
     }))
     (bare-at r (once_moves n) refl refl)
     (record {
-      acquires = λ d. names-block acquires_of (acquires_with d) (s.uses d) n new s.block (λ i. rw (set-part (λ (p : ClientBlock). p.acquiring) r after old refl d) refl) (inv.named.acquires d);
-      serves = λ d. names-block serves_of (serves_with d) (s.uses d) n new s.block (λ i. rw is.free refl) (inv.named.serves d);
-      releases = λ d. names-block is_of (releases_with d) (s.lets d) n new s.block (λ i. rw (set-part (λ (p : ClientBlock). p.letting) r after old refl d) refl) (inv.named.releases d);
-      trackers = names-set is_of tracks_with s.tracked tracker (Some n) n new s.block (rw (same_number n, same_number tracker) refl)
+      acquires = λ d. names-block acquires_of (acquires_with d) (s.uses d) n new s.block
+          (λ i. rw (set-part (λ (p : ClientBlock). p.acquiring) r after old refl d) refl) (inv.named.acquires d);
+      serves = λ d. names-block serves_of (serves_with d) (s.uses d) n new s.block (λ i. rw is.free refl)
+          (inv.named.serves d);
+      releases = λ d. names-block is_of (releases_with d) (s.lets d) n new s.block
+          (λ i. rw (set-part (λ (p : ClientBlock). p.letting) r after old refl d) refl) (inv.named.releases d);
+      trackers = names-set is_of tracks_with s.tracked tracker (Some n) n new s.block
+          (rw (same_number n, same_number tracker) refl)
           (λ m ne. rw unused (ne_eqb m n ne)) (λ i ne. rw (is.free, ne_eqb i tracker ne) refl) inv.named.trackers;
     })
   where

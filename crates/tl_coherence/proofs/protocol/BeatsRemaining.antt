@@ -1,16 +1,16 @@
 -- How many beats of a message are left on its channel, before and after each event.
-use Rattle.std.proofs.Common.{◌≡◌, ℕ, ◌-◌, ◌<◌, ◌≤◌, Bool, true, false, List, [], ◌∷◌, ◌++◌, refl, sym, ap, subst, arith, ◌⊎◌, inl, inr}
+use Rattle.tl_coherence.proofs.protocol.Imports.{Beat, Channel, beats_of, Move, Stays, Pushes, Pops, IsMoved}
+use Rattle.tl_coherence.proofs.protocol.Imports.{channel_for, State, packet, packets_on, is_on, is_transfer, shown}
+use Rattle.tl_coherence.proofs.protocol.Imports.{AccessMessages, block_message, Kind, Request, Acquire, Probe, ProbeAck}
+use Rattle.tl_coherence.proofs.protocol.Imports.{Release, Answer, Grant, ReleaseAck, GrantAck, Packet, one_if, count}
+use Rattle.std.proofs.Common.{◌≡◌, ℕ, ◌-◌, ◌<◌, ◌≤◌, Bool, true, false, List, [], ◌∷◌, ◌++◌, refl, sym, ap, subst}
+use Rattle.std.proofs.Common.{arith, ◌⊎◌, inl, inr}
 use Rattle.std.specs.Prelude.{length}
 use Rattle.std.proofs.lemmas.Bool.{cases_eq}
-use Rattle.tl_beat.specs.declared.beat.Beat.{Beat}
-use Rattle.tl_beat.specs.declared.channel.Channel.{Channel}
 use Rattle.tl_beat.specs.declared.channel.Channel.TheVariants as channel
-use Rattle.tl_burst.specs.statement.Burst.{beats_of}
-use Rattle.tl_coherence.specs.refinement.Move.{Move, Stays, Pushes, Pops, IsMoved, channel_for}
 use Rattle.tl_coherence.specs.bound.Rank.{Left}
-use Rattle.tl_coherence.specs.protocol.Protocol.{State, packet, packets_on, is_on, is_transfer, shown}
-use Rattle.tl_coherence.specs.refinement.PacketMessages.{AccessMessages, message_of_kind, block_message}
-use Rattle.tl_coherence.specs.protocol.Packet.{Kind, Request, Acquire, Probe, ProbeAck, Release, Answer, Grant, ReleaseAck, GrantAck, Packet, is, one_if, count}
+use Rattle.tl_coherence.specs.refinement.PacketMessages.{message_of_kind}
+use Rattle.tl_coherence.specs.protocol.Packet.{is}
 use Rattle.tl_coherence.proofs.protocol.Capacities.{once, shown_there, shows_it}
 use Rattle.tl_coherence.proofs.queues.Channels.{IsShowing}
 
@@ -19,16 +19,19 @@ abbrev pub is_front : Kind → ℕ → List Packet → Bool
 is_front k m [] = false
 is_front k m (x ∷ xs) = is k m x
 
--- the beats of its message, less those that the receiver has, where it is the first: `rest` is what the receivers have of
+-- the beats of its message, less those that the receiver has, where it is the first: `rest` is what the receivers have
+-- of
 -- the first messages
 abbrev pub taken_of : {w : ℕ} → List (Beat w) → Bool → ℕ
 taken_of rest true = length rest
 taken_of rest false = 0
 
 abbrev pub beats_left : {w : ℕ} → AccessMessages w → State (List ℕ) → (ℕ → Channel → List (Beat w)) → Left
-beats_left mail s rest c k m = beats_of (message_of_kind k mail s c m) - taken_of (rest c (channel_for k)) (is_front k m (packets_on (channel_for k) (s.link c)))
+beats_left mail s rest c k m = beats_of (message_of_kind k mail s c m) - taken_of (rest c (channel_for k))
+    (is_front k m (packets_on (channel_for k) (s.link c)))
 
-pub left-few : {w : ℕ} (mail : AccessMessages w) (s : State (List ℕ)) (rest : ℕ → Channel → List (Beat w)) (c : ℕ) (k : Kind) (m : ℕ) → beats_left mail s rest c k m ≤ beats_of (message_of_kind k mail s c m)
+pub left-few : {w : ℕ} (mail : AccessMessages w) (s : State (List ℕ)) (rest : ℕ → Channel → List (Beat w)) (c : ℕ)
+    (k : Kind) (m : ℕ) → beats_left mail s rest c k m ≤ beats_of (message_of_kind k mail s c m)
 left-few mail s rest c k m = omega arith
 
 -- ---- a token that stays
@@ -41,20 +44,24 @@ is_pop _ = false
 abbrev pub IsHere : {X : Type 0} → State X → ℕ → Kind → ℕ → Type 0
 IsHere s c k m = 0 < count k m (packets_on (channel_for k) (s.link c))
 
-front-there : (k : Kind) (m : ℕ) (xs : List Packet) (x : Packet) → 0 < count k m xs → is_front k m (xs ++ x ∷ []) ≡ is_front k m xs
+front-there : (k : Kind) (m : ℕ) (xs : List Packet) (x : Packet) → 0 < count k m xs
+    → is_front k m (xs ++ x ∷ []) ≡ is_front k m xs
 unfolding count
 front-there k m [] x there = absurd (omega (arith, there))
 front-there k m (y ∷ ys) x there = refl
 
 -- where its channel loses no token, as much was taken of it
-taken-stays : {w : ℕ} (move : Move) (k : Kind) (m : ℕ) (xs ys : List Packet) (rest rest' : List (Beat w)) → IsMoved move xs ys → is_pop move ≡ false → rest' ≡ rest → 0 < count k m xs
+taken-stays : {w : ℕ} (move : Move) (k : Kind) (m : ℕ) (xs ys : List Packet) (rest rest' : List (Beat w))
+    → IsMoved move xs ys → is_pop move ≡ false → rest' ≡ rest → 0 < count k m xs
     → taken_of rest' (is_front k m ys) ≡ taken_of rest (is_front k m xs)
 taken-stays Stays k m xs ys rest rest' e p same there = rw (e, same) refl
-taken-stays (Pushes j i) k m xs ys rest rest' e p same there = rw (e, same) (ap (taken_of rest) (front-there k m xs (packet j i) there))
+taken-stays (Pushes j i) k m xs ys rest rest' e p same there =
+    rw (e, same) (ap (taken_of rest) (front-there k m xs (packet j i) there))
 taken-stays (Pops j i) k m xs ys rest rest' e p same there = absurd cc
 
 -- where its channel loses its first token, it wasn't the first, and nothing was taken of it
-taken-none : {w : ℕ} (k : Kind) (m : ℕ) (x : Packet) (xs ys : List Packet) (rest rest' : List (Beat w)) → xs ≡ x ∷ ys → rest' ≡ [] → count k m xs ≤ 1 → 0 < count k m ys
+taken-none : {w : ℕ} (k : Kind) (m : ℕ) (x : Packet) (xs ys : List Packet) (rest rest' : List (Beat w)) → xs ≡ x ∷ ys
+    → rest' ≡ [] → count k m xs ≤ 1 → 0 < count k m ys
     → taken_of rest' (is_front k m ys) ≡ taken_of rest (is_front k m xs)
 unfolding count
 taken-none {w} k m x xs ys rest rest' e none once there = rw e (go (is k m x) refl (is_front k m ys))
@@ -68,7 +75,8 @@ taken-none {w} k m x xs ys rest rest' e none once there = rw e (go (is k m x) re
     go false f false = refl
 
 -- what each receiver has of the first messages after an event that takes the first message of channel ch of client c
-pub record IsPopped {w : ℕ} {X : Type 0} (c : ℕ) (ch : Channel) (moves : ℕ → Channel → Move) (rest rest' : ℕ → Channel → List (Beat w)) (s s' : State X) : Type 0 where
+pub record IsPopped {w : ℕ} {X : Type 0} (c : ℕ) (ch : Channel) (moves : ℕ → Channel → Move) (rest rest' : ℕ → Channel
+    → List (Beat w)) (s s' : State X) : Type 0 where
   pub first : Packet
   pub tokens : packets_on ch (s.link c) ≡ first ∷ packets_on ch (s'.link c)
   pub none : rest' c ch ≡ []
@@ -94,46 +102,65 @@ own_kind Grant = refl
 own_kind ReleaseAck = refl
 own_kind GrantAck = refl
 
-module _ {w : ℕ} (caching : ℕ → Bool) (n : ℕ) (moves : ℕ → Channel → Move) (mail mail' : AccessMessages w) (s s' : State (List ℕ)) (showing : IsShowing caching n moves mail mail' s s') where
+module _ {w : ℕ} (caching : ℕ → Bool) (n : ℕ) (moves : ℕ → Channel → Move) (mail mail' : AccessMessages w)
+    (s s' : State (List ℕ)) (showing : IsShowing caching n moves mail mail' s s') where
   shows_before : (d : ℕ) (k : Kind) (m : ℕ) → IsHere s d k m → shows_it s d k m ≡ true
   shows_before d k m there = shown_there caching s d (channel_for k) k m showing.before (own_kind k) there
 
   shows_after : (d : ℕ) (k : Kind) (m : ℕ) → IsHere s' d k m → shows_it s' d k m ≡ true
   shows_after d k m there = shown_there caching s' d (channel_for k) k m showing.after (own_kind k) there
 
-  transfer_same : (d : ℕ) (k : Kind) (m : ℕ) → is_transfer k ≡ true → shown k d (s.block m) ≡ true → shown k d (s'.block m) ≡ true → block_message {w = w} k d m (s'.block m) ≡ block_message k d m (s.block m)
+  transfer_same : (d : ℕ) (k : Kind) (m : ℕ) → is_transfer k ≡ true → shown k d (s.block m) ≡ true
+      → shown k d (s'.block m) ≡ true → block_message {w = w} k d m (s'.block m) ≡ block_message k d m (s.block m)
   transfer_same d k m t before after = go (cases_eq m n)
     where
       go : (m ≡ n) ⊎ (m ≡ n → ⊥) → block_message {w = w} k d m (s'.block m) ≡ block_message k d m (s.block m)
       go (inl same) = subst (λ (i : ℕ). shown k d (s.block i) ≡ true → shown k d (s'.block i) ≡ true
-          → block_message {w = w} k d i (s'.block i) ≡ block_message k d i (s.block i)) (sym same) (showing.same d k t) before after
+          → block_message {w = w} k d i (s'.block i) ≡ block_message k d i (s.block i)) (sym same) (showing.same d k t)
+          before after
       go (inr other) = rw (showing.blocks m other) refl
 
-  pub message-same : (d : ℕ) (k : Kind) (m : ℕ) → IsHere s d k m → IsHere s' d k m → message_of_kind k mail' s' d m ≡ message_of_kind k mail s d m
-  message-same d Request m before after = showing.requests d m (shows_before d Request m before) (shows_after d Request m after)
-  message-same d Answer m before after = showing.answers d m (shows_before d Answer m before) (shows_after d Answer m after)
-  message-same d Acquire m before after = transfer_same d Acquire m refl (shows_before d Acquire m before) (shows_after d Acquire m after)
-  message-same d Probe m before after = transfer_same d Probe m refl (shows_before d Probe m before) (shows_after d Probe m after)
-  message-same d ProbeAck m before after = transfer_same d ProbeAck m refl (shows_before d ProbeAck m before) (shows_after d ProbeAck m after)
-  message-same d Release m before after = transfer_same d Release m refl (shows_before d Release m before) (shows_after d Release m after)
-  message-same d Grant m before after = transfer_same d Grant m refl (shows_before d Grant m before) (shows_after d Grant m after)
-  message-same d ReleaseAck m before after = transfer_same d ReleaseAck m refl (shows_before d ReleaseAck m before) (shows_after d ReleaseAck m after)
-  message-same d GrantAck m before after = transfer_same d GrantAck m refl (shows_before d GrantAck m before) (shows_after d GrantAck m after)
+  pub message-same : (d : ℕ) (k : Kind) (m : ℕ) → IsHere s d k m → IsHere s' d k m
+      → message_of_kind k mail' s' d m ≡ message_of_kind k mail s d m
+  message-same d Request m before after = showing.requests d m (shows_before d Request m before)
+      (shows_after d Request m after)
+  message-same d Answer m before after = showing.answers d m (shows_before d Answer m before)
+      (shows_after d Answer m after)
+  message-same d Acquire m before after = transfer_same d Acquire m refl (shows_before d Acquire m before)
+      (shows_after d Acquire m after)
+  message-same d Probe m before after = transfer_same d Probe m refl (shows_before d Probe m before)
+      (shows_after d Probe m after)
+  message-same d ProbeAck m before after = transfer_same d ProbeAck m refl (shows_before d ProbeAck m before)
+      (shows_after d ProbeAck m after)
+  message-same d Release m before after = transfer_same d Release m refl (shows_before d Release m before)
+      (shows_after d Release m after)
+  message-same d Grant m before after = transfer_same d Grant m refl (shows_before d Grant m before)
+      (shows_after d Grant m after)
+  message-same d ReleaseAck m before after = transfer_same d ReleaseAck m refl (shows_before d ReleaseAck m before)
+      (shows_after d ReleaseAck m after)
+  message-same d GrantAck m before after = transfer_same d GrantAck m refl (shows_before d GrantAck m before)
+      (shows_after d GrantAck m after)
 
   -- as much is left of a token that stays
-  pub left-same : (c : ℕ) (ch : Channel) (rest rest' : ℕ → Channel → List (Beat w)) → IsPopped c ch moves rest rest' s s' → (d : ℕ) (k : Kind) (m : ℕ) → IsHere s d k m → IsHere s' d k m
+  pub left-same : (c : ℕ) (ch : Channel) (rest rest' : ℕ → Channel → List (Beat w))
+      → IsPopped c ch moves rest rest' s s' → (d : ℕ) (k : Kind) (m : ℕ) → IsHere s d k m → IsHere s' d k m
       → beats_left mail' s' rest' d k m ≡ beats_left mail s rest d k m
   left-same c ch rest rest' popped d k m before after =
-      rw (message-same d k m before after) (ap (λ (i : ℕ). beats_of (message_of_kind k mail s d m) - i) (go (cases_eq d c) (same_channels (channel_for k) ch)))
+      rw (message-same d k m before after) (ap (λ (i : ℕ). beats_of (message_of_kind k mail s d m) - i)
+      (go (cases_eq d c) (same_channels (channel_for k) ch)))
     where
-      apart : (d ≡ c → channel_for k ≡ ch → ⊥) → taken_of (rest' d (channel_for k)) (is_front k m (packets_on (channel_for k) (s'.link d))) ≡ taken_of
+      apart : (d ≡ c → channel_for k ≡ ch → ⊥)
+          → taken_of (rest' d (channel_for k)) (is_front k m (packets_on (channel_for k) (s'.link d))) ≡ taken_of
           (rest d (channel_for k)) (is_front k m (packets_on (channel_for k) (s.link d)))
-      apart ne = taken-stays (moves d (channel_for k)) k m _ _ _ _ (showing.moved d (channel_for k)) (popped.unpopped d (channel_for k) ne) (popped.rests d (channel_for k) ne) before
+      apart ne = taken-stays (moves d (channel_for k)) k m _ _ _ _ (showing.moved d (channel_for k))
+          (popped.unpopped d (channel_for k) ne) (popped.rests d (channel_for k) ne) before
 
       go : (d ≡ c) ⊎ (d ≡ c → ⊥) → (channel_for k ≡ ch) ⊎ (channel_for k ≡ ch → ⊥)
-          → taken_of (rest' d (channel_for k)) (is_front k m (packets_on (channel_for k) (s'.link d))) ≡ taken_of (rest d (channel_for k)) (is_front k m (packets_on (channel_for k) (s.link d)))
+          → taken_of (rest' d (channel_for k)) (is_front k m (packets_on (channel_for k) (s'.link d))) ≡ taken_of
+          (rest d (channel_for k)) (is_front k m (packets_on (channel_for k) (s.link d)))
       go (inr ne) at = apart (λ e f. ne e)
       go (inl e) (inr ne) = apart (λ g f. ne f)
       go (inl e) (inl f) =
-          taken-none k m popped.first _ _ (rest d (channel_for k)) (rest' d (channel_for k)) (rw (e, f) popped.tokens) (rw (e, f) popped.none)
+          taken-none k m popped.first _ _ (rest d (channel_for k)) (rest' d (channel_for k)) (rw (e, f) popped.tokens)
+          (rw (e, f) popped.none)
           (once caching s d (channel_for k) showing.before k m) after

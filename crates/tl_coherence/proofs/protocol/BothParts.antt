@@ -1,14 +1,15 @@
 -- What a test says of a part of the protocol's state: of a use, a wish, a Probe, a Release, a view.
+use Rattle.tl_coherence.proofs.protocol.Imports.{Cap, Grow, is_asked, is_replied, is_of, acquires_of, serves_of, View}
+use Rattle.tl_coherence.proofs.protocol.Imports.{Own, Other, Granting, Acknowledging, GrantedOther, is_unacquired}
+use Rattle.tl_coherence.proofs.protocol.Imports.{ProbePhase, NoProbe, ProbeSent, ProbeAnswered, ReleasePhase, NoRelease}
+use Rattle.tl_coherence.proofs.protocol.Imports.{ReleaseSent, ReleaseAcked, AcquirePhase, NoAcquire, AcquireOpen}
+use Rattle.tl_coherence.proofs.protocol.Imports.{is_unprobed, is_unreleased, Service, Free, Waits, GrantSent}
+use Rattle.tl_coherence.proofs.protocol.Imports.{GrantTaken, SourceState, SourceFree, Asked, InService, Replied}
+use Rattle.tl_coherence.proofs.protocol.Imports.{Acquires, view, is_wanting, is_sent, is_answered, is_releasing}
+use Rattle.tl_coherence.proofs.protocol.Imports.{is_acked, is_granting, is_acknowledging}
 use Rattle.std.proofs.Common.{◌≡◌, ℕ, Bool, true, false, not, Option, Some, None, refl}
 use Rattle.std.specs.Prelude.{◌==◌, ◌&&◌, if◌then◌else◌}
 use Rattle.std.proofs.lemmas.Bool.{eqb-true}
-use Rattle.tl_params.specs.declared.param.Cap.{Cap}
-use Rattle.tl_params.specs.declared.param.Grow.{Grow}
-use Rattle.tl_coherence.specs.protocol.Invariant.{is_asked, is_replied, is_of, acquires_of, serves_of}
-use Rattle.tl_coherence.specs.protocol.Phase.{View, Own, Other, Granting, Acknowledging, GrantedOther, is_unacquired, ProbePhase, NoProbe, ProbeSent, ProbeAnswered, ReleasePhase, NoRelease, ReleaseSent}
-use Rattle.tl_coherence.specs.protocol.Phase.{ReleaseAcked, AcquirePhase, NoAcquire, AcquireOpen, is_unprobed, is_unreleased}
-use Rattle.tl_coherence.specs.protocol.Protocol.{Service, Free, Waits, GrantSent, GrantTaken, SourceState, SourceFree, Asked, InService, Replied, Acquires, view, is_wanting, is_sent}
-use Rattle.tl_coherence.specs.protocol.Protocol.{is_answered, is_releasing, is_acked, is_granting, is_acknowledging}
 use Rattle.tl_coherence.specs.refinement.PacketMessages.{cap_sent, report_told, prune_told}
 use Rattle.tl_coherence.proofs.queues.Facts.{is_other}
 
@@ -147,7 +148,8 @@ acknowledging-is (GrantTaken q) c e = let same : c ≡ q = eqb-true c q (own (c 
     own false f = absurd cc
 
 -- who sees another's service sees no Grant
-pub not-other : (x : Bool) (u v : View) → is_other u ≡ false → is_other v ≡ false → is_other (if x then u else v) ≡ false
+pub not-other : (x : Bool) (u v : View) → is_other u ≡ false → is_other v ≡ false
+    → is_other (if x then u else v) ≡ false
 not-other true u v e f = e
 not-other false u v e f = f
 

@@ -1,18 +1,23 @@
 -- How many messages a channel holds: as many at most as there are sources, trackers, or both.
+use Rattle.tl_coherence.proofs.protocol.Imports.{Channel, ClientBlock, View, Other, Idle, Own, Granting, Acknowledging}
+use Rattle.tl_coherence.proofs.protocol.Imports.{GrantedOther, is_unreleased, is_unprobed, ok, Kind, Request, Acquire}
+use Rattle.tl_coherence.proofs.protocol.Imports.{Probe, ProbeAck, Release, Answer, Grant, ReleaseAck, GrantAck, Packet}
+use Rattle.tl_coherence.proofs.protocol.Imports.{one_if, count, Service, Free, Waits, GrantSent, GrantTaken, State}
+use Rattle.tl_coherence.proofs.protocol.Imports.{SourceState, SourceFree, Asked, Replied, Acquires, packet, view, on}
+use Rattle.tl_coherence.proofs.protocol.Imports.{packets_on, is_on, is_wanting, is_granting, is_acknowledging, shown}
+use Rattle.tl_coherence.proofs.protocol.Imports.{IsInvariant, is_asked, is_replied}
 use Rattle.std.proofs.Common.{◌≡◌, ℕ, ◌+◌, ◌<◌, ◌≤◌, Bool, true, false, refl, sym, ◌∙◌, ap, subst, arith}
 use Rattle.std.specs.Prelude.{◌||◌, not, length, Option, Some, None}
 use Rattle.std.proofs.lemmas.Bool.{and_parts}
-use Rattle.tl_beat.specs.declared.channel.Channel.{Channel}
 use Rattle.tl_beat.specs.declared.channel.Channel.TheVariants as channel
-use Rattle.tl_coherence.specs.protocol.Phase.{ClientBlock, View, Other, Idle, Own, Granting, Acknowledging, GrantedOther, is_unreleased, is_unprobed, is_idle, ok}
-use Rattle.tl_coherence.specs.protocol.Packet.{Kind, Request, Acquire, Probe, ProbeAck, Release, Answer, Grant, ReleaseAck, GrantAck, Packet, same_kind, is, one_if, count}
-use Rattle.tl_coherence.specs.protocol.Protocol.{Service, Free, Waits, GrantSent, GrantTaken, State, SourceState, SourceFree, Asked, Replied, Acquires, packet, view, on, packets_on}
-use Rattle.tl_coherence.specs.protocol.Protocol.{is_on, is_wanting, is_granting, is_acknowledging, shown}
-use Rattle.tl_coherence.specs.protocol.Invariant.{IsInvariant, is_asked, is_replied, is_busy}
+use Rattle.tl_coherence.specs.protocol.Phase.{is_idle}
+use Rattle.tl_coherence.specs.protocol.Packet.{same_kind, is}
+use Rattle.tl_coherence.specs.protocol.Invariant.{is_busy}
 use Rattle.tl_coherence.proofs.queues.Distinct.{passing, pass-or-not, all-pass, few, IsThere}
 use Rattle.tl_coherence.proofs.queues.Tokens.{same_number}
 use Rattle.tl_coherence.proofs.queues.Phases.{each_phase, of_phase}
-use Rattle.tl_coherence.proofs.protocol.BothParts.{not-answered, not-sent, acked-open, releasing-open, is_replied-is, is_asked-is, is_of-is, acquires_of-is}
+use Rattle.tl_coherence.proofs.protocol.BothParts.{not-answered, not-sent, acked-open, releasing-open, is_replied-is}
+use Rattle.tl_coherence.proofs.protocol.BothParts.{is_asked-is, is_of-is, acquires_of-is}
 use Rattle.tl_coherence.proofs.queues.Channels.{on_same}
 use Rattle.tl_rules.proofs.Takeable.{part_bit}
 
@@ -36,20 +41,29 @@ not_there : (n : ℕ) → n ≡ 0 → 0 < n → ⊥
 not_there n e lt = absurd (omega (arith, e, lt))
 
 -- how often a token of the kind stands on the channel
-once_of : {X : Type 0} (caching : ℕ → Bool) (s : State X) (c : ℕ) (ch : Channel) (k : Kind) (n : ℕ) → IsInvariant caching s → is_on ch k ≡ true
+once_of : {X : Type 0} (caching : ℕ → Bool) (s : State X) (c : ℕ) (ch : Channel) (k : Kind) (n : ℕ)
+    → IsInvariant caching s → is_on ch k ≡ true
     → packets_on ch (s.link c) ≡ on k (s.link c) → count k n (packets_on ch (s.link c)) ≤ 1
 once_of caching s c ch Request n inv on_it is = at_most_one _ (is_asked (s.uses c n)) (rw is (inv.requests c n))
 once_of caching s c ch Answer n inv on_it is = at_most_one _ (is_replied (s.uses c n)) (rw is (inv.answers c n))
-once_of caching s c ch Acquire n inv on_it is = at_most_one _ (shown Acquire c (s.block n)) (rw is (inv.transfers c Acquire refl n))
-once_of caching s c ch Probe n inv on_it is = at_most_one _ (shown Probe c (s.block n)) (rw is (inv.transfers c Probe refl n))
-once_of caching s c ch ProbeAck n inv on_it is = at_most_one _ (shown ProbeAck c (s.block n)) (rw is (inv.transfers c ProbeAck refl n))
-once_of caching s c ch Release n inv on_it is = at_most_one _ (shown Release c (s.block n)) (rw is (inv.transfers c Release refl n))
-once_of caching s c ch Grant n inv on_it is = at_most_one _ (shown Grant c (s.block n)) (rw is (inv.transfers c Grant refl n))
-once_of caching s c ch ReleaseAck n inv on_it is = at_most_one _ (shown ReleaseAck c (s.block n)) (rw is (inv.transfers c ReleaseAck refl n))
-once_of caching s c ch GrantAck n inv on_it is = at_most_one _ (shown GrantAck c (s.block n)) (rw is (inv.transfers c GrantAck refl n))
+once_of caching s c ch Acquire n inv on_it is =
+    at_most_one _ (shown Acquire c (s.block n)) (rw is (inv.transfers c Acquire refl n))
+once_of caching s c ch Probe n inv on_it is =
+    at_most_one _ (shown Probe c (s.block n)) (rw is (inv.transfers c Probe refl n))
+once_of caching s c ch ProbeAck n inv on_it is =
+    at_most_one _ (shown ProbeAck c (s.block n)) (rw is (inv.transfers c ProbeAck refl n))
+once_of caching s c ch Release n inv on_it is =
+    at_most_one _ (shown Release c (s.block n)) (rw is (inv.transfers c Release refl n))
+once_of caching s c ch Grant n inv on_it is =
+    at_most_one _ (shown Grant c (s.block n)) (rw is (inv.transfers c Grant refl n))
+once_of caching s c ch ReleaseAck n inv on_it is =
+    at_most_one _ (shown ReleaseAck c (s.block n)) (rw is (inv.transfers c ReleaseAck refl n))
+once_of caching s c ch GrantAck n inv on_it is =
+    at_most_one _ (shown GrantAck c (s.block n)) (rw is (inv.transfers c GrantAck refl n))
 
 -- no token stands twice on a channel
-pub once : {X : Type 0} (caching : ℕ → Bool) (s : State X) (c : ℕ) (ch : Channel) → IsInvariant caching s → (k : Kind) (n : ℕ) → count k n (packets_on ch (s.link c)) ≤ 1
+pub once : {X : Type 0} (caching : ℕ → Bool) (s : State X) (c : ℕ) (ch : Channel) → IsInvariant caching s
+    → (k : Kind) (n : ℕ) → count k n (packets_on ch (s.link c)) ≤ 1
 once caching s c ch inv k n = go (is_on ch k) refl
   where
     go : (b : Bool) → is_on ch k ≡ b → count k n (packets_on ch (s.link c)) ≤ 1
@@ -57,7 +71,8 @@ once caching s c ch inv k n = go (is_on ch k) refl
     go false e = let none : count k n (packets_on ch (s.link c)) ≡ 0 = inv.own_kinds c ch k n e in omega (arith, none)
 
 -- a token is of a kind of its channel
-pub kind_there : {X : Type 0} (caching : ℕ → Bool) (s : State X) (c : ℕ) (ch : Channel) (x : Packet) → IsInvariant caching s → IsThere x (packets_on ch (s.link c)) → is_on ch x.kind ≡ true
+pub kind_there : {X : Type 0} (caching : ℕ → Bool) (s : State X) (c : ℕ) (ch : Channel) (x : Packet)
+    → IsInvariant caching s → IsThere x (packets_on ch (s.link c)) → is_on ch x.kind ≡ true
 kind_there caching s c ch x inv there = go (is_on ch x.kind) refl
   where
     go : (b : Bool) → is_on ch x.kind ≡ b → b ≡ true
@@ -70,7 +85,8 @@ shows_it s c Request n = is_asked (s.uses c n)
 shows_it s c Answer n = is_replied (s.uses c n)
 shows_it s c k n = shown k c (s.block n)
 
-pub shown_there : {X : Type 0} (caching : ℕ → Bool) (s : State X) (c : ℕ) (ch : Channel) (k : Kind) (n : ℕ) → IsInvariant caching s → is_on ch k ≡ true
+pub shown_there : {X : Type 0} (caching : ℕ → Bool) (s : State X) (c : ℕ) (ch : Channel) (k : Kind) (n : ℕ)
+    → IsInvariant caching s → is_on ch k ≡ true
     → 0 < count k n (packets_on ch (s.link c)) → shows_it s c k n ≡ true
 shown_there caching s c ch k n inv on_it there = go k refl
   where
@@ -119,20 +135,26 @@ name s c ReleaseAck n = (s.block n).release_source c
 name s c k n = (s.block n).tracker
 
 -- the source of an open Acquire is of its block
-pub source_of_acquire : {X : Type 0} (caching : ℕ → Bool) (s : State X) (c n : ℕ) → IsInvariant caching s → is_wanting ((s.block n).pair c).acquiring ≡ true
+pub source_of_acquire : {X : Type 0} (caching : ℕ → Bool) (s : State X) (c n : ℕ) → IsInvariant caching s
+    → is_wanting ((s.block n).pair c).acquiring ≡ true
     → s.uses c ((s.block n).source c) ≡ Acquires n
 source_of_acquire caching s c n inv wants =
-    acquires_of-is n (s.uses c ((s.block n).source c)) (inv.named.acquires c ((s.block n).source c) n ∙ rw (wants, same_number ((s.block n).source c)) refl)
+    acquires_of-is n (s.uses c ((s.block n).source c)) (inv.named.acquires c ((s.block n).source c) n ∙ rw
+    (wants, same_number ((s.block n).source c)) refl)
 
-pub source_of_release : {X : Type 0} (caching : ℕ → Bool) (s : State X) (c n : ℕ) → IsInvariant caching s → is_unreleased ((s.block n).pair c).letting ≡ false
+pub source_of_release : {X : Type 0} (caching : ℕ → Bool) (s : State X) (c n : ℕ) → IsInvariant caching s
+    → is_unreleased ((s.block n).pair c).letting ≡ false
     → s.lets c ((s.block n).release_source c) ≡ Some n
 source_of_release caching s c n inv lets =
-    is_of-is n (s.lets c ((s.block n).release_source c)) (inv.named.releases c ((s.block n).release_source c) n ∙ rw (lets, same_number ((s.block n).release_source c)) refl)
+    is_of-is n (s.lets c ((s.block n).release_source c)) (inv.named.releases c ((s.block n).release_source c) n ∙ rw
+    (lets, same_number ((s.block n).release_source c)) refl)
 
-pub tracker_of_service : {X : Type 0} (caching : ℕ → Bool) (s : State X) (n : ℕ) → IsInvariant caching s → is_busy (s.block n).service ≡ true
+pub tracker_of_service : {X : Type 0} (caching : ℕ → Bool) (s : State X) (n : ℕ) → IsInvariant caching s
+    → is_busy (s.block n).service ≡ true
     → s.tracked (s.block n).tracker ≡ Some n
 tracker_of_service caching s n inv busy =
-    is_of-is n (s.tracked (s.block n).tracker) (inv.named.trackers (s.block n).tracker n ∙ rw (busy, same_number (s.block n).tracker) refl)
+    is_of-is n (s.tracked (s.block n).tracker)
+    (inv.named.trackers (s.block n).tracker n ∙ rw (busy, same_number (s.block n).tracker) refl)
 
 -- ---- what phases say
 
@@ -174,7 +196,8 @@ module _ {X : Type 0} (caching : ℕ → Bool) (s : State X) (c n : ℕ) (inv : 
   acquire_named e = source_of_acquire caching s c n inv (and_parts _ _ e).0
 
   pub grant_named : shown Grant c (s.block n) ≡ true → s.uses c ((s.block n).source c) ≡ Acquires n
-  grant_named e = source_of_acquire caching s c n inv (grants_ask ((s.block n).pair c) (view (s.block n).service c) ((inv.blocks n).phases c) e)
+  grant_named e = source_of_acquire caching s c n inv (grants_ask ((s.block n).pair c) (view (s.block n).service c)
+      ((inv.blocks n).phases c) e)
 
   pub release_named : shown Release c (s.block n) ≡ true → s.lets c ((s.block n).release_source c) ≡ Some n
   release_named e = source_of_release caching s c n inv (releasing-open ((s.block n).pair c).letting e)
@@ -184,7 +207,9 @@ module _ {X : Type 0} (caching : ℕ → Bool) (s : State X) (c n : ℕ) (inv : 
 
   tracked_probing : is_unprobed ((s.block n).pair c).probing ≡ false → s.tracked (s.block n).tracker ≡ Some n
   tracked_probing e =
-      tracker_of_service caching s n inv (busy_unless_idle (s.block n).service c (probes_serve ((s.block n).pair c) (view (s.block n).service c) ((inv.blocks n).phases c) e))
+      tracker_of_service caching s n inv
+      (busy_unless_idle (s.block n).service c (probes_serve ((s.block n).pair c) (view (s.block n).service c)
+      ((inv.blocks n).phases c) e))
 
   pub probe_named : shown Probe c (s.block n) ≡ true → s.tracked (s.block n).tracker ≡ Some n
   probe_named e = tracked_probing (not-sent ((s.block n).pair c).probing e)
@@ -193,7 +218,8 @@ module _ {X : Type 0} (caching : ℕ → Bool) (s : State X) (c n : ℕ) (inv : 
   report_named e = tracked_probing (not-answered ((s.block n).pair c).probing e)
 
   pub grant_ack_named : shown GrantAck c (s.block n) ≡ true → s.tracked (s.block n).tracker ≡ Some n
-  grant_ack_named e = tracker_of_service caching s n inv (busy_unless_idle (s.block n).service c (go (view (s.block n).service c) e))
+  grant_ack_named e = tracker_of_service caching s n inv
+      (busy_unless_idle (s.block n).service c (go (view (s.block n).service c) e))
     where
       go : (v : View) → is_acknowledging v ≡ true → is_idle v ≡ false
       go Acknowledging h = refl
@@ -219,21 +245,34 @@ is_tracked GrantAck = true
 is_tracked _ = false
 
 -- a request that isn't free is below the bound, and so on
-used_below : {X : Type 0} {c sources trackers : ℕ} {s : State X} → AreBounded c sources trackers s → (i : ℕ) (u : SourceState) → s.uses c i ≡ u → (u ≡ SourceFree → ⊥) → i < sources
+used_below : {X : Type 0} {c sources trackers : ℕ} {s : State X} → AreBounded c sources trackers s
+    → (i : ℕ) (u : SourceState) → s.uses c i ≡ u → (u ≡ SourceFree → ⊥) → i < sources
 used_below bounds i u e open_use = bounds.requests i (λ none. open_use (sym e ∙ none))
 
-module _ {X : Type 0} (caching : ℕ → Bool) (s : State X) (c sources trackers : ℕ) (inv : IsInvariant caching s) (bounds : AreBounded c sources trackers s) where
+module _ {X : Type 0} (caching : ℕ → Bool) (s : State X) (c sources trackers : ℕ) (inv : IsInvariant caching s)
+    (bounds : AreBounded c sources trackers s) where
   -- what is asked on A
-  asked_token : (x : Packet) → IsThere x (s.link c).a → (asked_by (name s c x.kind x.number) (s.uses c (name s c x.kind x.number)) ≡ Some x) × (name s c x.kind x.number < sources)
+  asked_token : (x : Packet) → IsThere x (s.link c).a
+      → (asked_by (name s c x.kind x.number) (s.uses c (name s c x.kind x.number)) ≡ Some x)
+      × (name s c x.kind x.number < sources)
   asked_token x there = go x.kind refl (kind_there caching s c channel.A x inv there)
     where
-      go : (k : Kind) → x.kind ≡ k → is_on channel.A k ≡ true → (asked_by (name s c k x.number) (s.uses c (name s c k x.number)) ≡ Some x) × (name s c k x.number < sources)
+      go : (k : Kind) → x.kind ≡ k → is_on channel.A k ≡ true
+          → (asked_by (name s c k x.number) (s.uses c (name s c k x.number)) ≡ Some x) × (name s c k x.number < sources)
       go Request e on_it =
-          let used = request_named caching s c x.number inv (shown_there caching s c channel.A Request x.number inv refl (rw e at there)) in
-          (rw used (ap (λ (y : Packet). Some y) (token-is x Request e)), used_below bounds x.number Asked used (λ h. absurd cc))
+          let used = request_named caching s c x.number inv (shown_there caching s c channel.A Request x.number inv refl
+          (rw e at there)) in (
+            rw used (ap (λ (y : Packet). Some y) (token-is x Request e)),
+            used_below bounds x.number Asked used
+                (λ h. absurd cc),
+          )
       go Acquire e on_it =
-          let used = acquire_named caching s c x.number inv (shown_there caching s c channel.A Acquire x.number inv refl (rw e at there)) in
-          (rw used (ap (λ (y : Packet). Some y) (token-is x Acquire e)), used_below bounds ((s.block x.number).source c) (Acquires x.number) used (λ h. absurd cc))
+          let used = acquire_named caching s c x.number inv (shown_there caching s c channel.A Acquire x.number inv refl
+          (rw e at there)) in (
+            rw used (ap (λ (y : Packet). Some y) (token-is x Acquire e)),
+            used_below bounds ((s.block x.number).source c)
+                (Acquires x.number) used (λ h. absurd cc),
+          )
       go Probe e on_it = absurd cc
       go ProbeAck e on_it = absurd cc
       go Release e on_it = absurd cc
@@ -245,22 +284,33 @@ module _ {X : Type 0} (caching : ℕ → Bool) (s : State X) (c sources trackers
   pub few_on_a : length (s.link c).a ≤ sources
   few_on_a =
       let all : passing (λ x. true) (s.link c).a ≤ sources =
-      few (λ x. true) (λ x. name s c x.kind x.number) (λ i. asked_by i (s.uses c i)) sources (s.link c).a (once caching s c channel.A inv) (λ x there pass. asked_token x there) in
+      few (λ x. true) (λ x. name s c x.kind x.number) (λ i. asked_by i (s.uses c i)) sources (s.link c).a
+      (once caching s c channel.A inv) (λ x there pass. asked_token x there) in
       rw (all-pass (s.link c).a) at all
 
   -- what is answered on D, the ReleaseAcks aside
   answered_token : (x : Packet) → IsThere x (s.link c).d → not (same_kind x.kind ReleaseAck) ≡ true
-      → (answered_by (name s c x.kind x.number) (s.uses c (name s c x.kind x.number)) ≡ Some x) × (name s c x.kind x.number < sources)
+      → (answered_by (name s c x.kind x.number) (s.uses c (name s c x.kind x.number)) ≡ Some x)
+      × (name s c x.kind x.number < sources)
   answered_token x there = go x.kind refl (kind_there caching s c channel.D x inv there)
     where
       go : (k : Kind) → x.kind ≡ k → is_on channel.D k ≡ true → not (same_kind k ReleaseAck) ≡ true
-          → (answered_by (name s c k x.number) (s.uses c (name s c k x.number)) ≡ Some x) × (name s c k x.number < sources)
+          → (answered_by (name s c k x.number) (s.uses c (name s c k x.number)) ≡ Some x)
+          × (name s c k x.number < sources)
       go Answer e on_it pass =
-          let used = answer_named caching s c x.number inv (shown_there caching s c channel.D Answer x.number inv refl (rw e at there)) in
-          (rw used (ap (λ (y : Packet). Some y) (token-is x Answer e)), used_below bounds x.number Replied used (λ h. absurd cc))
+          let used = answer_named caching s c x.number inv (shown_there caching s c channel.D Answer x.number inv refl
+          (rw e at there)) in (
+            rw used (ap (λ (y : Packet). Some y) (token-is x Answer e)),
+            used_below bounds x.number Replied used
+                (λ h. absurd cc),
+          )
       go Grant e on_it pass =
-          let used = grant_named caching s c x.number inv (shown_there caching s c channel.D Grant x.number inv refl (rw e at there)) in
-          (rw used (ap (λ (y : Packet). Some y) (token-is x Grant e)), used_below bounds ((s.block x.number).source c) (Acquires x.number) used (λ h. absurd cc))
+          let used = grant_named caching s c x.number inv (shown_there caching s c channel.D Grant x.number inv refl
+          (rw e at there)) in (
+            rw used (ap (λ (y : Packet). Some y) (token-is x Grant e)),
+            used_below bounds ((s.block x.number).source c)
+                (Acquires x.number) used (λ h. absurd cc),
+          )
       go Request e on_it pass = absurd cc
       go Acquire e on_it pass = absurd cc
       go Probe e on_it pass = absurd cc
@@ -270,39 +320,50 @@ module _ {X : Type 0} (caching : ℕ → Bool) (s : State X) (c sources trackers
       go GrantAck e on_it pass = absurd cc
 
   -- a Release by its source, and its ReleaseAck
-  released_token : (ch : Channel) (x : Packet) (k : Kind) → x.kind ≡ k → is_on ch k ≡ true → IsThere x (packets_on ch (s.link c)) → is_let k ≡ true
+  released_token : (ch : Channel) (x : Packet) (k : Kind) → x.kind ≡ k → is_on ch k ≡ true
+      → IsThere x (packets_on ch (s.link c)) → is_let k ≡ true
       → (of_block k (s.lets c (name s c k x.number)) ≡ Some x) × (name s c k x.number < sources)
   released_token ch x Release e on_it there which =
-      let let_by = release_named caching s c x.number inv (shown_there caching s c ch Release x.number inv on_it (rw e at there)) in
+      let let_by = release_named caching s c x.number inv (shown_there caching s c ch Release x.number inv on_it
+      (rw e at there)) in
       (rw let_by (ap (λ (y : Packet). Some y) (token-is x Release e)), bounds.releases _ x.number let_by)
   released_token ch x ReleaseAck e on_it there which =
-      let let_by = release_ack_named caching s c x.number inv (shown_there caching s c ch ReleaseAck x.number inv on_it (rw e at there)) in
+      let let_by = release_ack_named caching s c x.number inv (shown_there caching s c ch ReleaseAck x.number inv on_it
+      (rw e at there)) in
       (rw let_by (ap (λ (y : Packet). Some y) (token-is x ReleaseAck e)), bounds.releases _ x.number let_by)
   released_token ch x k e on_it there which = absurd cc
 
-  released_there : (ch : Channel) (k : Kind) (x : Packet) → is_on ch k ≡ true → is_let k ≡ true → IsThere x (packets_on ch (s.link c)) → x.kind ≡ k
+  released_there : (ch : Channel) (k : Kind) (x : Packet) → is_on ch k ≡ true → is_let k ≡ true
+      → IsThere x (packets_on ch (s.link c)) → x.kind ≡ k
       → (of_block k (s.lets c (name s c x.kind x.number)) ≡ Some x) × (name s c x.kind x.number < sources)
   released_there ch k x on_it which there e =
-      subst (λ (j : Kind). (of_block k (s.lets c (name s c j x.number)) ≡ Some x) × (name s c j x.number < sources)) (sym e) (released_token ch x k e on_it there which)
+      subst (λ (j : Kind). (of_block k (s.lets c (name s c j x.number)) ≡ Some x) × (name s c j x.number < sources))
+      (sym e) (released_token ch x k e on_it there which)
 
   -- what goes by its tracker
-  tracked_token : (ch : Channel) (x : Packet) (k : Kind) → x.kind ≡ k → is_on ch k ≡ true → IsThere x (packets_on ch (s.link c)) → is_tracked k ≡ true
+  tracked_token : (ch : Channel) (x : Packet) (k : Kind) → x.kind ≡ k → is_on ch k ≡ true
+      → IsThere x (packets_on ch (s.link c)) → is_tracked k ≡ true
       → (of_block k (s.tracked (name s c k x.number)) ≡ Some x) × (name s c k x.number < trackers)
   tracked_token ch x Probe e on_it there which =
-      let by = probe_named caching s c x.number inv (shown_there caching s c ch Probe x.number inv on_it (rw e at there)) in
+      let by = probe_named caching s c x.number inv (shown_there caching s c ch Probe x.number inv on_it
+      (rw e at there)) in
       (rw by (ap (λ (y : Packet). Some y) (token-is x Probe e)), bounds.tracked _ x.number by)
   tracked_token ch x ProbeAck e on_it there which =
-      let by = report_named caching s c x.number inv (shown_there caching s c ch ProbeAck x.number inv on_it (rw e at there)) in
+      let by = report_named caching s c x.number inv (shown_there caching s c ch ProbeAck x.number inv on_it
+      (rw e at there)) in
       (rw by (ap (λ (y : Packet). Some y) (token-is x ProbeAck e)), bounds.tracked _ x.number by)
   tracked_token ch x GrantAck e on_it there which =
-      let by = grant_ack_named caching s c x.number inv (shown_there caching s c ch GrantAck x.number inv on_it (rw e at there)) in
+      let by = grant_ack_named caching s c x.number inv (shown_there caching s c ch GrantAck x.number inv on_it
+      (rw e at there)) in
       (rw by (ap (λ (y : Packet). Some y) (token-is x GrantAck e)), bounds.tracked _ x.number by)
   tracked_token ch x k e on_it there which = absurd cc
 
-  tracked_there : (ch : Channel) (k : Kind) (x : Packet) → is_on ch k ≡ true → is_tracked k ≡ true → IsThere x (packets_on ch (s.link c)) → x.kind ≡ k
+  tracked_there : (ch : Channel) (k : Kind) (x : Packet) → is_on ch k ≡ true → is_tracked k ≡ true
+      → IsThere x (packets_on ch (s.link c)) → x.kind ≡ k
       → (of_block k (s.tracked (name s c x.kind x.number)) ≡ Some x) × (name s c x.kind x.number < trackers)
   tracked_there ch k x on_it which there e =
-      subst (λ (j : Kind). (of_block k (s.tracked (name s c j x.number)) ≡ Some x) × (name s c j x.number < trackers)) (sym e) (tracked_token ch x k e on_it there which)
+      subst (λ (j : Kind). (of_block k (s.tracked (name s c j x.number)) ≡ Some x) × (name s c j x.number < trackers))
+      (sym e) (tracked_token ch x k e on_it there which)
 
   -- a kind of the channel that isn't the one is the other
   only_kind : (ch : Channel) (x : Packet) → IsThere x (packets_on ch (s.link c)) → is_on ch x.kind ≡ true
@@ -335,33 +396,42 @@ module _ {X : Type 0} (caching : ℕ → Bool) (s : State X) (c sources trackers
   pub few_on_b : length (s.link c).b ≤ trackers
   few_on_b =
       let all : passing (λ x. true) (s.link c).b ≤ trackers =
-      few (λ x. true) (λ x. name s c x.kind x.number) (λ i. of_block Probe (s.tracked i)) trackers (s.link c).b (once caching s c channel.B inv)
-      (λ x there pass. tracked_there channel.B Probe x refl refl there (probe_alone x.kind (only_kind channel.B x there))) in
+      few (λ x. true) (λ x. name s c x.kind x.number) (λ i. of_block Probe (s.tracked i)) trackers (s.link c).b
+      (once caching s c channel.B inv)
+      (λ x there pass. tracked_there channel.B Probe x refl refl there
+      (probe_alone x.kind (only_kind channel.B x there))) in
       rw (all-pass (s.link c).b) at all
 
   pub few_on_e : length (s.link c).e ≤ trackers
   few_on_e =
       let all : passing (λ x. true) (s.link c).e ≤ trackers =
-      few (λ x. true) (λ x. name s c x.kind x.number) (λ i. of_block GrantAck (s.tracked i)) trackers (s.link c).e (once caching s c channel.E inv)
-      (λ x there pass. tracked_there channel.E GrantAck x refl refl there (ack_alone x.kind (only_kind channel.E x there))) in
+      few (λ x. true) (λ x. name s c x.kind x.number) (λ i. of_block GrantAck (s.tracked i)) trackers (s.link c).e
+      (once caching s c channel.E inv)
+      (λ x there pass. tracked_there channel.E GrantAck x refl refl there
+      (ack_alone x.kind (only_kind channel.E x there))) in
       rw (all-pass (s.link c).e) at all
 
   pub few_on_c : length (s.link c).c ≤ sources + trackers
   few_on_c =
       let releases : passing (λ x. same_kind x.kind Release) (s.link c).c ≤ sources =
-      few (λ x. same_kind x.kind Release) (λ x. name s c x.kind x.number) (λ i. of_block Release (s.lets c i)) sources (s.link c).c (once caching s c channel.C inv)
+      few (λ x. same_kind x.kind Release) (λ x. name s c x.kind x.number) (λ i. of_block Release (s.lets c i)) sources
+      (s.link c).c (once caching s c channel.C inv)
       (λ x there pass. released_there channel.C Release x refl refl there (kind_is x.kind Release pass)) in
       let reports : passing (λ x. not (same_kind x.kind Release)) (s.link c).c ≤ trackers =
-      few (λ x. not (same_kind x.kind Release)) (λ x. name s c x.kind x.number) (λ i. of_block ProbeAck (s.tracked i)) trackers (s.link c).c (once caching s c channel.C inv)
-      (λ x there pass. tracked_there channel.C ProbeAck x refl refl there (report_or_release x.kind (only_kind channel.C x there) pass)) in
+      few (λ x. not (same_kind x.kind Release)) (λ x. name s c x.kind x.number) (λ i. of_block ProbeAck (s.tracked i))
+      trackers (s.link c).c (once caching s c channel.C inv)
+      (λ x there pass. tracked_there channel.C ProbeAck x refl refl there
+      (report_or_release x.kind (only_kind channel.C x there) pass)) in
       omega (arith, pass-or-not (λ x. same_kind x.kind Release) (s.link c).c, releases, reports)
 
   pub few_acks_on_d : passing (λ x. same_kind x.kind ReleaseAck) (s.link c).d ≤ sources
   few_acks_on_d =
-      few (λ x. same_kind x.kind ReleaseAck) (λ x. name s c x.kind x.number) (λ i. of_block ReleaseAck (s.lets c i)) sources (s.link c).d (once caching s c channel.D inv)
+      few (λ x. same_kind x.kind ReleaseAck) (λ x. name s c x.kind x.number) (λ i. of_block ReleaseAck (s.lets c i))
+      sources (s.link c).d (once caching s c channel.D inv)
       (λ x there pass. released_there channel.D ReleaseAck x refl refl there (kind_is x.kind ReleaseAck pass))
 
   pub few_responses_on_d : passing (λ x. not (same_kind x.kind ReleaseAck)) (s.link c).d ≤ sources
   few_responses_on_d =
-      few (λ x. not (same_kind x.kind ReleaseAck)) (λ x. name s c x.kind x.number) (λ i. answered_by i (s.uses c i)) sources (s.link c).d (once caching s c channel.D inv)
+      few (λ x. not (same_kind x.kind ReleaseAck)) (λ x. name s c x.kind x.number) (λ i. answered_by i (s.uses c i))
+      sources (s.link c).d (once caching s c channel.D inv)
       (λ x there pass. answered_token x there pass)

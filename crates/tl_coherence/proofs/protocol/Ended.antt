@@ -1,22 +1,20 @@
 -- The last ProbeAck that is taken, with which the access that waited is answered, keeps the invariant.
+use Rattle.tl_coherence.proofs.protocol.Imports.{Channel, Cap, Report, report_left, report_right, same_perm}
+use Rattle.tl_coherence.proofs.protocol.Imports.{ClientBlock, Idle, Other, ProbeAnswered, ok, same_cap, is_unprobed}
+use Rattle.tl_coherence.proofs.protocol.Imports.{after_report, Kind, Request, Acquire, Probe, ProbeAck, Release, Answer}
+use Rattle.tl_coherence.proofs.protocol.Imports.{Grant, ReleaseAck, GrantAck, Packet, set, Waits, Block, State, Link}
+use Rattle.tl_coherence.proofs.protocol.Imports.{InService, Replied, view, packet, packets_on, shows, shown}
+use Rattle.tl_coherence.proofs.protocol.Imports.{is_transfer, is_wanting, is_sent, is_answered, is_releasing, is_acked}
+use Rattle.tl_coherence.proofs.protocol.Imports.{Move, Stays, Pushes, Pops, IsMoved, agrees, is_own_move, channel_for}
+use Rattle.tl_coherence.proofs.protocol.Imports.{is_out, is_of, acquires_of, serves_of, acquires_with, serves_with}
+use Rattle.tl_coherence.proofs.protocol.Imports.{releases_with, tracks_with, IsWell, IsInvariant}
 use Rattle.std.proofs.Common.{◌≡◌, refl, sym, subst, ◌∙◌, ap, ◌⊎◌, inl, inr}
 use Rattle.std.specs.Prelude.{ℕ, Bool, true, false, List, ◌∷◌, ◌==◌, ◌&&◌, if◌then◌else◌, Some, None}
 use Rattle.std.proofs.lemmas.Bool.{cases_eq, ne_eqb, eqb-true}
-use Rattle.tl_beat.specs.declared.channel.Channel.{Channel}
 use Rattle.tl_beat.specs.declared.channel.Channel.TheVariants as channel
-use Rattle.tl_params.specs.declared.param.Cap.{Cap}
 use Rattle.tl_params.specs.declared.param.Cap.TheVariants as cap
-use Rattle.tl_params.specs.declared.param.Report.{Report}
 use Rattle.tl_params.specs.declared.perm.Perm.TheVariants as perm
-use Rattle.tl_params.specs.statement.Param.{report_left, report_right}
-use Rattle.tl_rules.specs.statement.Conformance.{same_perm}
-use Rattle.tl_coherence.specs.protocol.Phase.{ClientBlock, Idle, Other, ProbeAnswered, ok, same_cap, is_unprobed}
-use Rattle.tl_coherence.specs.protocol.PhaseSteps.{after_report}
-use Rattle.tl_coherence.specs.protocol.Packet.{Kind, Request, Acquire, Probe, ProbeAck, Release, Answer, Grant, ReleaseAck, GrantAck, Packet, set}
-use Rattle.tl_coherence.specs.protocol.Protocol.{Waits, Block, State, Link, InService, Replied, view, packet, packets_on, shows, shown, is_transfer, is_wanting, is_sent}
-use Rattle.tl_coherence.specs.protocol.Protocol.{is_answered, is_releasing, is_acked, written, with_d, popped_link, ended_block, ended_link, report_answers}
-use Rattle.tl_coherence.specs.refinement.Move.{Move, Stays, Pushes, Pops, IsMoved, agrees, is_own_move, channel_for}
-use Rattle.tl_coherence.specs.protocol.Invariant.{is_out, is_of, acquires_of, serves_of, acquires_with, serves_with, releases_with, tracks_with, IsWell, IsInvariant}
+use Rattle.tl_coherence.specs.protocol.Protocol.{written, with_d, popped_link, ended_block, ended_link, report_answers}
 use Rattle.tl_coherence.proofs.queues.Moves.{names-block, names-set, names-set_at, invariant-moved_use, same_again}
 use Rattle.tl_coherence.proofs.queues.Tokens.{same_number, set-same, set-other, set-part}
 use Rattle.tl_coherence.proofs.queues.PhaseSteps.{report-ok, ended-ok}
@@ -29,14 +27,16 @@ use Rattle.tl_coherence.proofs.queues.Perms.{nothing_below, not_out}
 
 -- ---- the block
 
--- c's ProbeAck is the last one that an access of q waits for, and the access leaves the bytes as they are, or probed all
+-- c's ProbeAck is the last one that an access of q waits for, and the access leaves the bytes as they are, or probed
+-- all
 pub record IsLastOf {X : Type 0} (c q : ℕ) (r : Report) (f : X → X) (source : ℕ) (k : Cap) (b : Block X) : Type 0 where
   pub waits : b.service ≡ Waits q false source k
   pub answered : (b.pair c).probing ≡ ProbeAnswered r
   pub settled : (d : ℕ) → (d ≡ c → ⊥) → is_unprobed (b.pair d).probing ≡ true
   pub spares : (f b.truth ≡ b.truth) ⊎ (k ≡ cap.ToN)
 
-pub ended-block : {X : Type 0} (caching : ℕ → Bool) (c q : ℕ) (r : Report) (f : X → X) (source : ℕ) (k : Cap) (b : Block X) → IsWell caching b → IsLastOf c q r f source k b
+pub ended-block : {X : Type 0} (caching : ℕ → Bool) (c q : ℕ) (r : Report) (f : X → X) (source : ℕ) (k : Cap)
+    (b : Block X) → IsWell caching b → IsLastOf c q r f source k b
     → IsWell caching (ended_block c r f b)
 ended-block {X} caching c q r f source k b h last = record {
   phases = phase;
@@ -45,7 +45,8 @@ ended-block {X} caching c q r f source k b h last = record {
   own_source = tt;
   alone = alone-set c after b.pair (gentle-report r (b.pair c) begins) h.alone;
   one_owner = owned-set c after b.pair (gentle-report r (b.pair c) begins) h.one_owner;
-  outside = outside-set caching c after b.pair (busy-inside caching c b.pair (λ p. is_answered p.probing) refl (rw last.answered refl) h.outside) h.outside;
+  outside = outside-set caching c after b.pair (busy-inside caching c b.pair (λ p. is_answered p.probing) refl
+      (rw last.answered refl) h.outside) h.outside;
   copies = λ d some. copy_is d some last.spares;
   memory = λ none. ap f (memory_is (same_perm (report_left r) perm.Trunk) refl);
 }
@@ -64,8 +65,10 @@ ended-block {X} caching c q r f source k b h last = record {
 
     phase : (d : ℕ) → ok (set c after b.pair d) Idle ≡ true
     phase d = elim (cases_eq d c) [
-      | inl same ↦ rw (same, set-same c after b.pair) (report-ok r (b.pair c) (view b.service c) (h.phases c) last.answered).1
-      | inr ne ↦ rw (set-other c d after b.pair ne) (ended-ok k (b.pair d) (view b.service d) (h.phases d) (other d) (quiet-is (b.pair d).probing (last.settled d ne))).0
+      | inl same ↦ rw (same, set-same c after b.pair) (report-ok r (b.pair c) (view b.service c) (h.phases c)
+          last.answered).1
+      | inr ne ↦ rw (set-other c d after b.pair ne) (ended-ok k (b.pair d) (view b.service d) (h.phases d) (other d)
+          (quiet-is (b.pair d).probing (last.settled d ne))).0
     ]
 
     held_same : (d : ℕ) → (set c after b.pair d).held ≡ (b.pair d).held
@@ -74,25 +77,32 @@ ended-block {X} caching c q r f source k b h last = record {
     -- where all were probed, nobody is recorded any more
     nobody : k ≡ cap.ToN → (d : ℕ) → same_perm (set c after b.pair d).recorded perm.None ≡ true
     nobody e d = elim (cases_eq d c) [
-      | inl same ↦ rw (same, set-same c after b.pair) (low_none k (report_right r) e (reported_within k r (b.pair c) (view b.service c) (h.phases c) (other c) last.answered))
+      | inl same ↦ rw (same, set-same c after b.pair)
+          (low_none k (report_right r) e (reported_within k r (b.pair c) (view b.service c) (h.phases c) (other c)
+          last.answered))
       | inr ne ↦ rw (set-other c d after b.pair ne) (low_none k (b.pair d).recorded e
-          (spared_within k (b.pair d) (view b.service d) (h.phases d) (other d) (quiet-is (b.pair d).probing (last.settled d ne))))
+          (spared_within k (b.pair d) (view b.service d) (h.phases d) (other d)
+          (quiet-is (b.pair d).probing (last.settled d ne))))
     ]
 
-    copy_is : (d : ℕ) → same_perm (set c after b.pair d).held perm.None ≡ false → (f b.truth ≡ b.truth) ⊎ (k ≡ cap.ToN) → b.copy d ≡ f b.truth
+    copy_is : (d : ℕ) → same_perm (set c after b.pair d).held perm.None ≡ false → (f b.truth ≡ b.truth) ⊎ (k ≡ cap.ToN)
+        → b.copy d ≡ f b.truth
     copy_is d some (inl same) = h.copies d (rw (held_same d) at some) ∙ sym same
     copy_is d some (inr all) =
-        let no = nothing_below (set c after b.pair d).held (set c after b.pair d).recorded (held_at_most (set c after b.pair d) Idle (phase d)) (nobody all d) in
+        let no = nothing_below (set c after b.pair d).held (set c after b.pair d).recorded
+        (held_at_most (set c after b.pair d) Idle (phase d)) (nobody all d) in
         absurd (let differs : true ≡ false = sym no ∙ some in cc)
 
     -- before, nobody had a Trunk but the client whose ProbeAck is taken, if that carries data
     none_out : same_perm (report_left r) perm.Trunk ≡ false → (d : ℕ) → is_out (b.pair d) (view b.service d) ≡ false
     none_out bare d = not_out (b.pair d) (view b.service d) (elim (cases_eq d c) [
       | inl same ↦ rw same (both_trunk (report_left r) (b.pair c).recorded begins bare)
-      | inr ne ↦ low_within (b.pair d).recorded k (spared_within k (b.pair d) (view b.service d) (h.phases d) (other d) (quiet-is (b.pair d).probing (last.settled d ne))) low
+      | inr ne ↦ low_within (b.pair d).recorded k (spared_within k (b.pair d) (view b.service d) (h.phases d) (other d)
+          (quiet-is (b.pair d).probing (last.settled d ne))) low
     ])
 
-    memory_is : (data_too : Bool) → same_perm (report_left r) perm.Trunk ≡ data_too → written r b.truth b.memory ≡ b.truth
+    memory_is : (data_too : Bool) → same_perm (report_left r) perm.Trunk ≡ data_too
+        → written r b.truth b.memory ≡ b.truth
     memory_is true e = rw e refl
     memory_is false e = rw e (h.memory (none_out e))
 
@@ -104,8 +114,10 @@ ended_move x y n source channel.C = if x then Pops ProbeAck n else Stays
 ended_move x y n source channel.D = if y then Pushes Answer source else Stays
 ended_move x y n source _ = Stays
 
-ended_shows : (n source : ℕ) (j : Kind) (x y : Bool) (r : Report) (k : Cap) (p : ClientBlock) → is_transfer j ≡ true → (x ≡ true → p.probing ≡ ProbeAnswered r)
-    → agrees (ended_move x y n source (channel_for j)) j n (shows j p (Other k)) (shows j (if x then after_report r p else p) Idle) ≡ true
+ended_shows : (n source : ℕ) (j : Kind) (x y : Bool) (r : Report) (k : Cap) (p : ClientBlock) → is_transfer j ≡ true
+    → (x ≡ true → p.probing ≡ ProbeAnswered r)
+    → agrees (ended_move x y n source (channel_for j)) j n (shows j p (Other k))
+    (shows j (if x then after_report r p else p) Idle) ≡ true
 ended_shows n source Request x y r k p t e = absurd cc
 ended_shows n source Answer x y r k p t e = absurd cc
 ended_shows n source Acquire true y r k p t e = same_again (is_wanting p.acquiring && true)
@@ -133,9 +145,11 @@ ended_own channel.D x true n source = refl
 ended_own channel.D x false n source = refl
 ended_own channel.E x y n source = refl
 
-pub ended_moved : (ch : Channel) (x y : Bool) (n source : ℕ) (l : Link) (rest : List Packet) → (x ≡ true → l.c ≡ packet ProbeAck n ∷ rest)
+pub ended_moved : (ch : Channel) (x y : Bool) (n source : ℕ) (l : Link) (rest : List Packet)
+    → (x ≡ true → l.c ≡ packet ProbeAck n ∷ rest)
     → IsMoved (ended_move x y n source ch) (packets_on ch l)
-    (packets_on ch (if y then with_d (packet Answer source) (if x then record l { c = rest } else l) else (if x then record l { c = rest } else l)))
+    (packets_on ch (if y then with_d (packet Answer source) (if x then record l { c = rest } else l) else
+    (if x then record l { c = rest } else l)))
 ended_moved channel.A true true n source l rest e = refl
 ended_moved channel.A true false n source l rest e = refl
 ended_moved channel.A false true n source l rest e = refl
@@ -159,24 +173,33 @@ ended_moved channel.E false false n source l rest e = refl
 
 -- ---- the whole
 
-pub report_answers-kept : {X : Type 0} (caching : ℕ → Bool) (c q n : ℕ) (r : Report) (f : X → X) (source : ℕ) (k : Cap) (rest : List Packet) (s : State X) → IsInvariant caching s
-    → (s.link c).c ≡ packet ProbeAck n ∷ rest → IsLastOf c q r f source k (s.block n) → IsInvariant caching (report_answers c q n source r f rest s)
+pub report_answers-kept : {X : Type 0} (caching : ℕ → Bool) (c q n : ℕ) (r : Report) (f : X → X) (source : ℕ) (k : Cap)
+    (rest : List Packet) (s : State X) → IsInvariant caching s
+    → (s.link c).c ≡ packet ProbeAck n ∷ rest → IsLastOf c q r f source k (s.block n)
+    → IsInvariant caching (report_answers c q n source r f rest s)
 report_answers-kept {X} caching c q n r f source k rest s inv first last =
-    invariant-moved_use caching n new links (λ d. ended_move (d == c) (d == q) n source) q source Replied (set tracker None s.tracked) s inv (record {
+    invariant-moved_use caching n new links (λ d. ended_move (d == c) (d == q) n source) q source Replied
+    (set tracker None s.tracked) s inv (record {
       well = ended-block caching c q r f source k (s.block n) (inv.blocks n) last;
       moved = λ d ch. by_link d ch (ended_moved ch (d == c) (d == q) n source (s.link d) rest (first_at d));
       own = λ d ch. ended_own ch (d == c) (d == q) n source;
-      fits = λ d j t. by_pair d j (ended_move (d == c) (d == q) n source (channel_for j)) (ended_shows n source j (d == c) (d == q) r k (old d) t (answered_at d));
+      fits = λ d j t. by_pair d j (ended_move (d == c) (d == q) n source (channel_for j))
+          (ended_shows n source j (d == c) (d == q) r k (old d) t (answered_at d));
       in_order = λ d m e. absurd (never_pushed (d == c) m e);
     })
     (rw used refl) (rw (same_number q, used, same_number source) refl) (λ d ne. (refl, rw (ne_eqb d q ne) refl))
     (record {
-      acquires = names-set_at acquires_of acquires_with q source Replied s.uses n new s.block ((rw used at (inv.named.acquires q source n)) ∙ sym (acquires_same q source)) (λ m ne. rw used refl)
+      acquires = names-set_at acquires_of acquires_with q source Replied s.uses n new s.block
+          ((rw used at (inv.named.acquires q source n)) ∙ sym (acquires_same q source)) (λ m ne. rw used refl)
           (λ i ne. acquires_same q i) (λ d i ne. acquires_same d i) inv.named.acquires;
-      serves = names-set_at serves_of serves_with q source Replied s.uses n new s.block refl (λ m ne. rw used (sym (ne_eqb m n ne)))
-          (λ i ne. rw (last.waits, same_number q, ne_eqb i source ne) refl) (λ d i ne. rw (last.waits, ne_eqb d q ne) refl) inv.named.serves;
-      releases = λ d. names-block is_of (releases_with d) (s.lets d) n new s.block (λ i. rw (set-part (λ (p : ClientBlock). p.letting) c after old refl d) refl) (inv.named.releases d);
-      trackers = names-set is_of tracks_with s.tracked tracker None n new s.block refl (λ m ne. rw tracked (sym (ne_eqb m n ne)))
+      serves = names-set_at serves_of serves_with q source Replied s.uses n new s.block refl
+          (λ m ne. rw used (sym (ne_eqb m n ne)))
+          (λ i ne. rw (last.waits, same_number q, ne_eqb i source ne) refl)
+          (λ d i ne. rw (last.waits, ne_eqb d q ne) refl) inv.named.serves;
+      releases = λ d. names-block is_of (releases_with d) (s.lets d) n new s.block
+          (λ i. rw (set-part (λ (p : ClientBlock). p.letting) c after old refl d) refl) (inv.named.releases d);
+      trackers = names-set is_of tracks_with s.tracked tracker None n new s.block refl
+          (λ m ne. rw tracked (sym (ne_eqb m n ne)))
           (λ i ne. rw (last.waits, ne_eqb i tracker ne) refl) inv.named.trackers;
     })
   where
@@ -196,7 +219,8 @@ report_answers-kept {X} caching c q n r f source k rest s inv first last =
     tracker = (s.block n).tracker
 
     used : s.uses q source ≡ InService n
-    used = serves_of-is n (s.uses q source) (inv.named.serves q source n ∙ rw (last.waits, same_number q, same_number source) refl)
+    used = serves_of-is n (s.uses q source)
+        (inv.named.serves q source n ∙ rw (last.waits, same_number q, same_number source) refl)
 
     tracked : s.tracked tracker ≡ Some n
     tracked = is_of-is n (s.tracked tracker) (inv.named.trackers tracker n ∙ rw (last.waits, same_number tracker) refl)
@@ -223,10 +247,12 @@ report_answers-kept {X} caching c q n r f source k rest s inv first last =
 
     by_link : (d : ℕ) (ch : Channel)
         → IsMoved (ended_move (d == c) (d == q) n source ch) (packets_on ch (s.link d))
-        (packets_on ch (if d == q then with_d (packet Answer source) (if d == c then record (s.link d) { c = rest } else s.link d) else (if d == c then record (s.link d) { c = rest } else s.link d)))
+        (packets_on ch (if d == q then with_d (packet Answer source) (if d == c then record (s.link d) { c = rest } else
+        s.link d) else (if d == c then record (s.link d) { c = rest } else s.link d)))
         → IsMoved (ended_move (d == c) (d == q) n source ch) (packets_on ch (s.link d)) (packets_on ch (links d))
     by_link d ch h =
-        subst (λ (l : Link). IsMoved (ended_move (d == c) (d == q) n source ch) (packets_on ch (s.link d)) (packets_on ch (if d == q then with_d (packet Answer source) l else l))) (sym (popped d)) h
+        subst (λ (l : Link). IsMoved (ended_move (d == c) (d == q) n source ch) (packets_on ch (s.link d))
+        (packets_on ch (if d == q then with_d (packet Answer source) l else l))) (sym (popped d)) h
 
     pair_is : (d : ℕ) → set c after old d ≡ (if d == c then after_report r (old d) else old d)
     pair_is d = elim (cases_eq d c) [
@@ -234,8 +260,11 @@ report_answers-kept {X} caching c q n r f source k rest s inv first last =
       | inr ne ↦ rw (ne_eqb d c ne) refl
     ]
 
-    by_pair : (d : ℕ) (j : Kind) (m : Move) → agrees m j n (shows j (old d) (Other k)) (shows j (if d == c then after_report r (old d) else old d) Idle) ≡ true
+    by_pair : (d : ℕ) (j : Kind) (m : Move)
+        → agrees m j n (shows j (old d) (Other k)) (shows j (if d == c then after_report r (old d) else old d) Idle)
+        ≡ true
         → agrees m j n (shown j d (s.block n)) (shown j d new) ≡ true
     by_pair d j m h =
         let seen : view (s.block n).service d ≡ Other k = rw last.waits refl in
-        rw seen (subst (λ (p : ClientBlock). agrees m j n (shows j (old d) (Other k)) (shows j p Idle) ≡ true) (sym (pair_is d)) h)
+        rw seen (subst (λ (p : ClientBlock). agrees m j n (shows j (old d) (Other k)) (shows j p Idle) ≡ true)
+        (sym (pair_is d)) h)

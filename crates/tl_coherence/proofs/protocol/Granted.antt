@@ -1,25 +1,22 @@
 -- The last ProbeAck that is taken, with which the Acquire that waited is granted, keeps what holds of a block.
+use Rattle.tl_coherence.proofs.protocol.Imports.{Cap, Grow, Report, Perm, cap_right, report_left, report_right}
+use Rattle.tl_coherence.proofs.protocol.Imports.{same_perm, ClientBlock, Own, Other, Granting, GrantedOther, NoProbe}
+use Rattle.tl_coherence.proofs.protocol.Imports.{ProbeAnswered, NoAcquire, AcquireOpen, ok, same_cap, is_unprobed}
+use Rattle.tl_coherence.proofs.protocol.Imports.{cap_fits, is_granted_data, after_grant_sent, after_report, set, Waits}
+use Rattle.tl_coherence.proofs.protocol.Imports.{GrantSent, Block, view, granted_block, cap_asked, IsAskedCap, resting}
+use Rattle.tl_coherence.proofs.protocol.Imports.{is_out, IsWell}
 use Rattle.std.proofs.Common.{◌≡◌, refl, sym, ◌∙◌, ap, ◌⊎◌, inl, inr}
 use Rattle.std.specs.Prelude.{ℕ, Bool, true, false}
 use Rattle.std.proofs.lemmas.Bool.{cases_eq, ne_eqb, not-true}
-use Rattle.tl_params.specs.declared.param.Cap.{Cap}
 use Rattle.tl_params.specs.declared.param.Cap.TheVariants as cap
-use Rattle.tl_params.specs.declared.param.Grow.{Grow}
 use Rattle.tl_params.specs.declared.param.Grow.TheVariants as grow
-use Rattle.tl_params.specs.declared.param.Report.{Report}
-use Rattle.tl_params.specs.declared.perm.Perm.{Perm}
 use Rattle.tl_params.specs.declared.perm.Perm.TheVariants as perm
-use Rattle.tl_params.specs.statement.Param.{cap_right, report_left, report_right}
-use Rattle.tl_rules.specs.statement.Conformance.{same_perm}
-use Rattle.tl_coherence.specs.protocol.Phase.{ClientBlock, Own, Other, Granting, GrantedOther, NoProbe, ProbeAnswered, NoAcquire, AcquireOpen, ok, same_cap, is_unprobed, cap_fits}
 use Rattle.tl_coherence.specs.statement.Permissions.{perm_le}
-use Rattle.tl_coherence.specs.protocol.PhaseSteps.{is_granted_data, after_grant_sent, after_report}
-use Rattle.tl_coherence.specs.protocol.Packet.{set}
-use Rattle.tl_coherence.specs.protocol.Protocol.{Waits, GrantSent, Block, view, written, granted_pair, granted_block}
-use Rattle.tl_coherence.specs.protocol.Invariant.{cap_asked, IsAskedCap, resting, is_out, IsWell}
+use Rattle.tl_coherence.specs.protocol.Protocol.{written, granted_pair}
 use Rattle.tl_coherence.proofs.queues.Tokens.{same_number, set-same, set-other, set-part}
 use Rattle.tl_coherence.proofs.queues.PhaseSteps.{grant_last-ok, report-ok, ended-ok}
-use Rattle.tl_coherence.proofs.queues.Facts.{spared_within, reported_within, cap_is_low, own_low, own_quiet, report_begins}
+use Rattle.tl_coherence.proofs.queues.Facts.{spared_within, reported_within, cap_is_low, own_low, own_quiet}
+use Rattle.tl_coherence.proofs.queues.Facts.{report_begins}
 use Rattle.tl_coherence.proofs.protocol.BothParts.{quiet-is}
 use Rattle.tl_coherence.proofs.queues.Perms.{not_out}
 
@@ -40,7 +37,8 @@ granted_view q c d k ne = rw (ne_eqb c q ne) refl
 -- ---- permissions
 
 -- what is within a low cap isn't Trunk
-pub low_within : (p : Perm) (k : Cap) → perm_le p (cap_right k) ≡ true → same_cap k cap.ToT ≡ false → same_perm p perm.Trunk ≡ false
+pub low_within : (p : Perm) (k : Cap) → perm_le p (cap_right k) ≡ true → same_cap k cap.ToT ≡ false
+    → same_perm p perm.Trunk ≡ false
 low_within perm.None k e low = refl
 low_within perm.Branch k e low = refl
 low_within perm.Trunk cap.ToT e low = absurd cc
@@ -62,7 +60,8 @@ none_or_trunk perm.Branch e f = absurd cc
 none_or_trunk perm.Trunk e f = absurd cc
 
 -- a Grant that fits gives Trunk or Branch
-pub gives : (whole : Bool) (g : Grow) (k : Cap) → cap_fits whole g k ≡ true → (same_cap k cap.ToT ≡ true) ⊎ (same_perm (cap_right k) perm.Trunk ≡ false)
+pub gives : (whole : Bool) (g : Grow) (k : Cap) → cap_fits whole g k ≡ true → (same_cap k cap.ToT ≡ true)
+    ⊎ (same_perm (cap_right k) perm.Trunk ≡ false)
 gives whole g cap.ToT e = inl refl
 gives whole g cap.ToB e = inr refl
 gives whole g cap.ToN e = inr refl
@@ -70,21 +69,25 @@ gives whole g cap.ToN e = inr refl
 -- ---- the block
 
 -- what the premises say: c's ProbeAck is the last one that q's Acquire waits for
-pub record IsLast {X : Type 0} (c q : ℕ) (r : Report) (whole : Bool) (g : Grow) (gift : Cap) (source : ℕ) (k : Cap) (b : Block X) : Type 0 where
+pub record IsLast {X : Type 0} (c q : ℕ) (r : Report) (whole : Bool) (g : Grow) (gift : Cap) (source : ℕ) (k : Cap)
+    (b : Block X) : Type 0 where
   pub waits : b.service ≡ Waits q true source k
   pub answered : (b.pair c).probing ≡ ProbeAnswered r
   pub settled : (d : ℕ) → (d ≡ c → ⊥) → is_unprobed (b.pair d).probing ≡ true
   pub wants : (b.pair q).acquiring ≡ AcquireOpen whole g
   pub fits : cap_fits whole g gift ≡ true
   -- Trunk is granted only where nobody else is recorded
-  pub room : same_cap gift cap.ToT ≡ true → (d : ℕ) → (d ≡ q → ⊥) → same_perm (set c (after_report r (b.pair c)) b.pair d).recorded perm.None ≡ true
+  pub room : same_cap gift cap.ToT ≡ true → (d : ℕ) → (d ≡ q → ⊥)
+      → same_perm (set c (after_report r (b.pair c)) b.pair d).recorded perm.None ≡ true
 
-pub granted-block : {X : Type 0} (caching : ℕ → Bool) (c q : ℕ) (r : Report) (whole : Bool) (g : Grow) (gift : Cap) (source : ℕ) (k : Cap) (b : Block X) → IsWell caching b
+pub granted-block : {X : Type 0} (caching : ℕ → Bool) (c q : ℕ) (r : Report) (whole : Bool) (g : Grow) (gift : Cap)
+    (source : ℕ) (k : Cap) (b : Block X) → IsWell caching b
     → IsLast c q r whole g gift source k b
     → IsWell caching (granted_block c q r (is_granted_data whole g (b.pair q).recorded) gift b)
 granted-block {X} caching c q r whole g gift source k b h last = record {
   phases = λ d. elim (cases_eq d q) [
-    | inl same ↦ rw (same, granted_here, granting_view q with_data gift) (grant_last-ok whole g gift (b.pair q) (view b.service q) (h.phases q) own last.wants last.fits)
+    | inl same ↦ rw (same, granted_here, granting_view q with_data gift)
+        (grant_last-ok whole g gift (b.pair q) (view b.service q) (h.phases q) own last.wants last.fits)
     | inr ne ↦ rw (granted_elsewhere d ne, granted_view q d with_data gift ne) (reported_phase d ne (cases_eq d c))
   ];
   awaited = tt;
@@ -132,14 +135,18 @@ granted-block {X} caching c q r whole g gift source k b h last = record {
     granted_elsewhere d ne = set-other q d (after_grant_sent gift (b.pair q)) (set c after b.pair) ne
 
     reported_phase : (d : ℕ) → (d ≡ q → ⊥) → (d ≡ c) ⊎ (d ≡ c → ⊥) → ok (set c after b.pair d) GrantedOther ≡ true
-    reported_phase d ne (inl same) = rw (same, set-same c after b.pair) (report-ok r (b.pair c) (view b.service c) (h.phases c) last.answered).2
+    reported_phase d ne (inl same) =
+        rw (same, set-same c after b.pair) (report-ok r (b.pair c) (view b.service c) (h.phases c) last.answered).2
     reported_phase d ne (inr neither) =
-        rw (set-other c d after b.pair neither) (ended-ok k (b.pair d) (view b.service d) (h.phases d) (other d ne) (quiet-is (b.pair d).probing (last.settled d neither))).1
+        rw (set-other c d after b.pair neither) (ended-ok k (b.pair d) (view b.service d) (h.phases d) (other d ne)
+        (quiet-is (b.pair d).probing (last.settled d neither))).1
 
     held_same : (d : ℕ) → (granted_pair c q r gift b.pair d).held ≡ (b.pair d).held
     held_same d =
-        let first : (set c after b.pair q).held ≡ (b.pair q).held = set-part (λ (p : ClientBlock). p.held) c after b.pair refl q in
-        set-part (λ (p : ClientBlock). p.held) q (after_grant_sent gift (b.pair q)) (set c after b.pair) (sym first) d ∙ set-part (λ (p : ClientBlock). p.held) c after b.pair refl d
+        let first : (set c after b.pair q).held ≡ (b.pair q).held =
+        set-part (λ (p : ClientBlock). p.held) c after b.pair refl q in
+        set-part (λ (p : ClientBlock). p.held) q (after_grant_sent gift (b.pair q)) (set c after b.pair) (sym first)
+        d ∙ set-part (λ (p : ClientBlock). p.held) c after b.pair refl d
 
     all_quiet : (j : ℕ) → is_unprobed (granted_pair c q r gift b.pair j).probing ≡ true
     all_quiet j = elim (cases_eq j q) [
@@ -153,41 +160,55 @@ granted-block {X} caching c q r whole g gift source k b h last = record {
     -- those who aren't granted have no Trunk
     low_elsewhere : (d : ℕ) → (d ≡ q → ⊥) → same_perm (set c after b.pair d).recorded perm.Trunk ≡ false
     low_elsewhere d ne = elim (cases_eq d c) [
-      | inl same ↦ rw (same, set-same c after b.pair) (low_within (report_right r) k (reported_within k r (b.pair c) (view b.service c) (h.phases c) (other c apart) last.answered) low)
+      | inl same ↦ rw (same, set-same c after b.pair)
+          (low_within (report_right r) k (reported_within k r (b.pair c) (view b.service c) (h.phases c) (other c apart)
+          last.answered) low)
       | inr neither ↦ rw (set-other c d after b.pair neither)
-          (low_within (b.pair d).recorded k (spared_within k (b.pair d) (view b.service d) (h.phases d) (other d ne) (quiet-is (b.pair d).probing (last.settled d neither))) low)
+          (low_within (b.pair d).recorded k (spared_within k (b.pair d) (view b.service d) (h.phases d) (other d ne)
+          (quiet-is (b.pair d).probing (last.settled d neither))) low)
     ]
 
-    owner : (same_cap gift cap.ToT ≡ true) ⊎ (same_perm (cap_right gift) perm.Trunk ≡ false) → (i j : ℕ) → same_perm (granted_pair c q r gift b.pair i).recorded perm.Trunk ≡ true → (j ≡ i → ⊥)
+    owner : (same_cap gift cap.ToT ≡ true) ⊎ (same_perm (cap_right gift) perm.Trunk ≡ false) → (i j : ℕ)
+        → same_perm (granted_pair c q r gift b.pair i).recorded perm.Trunk ≡ true → (j ≡ i → ⊥)
         → same_perm (granted_pair c q r gift b.pair j).recorded perm.None ≡ true
     owner (inl top) i j trunk ne = elim (cases_eq i q) [
-      | inl same ↦ let differs : j ≡ q → ⊥ = λ e. ne (e ∙ sym same) in rw (granted_elsewhere j differs) (last.room top j differs)
-      | inr differs ↦ absurd (none_or_trunk (set c after b.pair i).recorded (last.room top i differs) (rw (granted_elsewhere i differs) at trunk))
+      | inl same ↦ let differs : j ≡ q → ⊥ = λ e. ne (e ∙ sym same) in
+          rw (granted_elsewhere j differs) (last.room top j differs)
+      | inr differs ↦ absurd (none_or_trunk (set c after b.pair i).recorded (last.room top i differs)
+          (rw (granted_elsewhere i differs) at trunk))
     ]
     owner (inr less) i j trunk ne = elim (cases_eq i q) [
-      | inl same ↦ absurd (let t : same_perm (cap_right gift) perm.Trunk ≡ true = rw (same, granted_here) at trunk in cc)
-      | inr differs ↦ absurd (let t : same_perm (set c after b.pair i).recorded perm.Trunk ≡ true = rw (granted_elsewhere i differs) at trunk in let u = low_elsewhere i differs in cc)
+      | inl same ↦ absurd (let t : same_perm (cap_right gift) perm.Trunk ≡ true = rw (same, granted_here) at trunk in
+          cc)
+      | inr differs ↦ absurd (let t : same_perm (set c after b.pair i).recorded perm.Trunk ≡ true =
+          rw (granted_elsewhere i differs) at trunk in let u = low_elsewhere i differs in cc)
     ]
 
     -- before, nobody had a Trunk but the client whose ProbeAck is taken, if that carries data
     none_out : same_perm (report_left r) perm.Trunk ≡ false → (d : ℕ) → is_out (b.pair d) (view b.service d) ≡ false
     none_out bare d = not_out (b.pair d) (view b.service d) (elim (cases_eq d q) [
-      | inl same ↦ rw same (not-true (same_perm (b.pair q).recorded perm.Trunk) (own_low (b.pair q) (view b.service q) (h.phases q) own))
+      | inl same ↦ rw same (not-true (same_perm (b.pair q).recorded perm.Trunk)
+          (own_low (b.pair q) (view b.service q) (h.phases q) own))
       | inr ne ↦ elim (cases_eq d c) [
-        | inl also ↦ rw also (both_trunk (report_left r) (b.pair c).recorded (report_begins r (b.pair c) (view b.service c) (h.phases c) last.answered) bare)
-        | inr neither ↦ low_within (b.pair d).recorded k (spared_within k (b.pair d) (view b.service d) (h.phases d) (other d ne) (quiet-is (b.pair d).probing (last.settled d neither))) low
+        | inl also ↦ rw also (both_trunk (report_left r) (b.pair c).recorded
+            (report_begins r (b.pair c) (view b.service c) (h.phases c) last.answered) bare)
+        | inr neither ↦ low_within (b.pair d).recorded k (spared_within k (b.pair d) (view b.service d) (h.phases d)
+            (other d ne) (quiet-is (b.pair d).probing (last.settled d neither))) low
       ]
     ])
 
-    memory_is : (data_too : Bool) → same_perm (report_left r) perm.Trunk ≡ data_too → written r b.truth b.memory ≡ b.truth
+    memory_is : (data_too : Bool) → same_perm (report_left r) perm.Trunk ≡ data_too
+        → written r b.truth b.memory ≡ b.truth
     memory_is true e = rw e refl
     memory_is false e = rw e (h.memory (none_out e))
 
     not_calm : (p : ClientBlock) → p.acquiring ≡ AcquireOpen whole g → p ≡ resting → ⊥
-    not_calm p e f = let i : p.acquiring ≡ NoAcquire = ap (λ (x : ClientBlock). x.acquiring) f in let j : AcquireOpen whole g ≡ NoAcquire = sym e ∙ i in absurd cc
+    not_calm p e f = let i : p.acquiring ≡ NoAcquire = ap (λ (x : ClientBlock). x.acquiring) f in
+        let j : AcquireOpen whole g ≡ NoAcquire = sym e ∙ i in absurd cc
 
     not_quiet : (p : ClientBlock) → p.probing ≡ ProbeAnswered r → p ≡ resting → ⊥
-    not_quiet p e f = let i : p.probing ≡ NoProbe = ap (λ (x : ClientBlock). x.probing) f in let j : ProbeAnswered r ≡ NoProbe = sym e ∙ i in absurd cc
+    not_quiet p e f = let i : p.probing ≡ NoProbe = ap (λ (x : ClientBlock). x.probing) f in
+        let j : ProbeAnswered r ≡ NoProbe = sym e ∙ i in absurd cc
 
 -- ---- the cap of a Grant that gives Trunk
 
@@ -207,20 +228,26 @@ is_none cap.ToT e = absurd cc
 is_none cap.ToB e = absurd cc
 is_none cap.ToN e = refl
 
-asks_none : (k : Cap) (whole : Bool) (g : Grow) → grows_to_trunk g ≡ true → same_cap k (cap_asked (AcquireOpen whole g)) ≡ true → k ≡ cap.ToN
+asks_none : (k : Cap) (whole : Bool) (g : Grow) → grows_to_trunk g ≡ true
+    → same_cap k (cap_asked (AcquireOpen whole g)) ≡ true → k ≡ cap.ToN
 asks_none k whole grow.NtoB e f = absurd cc
 asks_none k whole grow.NtoT e f = is_none k f
 asks_none k whole grow.BtoT e f = is_none k f
 
 -- where the Acquire asks for Trunk, all others were probed to None
-pub room-trunk : {X : Type 0} (caching : ℕ → Bool) (c q : ℕ) (r : Report) (whole : Bool) (g : Grow) (source : ℕ) (k : Cap) (b : Block X) → IsWell caching b → b.service ≡ Waits q true source k
+pub room-trunk : {X : Type 0} (caching : ℕ → Bool) (c q : ℕ) (r : Report) (whole : Bool) (g : Grow) (source : ℕ)
+    (k : Cap) (b : Block X) → IsWell caching b → b.service ≡ Waits q true source k
     → (b.pair c).probing ≡ ProbeAnswered r
-    → ((d : ℕ) → (d ≡ c → ⊥) → is_unprobed (b.pair d).probing ≡ true) → (b.pair q).acquiring ≡ AcquireOpen whole g → grows_to_trunk g ≡ true → (c ≡ q → ⊥) → (d : ℕ) → (d ≡ q → ⊥)
+    → ((d : ℕ) → (d ≡ c → ⊥) → is_unprobed (b.pair d).probing ≡ true) → (b.pair q).acquiring ≡ AcquireOpen whole g
+    → grows_to_trunk g ≡ true → (c ≡ q → ⊥) → (d : ℕ) → (d ≡ q → ⊥)
     → same_perm (set c (after_report r (b.pair c)) b.pair d).recorded perm.None ≡ true
 room-trunk caching c q r whole g source k b h waits answered settled wants trunk apart d ne = elim (cases_eq d c) [
-  | inl same ↦ rw (same, set-same c (after_report r (b.pair c)) b.pair) (low_none k (report_right r) cap_is (reported_within k r (b.pair c) (view b.service c) (h.phases c) (seen c apart) answered))
+  | inl same ↦ rw (same, set-same c (after_report r (b.pair c)) b.pair)
+      (low_none k (report_right r) cap_is (reported_within k r (b.pair c) (view b.service c) (h.phases c) (seen c apart)
+      answered))
   | inr neither ↦ rw (set-other c d (after_report r (b.pair c)) b.pair neither)
-      (low_none k (b.pair d).recorded cap_is (spared_within k (b.pair d) (view b.service d) (h.phases d) (seen d ne) (quiet-is (b.pair d).probing (settled d neither))))
+      (low_none k (b.pair d).recorded cap_is (spared_within k (b.pair d) (view b.service d) (h.phases d) (seen d ne)
+      (quiet-is (b.pair d).probing (settled d neither))))
 ]
   where
     seen : (i : ℕ) → (i ≡ q → ⊥) → view b.service i ≡ Other k

@@ -1,20 +1,19 @@
 -- The last ProbeAck that is taken, with which the Acquire that waited is granted, keeps the invariant.
-use Rattle.std.proofs.Common.{◌≡◌, ℕ, Bool, true, false, ◌&&◌, List, [], ◌∷◌, ◌++◌, refl, sym, ◌∙◌, ap, ap₂, ◌⊎◌, inl, inr}
+use Rattle.tl_coherence.proofs.protocol.Imports.{Channel, Cap, Grow, Report, ClientBlock, Own, Other, Granting}
+use Rattle.tl_coherence.proofs.protocol.Imports.{GrantedOther, ProbeAnswered, is_unprobed, is_granted_data}
+use Rattle.tl_coherence.proofs.protocol.Imports.{after_grant_sent, after_report, Kind, Request, Acquire, Probe}
+use Rattle.tl_coherence.proofs.protocol.Imports.{ProbeAck, Release, Answer, Grant, ReleaseAck, GrantAck, Packet, set}
+use Rattle.tl_coherence.proofs.protocol.Imports.{Block, State, Link, view, packet, packets_on, is_transfer, is_wanting}
+use Rattle.tl_coherence.proofs.protocol.Imports.{is_sent, is_answered, is_releasing, is_acked, shows, shown}
+use Rattle.tl_coherence.proofs.protocol.Imports.{granted_block, Move, Stays, Pushes, Pops, IsMoved, agrees, is_own_move}
+use Rattle.tl_coherence.proofs.protocol.Imports.{channel_for, IsInvariant}
+use Rattle.std.proofs.Common.{◌≡◌, ℕ, Bool, true, false, ◌&&◌, List, [], ◌∷◌, ◌++◌, refl, sym, ◌∙◌, ap, ap₂, ◌⊎◌, inl}
+use Rattle.std.proofs.Common.{inr}
 use Rattle.std.specs.Prelude.{◌==◌, if◌then◌else◌}
 use Rattle.std.proofs.lemmas.Bool.{cases_eq, ne_eqb}
 use Rattle.std.specs.Bool.{beq}
-use Rattle.tl_beat.specs.declared.channel.Channel.{Channel}
 use Rattle.tl_beat.specs.declared.channel.Channel.TheVariants as channel
-use Rattle.tl_params.specs.declared.param.Cap.{Cap}
-use Rattle.tl_params.specs.declared.param.Grow.{Grow}
-use Rattle.tl_params.specs.declared.param.Report.{Report}
-use Rattle.tl_coherence.specs.protocol.Phase.{ClientBlock, Own, Other, Granting, GrantedOther, ProbeAnswered, is_unprobed}
-use Rattle.tl_coherence.specs.protocol.PhaseSteps.{is_granted_data, after_grant_sent, after_report}
-use Rattle.tl_coherence.specs.protocol.Packet.{Kind, Request, Acquire, Probe, ProbeAck, Release, Answer, Grant, ReleaseAck, GrantAck, Packet, set}
-use Rattle.tl_coherence.specs.protocol.Protocol.{Block, State, Link, view, packet, packets_on, is_transfer, is_wanting, is_sent, is_answered, is_releasing, is_acked, shows}
-use Rattle.tl_coherence.specs.protocol.Protocol.{shown, granted_block, granted_link, report_grants}
-use Rattle.tl_coherence.specs.refinement.Move.{Move, Stays, Pushes, Pops, IsMoved, agrees, is_own_move, channel_for}
-use Rattle.tl_coherence.specs.protocol.Invariant.{IsInvariant}
+use Rattle.tl_coherence.specs.protocol.Protocol.{granted_link, report_grants}
 use Rattle.tl_coherence.proofs.queues.Facts.{own_quiet}
 use Rattle.tl_coherence.proofs.protocol.Granted.{IsLast, granted-block}
 use Rattle.tl_coherence.proofs.queues.Moves.{spares, same_again, names-kept, invariant-moved, moved_as}
@@ -28,7 +27,8 @@ granted_moves n c q d _ = Stays
 
 -- what one shows before and after it, by the parts that the event leaves
 at_sender : (n : ℕ) (k : Kind) (p : ClientBlock) (d : Bool) (gift : Cap) → is_transfer k ≡ true
-    → agrees (granted_moves n 0 1 1 (channel_for k)) k n (shows k p Own) (shows k (after_grant_sent gift p) (Granting d gift)) ≡ true
+    → agrees (granted_moves n 0 1 1 (channel_for k)) k n (shows k p Own)
+    (shows k (after_grant_sent gift p) (Granting d gift)) ≡ true
 at_sender n Request p d gift t = absurd cc
 at_sender n Answer p d gift t = absurd cc
 at_sender n Acquire p d gift t = go (is_wanting p.acquiring)
@@ -43,8 +43,10 @@ at_sender n Grant p d gift t = rw (same_number n) refl
 at_sender n ReleaseAck p d gift t = same_again (is_acked p.letting)
 at_sender n GrantAck p d gift t = refl
 
-at_reporter : (n : ℕ) (k : Kind) (r : Report) (p : ClientBlock) (j : Cap) → is_transfer k ≡ true → p.probing ≡ ProbeAnswered r
-    → agrees (granted_moves n 1 0 1 (channel_for k)) k n (shows k p (Other j)) (shows k (after_report r p) GrantedOther) ≡ true
+at_reporter : (n : ℕ) (k : Kind) (r : Report) (p : ClientBlock) (j : Cap) → is_transfer k ≡ true
+    → p.probing ≡ ProbeAnswered r
+    → agrees (granted_moves n 1 0 1 (channel_for k)) k n (shows k p (Other j)) (shows k (after_report r p) GrantedOther)
+    ≡ true
 at_reporter n Request r p j t e = absurd cc
 at_reporter n Answer r p j t e = absurd cc
 at_reporter n Acquire r p j t e = same_again (is_wanting p.acquiring && true)
@@ -55,7 +57,8 @@ at_reporter n Grant r p j t e = refl
 at_reporter n ReleaseAck r p j t e = same_again (is_acked p.letting)
 at_reporter n GrantAck r p j t e = refl
 
-at_other : (n : ℕ) (k : Kind) (p : ClientBlock) (j : Cap) → is_transfer k ≡ true → agrees Stays k n (shows k p (Other j)) (shows k p GrantedOther) ≡ true
+at_other : (n : ℕ) (k : Kind) (p : ClientBlock) (j : Cap) → is_transfer k ≡ true
+    → agrees Stays k n (shows k p (Other j)) (shows k p GrantedOther) ≡ true
 at_other n Request p j t = absurd cc
 at_other n Answer p j t = absurd cc
 at_other n Acquire p j t = same_again (is_wanting p.acquiring && true)
@@ -88,7 +91,8 @@ moves_of_other n c q d channel.C o m = rw (ne_eqb d c o) refl
 moves_of_other n c q d channel.D o m = rw (ne_eqb d q m) refl
 moves_of_other n c q d channel.E o m = refl
 
-pub report_grants-kept : {X : Type 0} (caching : ℕ → Bool) (c q n : ℕ) (r : Report) (whole : Bool) (g : Grow) (gift : Cap) (source : ℕ) (k : Cap) (rest : List Packet) (s : State X)
+pub report_grants-kept : {X : Type 0} (caching : ℕ → Bool) (c q n : ℕ) (r : Report) (whole : Bool) (g : Grow)
+    (gift : Cap) (source : ℕ) (k : Cap) (rest : List Packet) (s : State X)
     → IsInvariant caching s
     → (s.link c).c ≡ packet ProbeAck n ∷ rest → IsLast c q r whole g gift source k (s.block n)
     → IsInvariant caching (report_grants c q n r (is_granted_data whole g ((s.block n).pair q).recorded) gift rest s)
@@ -100,7 +104,8 @@ report_grants-kept {X} caching c q n r whole g gift source k rest s inv first la
       fits = λ d j t. fits d j t (cases_eq d q) (cases_eq d c);
       in_order = λ d m e. never (d == c) m e;
     }) (λ d. (refl, bare (d == q)))
-    (names-kept n new links s inv.named (λ d i. rw (acquiring_same d) refl) (λ d i. rw last.waits refl) (λ d i. rw (letting_same d) refl) (λ i. rw last.waits refl))
+    (names-kept n new links s inv.named (λ d i. rw (acquiring_same d) refl) (λ d i. rw last.waits refl)
+    (λ d i. rw (letting_same d) refl) (λ i. rw last.waits refl))
   where
     with_data : Bool
     with_data = is_granted_data whole g ((s.block n).pair q).recorded
@@ -114,7 +119,8 @@ report_grants-kept {X} caching c q n r whole g gift source k rest s inv first la
     apart : c ≡ q → ⊥
     apart e =
         let own : view (s.block n).service q ≡ Own = rw (last.waits, same_number q) refl in
-        let quiet : is_unprobed ((s.block n).pair q).probing ≡ true = own_quiet ((s.block n).pair q) (view (s.block n).service q) ((inv.blocks n).phases q) own in
+        let quiet : is_unprobed ((s.block n).pair q).probing ≡ true =
+        own_quiet ((s.block n).pair q) (view (s.block n).service q) ((inv.blocks n).phases q) own in
         let answered : ((s.block n).pair q).probing ≡ ProbeAnswered r = rw e at last.answered in
         let differs : is_unprobed (ProbeAnswered r) ≡ true = rw answered at quiet in
         absurd cc
@@ -174,19 +180,24 @@ report_grants-kept {X} caching c q n r whole g gift source k rest s inv first la
     moved_c channel.D = refl
     moved_c channel.E = refl
 
-    moved : (d : ℕ) (ch : Channel) → IsMoved (granted_moves n c q d ch) (packets_on ch (s.link d)) (packets_on ch (links d))
+    moved : (d : ℕ) (ch : Channel) → IsMoved (granted_moves n c q d ch) (packets_on ch (s.link d))
+        (packets_on ch (links d))
     moved d ch = elim (cases_eq d q) [
-      | inl same ↦ rw same (moved_as (granted_moves n c q q ch) (granted_moves n 0 1 1 ch) (packets_on ch (s.link q)) (packets_on ch (links q))
+      | inl same ↦ rw same (moved_as (granted_moves n c q q ch) (granted_moves n 0 1 1 ch) (packets_on ch (s.link q))
+          (packets_on ch (links q))
           (packets_on ch at_q) (moves_of_sender n c q ch apart_too) (ap (packets_on ch) links_q) (moved_q ch))
       | inr m ↦ elim (cases_eq d c) [
-        | inl same ↦ rw same (moved_as (granted_moves n c q c ch) (granted_moves n 1 0 1 ch) (packets_on ch (s.link c)) (packets_on ch (links c))
+        | inl same ↦ rw same (moved_as (granted_moves n c q c ch) (granted_moves n 1 0 1 ch) (packets_on ch (s.link c))
+            (packets_on ch (links c))
             (packets_on ch at_c) (moves_of_reporter n c q ch apart) (ap (packets_on ch) links_c) (moved_c ch))
-        | inr o ↦ moved_as (granted_moves n c q d ch) Stays (packets_on ch (s.link d)) (packets_on ch (links d)) (packets_on ch (s.link d))
+        | inr o ↦ moved_as (granted_moves n c q d ch) Stays (packets_on ch (s.link d)) (packets_on ch (links d))
+            (packets_on ch (s.link d))
             (moves_of_other n c q d ch o m) (ap (packets_on ch) (links_other d m o)) refl
       ]
     ]
 
-    agrees_as : (j : Kind) (m p : Move) (a b x y : Bool) → m ≡ p → a ≡ x → b ≡ y → agrees p j n x y ≡ true → agrees m j n a b ≡ true
+    agrees_as : (j : Kind) (m p : Move) (a b x y : Bool) → m ≡ p → a ≡ x → b ≡ y → agrees p j n x y ≡ true
+        → agrees m j n a b ≡ true
     agrees_as j m p a b x y e f h t = rw (e, f, h) t
 
     old : ℕ → ClientBlock
@@ -218,23 +229,34 @@ report_grants-kept {X} caching c q n r whole g gift source k rest s inv first la
 
     acquiring_same : (d : ℕ) → (new.pair d).acquiring ≡ (old d).acquiring
     acquiring_same d =
-        let first_ : (set c after old q).acquiring ≡ (old q).acquiring = set-part (λ (p : ClientBlock). p.acquiring) c after old refl q in
-        set-part (λ (p : ClientBlock). p.acquiring) q (after_grant_sent gift (old q)) (set c after old) (sym first_) d ∙ set-part (λ (p : ClientBlock). p.acquiring) c after old refl d
+        let first_ : (set c after old q).acquiring ≡ (old q).acquiring =
+        set-part (λ (p : ClientBlock). p.acquiring) c after old refl q in
+        set-part (λ (p : ClientBlock). p.acquiring) q (after_grant_sent gift (old q)) (set c after old) (sym first_)
+        d ∙ set-part (λ (p : ClientBlock). p.acquiring) c after old refl d
 
     letting_same : (d : ℕ) → (new.pair d).letting ≡ (old d).letting
     letting_same d =
-        let first_ : (set c after old q).letting ≡ (old q).letting = set-part (λ (p : ClientBlock). p.letting) c after old refl q in
-        set-part (λ (p : ClientBlock). p.letting) q (after_grant_sent gift (old q)) (set c after old) (sym first_) d ∙ set-part (λ (p : ClientBlock). p.letting) c after old refl d
+        let first_ : (set c after old q).letting ≡ (old q).letting =
+        set-part (λ (p : ClientBlock). p.letting) c after old refl q in
+        set-part (λ (p : ClientBlock). p.letting) q (after_grant_sent gift (old q)) (set c after old) (sym first_)
+        d ∙ set-part (λ (p : ClientBlock). p.letting) c after old refl d
 
-    fits : (d : ℕ) (j : Kind) → is_transfer j ≡ true → (d ≡ q) ⊎ (d ≡ q → ⊥) → (d ≡ c) ⊎ (d ≡ c → ⊥) → agrees (granted_moves n c q d (channel_for j)) j n (shown j d (s.block n)) (shown j d new) ≡ true
+    fits : (d : ℕ) (j : Kind) → is_transfer j ≡ true → (d ≡ q) ⊎ (d ≡ q → ⊥) → (d ≡ c) ⊎ (d ≡ c → ⊥)
+        → agrees (granted_moves n c q d (channel_for j)) j n (shown j d (s.block n)) (shown j d new) ≡ true
     fits d j t (inl same) o =
-        rw same (agrees_as j (granted_moves n c q q (channel_for j)) (granted_moves n 0 1 1 (channel_for j)) (shown j q (s.block n)) (shown j q new)
+        rw same (agrees_as j (granted_moves n c q q (channel_for j)) (granted_moves n 0 1 1 (channel_for j))
+        (shown j q (s.block n)) (shown j q new)
         (shows j (old q) Own) (shows j (after_grant_sent gift (old q)) (Granting with_data gift))
-        (moves_of_sender n c q (channel_for j) apart_too) (ap (shows j (old q)) view_q) (ap₂ (shows j) pair_q new_q) (at_sender n j (old q) with_data gift t))
+        (moves_of_sender n c q (channel_for j) apart_too) (ap (shows j (old q)) view_q) (ap₂ (shows j) pair_q new_q)
+        (at_sender n j (old q) with_data gift t))
     fits d j t (inr m) (inl same) =
-        rw same (agrees_as j (granted_moves n c q c (channel_for j)) (granted_moves n 1 0 1 (channel_for j)) (shown j c (s.block n)) (shown j c new)
+        rw same (agrees_as j (granted_moves n c q c (channel_for j)) (granted_moves n 1 0 1 (channel_for j))
+        (shown j c (s.block n)) (shown j c new)
         (shows j (old c) (Other k)) (shows j after GrantedOther)
-        (moves_of_reporter n c q (channel_for j) apart) (ap (shows j (old c)) (view_other c apart)) (ap₂ (shows j) pair_c (new_other c apart)) (at_reporter n j r (old c) k t last.answered))
+        (moves_of_reporter n c q (channel_for j) apart) (ap (shows j (old c)) (view_other c apart))
+        (ap₂ (shows j) pair_c (new_other c apart)) (at_reporter n j r (old c) k t last.answered))
     fits d j t (inr m) (inr o) =
-        agrees_as j (granted_moves n c q d (channel_for j)) Stays (shown j d (s.block n)) (shown j d new) (shows j (old d) (Other k)) (shows j (old d) GrantedOther)
-        (moves_of_other n c q d (channel_for j) o m) (ap (shows j (old d)) (view_other d m)) (ap₂ (shows j) (pair_other d m o) (new_other d m)) (at_other n j (old d) k t)
+        agrees_as j (granted_moves n c q d (channel_for j)) Stays (shown j d (s.block n)) (shown j d new)
+        (shows j (old d) (Other k)) (shows j (old d) GrantedOther)
+        (moves_of_other n c q d (channel_for j) o m) (ap (shows j (old d)) (view_other d m))
+        (ap₂ (shows j) (pair_other d m o) (new_other d m)) (at_other n j (old d) k t)

@@ -1,23 +1,22 @@
 -- What is due to a client: the message of the first token of channel D, and what it answers.
+use Rattle.tl_coherence.proofs.protocol.Imports.{Message, MessageA, Cap, Grow, is_replied, IsInvariant, Own, Other}
+use Rattle.tl_coherence.proofs.protocol.Imports.{Granting, Acknowledging, GrantedOther, ReleasePhase, NoRelease}
+use Rattle.tl_coherence.proofs.protocol.Imports.{ReleaseSent, ReleaseAcked, AcquirePhase, NoAcquire, AcquireOpen}
+use Rattle.tl_coherence.proofs.protocol.Imports.{is_unacquired, is_unreleased, Service, Free, Waits, GrantSent}
+use Rattle.tl_coherence.proofs.protocol.Imports.{GrantTaken, State, Replied, Acquires, view, packet, shown, is_wanting}
+use Rattle.tl_coherence.proofs.protocol.Imports.{is_granting, is_acked, AccessMessages, block_message, Answer, Grant}
+use Rattle.tl_coherence.proofs.protocol.Imports.{ReleaseAck, Packet}
 use Rattle.std.proofs.Common.{◌≡◌, ℕ, Bool, true, false, not, ◌&&◌, List, ◌∷◌, Some, refl, sym, ◌∙◌, ap, lit≤}
 use Rattle.std.specs.Prelude.{◌==◌, if◌then◌else◌}
 use Rattle.std.proofs.lemmas.Bool.{eqb-true, and_from}
 use Rattle.tl_beat.specs.declared.opcode.OpD.TheVariants as opd
-use Rattle.tl_burst.specs.declared.message.Message.{Message}
 use Rattle.tl_burst.specs.declared.message.Message.TheVariants as message
-use Rattle.tl_burst.specs.declared.message.MessageA.{MessageA}
 use Rattle.tl_burst.specs.declared.message.MessageD.{MessageD}
-use Rattle.tl_params.specs.declared.param.Cap.{Cap}
-use Rattle.tl_params.specs.declared.param.Grow.{Grow}
 use Rattle.tl_params.specs.statement.Param.{cap_code}
 use Rattle.tl_rules.specs.statement.Conformance.{answers}
 use Rattle.tl_manager.specs.statement.Handing.{grant_opcode, no_payload}
 use Rattle.tl_manager.specs.statement.Service.{is_access_answer}
-use Rattle.tl_coherence.specs.protocol.Invariant.{is_replied, IsInvariant}
-use Rattle.tl_coherence.specs.protocol.Phase.{Own, Other, Granting, Acknowledging, GrantedOther, ReleasePhase, NoRelease, ReleaseSent, ReleaseAcked, AcquirePhase, NoAcquire, AcquireOpen, is_unacquired, is_unreleased, grant_fits}
-use Rattle.tl_coherence.specs.protocol.Protocol.{Service, Free, Waits, GrantSent, GrantTaken, State, Replied, Acquires, view, packet, shown, is_wanting, is_granting, is_acked}
-use Rattle.tl_coherence.specs.refinement.PacketMessages.{AccessMessages, block_message}
-use Rattle.tl_coherence.specs.protocol.Packet.{Answer, Grant, ReleaseAck, Packet}
+use Rattle.tl_coherence.specs.protocol.Phase.{grant_fits}
 use Rattle.tl_coherence.specs.refinement.SimulationRelation.{IsAnswered}
 use Rattle.tl_coherence.proofs.queues.Facts.{grant_is_fit, granting_asks}
 use Rattle.tl_coherence.proofs.queues.Tokens.{same_number, holds-first}
@@ -37,15 +36,19 @@ pub record IsAnswerDue {w : ℕ} (c source : ℕ) (mail : AccessMessages w) (s :
   pub from : answer.source ≡ source
   pub size : answer.size ≡ request.size
 
-pub answer-due : {w : ℕ} (caching : ℕ → Bool) (c source : ℕ) (rest : List Packet) (mail : AccessMessages w) (s : State (List ℕ)) → IsInvariant caching s
+pub answer-due : {w : ℕ} (caching : ℕ → Bool) (c source : ℕ) (rest : List Packet) (mail : AccessMessages w)
+    (s : State (List ℕ)) → IsInvariant caching s
     → IsAnswered source (mail.request c source) (mail.answer c source) (s.uses c source)
     → (s.link c).d ≡ packet Answer source ∷ rest → IsAnswerDue c source mail s
-answer-due {w} caching c source rest mail s inv answered first = go (mail.request c source) (mail.answer c source) refl refl (rw used at answered)
+answer-due {w} caching c source rest mail s inv answered first = go (mail.request c source) (mail.answer c source) refl
+    refl (rw used at answered)
   where
     used : s.uses c source ≡ Replied
-    used = is_replied-is (s.uses c source) (holds-first Answer (s.link c).d rest (packet Answer source) (λ i. is_replied (s.uses c i)) first refl (inv.answers c))
+    used = is_replied-is (s.uses c source) (holds-first Answer (s.link c).d rest (packet Answer source)
+        (λ i. is_replied (s.uses c i)) first refl (inv.answers c))
 
-    go : (a b : Message w) → mail.request c source ≡ a → mail.answer c source ≡ b → IsAnswered source a b Replied → IsAnswerDue c source mail s
+    go : (a b : Message w) → mail.request c source ≡ a → mail.answer c source ≡ b → IsAnswered source a b Replied
+        → IsAnswerDue c source mail s
     go (message.A m) (message.D x) e f is = record {
       used = used;
       answer = x;
@@ -78,7 +81,8 @@ pub record IsGrantDue (c n : ℕ) (s : State (List ℕ)) : Type 0 where
   pub fits : grant_fits ((s.block n).pair c).recorded ((s.block n).pair c).held data_too k (AcquireOpen whole g) ≡ true
   pub used : s.uses c ((s.block n).source c) ≡ Acquires n
 
-pub granting-service : (s : Service) (c : ℕ) → is_granting (view s c) ≡ true → (d : Bool) × (k : Cap) × (s ≡ GrantSent c d k)
+pub granting-service : (s : Service) (c : ℕ) → is_granting (view s c) ≡ true → (d : Bool) × (k : Cap)
+    × (s ≡ GrantSent c d k)
 granting-service Free c e = absurd cc
 granting-service (Waits q o source k) c e = absurd (never (o && (c == q)) e)
   where
@@ -101,26 +105,31 @@ wanting_is NoAcquire e = absurd cc
 wanting_is (AcquireOpen whole g) e = (whole, g, refl)
 
 -- the use of the source of an open Acquire
-pub acquire-used : (caching : ℕ → Bool) (c n : ℕ) (s : State (List ℕ)) → IsInvariant caching s → is_wanting ((s.block n).pair c).acquiring ≡ true → s.uses c ((s.block n).source c) ≡ Acquires n
+pub acquire-used : (caching : ℕ → Bool) (c n : ℕ) (s : State (List ℕ)) → IsInvariant caching s
+    → is_wanting ((s.block n).pair c).acquiring ≡ true → s.uses c ((s.block n).source c) ≡ Acquires n
 acquire-used caching c n s inv wanting =
     acquires_of-is n (s.uses c ((s.block n).source c))
     (inv.named.acquires c ((s.block n).source c) n ∙ and_from (is_wanting ((s.block n).pair c).acquiring)
     ((s.block n).source c == (s.block n).source c) wanting (same_number ((s.block n).source c)))
 
 -- how the client of a Grant sees the block
-pub own_view : (c : ℕ) (d : Bool) (k : Cap) (service : Service) → service ≡ GrantSent c d k → view service c ≡ Granting d k
+pub own_view : (c : ℕ) (d : Bool) (k : Cap) (service : Service) → service ≡ GrantSent c d k
+    → view service c ≡ Granting d k
 own_view c d k service e = ap (λ (x : Service). view x c) e ∙ here (c == c) (same_number c)
   where
     here : (x : Bool) → x ≡ true → (if x then Granting d k else GrantedOther) ≡ Granting d k
     here x f = rw f refl
 
-pub grant-due : (caching : ℕ → Bool) (c n : ℕ) (rest : List Packet) (s : State (List ℕ)) → IsInvariant caching s → (s.link c).d ≡ packet Grant n ∷ rest → IsGrantDue c n s
+pub grant-due : (caching : ℕ → Bool) (c n : ℕ) (rest : List Packet) (s : State (List ℕ)) → IsInvariant caching s
+    → (s.link c).d ≡ packet Grant n ∷ rest → IsGrantDue c n s
 grant-due caching c n rest s inv first =
     let b = s.block n in
-    let seen : is_granting (view b.service c) ≡ true = holds-first Grant (s.link c).d rest (packet Grant n) (λ i. shown Grant c (s.block i)) first refl (inv.transfers c Grant refl) in
+    let seen : is_granting (view b.service c) ≡ true = holds-first Grant (s.link c).d rest (packet Grant n)
+    (λ i. shown Grant c (s.block i)) first refl (inv.transfers c Grant refl) in
     let sent = granting-service b.service c seen in
     let mine : view b.service c ≡ Granting sent.0 sent.1 = own_view c sent.0 sent.1 b.service sent.2 in
-    let wants = wanting_is (b.pair c).acquiring (granting_asks sent.0 sent.1 (b.pair c) (view b.service c) ((inv.blocks n).phases c) mine) in
+    let wants = wanting_is (b.pair c).acquiring (granting_asks sent.0 sent.1 (b.pair c) (view b.service c)
+    ((inv.blocks n).phases c) mine) in
     let fits = grant_is_fit sent.0 sent.1 (b.pair c) (view b.service c) ((inv.blocks n).phases c) mine in
     record {
       data_too = sent.0;
@@ -129,7 +138,8 @@ grant-due caching c n rest s inv first =
       g = wants.1;
       service = sent.2;
       wants = wants.2;
-      fits = sym (ap (λ (x : AcquirePhase). grant_fits (b.pair c).recorded (b.pair c).held sent.0 sent.1 x) wants.2) ∙ fits;
+      fits = sym (ap (λ (x : AcquirePhase). grant_fits (b.pair c).recorded (b.pair c).held sent.0 sent.1 x) wants.2)
+          ∙ fits;
       used = acquire-used caching c n s inv (ap is_wanting wants.2);
     }
 
@@ -148,7 +158,8 @@ grant_message d k source sink payload = record {
 }
 
 pub grant-rendered : {w : ℕ} (c n : ℕ) (s : State (List ℕ)) (is : IsGrantDue c n s)
-    → block_message {w = w} Grant c n (s.block n) ≡ message.D (grant_message is.data_too is.k ((s.block n).source c) (s.block n).tracker (s.block n).truth)
+    → block_message {w = w} Grant c n (s.block n) ≡ message.D (grant_message is.data_too is.k ((s.block n).source c)
+    (s.block n).tracker (s.block n).truth)
 unfolding block_message
 grant-rendered {w} c n s is = rw is.service refl
 
@@ -156,20 +167,35 @@ grant-rendered {w} c n s is = rw is.service refl
 
 -- the message of a ReleaseAck
 abbrev pub ack_message : {w : ℕ} → ℕ → MessageD w
-ack_message source = record { opcode = opd.ReleaseAck; param = 0; size = 6; source = source; sink = 0; denied = false; payload = no_payload; corrupt = 0; small = lit≤ tt }
+ack_message source = record {
+  opcode = opd.ReleaseAck;
+  param = 0;
+  size = 6;
+  source = source;
+  sink = 0;
+  denied =
+      false;
+  payload = no_payload;
+  corrupt = 0;
+  small = lit≤ tt;
+}
 
 acked_open : (x : ReleasePhase) → is_acked x ≡ true → not (is_unreleased x) ≡ true
 acked_open ReleaseAcked e = refl
 acked_open NoRelease e = absurd cc
 acked_open (ReleaseSent r) e = absurd cc
 
-pub ack-due : (caching : ℕ → Bool) (c n : ℕ) (rest : List Packet) (s : State (List ℕ)) → IsInvariant caching s → (s.link c).d ≡ packet ReleaseAck n ∷ rest
+pub ack-due : (caching : ℕ → Bool) (c n : ℕ) (rest : List Packet) (s : State (List ℕ)) → IsInvariant caching s
+    → (s.link c).d ≡ packet ReleaseAck n ∷ rest
     → s.lets c ((s.block n).release_source c) ≡ Some n
 ack-due caching c n rest s inv first =
     let acked : is_acked ((s.block n).pair c).letting ≡ true =
-    holds-first ReleaseAck (s.link c).d rest (packet ReleaseAck n) (λ i. shown ReleaseAck c (s.block i)) first refl (inv.transfers c ReleaseAck refl) in
-    let live : not (is_unreleased ((s.block n).pair c).letting) ≡ true = acked_open ((s.block n).pair c).letting acked in
+    holds-first ReleaseAck (s.link c).d rest (packet ReleaseAck n) (λ i. shown ReleaseAck c (s.block i)) first refl
+    (inv.transfers c ReleaseAck refl) in
+    let live : not (is_unreleased ((s.block n).pair c).letting) ≡ true =
+    acked_open ((s.block n).pair c).letting acked in
     is_of-is n (s.lets c ((s.block n).release_source c))
     (inv.named.releases c ((s.block n).release_source c) n
-    ∙ and_from (not (is_unreleased ((s.block n).pair c).letting)) ((s.block n).release_source c == (s.block n).release_source c) live
+    ∙ and_from (not (is_unreleased ((s.block n).pair c).letting))
+    ((s.block n).release_source c == (s.block n).release_source c) live
     (same_number ((s.block n).release_source c)))

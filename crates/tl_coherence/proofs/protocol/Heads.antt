@@ -1,18 +1,17 @@
 -- The request whose beat is first on channel A of a link: an access that was asked, or an Acquire that is wanted.
-use Rattle.std.proofs.Common.{◌≡◌, ℕ, ◌-◌, ◌*◌, ◌^◌, ◌<◌, Bool, true, false, ◌&&◌, List, ◌∷◌, Some, None, refl, sym, ◌∙◌, ap, inl, inr, arith}
+use Rattle.tl_coherence.proofs.protocol.Imports.{Beat, Message, MessageA, beats_of, Config, Grow, is_asked, AcquireOpen}
+use Rattle.tl_coherence.proofs.protocol.Imports.{Block, State, Asked, Acquires, packet, shown, is_wanting, is_unserved}
+use Rattle.tl_coherence.proofs.protocol.Imports.{view, AccessMessages, block_message, Request, Acquire, Packet}
+use Rattle.std.proofs.Common.{◌≡◌, ℕ, ◌-◌, ◌*◌, ◌^◌, ◌<◌, Bool, true, false, ◌&&◌, List, ◌∷◌, Some, None, refl, sym}
+use Rattle.std.proofs.Common.{◌∙◌, ap, inl, inr, arith}
 use Rattle.std.proofs.lemmas.Option.{same_Some}
 use Rattle.std.specs.Prelude.{map}
 use Rattle.tl_beat.specs.statement.Width.{IsWidth}
-use Rattle.tl_beat.specs.declared.beat.Beat.{Beat}
 use Rattle.tl_beat.specs.declared.channel.Channel.TheVariants as channel
-use Rattle.tl_burst.specs.declared.message.Message.{Message}
 use Rattle.tl_burst.specs.declared.message.Message.TheVariants as message
-use Rattle.tl_burst.specs.declared.message.MessageA.{MessageA}
-use Rattle.tl_burst.specs.statement.Burst.{a_beat_of, beats_of, IsBlankAfter}
+use Rattle.tl_burst.specs.statement.Burst.{a_beat_of, IsBlankAfter}
 use Rattle.tl_burst.specs.statement.Messages.{unfinished}
 use Rattle.tl_burst.proofs.Splitting.{beats-positive}
-use Rattle.tl_params.specs.declared.config.Config.{Config}
-use Rattle.tl_params.specs.declared.param.Grow.{Grow}
 use Rattle.tl_rules.specs.statement.Conformance.{on_link}
 use Rattle.tl_rules.specs.statement.History.{block_at, is_acquire}
 use Rattle.tl_client.specs.statement.Requests.{open_beat}
@@ -23,13 +22,9 @@ use Rattle.tl_manager.specs.code.Kept.{illegal_message_at}
 use Rattle.tl_manager.specs.statement.Offer.{level_of}
 use Rattle.tl_coherence.specs.refinement.Carried.{IsCarried}
 use Rattle.tl_coherence.specs.refinement.AbstractStep.{acquire_opcode}
-use Rattle.tl_coherence.specs.protocol.Invariant.{is_asked}
 use Rattle.tl_coherence.specs.statement.Log.{Log}
-use Rattle.tl_coherence.specs.protocol.Phase.{AcquireOpen}
-use Rattle.tl_coherence.specs.protocol.Protocol.{Block, State, Asked, Acquires, packet, shown, is_wanting, is_unserved, view}
-use Rattle.tl_coherence.specs.refinement.PacketMessages.{AccessMessages, block_message, message_of, messages_on}
+use Rattle.tl_coherence.specs.refinement.PacketMessages.{message_of, messages_on}
 use Rattle.tl_coherence.specs.statement.System.{System}
-use Rattle.tl_coherence.specs.protocol.Packet.{Request, Acquire, Packet}
 use Rattle.tl_coherence.specs.refinement.SimulationRelation.{SimulationRelation, IsRequest, first_of, request_source}
 use Rattle.tl_coherence.proofs.queues.Carried.{carried-next, IsNext}
 use Rattle.tl_coherence.proofs.queues.Phases.{and_left, and_right}
@@ -52,24 +47,28 @@ of_source source (message.C m) e = absurd cc
 of_source source (message.D m) e = absurd cc
 of_source source (message.E m) e = absurd cc
 
-pub record IsAsked {w : ℕ} (config : Config) (c source : ℕ) (mail : AccessMessages w) (s : State (List ℕ)) : Type 0 where
-  pub request : MessageA w
-  pub is_it : mail.request c source ≡ message.A request
-  pub source_is : request.source ≡ source
-  pub used : s.uses c source ≡ Asked
-  pub access : is_acquire request.opcode ≡ false
-  pub lawful : illegal_message_at (level_of config c) (message.A request) ≡ None
-  pub blank : IsBlankAfter (beats_of (message.A request)) (message.A request)
+pub record IsAsked {w : ℕ} (config : Config) (c source : ℕ) (mail : AccessMessages w) (s : State (List ℕ)) : Type 0
+  where
+    pub request : MessageA w
+    pub is_it : mail.request c source ≡ message.A request
+    pub source_is : request.source ≡ source
+    pub used : s.uses c source ≡ Asked
+    pub access : is_acquire request.opcode ≡ false
+    pub lawful : illegal_message_at (level_of config c) (message.A request) ≡ None
+    pub blank : IsBlankAfter (beats_of (message.A request)) (message.A request)
 
-pub rendered-acquire : {w : ℕ} (c n : ℕ) (b : Block (List ℕ)) (whole : Bool) (g : Grow) → (b.pair c).acquiring ≡ AcquireOpen whole g
+pub rendered-acquire : {w : ℕ} (c n : ℕ) (b : Block (List ℕ)) (whole : Bool) (g : Grow)
+    → (b.pair c).acquiring ≡ AcquireOpen whole g
     → block_message {w = w} Acquire c n b ≡ message.A (acquisition (acquire_opcode whole) g (b.source c) n)
 unfolding block_message
 rendered-acquire {w} c n b true g e = rw e refl
 rendered-acquire {w} c n b false g e = rw e refl
 
 -- an access that was asked is no Acquire: the client has one Acquire of a block open at most, and that is another one
-asked-access : {w : ℕ} (config : Config) (log : Log w) (mail : AccessMessages w) (request : ℕ → MessageA w) (s : State (List ℕ)) (sys : System w) (c source : ℕ) (m : MessageA w)
-    → SimulationRelation config log mail request s sys → s.uses c source ≡ Asked → mail.request c source ≡ message.A m → is_acquire m.opcode ≡ false
+asked-access : {w : ℕ} (config : Config) (log : Log w) (mail : AccessMessages w) (request : ℕ → MessageA w)
+    (s : State (List ℕ)) (sys : System w) (c source : ℕ) (m : MessageA w)
+    → SimulationRelation config log mail request s sys → s.uses c source ≡ Asked → mail.request c source ≡ message.A m
+    → is_acquire m.opcode ≡ false
 asked-access {w} config log mail request s sys c source m is used mailed = go (is_acquire m.opcode) refl
   where
     n : ℕ
@@ -84,12 +83,17 @@ asked-access {w} config log mail request s sys c source m is used mailed = go (i
     both : is_acquire m.opcode ≡ true → ⊥
     both e =
         let mine : acquires n (open_beat source (sys.clients c).past) ≡ true = rw (opens, e, same_number n) refl in
-        let wants : is_wanting (b.pair c).acquiring ≡ true = sym ((is.known c).acquires n) ∙ (is.kept c).outstanding source n mine in
+        let wants : is_wanting (b.pair c).acquiring ≡ true = sym ((is.known c).acquires n) ∙ (is.kept c).outstanding
+        source n mine in
         let asks = wanting-is (b.pair c).acquiring wants in
-        let used_too : s.uses c (b.source c) ≡ Acquires n = acquires_of-is n (s.uses c (b.source c)) (is.invariant.named.acquires c (b.source c) n ∙ rw (wants, same_number (b.source c)) refl) in
-        let opens_too : open_beat (b.source c) (sys.clients c).past ≡ Some (a_beat_of (acquisition (acquire_opcode asks.0) asks.1 (b.source c) n) 0) =
+        let used_too : s.uses c (b.source c) ≡ Acquires n =
+        acquires_of-is n (s.uses c (b.source c)) (is.invariant.named.acquires c (b.source c) n ∙ rw
+        (wants, same_number (b.source c)) refl) in
+        let opens_too : open_beat (b.source c) (sys.clients c).past ≡ Some
+        (a_beat_of (acquisition (acquire_opcode asks.0) asks.1 (b.source c) n) 0) =
         (is.known c).opens (b.source c) ∙ rw used_too (ap first_of (rendered-acquire c n b asks.0 asks.1 asks.2)) in
-        let theirs : acquires n (open_beat (b.source c) (sys.clients c).past) ≡ true = rw (opens_too, acquires-so asks.0, same_block n, same_number n) refl in
+        let theirs : acquires n (open_beat (b.source c) (sys.clients c).past) ≡ true =
+        rw (opens_too, acquires-so asks.0, same_block n, same_number n) refl in
         let same : source ≡ b.source c = (is.kept c).once source (b.source c) n mine theirs in
         let no : Asked ≡ Acquires n = sym used ∙ ap (s.uses c) same ∙ used_too in
         cc
@@ -98,8 +102,10 @@ asked-access {w} config log mail request s sys c source m is used mailed = go (i
     go true e = absurd (both e)
     go false e = refl
 
-pub asked-first : {w : ℕ} (config : Config) (log : Log w) (mail : AccessMessages w) (request : ℕ → MessageA w) (s : State (List ℕ)) (sys : System w) (c source : ℕ) (rest : List Packet)
-    → SimulationRelation config log mail request s sys → (s.link c).a ≡ packet Request source ∷ rest → IsAsked config c source mail s
+pub asked-first : {w : ℕ} (config : Config) (log : Log w) (mail : AccessMessages w) (request : ℕ → MessageA w)
+    (s : State (List ℕ)) (sys : System w) (c source : ℕ) (rest : List Packet)
+    → SimulationRelation config log mail request s sys → (s.link c).a ≡ packet Request source ∷ rest
+    → IsAsked config c source mail s
 asked-first {w} config log mail request s sys c source rest is first = record {
   request = of.request;
   is_it = of.is_it;
@@ -111,7 +117,8 @@ asked-first {w} config log mail request s sys c source rest is first = record {
 }
   where
     used : s.uses c source ≡ Asked
-    used = is_asked-is (s.uses c source) (holds-first Request (s.link c).a rest (packet Request source) (λ i. is_asked (s.uses c i)) first refl (is.invariant.requests c))
+    used = is_asked-is (s.uses c source) (holds-first Request (s.link c).a rest (packet Request source)
+        (λ i. is_asked (s.uses c i)) first refl (is.invariant.requests c))
 
     sourced : IsRequest config c source (mail.request c source)
     sourced = rw used at (is.sourced c source)
@@ -127,16 +134,19 @@ pub record IsWanted (w c n : ℕ) (s : State (List ℕ)) : Type 0 where
   pub wants : ((s.block n).pair c).acquiring ≡ AcquireOpen whole grow
   pub unserved : is_unserved (view (s.block n).service c) ≡ true
   pub used : s.uses c ((s.block n).source c) ≡ Acquires n
-  pub renders : block_message {w = w} Acquire c n (s.block n) ≡ message.A (acquisition (acquire_opcode whole) grow ((s.block n).source c) n)
+  pub renders : block_message {w = w} Acquire c n (s.block n) ≡ message.A
+      (acquisition (acquire_opcode whole) grow ((s.block n).source c) n)
 
-pub wanted-first : {w : ℕ} (config : Config) (log : Log w) (mail : AccessMessages w) (request : ℕ → MessageA w) (s : State (List ℕ)) (sys : System w) (c n : ℕ) (rest : List Packet)
+pub wanted-first : {w : ℕ} (config : Config) (log : Log w) (mail : AccessMessages w) (request : ℕ → MessageA w)
+    (s : State (List ℕ)) (sys : System w) (c n : ℕ) (rest : List Packet)
     → SimulationRelation config log mail request s sys → (s.link c).a ≡ packet Acquire n ∷ rest → IsWanted w c n s
 wanted-first {w} config log mail request s sys c n rest is first = record {
   whole = asks.0;
   grow = asks.1;
   wants = asks.2;
   unserved = and_right (is_wanting (b.pair c).acquiring) (is_unserved (view b.service c)) shows;
-  used = acquires_of-is n (s.uses c (b.source c)) (is.invariant.named.acquires c (b.source c) n ∙ rw (wants, same_number (b.source c)) refl);
+  used = acquires_of-is n (s.uses c (b.source c)) (is.invariant.named.acquires c (b.source c) n ∙ rw
+      (wants, same_number (b.source c)) refl);
   renders = rendered-acquire c n b asks.0 asks.1 asks.2;
 }
   where
@@ -144,7 +154,8 @@ wanted-first {w} config log mail request s sys c n rest is first = record {
     b = s.block n
 
     shows : (is_wanting (b.pair c).acquiring && is_unserved (view b.service c)) ≡ true
-    shows = holds-first Acquire (s.link c).a rest (packet Acquire n) (λ i. shown Acquire c (s.block i)) first refl (is.invariant.transfers c Acquire refl)
+    shows = holds-first Acquire (s.link c).a rest (packet Acquire n) (λ i. shown Acquire c (s.block i)) first refl
+        (is.invariant.transfers c Acquire refl)
 
     wants : is_wanting (b.pair c).acquiring ≡ true
     wants = and_left (is_wanting (b.pair c).acquiring) (is_unserved (view b.service c)) shows
@@ -154,32 +165,45 @@ wanted-first {w} config log mail request s sys c n rest is first = record {
 
 -- all that no beat of it carries is zero
 narrow : (w : ℕ) → IsWidth w → 2 ^ w - 1 < 2 ^ (w * 1)
-narrow w is = elim is [ inl four ↦ rw four (omega arith) | inr more ↦ elim more [ inl eight ↦ rw eight (omega arith) | inr sixteen ↦ rw sixteen (omega arith) ] ]
+narrow w is = elim is [
+  | inl four ↦ rw four (omega arith)
+  | inr more ↦ elim more
+      [ inl eight ↦ rw eight (omega arith) | inr sixteen ↦ rw sixteen (omega arith) ]
+]
 
-acquisition_blank : (w : ℕ) (whole : Bool) (g : Grow) (source n : ℕ) → IsWidth w → IsBlankAfter {w = w} 1 (message.A (acquisition (acquire_opcode whole) g source n))
+acquisition_blank : (w : ℕ) (whole : Bool) (g : Grow) (source n : ℕ) → IsWidth w
+    → IsBlankAfter {w = w} 1 (message.A (acquisition (acquire_opcode whole) g source n))
 acquisition_blank w true g source n width = (refl, narrow w width, omega arith)
 acquisition_blank w false g source n width = (refl, narrow w width, omega arith)
 
-pub acquisition_beats : (w : ℕ) (whole : Bool) (g : Grow) (source n : ℕ) → beats_of {w = w} (message.A (acquisition (acquire_opcode whole) g source n)) ≡ 1
+pub acquisition_beats : (w : ℕ) (whole : Bool) (g : Grow) (source n : ℕ)
+    → beats_of {w = w} (message.A (acquisition (acquire_opcode whole) g source n)) ≡ 1
 acquisition_beats w true g source n = refl
 acquisition_beats w false g source n = refl
 
 pub acquisition-blank : (w : ℕ) (whole : Bool) (g : Grow) (source n : ℕ) → IsWidth w
     → IsBlankAfter {w = w} (beats_of {w = w} (message.A (acquisition (acquire_opcode whole) g source n)))
     (message.A (acquisition (acquire_opcode whole) g source n))
-acquisition-blank w whole g source n width = rw (acquisition_beats w whole g source n) (acquisition_blank w whole g source n width)
+acquisition-blank w whole g source n width =
+    rw (acquisition_beats w whole g source n) (acquisition_blank w whole g source n width)
 
 -- ---- its first beat that isn't taken
 
-pub front-of : {w : ℕ} (config : Config) (log : Log w) (mail : AccessMessages w) (request : ℕ → MessageA w) (s : State (List ℕ)) (sys : System w) (c : ℕ) (first : Packet)
+pub front-of : {w : ℕ} (config : Config) (log : Log w) (mail : AccessMessages w) (request : ℕ → MessageA w)
+    (s : State (List ℕ)) (sys : System w) (c : ℕ) (first : Packet)
     (rest : List Packet) (m : MessageA w) (x : Beat w) (queue : List (Beat w))
-    → IsWidth w → SimulationRelation config log mail request s sys → (s.link c).a ≡ first ∷ rest → message_of mail s c first ≡ message.A m → sys.channels c channel.A ≡ x ∷ queue
+    → IsWidth w → SimulationRelation config log mail request s sys → (s.link c).a ≡ first ∷ rest
+    → message_of mail s c first ≡ message.A m → sys.channels c channel.A ≡ x ∷ queue
     → IsNext x (unfinished channel.A (on_link c sys.manager.trace)) (message.A m) (map (message_of mail s c) rest) queue
 front-of {w} config log mail request s sys c first rest m x queue width is tokens is_it beats =
-    carried-next x (unfinished channel.A (on_link c sys.manager.trace)) (message.A m) (map (message_of mail s c) rest) queue (λ i. beats-positive i width)
-    (carried_so (messages_on channel.A mail s c) (message.A m ∷ map (message_of mail s c) rest) (sys.channels c channel.A) (x ∷ queue)
-    (ap (map (message_of mail s c)) tokens ∙ ap (λ (i : Message w). i ∷ map (message_of mail s c) rest) is_it) beats (is.carried c channel.A))
+    carried-next x (unfinished channel.A (on_link c sys.manager.trace)) (message.A m) (map (message_of mail s c) rest)
+    queue (λ i. beats-positive i width)
+    (carried_so (messages_on channel.A mail s c) (message.A m ∷ map (message_of mail s c) rest)
+    (sys.channels c channel.A) (x ∷ queue)
+    (ap (map (message_of mail s c)) tokens ∙ ap (λ (i : Message w). i ∷ map (message_of mail s c) rest) is_it) beats
+    (is.carried c channel.A))
   where
-    carried_so : (ms ns : List (Message w)) (q r : List (Beat w)) → ms ≡ ns → q ≡ r → IsCarried (unfinished channel.A (on_link c sys.manager.trace)) ms q
+    carried_so : (ms ns : List (Message w)) (q r : List (Beat w)) → ms ≡ ns → q ≡ r
+        → IsCarried (unfinished channel.A (on_link c sys.manager.trace)) ms q
         → IsCarried (unfinished channel.A (on_link c sys.manager.trace)) ns r
     carried_so ms ns q r e f h = rw (← e, ← f) h

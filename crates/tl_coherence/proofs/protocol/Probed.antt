@@ -1,22 +1,20 @@
 -- A Probe that is taken keeps the invariant.
+use Rattle.tl_coherence.proofs.protocol.Imports.{Channel, Cap, Perm, report_right, same_perm, ClientBlock, View}
+use Rattle.tl_coherence.proofs.protocol.Imports.{NoProbe, ProbeSent, NoRelease, is_unprobed, Kind, Request, Acquire}
+use Rattle.tl_coherence.proofs.protocol.Imports.{Probe, ProbeAck, Release, Answer, Grant, ReleaseAck, GrantAck, Packet}
+use Rattle.tl_coherence.proofs.protocol.Imports.{set, count, Block, State, Link, view, packet, is_transfer, is_wanting}
+use Rattle.tl_coherence.proofs.protocol.Imports.{is_unserved, is_releasing, is_acked, is_granting, is_acknowledging}
+use Rattle.tl_coherence.proofs.protocol.Imports.{shows, Move, Stays, Pushes, Pops, AreMoved, agrees, is_own_move}
+use Rattle.tl_coherence.proofs.protocol.Imports.{channel_for, resting, IsWell, IsInvariant}
 use Rattle.std.proofs.Common.{◌≡◌, ◌&&◌, refl, sym, ◌∙◌, ap, inl, inr}
 use Rattle.std.specs.Prelude.{ℕ, Bool, true, false, List, ◌∷◌}
 use Rattle.std.proofs.lemmas.Bool.{cases_eq}
-use Rattle.tl_beat.specs.declared.channel.Channel.{Channel}
 use Rattle.tl_beat.specs.declared.channel.Channel.TheVariants as channel
-use Rattle.tl_params.specs.declared.param.Cap.{Cap}
 use Rattle.tl_params.specs.declared.param.Cap.TheVariants as cap
-use Rattle.tl_params.specs.declared.perm.Perm.{Perm}
 use Rattle.tl_params.specs.declared.perm.Perm.TheVariants as perm
-use Rattle.tl_params.specs.statement.Param.{report_right, report_at}
-use Rattle.tl_rules.specs.statement.Conformance.{same_perm}
-use Rattle.tl_coherence.specs.protocol.Phase.{ClientBlock, View, NoProbe, ProbeSent, NoRelease, is_unprobed}
+use Rattle.tl_params.specs.statement.Param.{report_at}
 use Rattle.tl_coherence.specs.protocol.PhaseSteps.{after_probe}
-use Rattle.tl_coherence.specs.protocol.Packet.{Kind, Request, Acquire, Probe, ProbeAck, Release, Answer, Grant, ReleaseAck, GrantAck, Packet, set, count}
-use Rattle.tl_coherence.specs.protocol.Protocol.{Block, State, Link, view, packet, is_transfer, is_wanting, is_unserved, is_releasing, is_acked, is_granting}
-use Rattle.tl_coherence.specs.protocol.Protocol.{is_acknowledging, shows, probed_block, probed_link, probe_taken}
-use Rattle.tl_coherence.specs.refinement.Move.{Move, Stays, Pushes, Pops, AreMoved, agrees, is_own_move, channel_for}
-use Rattle.tl_coherence.specs.protocol.Invariant.{resting, IsWell, IsInvariant}
+use Rattle.tl_coherence.specs.protocol.Protocol.{probed_block, probed_link, probe_taken}
 use Rattle.tl_coherence.proofs.queues.Moves.{moves_at, event-at, bare-at, names-kept, invariant-moved, same_again}
 use Rattle.tl_coherence.proofs.queues.Tokens.{same_number, set-same, set-other, set-part}
 use Rattle.tl_coherence.proofs.queues.PhaseSteps.{probe-ok}
@@ -25,27 +23,32 @@ use Rattle.tl_coherence.proofs.protocol.Blocks.{awaited_by, asked_cap-same}
 -- ---- the block
 
 -- what is left after a report was held before
-less_left : (k : Cap) (p : Perm) → same_perm (report_right (report_at k p)) perm.None ≡ false → same_perm p perm.None ≡ false
+less_left : (k : Cap) (p : Perm) → same_perm (report_right (report_at k p)) perm.None ≡ false
+    → same_perm p perm.None ≡ false
 less_left k perm.Branch e = refl
 less_left k perm.Trunk e = refl
 less_left cap.ToT perm.None e = e
 less_left cap.ToB perm.None e = e
 less_left cap.ToN perm.None e = e
 
-pub probed-block : {X : Type 0} (caching : ℕ → Bool) (c : ℕ) (k : Cap) (b : Block X) → IsWell caching b → (b.pair c).probing ≡ ProbeSent k → (b.pair c).letting ≡ NoRelease → IsWell caching (probed_block c k b)
+pub probed-block : {X : Type 0} (caching : ℕ → Bool) (c : ℕ) (k : Cap) (b : Block X) → IsWell caching b
+    → (b.pair c).probing ≡ ProbeSent k → (b.pair c).letting ≡ NoRelease → IsWell caching (probed_block c k b)
 probed-block caching c k b h sent kept =
     let after : ClientBlock = after_probe k (b.pair c) in
     let quiet_same = set-part (λ (p : ClientBlock). is_unprobed p.probing) c after b.pair (rw sent refl) in
     let recorded_same = set-part (λ (p : ClientBlock). p.recorded) c after b.pair refl in
     record {
       phases = λ d. elim (cases_eq d c) [
-        | inl same ↦ rw (same, set-same c after b.pair) (probe-ok k (b.pair c) (view b.service c) (h.phases c) sent kept)
+        | inl same ↦ rw (same, set-same c after b.pair) (probe-ok k (b.pair c) (view b.service c) (h.phases c) sent
+            kept)
         | inr other ↦ rw (set-other c d after b.pair other) (h.phases d)
       ];
       awaited = awaited_by b.service (set c after b.pair) c (rw (set-same c after b.pair) refl);
-      asked_cap = asked_cap-same b.service b.pair (set c after b.pair) (set-part (λ (p : ClientBlock). p.acquiring) c after b.pair refl) h.asked_cap;
+      asked_cap = asked_cap-same b.service b.pair (set c after b.pair)
+          (set-part (λ (p : ClientBlock). p.acquiring) c after b.pair refl) h.asked_cap;
       own_source = h.own_source;
-      alone = λ i j trunk probed ne. rw (quiet_same j) (h.alone i j (rw (recorded_same i) at trunk) (rw (quiet_same i) at probed) ne);
+      alone = λ i j trunk probed ne. rw (quiet_same j)
+          (h.alone i j (rw (recorded_same i) at trunk) (rw (quiet_same i) at probed) ne);
       one_owner = λ i j trunk ne. rw (recorded_same j) (h.one_owner i j (rw (recorded_same i) at trunk) ne);
       outside = λ d plain. elim (cases_eq d c) [
         | inl same ↦ absurd (not_resting (b.pair c) k sent (h.outside c (rw same at plain)))
@@ -59,7 +62,8 @@ probed-block caching c k b h sent kept =
     }
   where
     not_resting : (p : ClientBlock) (k : Cap) → p.probing ≡ ProbeSent k → p ≡ resting → ⊥
-    not_resting p k e f = let g : p.probing ≡ NoProbe = ap (λ (q : ClientBlock). q.probing) f in let i : ProbeSent k ≡ NoProbe = sym e ∙ g in absurd cc
+    not_resting p k e f = let g : p.probing ≡ NoProbe = ap (λ (q : ClientBlock). q.probing) f in
+        let i : ProbeSent k ≡ NoProbe = sym e ∙ g in absurd cc
 
 -- ---- the whole
 
@@ -80,20 +84,25 @@ probe_shows n Grant j p v t e = same_again (is_granting v)
 probe_shows n ReleaseAck j p v t e = same_again (is_acked p.letting)
 probe_shows n GrantAck j p v t e = same_again (is_acknowledging v)
 
-pub probe_taken-kept : {X : Type 0} (caching : ℕ → Bool) (c n : ℕ) (k : Cap) (rest : List Packet) (s : State X) → IsInvariant caching s
-    → (s.link c).b ≡ packet Probe n ∷ rest → ((s.block n).pair c).probing ≡ ProbeSent k → ((s.block n).pair c).letting ≡ NoRelease → IsInvariant caching (probe_taken c n k rest s)
+pub probe_taken-kept : {X : Type 0} (caching : ℕ → Bool) (c n : ℕ) (k : Cap) (rest : List Packet) (s : State X)
+    → IsInvariant caching s
+    → (s.link c).b ≡ packet Probe n ∷ rest → ((s.block n).pair c).probing ≡ ProbeSent k
+    → ((s.block n).pair c).letting ≡ NoRelease → IsInvariant caching (probe_taken c n k rest s)
 probe_taken-kept {X} caching c n k rest s inv first sent kept =
     invariant-moved caching n new (set c here s.link) (moves_at c (probe_moves n)) s.lets s.tracked s inv
     (event-at caching c n new here (probe_moves n) s (record {
       well = probed-block caching c k (s.block n) (inv.blocks n) sent kept;
       moved = moved;
       own = own;
-      fits = λ j t. rw (set-same c after (s.block n).pair) (probe_shows n j k ((s.block n).pair c) (view (s.block n).service c) t sent);
-      others = λ d ne j t. ap (λ (p : ClientBlock). shows j p (view (s.block n).service d)) (set-other c d after (s.block n).pair ne);
+      fits = λ j t. rw (set-same c after (s.block n).pair)
+          (probe_shows n j k ((s.block n).pair c) (view (s.block n).service c) t sent);
+      others = λ d ne j t. ap (λ (p : ClientBlock). shows j p (view (s.block n).service d))
+          (set-other c d after (s.block n).pair ne);
       in_order = λ m e. ordered m (number_is m e);
     }))
     (bare-at c (probe_moves n) refl refl)
-    (names-kept n new (set c here s.link) s inv.named (λ d i. rw (set-part (λ (p : ClientBlock). p.acquiring) c after (s.block n).pair refl d) refl) (λ d i. refl)
+    (names-kept n new (set c here s.link) s inv.named
+    (λ d i. rw (set-part (λ (p : ClientBlock). p.acquiring) c after (s.block n).pair refl d) refl) (λ d i. refl)
     (λ d i. rw (set-part (λ (p : ClientBlock). p.letting) c after (s.block n).pair refl d) refl) (λ i. refl))
   where
     after : ClientBlock

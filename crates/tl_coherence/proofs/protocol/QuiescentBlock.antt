@@ -1,13 +1,15 @@
 -- Where nothing is on channels B, C, D and E, no block is in service: so requests can move.
+use Rattle.tl_coherence.proofs.protocol.Imports.{ProbePhase, NoProbe, ProbeSent, ProbeAnswered, is_unprobed, Kind}
+use Rattle.tl_coherence.proofs.protocol.Imports.{Probe, ProbeAck, Grant, GrantAck, one_if, count, Service, Free, Waits}
+use Rattle.tl_coherence.proofs.protocol.Imports.{GrantSent, GrantTaken, State, is_transfer, is_sent, is_answered, on}
+use Rattle.tl_coherence.proofs.protocol.Imports.{shown, IsInvariant}
 use Rattle.std.proofs.Common.{◌≡◌, ℕ, Bool, true, false, [], refl, arith}
-use Rattle.tl_coherence.specs.protocol.Phase.{ProbePhase, NoProbe, ProbeSent, ProbeAnswered, is_unprobed}
-use Rattle.tl_coherence.specs.protocol.Packet.{Kind, Probe, ProbeAck, Grant, GrantAck, one_if, count}
-use Rattle.tl_coherence.specs.protocol.Protocol.{Service, Free, Waits, GrantSent, GrantTaken, State, is_transfer, is_sent, is_answered, on, shown}
-use Rattle.tl_coherence.specs.protocol.Invariant.{IsAwaited, IsInvariant}
+use Rattle.tl_coherence.specs.protocol.Invariant.{IsAwaited}
 use Rattle.tl_coherence.proofs.queues.Tokens.{same_number}
 
 -- a channel without tokens shows nothing
-nothing_shown : {X : Type 0} (caching : ℕ → Bool) (s : State X) (c n : ℕ) (k : Kind) → IsInvariant caching s → is_transfer k ≡ true → on k (s.link c) ≡ [] → shown k c (s.block n) ≡ false
+nothing_shown : {X : Type 0} (caching : ℕ → Bool) (s : State X) (c n : ℕ) (k : Kind) → IsInvariant caching s
+    → is_transfer k ≡ true → on k (s.link c) ≡ [] → shown k c (s.block n) ≡ false
 unfolding count
 nothing_shown caching s c n k inv t none = go (shown k c (s.block n)) (rw none at (inv.transfers c k t n))
   where
@@ -21,11 +23,13 @@ pub record IsSilent {X : Type 0} (s : State X) : Type 0 where
   pub d : (c : ℕ) → (s.link c).d ≡ []
   pub e : (c : ℕ) → (s.link c).e ≡ []
 
-pub free-when_silent : {X : Type 0} (caching : ℕ → Bool) (s : State X) (n : ℕ) → IsInvariant caching s → IsSilent s → (s.block n).service ≡ Free
+pub free-when_silent : {X : Type 0} (caching : ℕ → Bool) (s : State X) (n : ℕ) → IsInvariant caching s → IsSilent s
+    → (s.block n).service ≡ Free
 free-when_silent {X} caching s n inv silent = go (s.block n).service refl
   where
     not_probed : (c : ℕ) → is_unprobed ((s.block n).pair c).probing ≡ true
-    not_probed c = quiet_of ((s.block n).pair c).probing (nothing_shown caching s c n Probe inv refl (silent.b c)) (nothing_shown caching s c n ProbeAck inv refl (silent.c c))
+    not_probed c = quiet_of ((s.block n).pair c).probing (nothing_shown caching s c n Probe inv refl (silent.b c))
+        (nothing_shown caching s c n ProbeAck inv refl (silent.c c))
       where
         quiet_of : (x : ProbePhase) → is_sent x ≡ false → is_answered x ≡ false → is_unprobed x ≡ true
         quiet_of NoProbe e f = refl

@@ -1,15 +1,20 @@
--- Where nothing is on a channel, nothing is open; and where nothing is open and no GrantAck is on its way, nothing is on
+-- Where nothing is on a channel, nothing is open; and where nothing is open and no GrantAck is on its way, nothing is
+-- on
 -- a channel.
+use Rattle.tl_coherence.proofs.protocol.Imports.{Channel, ClientBlock, View, Own, ReleasePhase, NoRelease, ReleaseSent}
+use Rattle.tl_coherence.proofs.protocol.Imports.{ReleaseAcked, is_unprobed, is_unreleased, ok, Kind, Request, Acquire}
+use Rattle.tl_coherence.proofs.protocol.Imports.{Probe, ProbeAck, Release, Answer, Grant, ReleaseAck, GrantAck, Packet}
+use Rattle.tl_coherence.proofs.protocol.Imports.{one_if, count, Service, Free, Waits, GrantSent, GrantTaken, State}
+use Rattle.tl_coherence.proofs.protocol.Imports.{SourceState, SourceFree, Asked, InService, Replied, Acquires, view, on}
+use Rattle.tl_coherence.proofs.protocol.Imports.{packets_on, is_on, is_transfer, is_wanting, shown, IsInvariant}
+use Rattle.tl_coherence.proofs.protocol.Imports.{acquires_of, serves_of, is_of, is_asked, is_replied, acquires_with}
+use Rattle.tl_coherence.proofs.protocol.Imports.{serves_with, releases_with}
 use Rattle.std.proofs.Common.{◌≡◌, ℕ, ◌<◌, Bool, true, false, List, [], ◌∷◌, refl, sym, ◌∙◌, arith}
 use Rattle.std.specs.Prelude.{not, ◌==◌, ◌||◌, Option, Some, None}
-use Rattle.tl_beat.specs.declared.channel.Channel.{Channel}
 use Rattle.tl_beat.specs.declared.channel.Channel.TheVariants as channel
-use Rattle.tl_coherence.specs.protocol.Phase.{ClientBlock, View, Own, ReleasePhase, NoRelease, ReleaseSent, ReleaseAcked, is_unprobed, is_unreleased, ok}
-use Rattle.tl_coherence.specs.protocol.Packet.{Kind, Request, Acquire, Probe, ProbeAck, Release, Answer, Grant, ReleaseAck, GrantAck, Packet, one_if, count}
-use Rattle.tl_coherence.specs.protocol.Protocol.{Service, Free, Waits, GrantSent, GrantTaken, State, SourceState, SourceFree, Asked, InService, Replied, Acquires, view, on, packets_on, is_on, is_transfer, is_wanting, shown}
-use Rattle.tl_coherence.specs.protocol.Invariant.{IsInvariant, acquires_of, serves_of, is_of, is_asked, is_replied, acquires_with, serves_with, releases_with}
 use Rattle.tl_coherence.specs.refinement.ManagerRelation.{is_own}
-use Rattle.tl_coherence.proofs.protocol.Capacities.{shown_there, kind_there, acquire_named, grant_named, release_named, release_ack_named, source_of_acquire}
+use Rattle.tl_coherence.proofs.protocol.Capacities.{shown_there, kind_there, acquire_named, grant_named, release_named}
+use Rattle.tl_coherence.proofs.protocol.Capacities.{release_ack_named, source_of_acquire}
 use Rattle.tl_rules.proofs.Takeable.{part_bit}
 use Rattle.tl_coherence.proofs.queues.Distinct.{IsThere, first-there}
 use Rattle.tl_coherence.proofs.queues.Phases.{each_phase, of_phase, and_left}
@@ -59,24 +64,33 @@ module _ {X : Type 0} (caching : ℕ → Bool) (s : State X) (inv : IsInvariant 
 
   pub closed-when_bare : IsBare s → IsClosed s
   unfolding count
-  closed-when_bare bare = record { uses = λ c source. use_is c source (s.uses c source) refl; lets = λ c source. let_is c source (s.lets c source) refl }
+  closed-when_bare bare = record {
+    uses = λ c source. use_is c source (s.uses c source) refl;
+    lets =
+        λ c source. let_is c source (s.lets c source) refl;
+  }
     where
       free : (n : ℕ) → (s.block n).service ≡ Free
       free n = free-when_silent caching s n inv bare.silent
 
       use_is : (c source : ℕ) (u : SourceState) → s.uses c source ≡ u → u ≡ SourceFree
       use_is c source SourceFree e = refl
-      use_is c source Asked e = absurd (none_there source (is_asked (s.uses c source)) (rw (bare.a c) at (inv.requests c source)) (rw e refl))
-      use_is c source Replied e = absurd (none_there source (is_replied (s.uses c source)) (rw (bare.silent.d c) at (inv.answers c source)) (rw e refl))
+      use_is c source Asked e =
+          absurd (none_there source (is_asked (s.uses c source)) (rw (bare.a c) at (inv.requests c source)) (rw e refl))
+      use_is c source Replied e =
+          absurd (none_there source (is_replied (s.uses c source)) (rw (bare.silent.d c) at (inv.answers c source))
+          (rw e refl))
       use_is c source (InService n) e =
           let named : serves_of n (s.uses c source) ≡ serves_with c source (s.block n) = inv.named.serves c source n in
           let it : serves_of n (s.uses c source) ≡ true = rw e (same_number n) in
           let not_it : serves_with c source (s.block n) ≡ false = rw (free n) refl in
           absurd (let both : true ≡ false = sym it ∙ named ∙ not_it in cc)
       use_is c source (Acquires n) e =
-          let named : acquires_of n (s.uses c source) ≡ acquires_with c source (s.block n) = inv.named.acquires c source n in
+          let named : acquires_of n (s.uses c source) ≡ acquires_with c source (s.block n) =
+          inv.named.acquires c source n in
           let it : acquires_of n (s.uses c source) ≡ true = rw e (same_number n) in
-          let wants : is_wanting ((s.block n).pair c).acquiring ≡ true = and_left (is_wanting ((s.block n).pair c).acquiring) _ (sym named ∙ it) in
+          let wants : is_wanting ((s.block n).pair c).acquiring ≡ true =
+          and_left (is_wanting ((s.block n).pair c).acquiring) _ (sym named ∙ it) in
           absurd (not_shown c n Acquire refl (bare.a c) (rw (free n, wants) refl))
 
       let_of : (c n : ℕ) (x : ReleasePhase) → ((s.block n).pair c).letting ≡ x → not (is_unreleased x) ≡ true → ⊥
@@ -89,13 +103,16 @@ module _ {X : Type 0} (caching : ℕ → Bool) (s : State X) (inv : IsInvariant 
       let_is c source (Some n) e =
           let named : is_of n (s.lets c source) ≡ releases_with c source (s.block n) = inv.named.releases c source n in
           let it : is_of n (s.lets c source) ≡ true = rw e (same_number n) in
-          absurd (let_of c n ((s.block n).pair c).letting refl (and_left (not (is_unreleased ((s.block n).pair c).letting)) _ (sym named ∙ it)))
+          absurd (let_of c n ((s.block n).pair c).letting refl
+          (and_left (not (is_unreleased ((s.block n).pair c).letting)) _ (sym named ∙ it)))
 
   -- ---- the other way round
 
   -- a client that is probed is probed for a request that is open
   probed-for : (c n : ℕ) → is_unprobed ((s.block n).pair c).probing ≡ false → IsClosed s → ⊥
-  probed-for c n probed closed = go (s.block n).service refl (serves_another ((s.block n).pair c) (view (s.block n).service c) ((inv.blocks n).phases c) probed)
+  probed-for c n probed closed =
+      go (s.block n).service refl (serves_another ((s.block n).pair c) (view (s.block n).service c)
+      ((inv.blocks n).phases c) probed)
     where
       go : (service : Service) → (s.block n).service ≡ service → is_other (view service c) ≡ true → ⊥
       go Free e is = absurd cc
@@ -103,7 +120,8 @@ module _ {X : Type 0} (caching : ℕ → Bool) (s : State X) (inv : IsInvariant 
       go (GrantTaken q) e is = taken-unseen (c == q) is
       go (Waits r true source k) e is =
           let own : view (s.block n).service r ≡ Own = rw (e, same_number r) refl in
-          let wants = owns_ask ((s.block n).pair r) (view (s.block n).service r) ((inv.blocks n).phases r) (rw own refl) in
+          let wants = owns_ask ((s.block n).pair r) (view (s.block n).service r) ((inv.blocks n).phases r) (rw own refl)
+          in
           let used : s.uses r ((s.block n).source r) ≡ Acquires n = source_of_acquire caching s r n inv wants in
           absurd (let both : Acquires n ≡ SourceFree = sym used ∙ closed.uses r ((s.block n).source r) in cc)
       go (Waits r false source k) e is =
@@ -125,22 +143,33 @@ module _ {X : Type 0} (caching : ℕ → Bool) (s : State X) (inv : IsInvariant 
   not_replied c n e closed = absurd (let no : is_replied (s.uses c n) ≡ false = rw (closed.uses c n) refl in cc)
 
   -- no kind but a GrantAck is shown
-  nothing_shown : (c : ℕ) (ch : Channel) (k : Kind) (n : ℕ) → IsClosed s → is_on ch k ≡ true → is_on channel.E k ≡ false → 0 < count k n (packets_on ch (s.link c)) → ⊥
-  nothing_shown c ch Request n closed on_it other there = not_asked c n (shown_there caching s c ch Request n inv on_it there) closed
-  nothing_shown c ch Answer n closed on_it other there = not_replied c n (shown_there caching s c ch Answer n inv on_it there) closed
-  nothing_shown c ch Acquire n closed on_it other there = no_use c _ n (acquire_named caching s c n inv (shown_there caching s c ch Acquire n inv on_it there)) closed
-  nothing_shown c ch Grant n closed on_it other there = no_use c _ n (grant_named caching s c n inv (shown_there caching s c ch Grant n inv on_it there)) closed
-  nothing_shown c ch Release n closed on_it other there = no_let c _ n (release_named caching s c n inv (shown_there caching s c ch Release n inv on_it there)) closed
-  nothing_shown c ch ReleaseAck n closed on_it other there = no_let c _ n (release_ack_named caching s c n inv (shown_there caching s c ch ReleaseAck n inv on_it there)) closed
-  nothing_shown c ch Probe n closed on_it other there = probed-for c n (not-sent _ (shown_there caching s c ch Probe n inv on_it there)) closed
-  nothing_shown c ch ProbeAck n closed on_it other there = probed-for c n (not-answered _ (shown_there caching s c ch ProbeAck n inv on_it there)) closed
+  nothing_shown : (c : ℕ) (ch : Channel) (k : Kind) (n : ℕ) → IsClosed s → is_on ch k ≡ true → is_on channel.E k ≡ false
+      → 0 < count k n (packets_on ch (s.link c)) → ⊥
+  nothing_shown c ch Request n closed on_it other there =
+      not_asked c n (shown_there caching s c ch Request n inv on_it there) closed
+  nothing_shown c ch Answer n closed on_it other there =
+      not_replied c n (shown_there caching s c ch Answer n inv on_it there) closed
+  nothing_shown c ch Acquire n closed on_it other there =
+      no_use c _ n (acquire_named caching s c n inv (shown_there caching s c ch Acquire n inv on_it there)) closed
+  nothing_shown c ch Grant n closed on_it other there =
+      no_use c _ n (grant_named caching s c n inv (shown_there caching s c ch Grant n inv on_it there)) closed
+  nothing_shown c ch Release n closed on_it other there =
+      no_let c _ n (release_named caching s c n inv (shown_there caching s c ch Release n inv on_it there)) closed
+  nothing_shown c ch ReleaseAck n closed on_it other there =
+      no_let c _ n (release_ack_named caching s c n inv (shown_there caching s c ch ReleaseAck n inv on_it there))
+      closed
+  nothing_shown c ch Probe n closed on_it other there =
+      probed-for c n (not-sent _ (shown_there caching s c ch Probe n inv on_it there)) closed
+  nothing_shown c ch ProbeAck n closed on_it other there =
+      probed-for c n (not-answered _ (shown_there caching s c ch ProbeAck n inv on_it there)) closed
   nothing_shown c ch GrantAck n closed on_it other there = absurd cc
 
   empty_list : (xs : List Packet) → ((x : Packet) → IsThere x xs → ⊥) → xs ≡ []
   empty_list [] none = refl
   empty_list (x ∷ xs) none = absurd (none x (first-there x xs))
 
-  nothing_on : (c : ℕ) (ch : Channel) → IsClosed s → ((k : Kind) → is_on ch k ≡ true → is_on channel.E k ≡ false) → packets_on ch (s.link c) ≡ []
+  nothing_on : (c : ℕ) (ch : Channel) → IsClosed s → ((k : Kind) → is_on ch k ≡ true → is_on channel.E k ≡ false)
+      → packets_on ch (s.link c) ≡ []
   nothing_on c ch closed apart = empty_list (packets_on ch (s.link c)) (λ x there.
       let on_it = kind_there caching s c ch x inv there in
       nothing_shown c ch x.kind x.number closed on_it (apart x.kind on_it) there)

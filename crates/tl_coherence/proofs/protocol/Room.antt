@@ -1,24 +1,23 @@
 -- How many beats a channel holds, by the messages that are on it.
-use Rattle.std.proofs.Common.{◌≡◌, ℕ, ◌+◌, ◌-◌, ◌*◌, ◌/◌, ◌<◌, ◌≤◌, Bool, true, false, List, [], ◌∷◌, ◌++◌, refl, ◌∙◌, ap, arith, inl, inr}
+use Rattle.tl_coherence.proofs.protocol.Imports.{Beat, Channel, Message, beats_of, IsInvariant, State, is_on}
+use Rattle.tl_coherence.proofs.protocol.Imports.{packets_on, AccessMessages, block_message, Kind, Probe, ReleaseAck}
+use Rattle.tl_coherence.proofs.protocol.Imports.{GrantAck, Packet, one_if}
+use Rattle.std.proofs.Common.{◌≡◌, ℕ, ◌+◌, ◌-◌, ◌*◌, ◌/◌, ◌<◌, ◌≤◌, Bool, true, false, List, [], ◌∷◌, ◌++◌, refl, ◌∙◌}
+use Rattle.std.proofs.Common.{ap, arith, inl, inr}
 use Rattle.std.specs.Prelude.{not, length, map}
 use Rattle.std.proofs.lemmas.List.{length-append}
 use Rattle.std.proofs.lemmas.Nat.{le-div}
 use Rattle.tl_beat.specs.statement.Width.{IsWidth}
-use Rattle.tl_beat.specs.declared.beat.Beat.{Beat}
-use Rattle.tl_beat.specs.declared.channel.Channel.{Channel}
 use Rattle.tl_beat.specs.declared.channel.Channel.TheVariants as channel
-use Rattle.tl_burst.specs.declared.message.Message.{Message}
-use Rattle.tl_burst.specs.statement.Burst.{beats_of}
 use Rattle.tl_rules.proofs.Checks.{beats_room}
 use Rattle.tl_rules.specs.statement.Legality.{beats_from}
 use Rattle.tl_coherence.specs.refinement.Carried.{spelled, IsCarried}
 use Rattle.tl_coherence.specs.statement.Delivery.{capacity}
-use Rattle.tl_coherence.specs.protocol.Invariant.{IsInvariant}
-use Rattle.tl_coherence.specs.protocol.Protocol.{State, is_on, packets_on}
-use Rattle.tl_coherence.specs.refinement.PacketMessages.{AccessMessages, message_of, message_of_kind, block_message, messages_on}
-use Rattle.tl_coherence.specs.protocol.Packet.{Kind, Probe, ReleaseAck, GrantAck, Packet, same_kind, one_if}
+use Rattle.tl_coherence.specs.refinement.PacketMessages.{message_of, message_of_kind, messages_on}
+use Rattle.tl_coherence.specs.protocol.Packet.{same_kind}
 use Rattle.tl_coherence.proofs.queues.Beats.{length-beats_from}
-use Rattle.tl_coherence.proofs.protocol.Capacities.{AreBounded, few_on_a, few_on_b, few_on_c, few_on_e, few_acks_on_d, few_responses_on_d, kind_there}
+use Rattle.tl_coherence.proofs.protocol.Capacities.{AreBounded, few_on_a, few_on_b, few_on_c, few_on_e, few_acks_on_d}
+use Rattle.tl_coherence.proofs.protocol.Capacities.{few_responses_on_d, kind_there}
 use Rattle.tl_coherence.proofs.queues.Distinct.{passing, all-pass, IsThere, first-there, later-there}
 
 pub positive : (w : ℕ) → IsWidth w → 0 < w
@@ -35,17 +34,27 @@ beats-few {w} m width = le-div (beats_of m) 64 w (positive w width) (rw (commute
 
 -- ---- the beats of a channel are some of those of its messages
 
-length-carried : {w : ℕ} (rest : List (Beat w)) (ms : List (Message w)) (queue : List (Beat w)) → IsCarried rest ms queue → length queue ≤ length (spelled ms)
+length-carried : {w : ℕ} (rest : List (Beat w)) (ms : List (Message w)) (queue : List (Beat w))
+    → IsCarried rest ms queue → length queue ≤ length (spelled ms)
 unfolding spelled
 length-carried rest [] queue h = let none : length queue ≡ 0 = ap length h.1 in omega (arith, none)
 length-carried {w} rest (m ∷ ms) queue (k, lt, r, q) =
     let all : length queue ≡ length (beats_from m k (beats_of m - k) ++ spelled ms) = ap length q in
     let first = length-beats_from m k (beats_of m - k) in
     let whole = length-beats_from m 0 (beats_of m) in
-    omega (arith, all, first, whole, length-append (beats_from m k (beats_of m - k)) (spelled ms), length-append (beats_from m 0 (beats_of m)) (spelled ms))
+    omega (
+      arith,
+      all,
+      first,
+      whole,
+      length-append (beats_from m k (beats_of m - k)) (spelled ms),
+      length-append
+          (beats_from m 0 (beats_of m)) (spelled ms),
+    )
 
 -- those of light tokens have one beat each
-spelled-few : {w : ℕ} (message : Packet → Message w) (light : Packet → Bool) (xs : List Packet) → IsWidth w → ((x : Packet) → IsThere x xs → light x ≡ true → beats_of (message x) ≡ 1)
+spelled-few : {w : ℕ} (message : Packet → Message w) (light : Packet → Bool) (xs : List Packet) → IsWidth w
+    → ((x : Packet) → IsThere x xs → light x ≡ true → beats_of (message x) ≡ 1)
     → length (spelled (map message xs)) ≤ 64 / w * passing (λ x. not (light x)) xs + passing light xs
 unfolding spelled passing
 spelled-few message light [] width one = omega arith
@@ -53,10 +62,12 @@ spelled-few {w} message light (x ∷ xs) width one =
     let rest = spelled-few message light xs width (λ y there. one y (later-there y x xs there)) in
     let parts = length-append (beats_from (message x) 0 (beats_of (message x))) (spelled (map message xs)) in
     let own = length-beats_from (message x) 0 (beats_of (message x)) in
-    sums (64 / w) (beats_of (message x)) (passing (λ y. not (light y)) xs) (passing light xs) (light x) _ _ (beats-few (message x) width)
+    sums (64 / w) (beats_of (message x)) (passing (λ y. not (light y)) xs) (passing light xs) (light x) _ _
+    (beats-few (message x) width)
     (one x (first-there x xs)) rest (parts ∙ ap (λ (n : ℕ). n + length (spelled (map message xs))) own)
   where
-    sums : (n b heavy few : ℕ) (l : Bool) (rest all : ℕ) → b ≤ n → (l ≡ true → b ≡ 1) → rest ≤ n * heavy + few → all ≡ b + rest → all ≤ n * (one_if (not l) + heavy) + (one_if l + few)
+    sums : (n b heavy few : ℕ) (l : Bool) (rest all : ℕ) → b ≤ n → (l ≡ true → b ≡ 1) → rest ≤ n * heavy + few
+        → all ≡ b + rest → all ≤ n * (one_if (not l) + heavy) + (one_if l + few)
     sums n b heavy few true rest all le is_one le2 e =
         let one_beat : b ≡ 1 = is_one refl in
         let same : n * (0 + heavy) ≡ n * heavy = grind arith in
@@ -73,7 +84,8 @@ is_light ReleaseAck = true
 is_light GrantAck = true
 is_light _ = false
 
-pub light-one : {w : ℕ} (mail : AccessMessages w) (s : State (List ℕ)) (c : ℕ) (k : Kind) (n : ℕ) → is_light k ≡ true → beats_of (message_of_kind k mail s c n) ≡ 1
+pub light-one : {w : ℕ} (mail : AccessMessages w) (s : State (List ℕ)) (c : ℕ) (k : Kind) (n : ℕ) → is_light k ≡ true
+    → beats_of (message_of_kind k mail s c n) ≡ 1
 unfolding block_message
 light-one mail s c Probe n e = refl
 light-one mail s c ReleaseAck n e = refl
@@ -82,7 +94,8 @@ light-one mail s c _ n e = absurd cc
 
 -- ---- the five channels
 
-room_for : (n heavy light sources : ℕ) (len : ℕ) → len ≤ n * heavy + light → heavy ≤ sources → light ≤ sources → len ≤ (n + 1) * sources
+room_for : (n heavy light sources : ℕ) (len : ℕ) → len ≤ n * heavy + light → heavy ≤ sources → light ≤ sources
+    → len ≤ (n + 1) * sources
 room_for n heavy light sources len le h l = grind (arith, le, h, l)
 
 times : (n a z b len most : ℕ) → len ≤ most → most ≤ n * a + z → z ≡ 0 → a ≤ b → len ≤ n * b
@@ -109,35 +122,48 @@ light_ack ReleaseAck e = refl
 light_ack _ e = absurd cc
 
 -- no channel holds more beats than it is made for
-pub channel-few : {w : ℕ} (caching : ℕ → Bool) (mail : AccessMessages w) (s : State (List ℕ)) (c sources trackers : ℕ) (ch : Channel) (rest queue : List (Beat w))
-    → IsWidth w → IsInvariant caching s → AreBounded c sources trackers s → IsCarried rest (messages_on ch mail s c) queue → length queue ≤ capacity (64 / w) sources trackers ch
+pub channel-few : {w : ℕ} (caching : ℕ → Bool) (mail : AccessMessages w) (s : State (List ℕ)) (c sources trackers : ℕ)
+    (ch : Channel) (rest queue : List (Beat w))
+    → IsWidth w → IsInvariant caching s → AreBounded c sources trackers s
+    → IsCarried rest (messages_on ch mail s c) queue → length queue ≤ capacity (64 / w) sources trackers ch
 channel-few {w} caching mail s c sources trackers ch rest queue width inv bounds carried = go ch carried
   where
-    one : (d : Channel) (x : Packet) → IsThere x (packets_on d (s.link c)) → (is_on d x.kind ≡ true → is_light x.kind ≡ true) → beats_of (message_of mail s c x) ≡ 1
+    one : (d : Channel) (x : Packet) → IsThere x (packets_on d (s.link c))
+        → (is_on d x.kind ≡ true → is_light x.kind ≡ true) → beats_of (message_of mail s c x) ≡ 1
     one d x there light = light-one mail s c x.kind x.number (light (kind_there caching s c d x inv there))
 
-    go : (d : Channel) → IsCarried rest (messages_on d mail s c) queue → length queue ≤ capacity (64 / w) sources trackers d
+    go : (d : Channel) → IsCarried rest (messages_on d mail s c) queue
+        → length queue ≤ capacity (64 / w) sources trackers d
     go channel.A h =
         let le = length-carried rest (messages_on channel.A mail s c) queue h in
         let all = spelled-few (message_of mail s c) (λ x. false) (s.link c).a width (λ x there e. absurd cc) in
-        times (64 / w) (passing (λ x. true) (s.link c).a) (passing (λ x. false) (s.link c).a) sources (length queue) _ le all (none-pass (s.link c).a)
+        times (64 / w) (passing (λ x. true) (s.link c).a) (passing (λ x. false) (s.link c).a) sources (length queue) _
+        le all (none-pass (s.link c).a)
         (rw (all-pass (s.link c).a) (few_on_a caching s c sources trackers inv bounds))
     go channel.B h =
         let le = length-carried rest (messages_on channel.B mail s c) queue h in
-        let all = spelled-few (message_of mail s c) (λ x. true) (s.link c).b width (λ x there e. one channel.B x there (light_on_b x.kind)) in
-        no_heavy (64 / w) (passing (λ x. false) (s.link c).b) (passing (λ x. true) (s.link c).b) trackers (length queue) _ le all (none-pass (s.link c).b)
+        let all = spelled-few (message_of mail s c) (λ x. true) (s.link c).b width
+        (λ x there e. one channel.B x there (light_on_b x.kind)) in
+        no_heavy (64 / w) (passing (λ x. false) (s.link c).b) (passing (λ x. true) (s.link c).b) trackers (length queue)
+        _ le all (none-pass (s.link c).b)
         (rw (all-pass (s.link c).b) (few_on_b caching s c sources trackers inv bounds))
     go channel.C h =
         let le = length-carried rest (messages_on channel.C mail s c) queue h in
         let all = spelled-few (message_of mail s c) (λ x. false) (s.link c).c width (λ x there e. absurd cc) in
-        times (64 / w) (passing (λ x. true) (s.link c).c) (passing (λ x. false) (s.link c).c) (sources + trackers) (length queue) _ le all
+        times (64 / w) (passing (λ x. true) (s.link c).c) (passing (λ x. false) (s.link c).c) (sources + trackers)
+        (length queue) _ le all
         (none-pass (s.link c).c) (rw (all-pass (s.link c).c) (few_on_c caching s c sources trackers inv bounds))
     go channel.D h =
         let le = length-carried rest (messages_on channel.D mail s c) queue h in
-        let all = spelled-few (message_of mail s c) (λ x. same_kind x.kind ReleaseAck) (s.link c).d width (λ x there e. light-one mail s c x.kind x.number (light_ack x.kind e)) in
-        room_for (64 / w) _ _ sources (length queue) (omega (arith, le, all)) (few_responses_on_d caching s c sources trackers inv bounds) (few_acks_on_d caching s c sources trackers inv bounds)
+        let all = spelled-few (message_of mail s c) (λ x. same_kind x.kind ReleaseAck) (s.link c).d width
+        (λ x there e. light-one mail s c x.kind x.number (light_ack x.kind e)) in
+        room_for (64 / w) _ _ sources (length queue) (omega (arith, le, all))
+        (few_responses_on_d caching s c sources trackers inv bounds)
+        (few_acks_on_d caching s c sources trackers inv bounds)
     go channel.E h =
         let le = length-carried rest (messages_on channel.E mail s c) queue h in
-        let all = spelled-few (message_of mail s c) (λ x. true) (s.link c).e width (λ x there e. one channel.E x there (light_on_e x.kind)) in
-        no_heavy (64 / w) (passing (λ x. false) (s.link c).e) (passing (λ x. true) (s.link c).e) trackers (length queue) _ le all (none-pass (s.link c).e)
+        let all = spelled-few (message_of mail s c) (λ x. true) (s.link c).e width
+        (λ x there e. one channel.E x there (light_on_e x.kind)) in
+        no_heavy (64 / w) (passing (λ x. false) (s.link c).e) (passing (λ x. true) (s.link c).e) trackers (length queue)
+        _ le all (none-pass (s.link c).e)
         (rw (all-pass (s.link c).e) (few_on_e caching s c sources trackers inv bounds))

@@ -1,35 +1,38 @@
 -- A request that is taken, and for which clients are probed, keeps the invariant.
+use Rattle.tl_coherence.proofs.protocol.Imports.{Channel, Cap, Grow, Perm, same_perm, ClientBlock, View, Idle, Own}
+use Rattle.tl_coherence.proofs.protocol.Imports.{Other, ProbePhase, NoProbe, ProbeSent, ProbeAnswered, AcquireOpen, ok}
+use Rattle.tl_coherence.proofs.protocol.Imports.{same_cap, is_unprobed, is_above, Kind, Request, Acquire, Probe}
+use Rattle.tl_coherence.proofs.protocol.Imports.{ProbeAck, Release, Answer, Grant, ReleaseAck, GrantAck, Packet, set}
+use Rattle.tl_coherence.proofs.protocol.Imports.{Free, Waits, Block, State, Link, Asked, InService, view, packet}
+use Rattle.tl_coherence.proofs.protocol.Imports.{packets_on, shows, shown, is_transfer, is_granting, is_wanting}
+use Rattle.tl_coherence.proofs.protocol.Imports.{is_sent, is_answered, is_releasing, is_acked, Move, Stays, Pushes}
+use Rattle.tl_coherence.proofs.protocol.Imports.{Pops, IsMoved, agrees, is_own_move, channel_for, cap_asked, resting}
+use Rattle.tl_coherence.proofs.protocol.Imports.{is_out, is_of, acquires_of, serves_of, acquires_with, serves_with}
+use Rattle.tl_coherence.proofs.protocol.Imports.{releases_with, tracks_with, IsAskedCap, IsWell, IsInvariant}
 use Rattle.std.proofs.Common.{◌≡◌, refl, sym, ◌∙◌}
 use Rattle.std.specs.Prelude.{ℕ, Bool, true, false, not, List, ◌∷◌, ◌++◌, [], ◌==◌, ◌&&◌, if◌then◌else◌, Some, None}
 use Rattle.std.proofs.lemmas.Bool.{eqb-true, ne_eqb}
-use Rattle.tl_beat.specs.declared.channel.Channel.{Channel}
 use Rattle.tl_beat.specs.declared.channel.Channel.TheVariants as channel
-use Rattle.tl_params.specs.declared.param.Cap.{Cap}
 use Rattle.tl_params.specs.declared.param.Cap.TheVariants as cap
-use Rattle.tl_params.specs.declared.param.Grow.{Grow}
 use Rattle.tl_params.specs.declared.param.Grow.TheVariants as grow
-use Rattle.tl_params.specs.declared.perm.Perm.{Perm}
 use Rattle.tl_params.specs.declared.perm.Perm.TheVariants as perm
-use Rattle.tl_rules.specs.statement.Conformance.{same_perm}
-use Rattle.tl_coherence.specs.protocol.Phase.{ClientBlock, View, Idle, Own, Other, ProbePhase, NoProbe, ProbeSent, ProbeAnswered, AcquireOpen, ok, same_cap, is_unprobed}
-use Rattle.tl_coherence.specs.protocol.PhaseSteps.{is_above, after_served}
-use Rattle.tl_coherence.specs.protocol.Packet.{Kind, Request, Acquire, Probe, ProbeAck, Release, Answer, Grant, ReleaseAck, GrantAck, Packet, set}
-use Rattle.tl_coherence.specs.protocol.Protocol.{Free, Waits, Block, State, Link, Asked, InService, view, packet, packets_on, shows, shown, is_transfer, is_granting}
-use Rattle.tl_coherence.specs.protocol.Protocol.{is_wanting, is_sent, is_answered, is_releasing, is_acked, is_probed, served_pair, served_block, with_probe, served_link}
+use Rattle.tl_coherence.specs.protocol.PhaseSteps.{after_served}
+use Rattle.tl_coherence.specs.protocol.Protocol.{is_probed, served_pair, served_block, with_probe, served_link}
 use Rattle.tl_coherence.specs.protocol.Protocol.{acquire_served, access_served}
-use Rattle.tl_coherence.specs.refinement.Move.{Move, Stays, Pushes, Pops, IsMoved, agrees, is_own_move, channel_for}
-use Rattle.tl_coherence.specs.protocol.Invariant.{cap_asked, resting, is_out, is_of, acquires_of, serves_of, acquires_with, serves_with, releases_with, tracks_with, IsAskedCap, IsOwnSource, IsWell, IsInvariant}
+use Rattle.tl_coherence.specs.protocol.Invariant.{IsOwnSource}
 use Rattle.tl_coherence.proofs.queues.Phases.{and_left, and_right}
 use Rattle.tl_coherence.proofs.queues.PhaseSteps.{serve-ok, served-ok}
 use Rattle.tl_coherence.proofs.queues.Facts.{quiet_at_rest}
-use Rattle.tl_coherence.proofs.queues.Moves.{IsEvent, same_again, spares, spared-agrees, names-block, names-set, names-set_at, invariant-moved, invariant-moved_use}
+use Rattle.tl_coherence.proofs.queues.Moves.{IsEvent, same_again, spares, spared-agrees, names-block, names-set}
+use Rattle.tl_coherence.proofs.queues.Moves.{names-set_at, invariant-moved, invariant-moved_use}
 use Rattle.tl_coherence.proofs.queues.Tokens.{same_number}
 use Rattle.tl_coherence.proofs.protocol.BothParts.{quiet_unanswered}
 
 -- ---- who is probed
 
 -- a part that no Probe changes
-unprobed_part : {A : Type 0} (part : ClientBlock → A) (r : ℕ) (own : Bool) (k : Cap) (pair : ℕ → ClientBlock) → ((p : ClientBlock) → part (after_served k p) ≡ part p) → (d : ℕ)
+unprobed_part : {A : Type 0} (part : ClientBlock → A) (r : ℕ) (own : Bool) (k : Cap) (pair : ℕ → ClientBlock)
+    → ((p : ClientBlock) → part (after_served k p) ≡ part p) → (d : ℕ)
     → part (served_pair r own k pair d) ≡ part (pair d)
 unprobed_part part r own k pair e d = go (own && (d == r))
   where
@@ -47,7 +50,8 @@ none_above k perm.Trunk e = absurd cc
 
 -- ---- the block
 
-out_same : (p q : ClientBlock) (v u : View) → q.recorded ≡ p.recorded → is_granting u ≡ is_granting v → is_out q u ≡ is_out p v
+out_same : (p q : ClientBlock) (v u : View) → q.recorded ≡ p.recorded → is_granting u ≡ is_granting v
+    → is_out q u ≡ is_out p v
 out_same p q v u e f = rw (e, f) refl
 
 never_granting : (r s : ℕ) (own : Bool) (k : Cap) (d : ℕ) → is_granting (view (Waits r own s k) d) ≡ false
@@ -57,7 +61,8 @@ never_granting r s own k d = go (own && (d == r))
     go true = refl
     go false = refl
 
-never_top : (k : Cap) (whole : Bool) (g : Grow) → same_cap k (cap_asked (AcquireOpen whole g)) ≡ true → same_cap k cap.ToT ≡ false
+never_top : (k : Cap) (whole : Bool) (g : Grow) → same_cap k (cap_asked (AcquireOpen whole g)) ≡ true
+    → same_cap k cap.ToT ≡ false
 never_top cap.ToT whole grow.NtoB e = absurd cc
 never_top cap.ToT whole grow.NtoT e = absurd cc
 never_top cap.ToT whole grow.BtoT e = absurd cc
@@ -66,15 +71,18 @@ never_top cap.ToN whole g e = refl
 
 -- the request probes with this cap: an Acquire (`own`) with the cap that it asks for, and no access with toT
 abbrev pub Probes : Bool → Cap → ClientBlock → Type 0
-Probes true k p = (whole : Bool) × (g : Grow) × (p.acquiring ≡ AcquireOpen whole g) × (same_cap k (cap_asked (AcquireOpen whole g)) ≡ true)
+Probes true k p = (whole : Bool) × (g : Grow) × (p.acquiring ≡ AcquireOpen whole g)
+    × (same_cap k (cap_asked (AcquireOpen whole g)) ≡ true)
 Probes false k p = same_cap k cap.ToT ≡ false
 
 is_low : (own : Bool) (k : Cap) (p : ClientBlock) → Probes own k p → same_cap k cap.ToT ≡ false
 is_low true k p a = never_top k a.0 a.1 a.3
 is_low false k p a = a
 
-pub served-block : {X : Type 0} (caching : ℕ → Bool) (r : ℕ) (own : Bool) (source tracker : ℕ) (k : Cap) (b : Block X) → IsWell caching b → b.service ≡ Free → Probes own k (b.pair r)
-    → IsOwnSource (Waits r own source k) b.source → (w : ℕ) → is_probed r own k (b.pair w).recorded w ≡ true → IsWell caching (served_block r own source tracker k b)
+pub served-block : {X : Type 0} (caching : ℕ → Bool) (r : ℕ) (own : Bool) (source tracker : ℕ) (k : Cap) (b : Block X)
+    → IsWell caching b → b.service ≡ Free → Probes own k (b.pair r)
+    → IsOwnSource (Waits r own source k) b.source → (w : ℕ) → is_probed r own k (b.pair w).recorded w ≡ true
+    → IsWell caching (served_block r own source tracker k b)
 served-block caching r own source tracker k b h free asks sourced w probed = record {
   phases = λ d. phase d (own && (d == r)) refl;
   awaited = (w, sent (own && (w == r)) probed);
@@ -86,7 +94,8 @@ served-block caching r own source tracker k b h free asks sourced w probed = rec
   copies = λ d some. h.copies d (rw (held_same d) at some);
   memory = λ none. h.memory (λ d.
       let before : is_granting (view b.service d) ≡ false = rw (idle d) refl in
-      sym (out_same (b.pair d) (served_pair r own k b.pair d) (view b.service d) (view (Waits r own source k) d) (recorded_same d) (never_granting r source own k d ∙ sym before)) ∙ none d);
+      sym (out_same (b.pair d) (served_pair r own k b.pair d) (view b.service d) (view (Waits r own source k) d)
+      (recorded_same d) (never_granting r source own k d ∙ sym before)) ∙ none d);
 }
   where
     idle : (d : ℕ) → view b.service d ≡ Idle
@@ -105,11 +114,13 @@ served-block caching r own source tracker k b h free asks sourced w probed = rec
     acquiring false e a d f = absurd cc
     acquiring true e a d f = rw f (serve-ok a.0 a.1 (b.pair r) (view b.service r) (h.phases r) (idle r) a.2)
 
-    phase : (d : ℕ) (x : Bool) → (own && (d == r)) ≡ x → ok (if x then b.pair d else after_served k (b.pair d)) (if x then Own else Other k) ≡ true
+    phase : (d : ℕ) (x : Bool) → (own && (d == r)) ≡ x → ok (if x then b.pair d else after_served k (b.pair d))
+        (if x then Own else Other k) ≡ true
     phase d true e = acquiring own (and_left own (d == r) e) asks d (eqb-true d r (and_right own (d == r) e))
     phase d false e = served-ok k (b.pair d) (view b.service d) (h.phases d) (idle d) (is_low own k (b.pair r) asks)
 
-    sent : (x : Bool) → (not x && is_above k (b.pair w).recorded) ≡ true → is_unprobed (if x then b.pair w else after_served k (b.pair w)).probing ≡ false
+    sent : (x : Bool) → (not x && is_above k (b.pair w).recorded) ≡ true
+        → is_unprobed (if x then b.pair w else after_served k (b.pair w)).probing ≡ false
     sent true e = absurd cc
     sent false e = rw e refl
 
@@ -117,7 +128,8 @@ served-block caching r own source tracker k b h free asks sourced w probed = rec
     asked true a = rw (unprobed_part (λ p. p.acquiring) r true k b.pair (λ p. refl) r, a.2) a.3
     asked false a = tt
 
-    left : (j : ℕ) (x : Bool) → same_perm (b.pair j).recorded perm.None ≡ true → is_unprobed (if x then b.pair j else after_served k (b.pair j)).probing ≡ true
+    left : (j : ℕ) (x : Bool) → same_perm (b.pair j).recorded perm.None ≡ true
+        → is_unprobed (if x then b.pair j else after_served k (b.pair j)).probing ≡ true
     left j true none = quiet j
     left j false none = rw (none_above k (b.pair j).recorded none) (quiet j)
 
@@ -144,7 +156,8 @@ number_served false n source = source
 
 abbrev pub served_moves : ℕ → Bool → ℕ → ℕ → Cap → (ℕ → ClientBlock) → ℕ → Channel → Move
 served_moves r own n source k pair d =
-    request_move (if d == r then Pops (kind_served own) (number_served own n source) else Stays) (is_probed r own k (pair d).recorded d) n
+    request_move (if d == r then Pops (kind_served own) (number_served own n source) else Stays)
+    (is_probed r own k (pair d).recorded d) n
 
 -- what the sender of an Acquire shows
 sender_shows : (n : ℕ) (j : Kind) (p : ClientBlock) → is_transfer j ≡ true → is_wanting p.acquiring ≡ true
@@ -160,7 +173,8 @@ sender_shows n ReleaseAck p t e = same_again (is_acked p.letting)
 sender_shows n GrantAck p t e = refl
 
 -- what another shows, or the sender of an access
-other_shows : (n : ℕ) (j : Kind) (m : Move) (k : Cap) (p : ClientBlock) (above : Bool) → is_transfer j ≡ true → spares m Acquire ≡ true → is_unprobed p.probing ≡ true → is_above k p.recorded ≡ above
+other_shows : (n : ℕ) (j : Kind) (m : Move) (k : Cap) (p : ClientBlock) (above : Bool) → is_transfer j ≡ true
+    → spares m Acquire ≡ true → is_unprobed p.probing ≡ true → is_above k p.recorded ≡ above
     → agrees (request_move m above n (channel_for j)) j n (shows j p Idle) (shows j (after_served k p) (Other k)) ≡ true
 other_shows n Request m k p above t u q e = absurd cc
 other_shows n Answer m k p above t u q e = absurd cc
@@ -180,24 +194,30 @@ other_shows n ReleaseAck m k p above t u q e = same_again (is_acked p.letting)
 other_shows n GrantAck m k p above t u q e = refl
 
 -- both, by whether it is an Acquire, and whether this is the sender
-any_shows : (n source : ℕ) (j : Kind) (own x : Bool) (k : Cap) (p : ClientBlock) → is_transfer j ≡ true → (own ≡ true → x ≡ true → is_wanting p.acquiring ≡ true) → is_unprobed p.probing ≡ true
-    → agrees (request_move (if x then Pops (kind_served own) (number_served own n source) else Stays) (not (own && x) && is_above k p.recorded) n (channel_for j)) j n (shows j p Idle)
+any_shows : (n source : ℕ) (j : Kind) (own x : Bool) (k : Cap) (p : ClientBlock) → is_transfer j ≡ true
+    → (own ≡ true → x ≡ true → is_wanting p.acquiring ≡ true) → is_unprobed p.probing ≡ true
+    → agrees (request_move (if x then Pops (kind_served own) (number_served own n source) else Stays)
+    (not (own && x) && is_above k p.recorded) n (channel_for j)) j n (shows j p Idle)
     (shows j (if own && x then p else after_served k p) (if own && x then Own else Other k)) ≡ true
 any_shows n source j true true k p t wants q = sender_shows n j p t (wants refl refl)
 any_shows n source j true false k p t wants q = other_shows n j Stays k p (is_above k p.recorded) t refl q refl
-any_shows n source j false true k p t wants q = other_shows n j (Pops Request source) k p (is_above k p.recorded) t refl q refl
+any_shows n source j false true k p t wants q = other_shows n j (Pops Request source) k p (is_above k p.recorded) t refl
+    q refl
 any_shows n source j false false k p t wants q = other_shows n j Stays k p (is_above k p.recorded) t refl q refl
 
 -- channels that stay
-leaves : (part : Link → List Packet) (n : ℕ) (l : Link) (rest : List Packet) (x p : Bool) → ((y z : List Packet) → part (record l { a = y; b = z }) ≡ part l)
+leaves : (part : Link → List Packet) (n : ℕ) (l : Link) (rest : List Packet) (x p : Bool)
+    → ((y z : List Packet) → part (record l { a = y; b = z }) ≡ part l)
     → part (with_probe n p (if x then record l { a = rest } else l)) ≡ part l
 leaves part n l rest true true e = e rest (l.b ++ packet Probe n ∷ [])
 leaves part n l rest true false e = e rest l.b
 leaves part n l rest false true e = e l.a (l.b ++ packet Probe n ∷ [])
 leaves part n l rest false false e = refl
 
-any_moved : (ch : Channel) (m : Move) (n : ℕ) (l : Link) (rest : List Packet) (x p : Bool) → (x ≡ true → IsMoved m l.a rest) → (x ≡ false → m ≡ Stays)
-    → IsMoved (request_move m p n ch) (packets_on ch l) (packets_on ch (with_probe n p (if x then record l { a = rest } else l)))
+any_moved : (ch : Channel) (m : Move) (n : ℕ) (l : Link) (rest : List Packet) (x p : Bool)
+    → (x ≡ true → IsMoved m l.a rest) → (x ≡ false → m ≡ Stays)
+    → IsMoved (request_move m p n ch) (packets_on ch l)
+    (packets_on ch (with_probe n p (if x then record l { a = rest } else l)))
 any_moved channel.A m n l rest true true pops stays = pops refl
 any_moved channel.A m n l rest true false pops stays = pops refl
 any_moved channel.A m n l rest false true pops stays = rw (stays refl) refl
@@ -210,7 +230,9 @@ any_moved channel.C m n l rest x p pops stays = leaves (λ i. i.c) n l rest x p 
 any_moved channel.D m n l rest x p pops stays = leaves (λ i. i.d) n l rest x p (λ y z. refl)
 any_moved channel.E m n l rest x p pops stays = leaves (λ i. i.e) n l rest x p (λ y z. refl)
 
-any_own : (ch : Channel) (n source : ℕ) (own x p : Bool) → is_own_move ch (request_move (if x then Pops (kind_served own) (number_served own n source) else Stays) p n ch) ≡ true
+any_own : (ch : Channel) (n source : ℕ) (own x p : Bool)
+    → is_own_move ch (request_move (if x then Pops (kind_served own) (number_served own n source) else Stays) p n ch)
+    ≡ true
 any_own channel.A n source true true p = refl
 any_own channel.A n source false true p = refl
 any_own channel.A n source own false p = refl
@@ -222,27 +244,35 @@ any_own channel.E n source own x p = refl
 
 -- ---- the whole
 
-served-event : {X : Type 0} (caching : ℕ → Bool) (r n : ℕ) (own : Bool) (source tracker : ℕ) (k : Cap) (rest : List Packet) (s : State X) → IsInvariant caching s
-    → (s.link r).a ≡ packet (kind_served own) (number_served own n source) ∷ rest → (s.block n).service ≡ Free → Probes own k ((s.block n).pair r)
-    → IsOwnSource (Waits r own source k) (s.block n).source → (w : ℕ) → is_probed r own k ((s.block n).pair w).recorded w ≡ true
-    → IsEvent caching n (served_block r own source tracker k (s.block n)) (served_link r own n k rest (s.block n) s.link) (served_moves r own n source k (s.block n).pair) s
+served-event : {X : Type 0} (caching : ℕ → Bool) (r n : ℕ) (own : Bool) (source tracker : ℕ) (k : Cap)
+    (rest : List Packet) (s : State X) → IsInvariant caching s
+    → (s.link r).a ≡ packet (kind_served own) (number_served own n source) ∷ rest → (s.block n).service ≡ Free
+    → Probes own k ((s.block n).pair r)
+    → IsOwnSource (Waits r own source k) (s.block n).source → (w : ℕ)
+    → is_probed r own k ((s.block n).pair w).recorded w ≡ true
+    → IsEvent caching n (served_block r own source tracker k (s.block n))
+    (served_link r own n k rest (s.block n) s.link) (served_moves r own n source k (s.block n).pair) s
 served-event caching r n own source tracker k rest s inv first free asks sourced w probed = record {
   well = served-block caching r own source tracker k (s.block n) (inv.blocks n) free asks sourced w probed;
-  moved = λ d ch. any_moved ch (if d == r then Pops (kind_served own) (number_served own n source) else Stays) n (s.link d) rest (d == r)
+  moved = λ d ch. any_moved ch (if d == r then Pops (kind_served own) (number_served own n source) else Stays) n
+      (s.link d) rest (d == r)
       (is_probed r own k ((s.block n).pair d).recorded d) (pops d) (stays (d == r));
   own = λ d ch. any_own ch n source own (d == r) (is_probed r own k ((s.block n).pair d).recorded d);
-  fits = λ d j t. before j d (shown j d (served_block r own source tracker k (s.block n))) (served_moves r own n source k (s.block n).pair d (channel_for j))
+  fits = λ d j t. before j d (shown j d (served_block r own source tracker k (s.block n)))
+      (served_moves r own n source k (s.block n).pair d (channel_for j))
       (any_shows n source j own (d == r) k ((s.block n).pair d) t (wants own asks d) (quiet d));
   in_order = λ d m e. absurd (let f : Stays ≡ Pushes ProbeAck m = e in cc);
 }
   where
-    before : (j : Kind) (d : ℕ) (after : Bool) (m : Move) → agrees m j n (shows j ((s.block n).pair d) Idle) after ≡ true → agrees m j n (shown j d (s.block n)) after ≡ true
+    before : (j : Kind) (d : ℕ) (after : Bool) (m : Move) → agrees m j n (shows j ((s.block n).pair d) Idle)
+        after ≡ true → agrees m j n (shown j d (s.block n)) after ≡ true
     before j d after m h = rw free h
 
     quiet : (d : ℕ) → is_unprobed ((s.block n).pair d).probing ≡ true
     quiet d = quiet_at_rest ((s.block n).pair d) (view (s.block n).service d) ((inv.blocks n).phases d) (rw free refl)
 
-    wants : (o : Bool) → Probes o k ((s.block n).pair r) → (d : ℕ) → o ≡ true → (d == r) ≡ true → is_wanting ((s.block n).pair d).acquiring ≡ true
+    wants : (o : Bool) → Probes o k ((s.block n).pair r) → (d : ℕ) → o ≡ true → (d == r) ≡ true
+        → is_wanting ((s.block n).pair d).acquiring ≡ true
     wants false a d e f = absurd cc
     wants true a d e f = rw (eqb-true d r f, a.2) refl
 
@@ -250,39 +280,53 @@ served-event caching r n own source tracker k rest s inv first free asks sourced
     stays true e = absurd cc
     stays false e = refl
 
-    pops : (d : ℕ) → (d == r) ≡ true → IsMoved (if d == r then Pops (kind_served own) (number_served own n source) else Stays) (s.link d).a rest
+    pops : (d : ℕ) → (d == r) ≡ true
+        → IsMoved (if d == r then Pops (kind_served own) (number_served own n source) else Stays) (s.link d).a rest
     pops d e = rw (e, eqb-true d r e) first
 
 -- no access is taken or answered where an Acquire is taken
 bare_move : (x p : Bool) (n : ℕ)
-    → (spares (request_move (if x then Pops Acquire n else Stays) p n channel.A) Request ≡ true) × (spares (request_move (if x then Pops Acquire n else Stays) p n channel.D) Answer ≡ true)
+    → (spares (request_move (if x then Pops Acquire n else Stays) p n channel.A) Request ≡ true)
+    × (spares (request_move (if x then Pops Acquire n else Stays) p n channel.D) Answer ≡ true)
 bare_move true p n = (refl, refl)
 bare_move false p n = (refl, refl)
 
 -- where Acquires stay, and Releases
-abbrev same_acquires : {X : Type 0} (r source tracker : ℕ) (own : Bool) (k : Cap) (b : Block X) → (c i : ℕ) → acquires_with c i (served_block r own source tracker k b) ≡ acquires_with c i b
-same_acquires r source tracker own k b c i = rw (unprobed_part (λ (p : ClientBlock). p.acquiring) r own k b.pair (λ p. refl) c) refl
+abbrev same_acquires : {X : Type 0} (r source tracker : ℕ) (own : Bool) (k : Cap) (b : Block X) → (c i : ℕ)
+    → acquires_with c i (served_block r own source tracker k b) ≡ acquires_with c i b
+same_acquires r source tracker own k b c i =
+    rw (unprobed_part (λ (p : ClientBlock). p.acquiring) r own k b.pair (λ p. refl) c) refl
 
-abbrev same_releases : {X : Type 0} (r source tracker : ℕ) (own : Bool) (k : Cap) (b : Block X) → (c i : ℕ) → releases_with c i (served_block r own source tracker k b) ≡ releases_with c i b
-same_releases r source tracker own k b c i = rw (unprobed_part (λ (p : ClientBlock). p.letting) r own k b.pair (λ p. refl) c) refl
+abbrev same_releases : {X : Type 0} (r source tracker : ℕ) (own : Bool) (k : Cap) (b : Block X) → (c i : ℕ)
+    → releases_with c i (served_block r own source tracker k b) ≡ releases_with c i b
+same_releases r source tracker own k b c i =
+    rw (unprobed_part (λ (p : ClientBlock). p.letting) r own k b.pair (λ p. refl) c) refl
 
 not_named : (n m : ℕ) → (m ≡ n → ⊥) → is_of m (Some n) ≡ is_of m None
 not_named n m ne = ne_eqb m n ne
 
 -- an Acquire
-pub acquire_served-kept : {X : Type 0} (caching : ℕ → Bool) (r n source tracker : ℕ) (whole : Bool) (g : Grow) (k : Cap) (rest : List Packet) (s : State X) → IsInvariant caching s
-    → (s.link r).a ≡ packet Acquire n ∷ rest → (s.block n).service ≡ Free → ((s.block n).pair r).acquiring ≡ AcquireOpen whole g → same_cap k (cap_asked (AcquireOpen whole g)) ≡ true
+pub acquire_served-kept : {X : Type 0} (caching : ℕ → Bool) (r n source tracker : ℕ) (whole : Bool) (g : Grow) (k : Cap)
+    (rest : List Packet) (s : State X) → IsInvariant caching s
+    → (s.link r).a ≡ packet Acquire n ∷ rest → (s.block n).service ≡ Free
+    → ((s.block n).pair r).acquiring ≡ AcquireOpen whole g → same_cap k (cap_asked (AcquireOpen whole g)) ≡ true
     → s.tracked tracker ≡ None → source ≡ (s.block n).source r
-    → (w : ℕ) → is_probed r true k ((s.block n).pair w).recorded w ≡ true → IsInvariant caching (acquire_served r n source tracker k rest s)
+    → (w : ℕ) → is_probed r true k ((s.block n).pair w).recorded w ≡ true
+    → IsInvariant caching (acquire_served r n source tracker k rest s)
 acquire_served-kept {X} caching r n source tracker whole g k rest s inv first free wants low unused sourced w probed =
-    invariant-moved caching n new (served_link r true n k rest (s.block n) s.link) (served_moves r true n source k (s.block n).pair) s.lets (set tracker (Some n) s.tracked) s inv
+    invariant-moved caching n new (served_link r true n k rest (s.block n) s.link)
+    (served_moves r true n source k (s.block n).pair) s.lets (set tracker (Some n) s.tracked) s inv
     (served-event caching r n true source tracker k rest s inv first free (whole, g, wants, low) sourced w probed)
     (λ d. bare_move (d == r) (is_probed r true k ((s.block n).pair d).recorded d) n)
     (record {
-      acquires = λ c. names-block acquires_of (acquires_with c) (s.uses c) n new s.block (same_acquires r source tracker true k (s.block n) c) (inv.named.acquires c);
-      serves = λ c. names-block serves_of (serves_with c) (s.uses c) n new s.block (λ i. rw free refl) (inv.named.serves c);
-      releases = λ c. names-block is_of (releases_with c) (s.lets c) n new s.block (same_releases r source tracker true k (s.block n) c) (inv.named.releases c);
-      trackers = names-set is_of tracks_with s.tracked tracker (Some n) n new s.block (rw (same_number n, same_number tracker) refl)
+      acquires = λ c. names-block acquires_of (acquires_with c) (s.uses c) n new s.block
+          (same_acquires r source tracker true k (s.block n) c) (inv.named.acquires c);
+      serves = λ c. names-block serves_of (serves_with c) (s.uses c) n new s.block (λ i. rw free refl)
+          (inv.named.serves c);
+      releases = λ c. names-block is_of (releases_with c) (s.lets c) n new s.block
+          (same_releases r source tracker true k (s.block n) c) (inv.named.releases c);
+      trackers = names-set is_of tracks_with s.tracked tracker (Some n) n new s.block
+          (rw (same_number n, same_number tracker) refl)
           (λ m ne. rw unused (not_named n m ne)) (λ i ne. rw (free, ne_eqb i tracker ne) refl) inv.named.trackers;
     })
   where
@@ -290,22 +334,32 @@ acquire_served-kept {X} caching r n source tracker whole g k rest s inv first fr
     new = served_block r true source tracker k (s.block n)
 
 -- an access
-pub access_served-kept : {X : Type 0} (caching : ℕ → Bool) (r n source tracker : ℕ) (k : Cap) (rest : List Packet) (s : State X) → IsInvariant caching s
-    → (s.link r).a ≡ packet Request source ∷ rest → (s.block n).service ≡ Free → s.uses r source ≡ Asked → same_cap k cap.ToT ≡ false → s.tracked tracker ≡ None
-    → (w : ℕ) → is_probed r false k ((s.block n).pair w).recorded w ≡ true → IsInvariant caching (access_served r n source tracker k rest s)
+pub access_served-kept : {X : Type 0} (caching : ℕ → Bool) (r n source tracker : ℕ) (k : Cap) (rest : List Packet)
+    (s : State X) → IsInvariant caching s
+    → (s.link r).a ≡ packet Request source ∷ rest → (s.block n).service ≡ Free → s.uses r source ≡ Asked
+    → same_cap k cap.ToT ≡ false → s.tracked tracker ≡ None
+    → (w : ℕ) → is_probed r false k ((s.block n).pair w).recorded w ≡ true
+    → IsInvariant caching (access_served r n source tracker k rest s)
 access_served-kept {X} caching r n source tracker k rest s inv first free asked low unused w probed =
-    invariant-moved_use caching n new (served_link r false n k rest (s.block n) s.link) (served_moves r false n source k (s.block n).pair) r source (InService n) (set tracker (Some n) s.tracked) s inv
+    invariant-moved_use caching n new (served_link r false n k rest (s.block n) s.link)
+    (served_moves r false n source k (s.block n).pair) r source (InService n) (set tracker (Some n) s.tracked) s inv
     (served-event caching r n false source tracker k rest s inv first free low tt w probed)
     (rw (asked, same_number r, same_number source) refl) (rw asked refl)
     (λ d ne. (rw (ne_eqb d r ne) refl, refl))
     (record {
       acquires = names-set_at acquires_of acquires_with r source (InService n) s.uses n new s.block
-          ((rw asked at (inv.named.acquires r source n)) ∙ sym (same_acquires r source tracker false k (s.block n) r source))
-          (λ m ne. rw asked refl) (λ i ne. same_acquires r source tracker false k (s.block n) r i) (λ d i ne. same_acquires r source tracker false k (s.block n) d i) inv.named.acquires;
-      serves = names-set_at serves_of serves_with r source (InService n) s.uses n new s.block (rw (same_number n, same_number r, same_number source) refl)
-          (λ m ne. rw asked (ne_eqb m n ne)) (λ i ne. rw (free, ne_eqb i source ne, same_number r) refl) (λ d i ne. rw (free, ne_eqb d r ne) refl) inv.named.serves;
-      releases = λ c. names-block is_of (releases_with c) (s.lets c) n new s.block (same_releases r source tracker false k (s.block n) c) (inv.named.releases c);
-      trackers = names-set is_of tracks_with s.tracked tracker (Some n) n new s.block (rw (same_number n, same_number tracker) refl)
+          ((rw asked at (inv.named.acquires r source n)) ∙ sym (same_acquires r source tracker false k (s.block n) r
+          source))
+          (λ m ne. rw asked refl) (λ i ne. same_acquires r source tracker false k (s.block n) r i)
+          (λ d i ne. same_acquires r source tracker false k (s.block n) d i) inv.named.acquires;
+      serves = names-set_at serves_of serves_with r source (InService n) s.uses n new s.block
+          (rw (same_number n, same_number r, same_number source) refl)
+          (λ m ne. rw asked (ne_eqb m n ne)) (λ i ne. rw (free, ne_eqb i source ne, same_number r) refl)
+          (λ d i ne. rw (free, ne_eqb d r ne) refl) inv.named.serves;
+      releases = λ c. names-block is_of (releases_with c) (s.lets c) n new s.block
+          (same_releases r source tracker false k (s.block n) c) (inv.named.releases c);
+      trackers = names-set is_of tracks_with s.tracked tracker (Some n) n new s.block
+          (rw (same_number n, same_number tracker) refl)
           (λ m ne. rw unused (not_named n m ne)) (λ i ne. rw (free, ne_eqb i tracker ne) refl) inv.named.trackers;
     })
   where

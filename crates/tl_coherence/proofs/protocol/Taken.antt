@@ -1,20 +1,16 @@
 -- A Grant that is taken keeps what holds of a block, also where it changes what all copies stand for.
+use Rattle.tl_coherence.proofs.protocol.Imports.{Cap, Grow, Perm, cap_right, same_perm, ClientBlock, Granting}
+use Rattle.tl_coherence.proofs.protocol.Imports.{Acknowledging, GrantedOther, NoAcquire, AcquireOpen, is_unprobed}
+use Rattle.tl_coherence.proofs.protocol.Imports.{cap_fits, after_grant, set, GrantSent, GrantTaken, Block, view}
+use Rattle.tl_coherence.proofs.protocol.Imports.{taken_block, resting, is_out, IsWell}
 use Rattle.std.proofs.Common.{◌≡◌, ℕ, Bool, true, false, not, ◌&&◌, ◌||◌, refl, sym, ◌∙◌, ap, inl, inr}
 use Rattle.std.proofs.lemmas.Bool.{cases_eq, ne_eqb}
 use Rattle.std.proofs.Math.Bool.{and-false}
-use Rattle.tl_params.specs.declared.param.Cap.{Cap}
 use Rattle.tl_params.specs.declared.param.Cap.TheVariants as cap
-use Rattle.tl_params.specs.declared.param.Grow.{Grow}
 use Rattle.tl_params.specs.declared.param.Grow.TheVariants as grow
-use Rattle.tl_params.specs.declared.perm.Perm.{Perm}
 use Rattle.tl_params.specs.declared.perm.Perm.TheVariants as perm
-use Rattle.tl_params.specs.statement.Param.{cap_right}
-use Rattle.tl_rules.specs.statement.Conformance.{same_perm}
-use Rattle.tl_coherence.specs.protocol.Phase.{ClientBlock, Granting, Acknowledging, GrantedOther, NoAcquire, AcquireOpen, is_unprobed, cap_fits, grant_fits}
-use Rattle.tl_coherence.specs.protocol.PhaseSteps.{after_grant}
-use Rattle.tl_coherence.specs.protocol.Packet.{set}
-use Rattle.tl_coherence.specs.protocol.Protocol.{GrantSent, GrantTaken, Block, view, granted_copy, granted_truth, taken_block}
-use Rattle.tl_coherence.specs.protocol.Invariant.{resting, is_out, IsWell}
+use Rattle.tl_coherence.specs.protocol.Phase.{grant_fits}
+use Rattle.tl_coherence.specs.protocol.Protocol.{granted_copy, granted_truth}
 use Rattle.tl_coherence.proofs.queues.Phases.{and_left, and_right}
 use Rattle.tl_coherence.proofs.queues.PhaseSteps.{grant_taken-ok}
 use Rattle.tl_coherence.proofs.queues.Facts.{held_at_most, grant_is_fit}
@@ -22,7 +18,8 @@ use Rattle.tl_coherence.proofs.queues.Tokens.{same_number, set-same, set-other, 
 use Rattle.tl_coherence.proofs.queues.Perms.{nothing_below}
 
 -- a Grant for a store of the whole block gives Trunk
-whole_trunk : (g : Grow) (k : Cap) (p : Perm) → same_perm p (cap_right k) ≡ true → cap_fits true g k ≡ true → same_perm p perm.Trunk ≡ true
+whole_trunk : (g : Grow) (k : Cap) (p : Perm) → same_perm p (cap_right k) ≡ true → cap_fits true g k ≡ true
+    → same_perm p perm.Trunk ≡ true
 whole_trunk g cap.ToT p e f = e
 whole_trunk grow.NtoB cap.ToB p e f = absurd cc
 whole_trunk grow.NtoT cap.ToB p e f = absurd cc
@@ -36,25 +33,30 @@ some_held perm.None e = absurd cc
 some_held perm.Branch e = refl
 some_held perm.Trunk e = absurd cc
 
-pub taken-block : {X : Type 0} (caching : ℕ → Bool) (c : ℕ) (d whole : Bool) (g : Grow) (k : Cap) (b : Block X) → IsWell caching b → b.service ≡ GrantSent c d k
+pub taken-block : {X : Type 0} (caching : ℕ → Bool) (c : ℕ) (d whole : Bool) (g : Grow) (k : Cap) (b : Block X)
+    → IsWell caching b → b.service ≡ GrantSent c d k
     → (b.pair c).acquiring ≡ AcquireOpen whole g → IsWell caching (taken_block c whole d k b)
 taken-block {X} caching c d whole g k b h granting wants = record {
   phases = λ i. elim (cases_eq i c) [
-    | inl same ↦ rw (same, set-same c after b.pair, view_here) (grant_taken-ok d k (b.pair c) (view b.service c) (h.phases c) seen)
+    | inl same ↦ rw (same, set-same c after b.pair, view_here)
+        (grant_taken-ok d k (b.pair c) (view b.service c) (h.phases c) seen)
     | inr other ↦ rw (set-other c i after b.pair other, view_there i other) (rw (seen_by i other) at (h.phases i))
   ];
   awaited = tt;
   asked_cap = tt;
   own_source = tt;
-  alone = λ i j trunk probed ne. rw (quiet_same j) (h.alone i j (rw (recorded_same i) at trunk) (rw (quiet_same i) at probed) ne);
+  alone = λ i j trunk probed ne. rw (quiet_same j)
+      (h.alone i j (rw (recorded_same i) at trunk) (rw (quiet_same i) at probed) ne);
   one_owner = λ i j trunk ne. rw (recorded_same j) (h.one_owner i j (rw (recorded_same i) at trunk) ne);
   outside = λ i plain. elim (cases_eq i c) [
     | inl same ↦ absurd (not_calm (b.pair c) wants (h.outside c (rw same at plain)))
     | inr other ↦ rw (set-other c i after b.pair other) (h.outside i plain)
   ];
   copies = λ i some. elim (cases_eq i c) [
-    | inl same ↦ rw (same, set-same c (granted_copy whole d (b.waiting c) b.truth (b.copy c)) b.copy) (own_copy whole refl d refl)
-    | inr other ↦ rw (set-other c i (granted_copy whole d (b.waiting c) b.truth (b.copy c)) b.copy other) (other_copy i other whole refl (rw (set-other c i after b.pair other) at some))
+    | inl same ↦ rw (same, set-same c (granted_copy whole d (b.waiting c) b.truth (b.copy c)) b.copy)
+        (own_copy whole refl d refl)
+    | inr other ↦ rw (set-other c i (granted_copy whole d (b.waiting c) b.truth (b.copy c)) b.copy other)
+        (other_copy i other whole refl (rw (set-other c i after b.pair other) at some))
   ];
   memory = λ none. memory_is whole refl none;
 }
@@ -84,40 +86,51 @@ taken-block {X} caching c d whole g k b h granting wants = record {
     fit : grant_fits (b.pair c).recorded (b.pair c).held d k (AcquireOpen whole g) ≡ true
     fit = rw wants at (grant_is_fit d k (b.pair c) (view b.service c) (h.phases c) seen)
 
-    fit_rest : (cap_fits whole g k && (not (whole && d) && (whole || (d || same_perm (b.pair c).held perm.Branch)))) ≡ true
-    fit_rest = and_right (same_perm (b.pair c).recorded (cap_right k)) (cap_fits whole g k && (not (whole && d) && (whole || (d || same_perm (b.pair c).held perm.Branch)))) fit
+    fit_rest : (cap_fits whole g k && (not (whole && d) && (whole || (d || same_perm (b.pair c).held perm.Branch))))
+        ≡ true
+    fit_rest = and_right (same_perm (b.pair c).recorded (cap_right k))
+        (cap_fits whole g k && (not (whole && d) && (whole || (d || same_perm (b.pair c).held perm.Branch)))) fit
 
     owns : whole ≡ true → same_perm (b.pair c).recorded perm.Trunk ≡ true
     owns e =
         whole_trunk g k (b.pair c).recorded (and_left (same_perm (b.pair c).recorded (cap_right k))
         (cap_fits whole g k && (not (whole && d) && (whole || (d || same_perm (b.pair c).held perm.Branch)))) fit)
-        (rw e at (and_left (cap_fits whole g k) (not (whole && d) && (whole || (d || same_perm (b.pair c).held perm.Branch))) fit_rest))
+        (rw e at (and_left (cap_fits whole g k)
+        (not (whole && d) && (whole || (d || same_perm (b.pair c).held perm.Branch))) fit_rest))
 
     had_branch : whole ≡ false → d ≡ false → same_perm (b.pair c).held perm.Branch ≡ true
     had_branch e f = rw (e, f) at (and_right (not (whole && d)) (whole || (d || same_perm (b.pair c).held perm.Branch))
-        (and_right (cap_fits whole g k) (not (whole && d) && (whole || (d || same_perm (b.pair c).held perm.Branch))) fit_rest))
+        (and_right (cap_fits whole g k) (not (whole && d) && (whole || (d || same_perm (b.pair c).held perm.Branch)))
+        fit_rest))
 
-    own_copy : (all : Bool) → whole ≡ all → (data_too : Bool) → d ≡ data_too → granted_copy whole d (b.waiting c) b.truth (b.copy c) ≡ granted_truth whole (b.waiting c) b.truth
+    own_copy : (all : Bool) → whole ≡ all → (data_too : Bool) → d ≡ data_too
+        → granted_copy whole d (b.waiting c) b.truth (b.copy c) ≡ granted_truth whole (b.waiting c) b.truth
     own_copy true e data_too f = rw e refl
     own_copy false e true f = rw (e, f) refl
     own_copy false e false f = let had = some_held (b.pair c).held (had_branch e f) in rw (e, f) (h.copies c had)
 
-    other_copy : (i : ℕ) → (i ≡ c → ⊥) → (all : Bool) → whole ≡ all → same_perm (b.pair i).held perm.None ≡ false → b.copy i ≡ granted_truth whole (b.waiting c) b.truth
+    other_copy : (i : ℕ) → (i ≡ c → ⊥) → (all : Bool) → whole ≡ all → same_perm (b.pair i).held perm.None ≡ false
+        → b.copy i ≡ granted_truth whole (b.waiting c) b.truth
     other_copy i ne true e some =
         let none : same_perm (b.pair i).held perm.None ≡ true =
-        nothing_below (b.pair i).held (b.pair i).recorded (held_at_most (b.pair i) (view b.service i) (h.phases i)) (h.one_owner c i (owns e) ne) in
+        nothing_below (b.pair i).held (b.pair i).recorded (held_at_most (b.pair i) (view b.service i) (h.phases i))
+        (h.one_owner c i (owns e) ne) in
         absurd cc
     other_copy i ne false e some = rw e (h.copies i some)
 
-    memory_is : (all : Bool) → whole ≡ all → ((i : ℕ) → is_out (set c after b.pair i) (view (GrantTaken c) i) ≡ false) → b.memory ≡ granted_truth whole (b.waiting c) b.truth
+    memory_is : (all : Bool) → whole ≡ all → ((i : ℕ) → is_out (set c after b.pair i) (view (GrantTaken c) i) ≡ false)
+        → b.memory ≡ granted_truth whole (b.waiting c) b.truth
     memory_is true e none =
-        let out : is_out (set c after b.pair c) (view (GrantTaken c) c) ≡ true = rw (recorded_same c, view_here, owns e) refl in
+        let out : is_out (set c after b.pair c) (view (GrantTaken c) c) ≡ true =
+        rw (recorded_same c, view_here, owns e) refl in
         let in_ : is_out (set c after b.pair c) (view (GrantTaken c) c) ≡ false = none c in
         absurd cc
     memory_is false e none = rw e (h.memory (λ i. elim (cases_eq i c) [
       | inl same ↦ rw (same, seen) (and-false (same_perm (b.pair c).recorded perm.Trunk))
-      | inr other ↦ let was : is_out (set c after b.pair i) (view (GrantTaken c) i) ≡ false = none i in rw (seen_by i other) (rw (recorded_same i, view_there i other) at was)
+      | inr other ↦ let was : is_out (set c after b.pair i) (view (GrantTaken c) i) ≡ false = none i in
+          rw (seen_by i other) (rw (recorded_same i, view_there i other) at was)
     ]))
 
     not_calm : (p : ClientBlock) → p.acquiring ≡ AcquireOpen whole g → p ≡ resting → ⊥
-    not_calm p e f = let i : p.acquiring ≡ NoAcquire = ap (λ (x : ClientBlock). x.acquiring) f in let j : AcquireOpen whole g ≡ NoAcquire = sym e ∙ i in absurd cc
+    not_calm p e f = let i : p.acquiring ≡ NoAcquire = ap (λ (x : ClientBlock). x.acquiring) f in
+        let j : AcquireOpen whole g ≡ NoAcquire = sym e ∙ i in absurd cc

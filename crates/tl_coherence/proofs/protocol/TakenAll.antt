@@ -1,20 +1,20 @@
 -- A Grant that is taken keeps the invariant.
+use Rattle.tl_coherence.proofs.protocol.Imports.{Channel, Cap, Grow, ClientBlock, Granting, Acknowledging, AcquireOpen}
+use Rattle.tl_coherence.proofs.protocol.Imports.{after_grant, Kind, Request, Acquire, Probe, ProbeAck, Release, Answer}
+use Rattle.tl_coherence.proofs.protocol.Imports.{Grant, ReleaseAck, GrantAck, Packet, set, GrantSent, Block, State}
+use Rattle.tl_coherence.proofs.protocol.Imports.{Link, SourceFree, Acquires, packet, shows, is_transfer, is_wanting}
+use Rattle.tl_coherence.proofs.protocol.Imports.{is_sent, is_answered, is_releasing, is_acked, taken_block, Move, Stays}
+use Rattle.tl_coherence.proofs.protocol.Imports.{Pushes, Pops, AreMoved, agrees, is_own_move, channel_for, is_of}
+use Rattle.tl_coherence.proofs.protocol.Imports.{acquires_of, serves_of, acquires_with, serves_with, releases_with}
+use Rattle.tl_coherence.proofs.protocol.Imports.{tracks_with, IsInvariant}
 use Rattle.std.proofs.Common.{◌≡◌, refl, sym, ◌∙◌}
 use Rattle.std.specs.Prelude.{ℕ, Bool, true, false, List, ◌∷◌, ◌&&◌}
 use Rattle.std.proofs.lemmas.Bool.{ne_eqb}
 use Rattle.std.proofs.Math.Bool.{and-false}
-use Rattle.tl_beat.specs.declared.channel.Channel.{Channel}
 use Rattle.tl_beat.specs.declared.channel.Channel.TheVariants as channel
-use Rattle.tl_params.specs.declared.param.Cap.{Cap}
-use Rattle.tl_params.specs.declared.param.Grow.{Grow}
-use Rattle.tl_coherence.specs.protocol.Phase.{ClientBlock, Granting, Acknowledging, AcquireOpen}
-use Rattle.tl_coherence.specs.protocol.PhaseSteps.{after_grant}
-use Rattle.tl_coherence.specs.protocol.Packet.{Kind, Request, Acquire, Probe, ProbeAck, Release, Answer, Grant, ReleaseAck, GrantAck, Packet, set}
-use Rattle.tl_coherence.specs.protocol.Protocol.{GrantSent, Block, State, Link, SourceFree, Acquires, packet, shows, is_transfer, is_wanting, is_sent, is_answered, is_releasing}
-use Rattle.tl_coherence.specs.protocol.Protocol.{is_acked, taken_block, taken_link, grant_taken}
-use Rattle.tl_coherence.specs.refinement.Move.{Move, Stays, Pushes, Pops, AreMoved, agrees, is_own_move, channel_for}
-use Rattle.tl_coherence.specs.protocol.Invariant.{is_of, acquires_of, serves_of, acquires_with, serves_with, releases_with, tracks_with, IsInvariant}
-use Rattle.tl_coherence.proofs.queues.Moves.{moves_at, event-at, bare-elsewhere, names-block, names-set_at, invariant-moved_use, same_again}
+use Rattle.tl_coherence.specs.protocol.Protocol.{taken_link, grant_taken}
+use Rattle.tl_coherence.proofs.queues.Moves.{moves_at, event-at, bare-elsewhere, names-block, names-set_at}
+use Rattle.tl_coherence.proofs.queues.Moves.{invariant-moved_use, same_again}
 use Rattle.tl_coherence.proofs.queues.Tokens.{same_number, set-same, set-other, set-part}
 use Rattle.tl_coherence.proofs.protocol.Taken.{taken-block}
 use Rattle.tl_coherence.proofs.protocol.BothParts.{acquires_of-is}
@@ -25,7 +25,8 @@ taken_moves n channel.E = Pushes GrantAck n
 taken_moves n _ = Stays
 
 taken_shows : (n : ℕ) (j : Kind) (d : Bool) (k : Cap) (p : ClientBlock) → is_transfer j ≡ true
-    → agrees (taken_moves n (channel_for j)) j n (shows j p (Granting d k)) (shows j (after_grant k p) Acknowledging) ≡ true
+    → agrees (taken_moves n (channel_for j)) j n (shows j p (Granting d k)) (shows j (after_grant k p) Acknowledging)
+    ≡ true
 taken_shows n Request d k p t = absurd cc
 taken_shows n Answer d k p t = absurd cc
 taken_shows n Acquire d k p t = go (is_wanting p.acquiring)
@@ -40,10 +41,13 @@ taken_shows n Grant d k p t = rw (same_number n) refl
 taken_shows n ReleaseAck d k p t = same_again (is_acked p.letting)
 taken_shows n GrantAck d k p t = rw (same_number n) refl
 
-pub grant_taken-kept : {X : Type 0} (caching : ℕ → Bool) (c n : ℕ) (d whole : Bool) (g : Grow) (k : Cap) (rest : List Packet) (s : State X) → IsInvariant caching s → (s.link c).d ≡ packet Grant n ∷ rest
-    → (s.block n).service ≡ GrantSent c d k → ((s.block n).pair c).acquiring ≡ AcquireOpen whole g → IsInvariant caching (grant_taken c n whole d k rest s)
+pub grant_taken-kept : {X : Type 0} (caching : ℕ → Bool) (c n : ℕ) (d whole : Bool) (g : Grow) (k : Cap)
+    (rest : List Packet) (s : State X) → IsInvariant caching s → (s.link c).d ≡ packet Grant n ∷ rest
+    → (s.block n).service ≡ GrantSent c d k → ((s.block n).pair c).acquiring ≡ AcquireOpen whole g
+    → IsInvariant caching (grant_taken c n whole d k rest s)
 grant_taken-kept {X} caching c n d whole g k rest s inv first granting wants =
-    invariant-moved_use caching n new (set c here s.link) (moves_at c (taken_moves n)) c source SourceFree s.tracked s inv
+    invariant-moved_use caching n new (set c here s.link) (moves_at c (taken_moves n)) c source SourceFree s.tracked s
+    inv
     (event-at caching c n new here (taken_moves n) s (record {
       well = taken-block caching c d whole g k (s.block n) (inv.blocks n) granting wants;
       moved = moved;
@@ -54,10 +58,14 @@ grant_taken-kept {X} caching c n d whole g k rest s inv first granting wants =
     }))
     (rw (same_number c, used) refl) (rw (same_number c, used) refl) (bare-elsewhere c (taken_moves n))
     (record {
-      acquires = names-set_at acquires_of acquires_with c source SourceFree s.uses n new s.block (rw (set-same c after old) refl) (λ m ne. rw used (sym (ne_eqb m n ne)))
-          (λ i ne. rw (set-same c after old, ne_eqb i source ne) (sym (and-false (is_wanting (old c).acquiring)))) (λ i j ne. rw (set-other c i after old ne) refl) inv.named.acquires;
-      serves = names-set_at serves_of serves_with c source SourceFree s.uses n new s.block refl (λ m ne. rw used refl) (λ i ne. rw granting refl) (λ i j ne. rw granting refl) inv.named.serves;
-      releases = λ i. names-block is_of (releases_with i) (s.lets i) n new s.block (λ j. rw (set-part (λ (p : ClientBlock). p.letting) c after old refl i) refl) (inv.named.releases i);
+      acquires = names-set_at acquires_of acquires_with c source SourceFree s.uses n new s.block
+          (rw (set-same c after old) refl) (λ m ne. rw used (sym (ne_eqb m n ne)))
+          (λ i ne. rw (set-same c after old, ne_eqb i source ne) (sym (and-false (is_wanting (old c).acquiring))))
+          (λ i j ne. rw (set-other c i after old ne) refl) inv.named.acquires;
+      serves = names-set_at serves_of serves_with c source SourceFree s.uses n new s.block refl (λ m ne. rw used refl)
+          (λ i ne. rw granting refl) (λ i j ne. rw granting refl) inv.named.serves;
+      releases = λ i. names-block is_of (releases_with i) (s.lets i) n new s.block
+          (λ j. rw (set-part (λ (p : ClientBlock). p.letting) c after old refl i) refl) (inv.named.releases i);
       trackers = names-block is_of tracks_with s.tracked n new s.block (λ i. rw granting refl) inv.named.trackers;
     })
   where

@@ -1,22 +1,20 @@
 -- A message that is pushed, and a beat that is taken.
+use Rattle.tl_coherence.proofs.queues.Imports.{Beat, Message, beats_of, completes, beats_from, IsCarried}
 use Rattle.std.proofs.Common.{◌≡◌, ℕ, zero, suc, ◌<◌, ◌+◌, ◌-◌, List, [], ◌∷◌, ◌++◌, refl, sym, ◌∙◌, ap, arith}
 use Rattle.std.specs.Prelude.{◌==◌}
 use Rattle.std.proofs.lemmas.List.{append_assoc, append-nil}
-use Rattle.tl_beat.specs.declared.beat.Beat.{Beat}
-use Rattle.tl_burst.specs.declared.message.Message.{Message}
-use Rattle.tl_burst.specs.statement.Burst.{beats_of, beat_of, begun, burst_of}
+use Rattle.tl_burst.specs.statement.Burst.{beat_of, begun, burst_of}
 use Rattle.tl_burst.specs.statement.Messages.{grown}
-use Rattle.tl_burst.specs.statement.Part.{completes}
 use Rattle.tl_burst.proofs.Begun.{length-begun}
-use Rattle.tl_rules.specs.statement.Legality.{beats_from}
 use Rattle.tl_rules.proofs.Sent.{not_last, is_last}
-use Rattle.tl_coherence.specs.refinement.Carried.{spelled, IsCarried}
+use Rattle.tl_coherence.specs.refinement.Carried.{spelled}
 use Rattle.tl_burst.proofs.Splitting.{length-of_beat}
 
 spelled-append : {w : ℕ} (ms ns : List (Message w)) → spelled (ms ++ ns) ≡ spelled ms ++ spelled ns
 unfolding spelled
 spelled-append [] ns = refl
-spelled-append (m ∷ ms) ns = rw (spelled-append ms ns) (sym (append_assoc (beats_from m 0 (beats_of m)) (spelled ms) (spelled ns)))
+spelled-append (m ∷ ms) ns =
+    rw (spelled-append ms ns) (sym (append_assoc (beats_from m 0 (beats_of m)) (spelled ms) (spelled ns)))
 
 spelled-one : {w : ℕ} (m : Message w) → spelled (m ∷ []) ≡ beats_from m 0 (beats_of m)
 unfolding spelled
@@ -24,18 +22,25 @@ spelled-one m = append-nil (beats_from m 0 (beats_of m))
 
 -- ---- a message is pushed
 
-pub carried-push : {w : ℕ} (rest : List (Beat w)) (ms : List (Message w)) (queue : List (Beat w)) (m : Message w) → 0 < beats_of m → IsCarried rest ms queue
+pub carried-push : {w : ℕ} (rest : List (Beat w)) (ms : List (Message w)) (queue : List (Beat w)) (m : Message w)
+    → 0 < beats_of m → IsCarried rest ms queue
     → IsCarried rest (ms ++ m ∷ []) (queue ++ beats_from m 0 (beats_of m))
 unfolding spelled
 carried-push {w} rest [] queue m pos h =
     let all : beats_of m - 0 ≡ beats_of m = omega arith in
     (0, pos, h.0, rw (h.1, all) (sym (append-nil (beats_from m 0 (beats_of m)))))
-carried-push {w} rest (n ∷ ms) queue m pos (k, lt, r, q) =
-    (k, lt, r, rw (q, spelled-append ms (m ∷ []), spelled-one m) (append_assoc (beats_from n k (beats_of n - k)) (spelled ms) (beats_from m 0 (beats_of m))))
+carried-push {w} rest (n ∷ ms) queue m pos (k, lt, r, q) = (
+  k,
+  lt,
+  r,
+  rw (q, spelled-append ms (m ∷ []), spelled-one m)
+      (append_assoc (beats_from n k (beats_of n - k)) (spelled ms) (beats_from m 0 (beats_of m))),
+)
 
 -- ---- the first beat is taken
 
-from_next : {w : ℕ} (m : Message w) (k n : ℕ) → n ≡ suc (n - 1) → beats_from m k n ≡ beat_of m k ∷ beats_from m (k + 1) (n - 1)
+from_next : {w : ℕ} (m : Message w) (k n : ℕ) → n ≡ suc (n - 1) → beats_from m k n ≡ beat_of m k ∷ beats_from m (k + 1)
+    (n - 1)
 unfolding beats_from
 from_next m k zero e = absurd (omega (arith, e))
 from_next m k (suc n) e = let one : suc n - 1 ≡ n = omega arith in rw one refl
@@ -45,7 +50,8 @@ unfolding beats_from
 no_beats m k beats = refl
 
 -- what the first beat of a channel is, and what is left: `m` is its message, and it is beat k
-pub record IsNext {w : ℕ} (x : Beat w) (rest : List (Beat w)) (m : Message w) (ms : List (Message w)) (queue : List (Beat w)) : Type 0 where
+pub record IsNext {w : ℕ} (x : Beat w) (rest : List (Beat w)) (m : Message w) (ms : List (Message w))
+    (queue : List (Beat w)) : Type 0 where
   pub k : ℕ
   pub within : k < beats_of m
   pub beat_is : x ≡ beat_of m k
@@ -64,12 +70,14 @@ unfolding spelled
 carried_rest [] pos = (refl, refl)
 carried_rest (m ∷ ms) pos = let all : beats_of m - 0 ≡ beats_of m = omega arith in (0, pos m, refl, rw all refl)
 
-pub carried-next : {w : ℕ} (x : Beat w) (rest : List (Beat w)) (m : Message w) (ms : List (Message w)) (queue : List (Beat w)) → ((n : Message w) → 0 < beats_of n)
+pub carried-next : {w : ℕ} (x : Beat w) (rest : List (Beat w)) (m : Message w) (ms : List (Message w))
+    (queue : List (Beat w)) → ((n : Message w) → 0 < beats_of n)
     → IsCarried rest (m ∷ ms) (x ∷ queue) → IsNext x rest m ms queue
 carried-next {w} x rest m ms queue pos (k, lt, r, q) =
     let n = beats_of m in
     let some : n - k ≡ suc (n - k - 1) = omega (arith, lt) in
-    let parts = tail_is x (beat_of m k) queue (beats_from m (k + 1) (n - k - 1) ++ spelled ms) (q ∙ ap (λ (b : List (Beat w)). b ++ spelled ms) (from_next m k (n - k) some)) in
+    let parts = tail_is x (beat_of m k) queue (beats_from m (k + 1) (n - k - 1) ++ spelled ms)
+    (q ∙ ap (λ (b : List (Beat w)). b ++ spelled ms) (from_next m k (n - k) some)) in
     let left : n - k - 1 ≡ n - (k + 1) = omega arith in
     record {
       k = k;
@@ -79,12 +87,23 @@ carried-next {w} x rest m ms queue pos (k, lt, r, q) =
       completes_is = rw (parts.0, r, length-begun m k, length-of_beat m k) refl;
       more = λ lt2. (
         rw (parts.0, r, length-begun m k, length-of_beat m k, not_last k n lt2) refl,
-        (suc k, next_lt lt2, rw (parts.0, r) refl, parts.1 ∙ ap₂_from (k + 1) (suc k) (n - k - 1) (n - suc k) (omega arith) (omega arith)),
+        (
+          suc k,
+          next_lt lt2,
+          rw (parts.0, r) refl,
+          parts.1 ∙ ap₂_from (k + 1) (suc k) (n - k - 1) (n - suc k)
+              (omega arith) (omega arith),
+        ),
       );
       last = λ e.
           let none : n - k - 1 ≡ 0 = omega (arith, e) in
-          let queue_is : queue ≡ spelled ms = parts.1 ∙ ap (λ (i : ℕ). beats_from m (k + 1) i ++ spelled ms) none ∙ no_beats m (k + 1) (spelled ms) in
-          (rw (parts.0, r, length-begun m k, length-of_beat m k, is_last k n e) refl, rw (parts.0, r) (whole e), rw queue_is (carried_rest ms pos));
+          let queue_is : queue ≡ spelled ms = parts.1 ∙ ap (λ (i : ℕ). beats_from m (k + 1) i ++ spelled ms)
+          none ∙ no_beats m (k + 1) (spelled ms) in (
+            rw (parts.0, r, length-begun m k, length-of_beat m k, is_last k n e) refl,
+            rw (parts.0, r) (whole e),
+            rw
+                queue_is (carried_rest ms pos),
+          );
     }
   where
     next_lt : k + 1 < beats_of m → suc k < beats_of m
@@ -101,7 +120,8 @@ pub carried-none : {w : ℕ} (rest : List (Beat w)) (ms : List (Message w)) → 
 carried-none rest [] h = refl
 carried-none {w} rest (m ∷ ms) (k, lt, r, q) =
     let some : beats_of m - k ≡ suc (beats_of m - k - 1) = omega (arith, lt) in
-    absurd (nothing_is (beat_of m k) (beats_from m (k + 1) (beats_of m - k - 1) ++ spelled ms) (q ∙ ap (λ (b : List (Beat w)). b ++ spelled ms) (from_next m k (beats_of m - k) some)))
+    absurd (nothing_is (beat_of m k) (beats_from m (k + 1) (beats_of m - k - 1) ++ spelled ms)
+    (q ∙ ap (λ (b : List (Beat w)). b ++ spelled ms) (from_next m k (beats_of m - k) some)))
   where
     nothing_is : (x : Beat w) (xs : List (Beat w)) → [] ≡ x ∷ xs → ⊥
     nothing_is x xs e = absurd cc

@@ -1,24 +1,18 @@
 -- The channels after any event: where the tokens that stay show the same messages, and the beats move with the tokens,
 -- the channels carry the messages of the tokens.
-use Rattle.std.proofs.Common.{◌≡◌, ℕ, Bool, true, false, ◌≤◌, List, [], ◌∷◌, ◌++◌, refl, sym, ◌∙◌, ap, ap₂, ◌⊎◌, inl, inr, arith}
+use Rattle.tl_coherence.proofs.queues.Imports.{IsWidth, Beat, Channel, Message, beats_of, unfinished, completes}
+use Rattle.tl_coherence.proofs.queues.Imports.{beats_from, Kind, Request, Acquire, Probe, ProbeAck, Release, Answer}
+use Rattle.tl_coherence.proofs.queues.Imports.{Grant, ReleaseAck, GrantAck, Packet, is, one_if, count, set, State}
+use Rattle.tl_coherence.proofs.queues.Imports.{packet, packets_on, is_on, shown, IsInvariant, is_asked, is_replied}
+use Rattle.tl_coherence.proofs.queues.Imports.{Move, Stays, Pushes, Pops, IsMoved, AreMoved, AccessMessages, message_of}
+use Rattle.tl_coherence.proofs.queues.Imports.{ChannelRelation, receiver, System, same_channel}
+use Rattle.std.proofs.Common.{◌≡◌, ℕ, Bool, true, false, ◌≤◌, List, [], ◌∷◌, ◌++◌, refl, sym, ◌∙◌, ap, ap₂, ◌⊎◌, inl}
+use Rattle.std.proofs.Common.{inr, arith}
 use Rattle.std.specs.Prelude.{◌==◌, ◌&&◌, if◌then◌else◌, map, Option, Some, None, ⊤}
 use Rattle.std.proofs.lemmas.Bool.{cases_eq, ne_eqb}
-use Rattle.tl_beat.specs.statement.Width.{IsWidth}
-use Rattle.tl_beat.specs.declared.beat.Beat.{Beat}
-use Rattle.tl_beat.specs.declared.channel.Channel.{Channel}
 use Rattle.tl_beat.specs.declared.channel.Channel.TheVariants as channel
-use Rattle.tl_burst.specs.declared.message.Message.{Message}
-use Rattle.tl_burst.specs.statement.Burst.{beats_of}
-use Rattle.tl_burst.specs.statement.Messages.{unfinished}
-use Rattle.tl_burst.specs.statement.Part.{completes}
-use Rattle.tl_rules.specs.statement.Legality.{beats_from}
-use Rattle.tl_coherence.specs.protocol.Packet.{Kind, Request, Acquire, Probe, ProbeAck, Release, Answer, Grant, ReleaseAck, GrantAck, Packet, is, one_if, count, set}
-use Rattle.tl_coherence.specs.protocol.Protocol.{State, Link, packet, packets_on, is_on, is_transfer, on, shown}
-use Rattle.tl_coherence.specs.protocol.Invariant.{IsInvariant, is_asked, is_replied}
-use Rattle.tl_coherence.specs.refinement.Move.{Move, Stays, Pushes, Pops, IsMoved, AreMoved}
-use Rattle.tl_coherence.specs.refinement.PacketMessages.{AccessMessages, block_message, message_of_kind, message_of}
-use Rattle.tl_coherence.specs.refinement.ChannelRelation.{ChannelRelation, receiver}
-use Rattle.tl_coherence.specs.statement.System.{System, same_channel}
+use Rattle.tl_coherence.specs.protocol.Protocol.{Link, is_transfer, on}
+use Rattle.tl_coherence.specs.refinement.PacketMessages.{block_message, message_of_kind}
 use Rattle.tl_coherence.proofs.queues.CarriedMoves.{IsQueued, staying, carried-moved}
 use Rattle.tl_coherence.proofs.queues.Moves.{moves_at}
 use Rattle.tl_coherence.proofs.queues.Rendered.{same_kind_again}
@@ -32,43 +26,54 @@ count_behind k n [] x = omega arith
 count_behind k n (y ∷ xs) x = omega (arith, count_behind k n xs x)
 
 -- no more of them than there were, and than there are
-stay_before : (move : Move) (k : Kind) (n : ℕ) (xs ys : List Packet) → IsMoved move xs ys → count k n (staying move xs ys) ≤ count k n xs
+stay_before : (move : Move) (k : Kind) (n : ℕ) (xs ys : List Packet) → IsMoved move xs ys
+    → count k n (staying move xs ys) ≤ count k n xs
 unfolding count
 stay_before Stays k n xs ys e = omega arith
 stay_before (Pushes j i) k n xs ys e = omega arith
 stay_before (Pops j i) k n xs ys e = rw e (omega arith)
 
-stay_after : (move : Move) (k : Kind) (n : ℕ) (xs ys : List Packet) → IsMoved move xs ys → count k n (staying move xs ys) ≤ count k n ys
+stay_after : (move : Move) (k : Kind) (n : ℕ) (xs ys : List Packet) → IsMoved move xs ys
+    → count k n (staying move xs ys) ≤ count k n ys
 stay_after Stays k n xs ys e = rw e (omega arith)
 stay_after (Pushes j i) k n xs ys e = rw e (count_behind k n xs (packet j i))
 stay_after (Pops j i) k n xs ys e = omega arith
 
 -- messages of tokens are the same where those of each token that is there are
-map_kept : {A : Type 0} (f g : Kind → ℕ → A) (xs : List Packet) → ((k : Kind) (n : ℕ) → (count k n xs ≡ 0) ⊎ (g k n ≡ f k n)) → map (λ x. g x.kind x.number) xs ≡ map (λ x. f x.kind x.number) xs
+map_kept : {A : Type 0} (f g : Kind → ℕ → A) (xs : List Packet)
+    → ((k : Kind) (n : ℕ) → (count k n xs ≡ 0) ⊎ (g k n ≡ f k n))
+    → map (λ x. g x.kind x.number) xs ≡ map (λ x. f x.kind x.number) xs
 unfolding count
 map_kept f g [] same = refl
-map_kept {A} f g (x ∷ xs) same = ap₂ (λ y ys. y ∷ ys) (first (same x.kind x.number)) (map_kept f g xs (λ k n. fewer k n (same k n)))
+map_kept {A} f g (x ∷ xs) same = ap₂ (λ y ys. y ∷ ys) (first (same x.kind x.number))
+    (map_kept f g xs (λ k n. fewer k n (same k n)))
   where
     fewer : (k : Kind) (n : ℕ) → (count k n (x ∷ xs) ≡ 0) ⊎ (g k n ≡ f k n) → (count k n xs ≡ 0) ⊎ (g k n ≡ f k n)
     fewer k n (inl none) = inl (omega (arith, none))
     fewer k n (inr e) = inr e
 
-    first : (count x.kind x.number (x ∷ xs) ≡ 0) ⊎ (g x.kind x.number ≡ f x.kind x.number) → g x.kind x.number ≡ f x.kind x.number
+    first : (count x.kind x.number (x ∷ xs) ≡ 0) ⊎ (g x.kind x.number ≡ f x.kind x.number)
+        → g x.kind x.number ≡ f x.kind x.number
     first (inr e) = e
-    first (inl none) = absurd (let yes : one_if (is x.kind x.number x) ≡ 1 = rw (same_kind_again x.kind, same_number x.number) refl in omega (arith, none, yes))
+    first (inl none) = absurd (let yes : one_if (is x.kind x.number x) ≡ 1 =
+        rw (same_kind_again x.kind, same_number x.number) refl in omega (arith, none, yes))
 
 -- ---- an event
 
 -- What an event does to what tokens stand for: a token that is there before and after it stands for the same message.
 -- `n` is the block that changes.
-pub record IsShowing {w : ℕ} (caching : ℕ → Bool) (n : ℕ) (moves : ℕ → Channel → Move) (mail mail' : AccessMessages w) (s s' : State (List ℕ)) : Type 0 where
+pub record IsShowing {w : ℕ} (caching : ℕ → Bool) (n : ℕ) (moves : ℕ → Channel → Move) (mail mail' : AccessMessages w)
+    (s s' : State (List ℕ)) : Type 0 where
   pub before : IsInvariant caching s
   pub after : IsInvariant caching s'
   pub moved : (d : ℕ) → AreMoved (moves d) (s.link d) (s'.link d)
   pub blocks : (i : ℕ) → (i ≡ n → ⊥) → s'.block i ≡ s.block i
-  pub same : (d : ℕ) (k : Kind) → is_transfer k ≡ true → shown k d (s.block n) ≡ true → shown k d (s'.block n) ≡ true → block_message {w = w} k d n (s'.block n) ≡ block_message k d n (s.block n)
-  pub requests : (d i : ℕ) → is_asked (s.uses d i) ≡ true → is_asked (s'.uses d i) ≡ true → mail'.request d i ≡ mail.request d i
-  pub answers : (d i : ℕ) → is_replied (s.uses d i) ≡ true → is_replied (s'.uses d i) ≡ true → mail'.answer d i ≡ mail.answer d i
+  pub same : (d : ℕ) (k : Kind) → is_transfer k ≡ true → shown k d (s.block n) ≡ true → shown k d (s'.block n) ≡ true
+      → block_message {w = w} k d n (s'.block n) ≡ block_message k d n (s.block n)
+  pub requests : (d i : ℕ) → is_asked (s.uses d i) ≡ true → is_asked (s'.uses d i) ≡ true
+      → mail'.request d i ≡ mail.request d i
+  pub answers : (d i : ℕ) → is_replied (s.uses d i) ≡ true → is_replied (s'.uses d i) ≡ true
+      → mail'.answer d i ≡ mail.answer d i
 
 pub on_same : (ch : Channel) (k : Kind) (l : Link) → is_on ch k ≡ true → packets_on ch l ≡ on k l
 on_same channel.A Request l e = refl
@@ -123,10 +128,14 @@ not_there true true n le me = inr (refl, refl)
 not_there false b n le me = inl (omega (arith, le))
 not_there true false n le me = inl (omega (arith, me))
 
-pub messages-stay : {w : ℕ} (caching : ℕ → Bool) (n : ℕ) (moves : ℕ → Channel → Move) (mail mail' : AccessMessages w) (s s' : State (List ℕ)) → IsShowing caching n moves mail mail' s s' → (d : ℕ) (ch : Channel)
-    → map (message_of mail' s' d) (staying (moves d ch) (packets_on ch (s.link d)) (packets_on ch (s'.link d))) ≡ map (message_of mail s d)
+pub messages-stay : {w : ℕ} (caching : ℕ → Bool) (n : ℕ) (moves : ℕ → Channel → Move) (mail mail' : AccessMessages w)
+    (s s' : State (List ℕ)) → IsShowing caching n moves mail mail' s s' → (d : ℕ) (ch : Channel)
+    → map (message_of mail' s' d) (staying (moves d ch) (packets_on ch (s.link d)) (packets_on ch (s'.link d))) ≡ map
+    (message_of mail s d)
     (staying (moves d ch) (packets_on ch (s.link d)) (packets_on ch (s'.link d)))
-messages-stay {w} caching n moves mail mail' s s' event d ch = map_kept (λ k i. message_of_kind k mail s d i) (λ k i. message_of_kind k mail' s' d i) stay (λ k i. each k i (is_on ch k) refl)
+messages-stay {w} caching n moves mail mail' s s' event d ch =
+    map_kept (λ k i. message_of_kind k mail s d i) (λ k i. message_of_kind k mail' s' d i) stay
+    (λ k i. each k i (is_on ch k) refl)
   where
     xs : List Packet
     xs = packets_on ch (s.link d)
@@ -143,38 +152,48 @@ messages-stay {w} caching n moves mail mail' s s' event d ch = map_kept (λ k i.
     fewer : (k : Kind) (i : ℕ) → count k i stay ≤ count k i xs
     fewer k i = stay_before (moves d ch) k i xs ys (event.moved d ch)
 
-    here : (k : Kind) (i : ℕ) (a b : Bool) → is_on ch k ≡ true → count k i (on k (s.link d)) ≡ one_if a → count k i (on k (s'.link d)) ≡ one_if b → (count k i stay ≡ 0) ⊎ ((a ≡ true) × (b ≡ true))
+    here : (k : Kind) (i : ℕ) (a b : Bool) → is_on ch k ≡ true → count k i (on k (s.link d)) ≡ one_if a
+        → count k i (on k (s'.link d)) ≡ one_if b → (count k i stay ≡ 0) ⊎ ((a ≡ true) × (b ≡ true))
     here k i a b own e f =
         let before : count k i xs ≡ one_if a = ap (count k i) (on_same ch k (s.link d) own) ∙ e in
         let after : count k i ys ≡ one_if b = ap (count k i) (on_same ch k (s'.link d) own) ∙ f in
-        not_there a b (count k i stay) (omega (arith, fewer k i, before)) (omega (arith, stay_after (moves d ch) k i xs ys (event.moved d ch), after))
+        not_there a b (count k i stay) (omega (arith, fewer k i, before))
+        (omega (arith, stay_after (moves d ch) k i xs ys (event.moved d ch), after))
 
-    transfer : (k : Kind) (i : ℕ) → is_on ch k ≡ true → is_transfer k ≡ true → (block_message {w = w} k d i (s'.block i) ≡ block_message k d i (s.block i)) ⊎ (count k i stay ≡ 0)
+    transfer : (k : Kind) (i : ℕ) → is_on ch k ≡ true → is_transfer k ≡ true
+        → (block_message {w = w} k d i (s'.block i) ≡ block_message k d i (s.block i)) ⊎ (count k i stay ≡ 0)
     transfer k i own t = elim (cases_eq i n) [
-      | inl same ↦ rw same (changed (here k n (shown k d (s.block n)) (shown k d (s'.block n)) own (event.before.transfers d k t n) (event.after.transfers d k t n)))
+      | inl same ↦ rw same (changed (here k n (shown k d (s.block n)) (shown k d (s'.block n)) own
+          (event.before.transfers d k t n) (event.after.transfers d k t n)))
       | inr other ↦ inl (ap (block_message k d i) (event.blocks i other))
     ]
       where
-        changed : (count k n stay ≡ 0) ⊎ ((shown k d (s.block n) ≡ true) × (shown k d (s'.block n) ≡ true)) → (block_message {w = w} k d n (s'.block n) ≡ block_message k d n (s.block n)) ⊎ (count k n stay ≡ 0)
+        changed : (count k n stay ≡ 0) ⊎ ((shown k d (s.block n) ≡ true) × (shown k d (s'.block n) ≡ true))
+            → (block_message {w = w} k d n (s'.block n) ≡ block_message k d n (s.block n)) ⊎ (count k n stay ≡ 0)
         changed (inl none) = inr none
         changed (inr both) = inl (event.same d k t both.0 both.1)
 
-    turned : (k : Kind) (i : ℕ) → message_of_kind k mail' s' d i ≡ block_message k d i (s'.block i) → message_of_kind k mail s d i ≡ block_message k d i (s.block i)
+    turned : (k : Kind) (i : ℕ) → message_of_kind k mail' s' d i ≡ block_message k d i (s'.block i)
+        → message_of_kind k mail s d i ≡ block_message k d i (s.block i)
         → (block_message {w = w} k d i (s'.block i) ≡ block_message k d i (s.block i)) ⊎ (count k i stay ≡ 0) → Kept k i
     turned k i e f (inl same) = inr (e ∙ same ∙ sym f)
     turned k i e f (inr none) = inl none
 
-    asked : (i : ℕ) → (count Request i stay ≡ 0) ⊎ ((is_asked (s.uses d i) ≡ true) × (is_asked (s'.uses d i) ≡ true)) → Kept Request i
+    asked : (i : ℕ) → (count Request i stay ≡ 0) ⊎ ((is_asked (s.uses d i) ≡ true) × (is_asked (s'.uses d i) ≡ true))
+        → Kept Request i
     asked i (inl none) = inl none
     asked i (inr both) = inr (event.requests d i both.0 both.1)
 
-    replied : (i : ℕ) → (count Answer i stay ≡ 0) ⊎ ((is_replied (s.uses d i) ≡ true) × (is_replied (s'.uses d i) ≡ true)) → Kept Answer i
+    replied : (i : ℕ) → (count Answer i stay ≡ 0)
+        ⊎ ((is_replied (s.uses d i) ≡ true) × (is_replied (s'.uses d i) ≡ true)) → Kept Answer i
     replied i (inl none) = inl none
     replied i (inr both) = inr (event.answers d i both.0 both.1)
 
     mine : (k : Kind) (i : ℕ) → is_on ch k ≡ true → Kept k i
-    mine Request i own = asked i (here Request i (is_asked (s.uses d i)) (is_asked (s'.uses d i)) own (event.before.requests d i) (event.after.requests d i))
-    mine Answer i own = replied i (here Answer i (is_replied (s.uses d i)) (is_replied (s'.uses d i)) own (event.before.answers d i) (event.after.answers d i))
+    mine Request i own = asked i (here Request i (is_asked (s.uses d i)) (is_asked (s'.uses d i)) own
+        (event.before.requests d i) (event.after.requests d i))
+    mine Answer i own = replied i (here Answer i (is_replied (s.uses d i)) (is_replied (s'.uses d i)) own
+        (event.before.answers d i) (event.after.answers d i))
     mine Acquire i own = turned Acquire i refl refl (transfer Acquire i own refl)
     mine Probe i own = turned Probe i refl refl (transfer Probe i own refl)
     mine ProbeAck i own = turned ProbeAck i refl refl (transfer ProbeAck i own refl)
@@ -185,20 +204,26 @@ messages-stay {w} caching n moves mail mail' s s' event d ch = map_kept (λ k i.
 
     each : (k : Kind) (i : ℕ) (b : Bool) → is_on ch k ≡ b → Kept k i
     each k i true e = mine k i e
-    each k i false e = let none : count k i xs ≡ 0 = event.before.own_kinds d ch k i e in inl (omega (arith, none, fewer k i))
+    each k i false e = let none : count k i xs ≡ 0 = event.before.own_kinds d ch k i e in
+        inl (omega (arith, none, fewer k i))
 
 -- the beats of all channels move with the tokens
 abbrev pub AreQueued : {w : ℕ} → (ℕ → Channel → Move) → AccessMessages w → State (List ℕ) → System w → System w → Type 0
 AreQueued moves mail s before after =
     (d : ℕ) (ch : Channel)
-    → IsQueued (moves d ch) (λ k i. message_of mail s d (packet k i)) (before.channels d ch) (after.channels d ch) (unfinished ch (receiver ch d before)) (unfinished ch (receiver ch d after))
+    → IsQueued (moves d ch) (λ k i. message_of mail s d (packet k i)) (before.channels d ch) (after.channels d ch)
+    (unfinished ch (receiver ch d before)) (unfinished ch (receiver ch d after))
 
 -- the channels carry the messages of the tokens after every event
-pub carried-event : {w : ℕ} (caching : ℕ → Bool) (n : ℕ) (moves : ℕ → Channel → Move) (mail mail' : AccessMessages w) (s s' : State (List ℕ)) (sys sys' : System w) → IsWidth w
-    → IsShowing caching n moves mail mail' s s' → AreQueued moves mail' s' sys sys' → ChannelRelation mail s sys → ChannelRelation mail' s' sys'
+pub carried-event : {w : ℕ} (caching : ℕ → Bool) (n : ℕ) (moves : ℕ → Channel → Move) (mail mail' : AccessMessages w)
+    (s s' : State (List ℕ)) (sys sys' : System w) → IsWidth w
+    → IsShowing caching n moves mail mail' s s' → AreQueued moves mail' s' sys sys' → ChannelRelation mail s sys
+    → ChannelRelation mail' s' sys'
 carried-event caching n moves mail mail' s s' sys sys' width event queued h d ch =
-    carried-moved (moves d ch) (packets_on ch (s.link d)) (packets_on ch (s'.link d)) (message_of mail s d) (message_of mail' s' d) (λ k i. message_of mail' s' d (packet k i))
-    (sys.channels d ch) (sys'.channels d ch) (unfinished ch (receiver ch d sys)) (unfinished ch (receiver ch d sys')) width (event.moved d ch) (queued d ch)
+    carried-moved (moves d ch) (packets_on ch (s.link d)) (packets_on ch (s'.link d)) (message_of mail s d)
+    (message_of mail' s' d) (λ k i. message_of mail' s' d (packet k i))
+    (sys.channels d ch) (sys'.channels d ch) (unfinished ch (receiver ch d sys)) (unfinished ch (receiver ch d sys'))
+    width (event.moved d ch) (queued d ch)
     (λ k i e. refl)
     (messages-stay caching n moves mail mail' s s' event d ch) (h d ch)
 
@@ -215,9 +240,12 @@ abbrev pub behind : {w : ℕ} → Option (Message w) → List (Beat w) → List 
 behind None beats = beats
 behind (Some m) beats = beats ++ beats_from m 0 (beats_of m)
 
-pub queued-by : {w : ℕ} (pop : Bool) (push : Option (Message w)) (move : Move) (render : Kind → ℕ → Message w) (x : Beat w) (queue q after r rest : List (Beat w)) → Fits pop push move render
-    → after ≡ behind push (if pop then queue else q) → rest ≡ (if pop then [] else r) → (pop ≡ true → (q ≡ x ∷ queue) × (completes x r ≡ true)) → IsQueued move render q after r rest
-queued-by true None (Pops k n) render x queue q after r rest fits e f taken = (x, (taken refl).0 ∙ ap (λ l. x ∷ l) (sym e), (taken refl).1, f)
+pub queued-by : {w : ℕ} (pop : Bool) (push : Option (Message w)) (move : Move) (render : Kind → ℕ → Message w)
+    (x : Beat w) (queue q after r rest : List (Beat w)) → Fits pop push move render
+    → after ≡ behind push (if pop then queue else q) → rest ≡ (if pop then [] else r)
+    → (pop ≡ true → (q ≡ x ∷ queue) × (completes x r ≡ true)) → IsQueued move render q after r rest
+queued-by true None (Pops k n) render x queue q after r rest fits e f taken =
+    (x, (taken refl).0 ∙ ap (λ l. x ∷ l) (sym e), (taken refl).1, f)
 queued-by false None Stays render x queue q after r rest fits e f taken = (e, f)
 queued-by false (Some m) (Pushes k n) render x queue q after r rest fits e f taken = (rw fits e, f)
 queued-by true None Stays render x queue q after r rest fits e f taken = absurd fits
@@ -230,11 +258,15 @@ queued-by false (Some m) (Pops k n) render x queue q after r rest fits e f taken
 
 -- The whole after the last beat of the first message on channel ch of client c's link was taken, and messages were
 -- handed out.
-pub record IsTaken {w : ℕ} (c : ℕ) (ch : Channel) (x : Beat w) (queue : List (Beat w)) (pushes : ℕ → Channel → Option (Message w)) (sys sys' : System w) : Type 0 where
+pub record IsTaken {w : ℕ} (c : ℕ) (ch : Channel) (x : Beat w) (queue : List (Beat w)) (pushes : ℕ → Channel
+    → Option (Message w)) (sys sys' : System w) : Type 0 where
   pub first : sys.channels c ch ≡ x ∷ queue
   pub last : completes x (unfinished ch (receiver ch c sys)) ≡ true
-  pub channels : (d : ℕ) (at : Channel) → sys'.channels d at ≡ behind (pushes d at) (if (d == c) && same_channel at ch then queue else sys.channels d at)
-  pub rests : (d : ℕ) (at : Channel) → unfinished at (receiver at d sys') ≡ (if (d == c) && same_channel at ch then [] else unfinished at (receiver at d sys))
+  pub channels : (d : ℕ) (at : Channel)
+      → sys'.channels d at ≡ behind (pushes d at) (if (d == c) && same_channel at ch then queue else sys.channels d at)
+  pub rests : (d : ℕ) (at : Channel)
+      → unfinished at (receiver at d sys') ≡ (if (d == c) && same_channel at ch then [] else unfinished at
+      (receiver at d sys))
 
 pub same_channel-is : (a b : Channel) → same_channel a b ≡ true → a ≡ b
 same_channel-is channel.A channel.A e = refl
@@ -263,17 +295,23 @@ same_channel-is channel.E channel.B e = absurd cc
 same_channel-is channel.E channel.C e = absurd cc
 same_channel-is channel.E channel.D e = absurd cc
 
-pub queued-taken : {w : ℕ} (c : ℕ) (ch : Channel) (x : Beat w) (queue : List (Beat w)) (pushes : ℕ → Channel → Option (Message w)) (moves : ℕ → Channel → Move)
+pub queued-taken : {w : ℕ} (c : ℕ) (ch : Channel) (x : Beat w) (queue : List (Beat w)) (pushes : ℕ → Channel
+    → Option (Message w)) (moves : ℕ → Channel → Move)
     (mail : AccessMessages w) (s : State (List ℕ)) (sys sys' : System w)
-    → IsTaken c ch x queue pushes sys sys' → ((d : ℕ) (at : Channel) → Fits ((d == c) && same_channel at ch) (pushes d at) (moves d at) (λ k i. message_of mail s d (packet k i)))
+    → IsTaken c ch x queue pushes sys sys'
+    → ((d : ℕ) (at : Channel) → Fits ((d == c) && same_channel at ch) (pushes d at) (moves d at)
+    (λ k i. message_of mail s d (packet k i)))
     → AreQueued moves mail s sys sys'
 queued-taken {w} c ch x queue pushes moves mail s sys sys' is fits d at =
-    queued-by ((d == c) && same_channel at ch) (pushes d at) (moves d at) (λ k i. message_of mail s d (packet k i)) x queue (sys.channels d at)
+    queued-by ((d == c) && same_channel at ch) (pushes d at) (moves d at) (λ k i. message_of mail s d (packet k i)) x
+    queue (sys.channels d at)
     (sys'.channels d at) (unfinished at (receiver at d sys)) (unfinished at (receiver at d sys'))
     (fits d at) (is.channels d at) (is.rests d at) (λ e. here e (cases_eq d c))
   where
-    here : ((d == c) && same_channel at ch) ≡ true → (d ≡ c) ⊎ (d ≡ c → ⊥) → (sys.channels d at ≡ x ∷ queue) × (completes x (unfinished at (receiver at d sys)) ≡ true)
-    here e (inl same) = let f : same_channel at ch ≡ true = rw (same, same_number c) at e in rw (same, same_channel-is at ch f) (is.first, is.last)
+    here : ((d == c) && same_channel at ch) ≡ true → (d ≡ c) ⊎ (d ≡ c → ⊥) → (sys.channels d at ≡ x ∷ queue)
+        × (completes x (unfinished at (receiver at d sys)) ≡ true)
+    here e (inl same) = let f : same_channel at ch ≡ true = rw (same, same_number c) at e in
+        rw (same, same_channel-is at ch f) (is.first, is.last)
     here e (inr other) = absurd (let f : false ≡ true = rw (ne_eqb d c other) at e in cc)
 
 -- the whole after messages were handed out
@@ -281,14 +319,17 @@ pub record IsHanded {w : ℕ} (pushes : ℕ → Channel → Option (Message w)) 
   pub channels : (d : ℕ) (at : Channel) → sys'.channels d at ≡ behind (pushes d at) (sys.channels d at)
   pub rests : (d : ℕ) (at : Channel) → unfinished at (receiver at d sys') ≡ unfinished at (receiver at d sys)
 
-pub queued-handed : {w : ℕ} (pushes : ℕ → Channel → Option (Message w)) (moves : ℕ → Channel → Move) (mail : AccessMessages w) (s : State (List ℕ)) (sys sys' : System w) → IsHanded pushes sys sys'
+pub queued-handed : {w : ℕ} (pushes : ℕ → Channel → Option (Message w)) (moves : ℕ → Channel → Move)
+    (mail : AccessMessages w) (s : State (List ℕ)) (sys sys' : System w) → IsHanded pushes sys sys'
     → ((d : ℕ) (at : Channel) → Fits false (pushes d at) (moves d at) (λ k i. message_of mail s d (packet k i)))
     → AreQueued moves mail s sys sys'
 queued-handed {w} pushes moves mail s sys sys' is fits d at =
-    queued-with (pushes d at) (moves d at) (sys.channels d at) (sys'.channels d at) (unfinished at (receiver at d sys)) (unfinished at (receiver at d sys'))
+    queued-with (pushes d at) (moves d at) (sys.channels d at) (sys'.channels d at) (unfinished at (receiver at d sys))
+    (unfinished at (receiver at d sys'))
     (λ k i. message_of mail s d (packet k i)) (fits d at) (is.channels d at) (is.rests d at)
   where
-    queued-with : (push : Option (Message w)) (move : Move) (q after r rest : List (Beat w)) (render : Kind → ℕ → Message w) → Fits false push move render
+    queued-with : (push : Option (Message w)) (move : Move) (q after r rest : List (Beat w)) (render : Kind → ℕ
+        → Message w) → Fits false push move render
         → after ≡ behind push q → rest ≡ r → IsQueued move render q after r rest
     queued-with None Stays q after r rest render f e g = (e, g)
     queued-with (Some m) (Pushes k n) q after r rest render f e g = (rw f e, g)
@@ -303,35 +344,43 @@ queued-handed {w} pushes moves mail s sys sys' is fits d at =
 abbrev pub pushes_at : {w : ℕ} → ℕ → (Channel → Option (Message w)) → ℕ → Channel → Option (Message w)
 pushes_at c pushes d ch = if d == c then pushes ch else None
 
-pub moved-at : (c : ℕ) (moves : Channel → Move) (l : Link) (link : ℕ → Link) → AreMoved moves (link c) l → (d : ℕ) → AreMoved (moves_at c moves d) (link d) (set c l link d)
+pub moved-at : (c : ℕ) (moves : Channel → Move) (l : Link) (link : ℕ → Link) → AreMoved moves (link c) l → (d : ℕ)
+    → AreMoved (moves_at c moves d) (link d) (set c l link d)
 moved-at c moves l link h d ch = elim (cases_eq d c) [
   | inl same ↦ rw same (popped (c == c) (set c l link c) (same_number c) (set-same c l link))
   | inr other ↦ still (d == c) (set c l link d) (ne_eqb d c other) (set-other c d l link other)
 ]
   where
-    popped : (b : Bool) (k : Link) → b ≡ true → k ≡ l → IsMoved (if b then moves ch else Stays) (packets_on ch (link c)) (packets_on ch k)
+    popped : (b : Bool) (k : Link) → b ≡ true → k ≡ l → IsMoved (if b then moves ch else Stays) (packets_on ch (link c))
+        (packets_on ch k)
     popped b k e f = rw (e, f) (h ch)
 
-    still : (b : Bool) (k : Link) → b ≡ false → k ≡ link d → IsMoved (if b then moves ch else Stays) (packets_on ch (link d)) (packets_on ch k)
+    still : (b : Bool) (k : Link) → b ≡ false → k ≡ link d
+        → IsMoved (if b then moves ch else Stays) (packets_on ch (link d)) (packets_on ch k)
     still b k e f = rw (e, f) refl
 
-pub fits-at : {w : ℕ} (c : ℕ) (ch : Channel) (pushes : Channel → Option (Message w)) (moves : Channel → Move) (render : ℕ → Kind → ℕ → Message w)
+pub fits-at : {w : ℕ} (c : ℕ) (ch : Channel) (pushes : Channel → Option (Message w)) (moves : Channel → Move)
+    (render : ℕ → Kind → ℕ → Message w)
     → ((at : Channel) → Fits (same_channel at ch) (pushes at) (moves at) (render c))
-    → (d : ℕ) (at : Channel) → Fits ((d == c) && same_channel at ch) (pushes_at c pushes d at) (moves_at c moves d at) (render d)
+    → (d : ℕ) (at : Channel) → Fits ((d == c) && same_channel at ch) (pushes_at c pushes d at) (moves_at c moves d at)
+    (render d)
 fits-at {w} c ch pushes moves render h d at = elim (cases_eq d c) [
   | inl same ↦ rw same (go (c == c) (same_number c))
   | inr other ↦ never (d == c) (ne_eqb d c other)
 ]
   where
-    go : (b : Bool) → b ≡ true → Fits (b && same_channel at ch) (if b then pushes at else None) (if b then moves at else Stays) (render c)
+    go : (b : Bool) → b ≡ true → Fits (b && same_channel at ch) (if b then pushes at else None)
+        (if b then moves at else Stays) (render c)
     go true e = h at
     go false e = absurd cc
 
-    never : (b : Bool) → b ≡ false → Fits (b && same_channel at ch) (if b then pushes at else None) (if b then moves at else Stays) (render d)
+    never : (b : Bool) → b ≡ false → Fits (b && same_channel at ch) (if b then pushes at else None)
+        (if b then moves at else Stays) (render d)
     never false e = tt
     never true e = absurd cc
 
-pub fits-handed : {w : ℕ} (c : ℕ) (pushes : Channel → Option (Message w)) (moves : Channel → Move) (render : ℕ → Kind → ℕ → Message w) → ((at : Channel) → Fits false (pushes at) (moves at) (render c))
+pub fits-handed : {w : ℕ} (c : ℕ) (pushes : Channel → Option (Message w)) (moves : Channel → Move) (render : ℕ → Kind
+    → ℕ → Message w) → ((at : Channel) → Fits false (pushes at) (moves at) (render c))
     → (d : ℕ) (at : Channel) → Fits false (pushes_at c pushes d at) (moves_at c moves d at) (render d)
 fits-handed {w} c pushes moves render h d at = elim (cases_eq d c) [
   | inl same ↦ rw same (go (c == c) (same_number c))
@@ -342,6 +391,7 @@ fits-handed {w} c pushes moves render h d at = elim (cases_eq d c) [
     go true e = h at
     go false e = absurd cc
 
-    never : (b : Bool) → b ≡ false → Fits false (if b then pushes at else None) (if b then moves at else Stays) (render d)
+    never : (b : Bool) → b ≡ false → Fits false (if b then pushes at else None) (if b then moves at else Stays)
+        (render d)
     never false e = tt
     never true e = absurd cc

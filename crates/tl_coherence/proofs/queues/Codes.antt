@@ -1,4 +1,5 @@
 -- What the opcodes and the parameters of a message say.
+use Rattle.tl_coherence.proofs.queues.Imports.{Cap, Grow, Perm, same_perm, same_cap}
 use Rattle.std.specs.Prelude.{if◌then◌else◌, ◌==◌}
 use Rattle.std.proofs.Common.{Bool, Some, false, refl, true, ℕ, ◌≡◌}
 use Rattle.tl_beat.specs.declared.opcode.OpA.{OpA}
@@ -6,22 +7,17 @@ use Rattle.tl_beat.specs.declared.opcode.OpA.TheVariants as a
 use Rattle.tl_beat.specs.declared.opcode.OpD.{OpD}
 use Rattle.tl_beat.specs.declared.opcode.OpD.TheVariants as opd
 use Rattle.tl_params.specs.statement.Param.{cap_code, cap_of, cap_right, grow_code}
-use Rattle.tl_params.specs.declared.param.Cap.{Cap}
 use Rattle.tl_params.specs.declared.param.Cap.TheVariants as cap
-use Rattle.tl_params.specs.declared.param.Grow.{Grow}
 use Rattle.tl_params.specs.declared.param.Grow.TheVariants as grow
-use Rattle.tl_params.specs.declared.perm.Perm.{Perm}
 use Rattle.tl_params.specs.declared.perm.Perm.TheVariants as perm
 use Rattle.tl_params.specs.declared.profile.Profile.{Profile}
 use Rattle.tl_params.specs.declared.profile.Profile.TheVariants as profile
-use Rattle.tl_rules.specs.statement.Conformance.{same_perm}
 use Rattle.tl_rules.specs.statement.History.{is_acquire, is_grant, is_release_ack}
 use Rattle.tl_manager.specs.statement.Handing.{grant_opcode}
 use Rattle.tl_manager.specs.statement.Handing as handing
 use Rattle.tl_manager.specs.statement.Holders.{cap_probed}
 use Rattle.tl_manager.specs.statement.Service.{is_access_answer}
 use Rattle.tl_coherence.specs.refinement.AbstractStep.{acquire_opcode, gift}
-use Rattle.tl_coherence.specs.protocol.Phase.{same_cap}
 use Rattle.tl_coherence.specs.protocol.PhaseSteps.{is_granted_data}
 
 -- ---- opcodes
@@ -70,7 +66,8 @@ low_cap a.ArithmeticData param cap.ToT e = absurd cc
 low_cap a.LogicalData param cap.ToT e = absurd cc
 
 -- a Grant gives something
-pub gives-some : (p : Profile) (whole : Bool) (g : Grow) (unheld : Bool) → same_perm (cap_right (gift p whole g unheld)) perm.None ≡ false
+pub gives-some : (p : Profile) (whole : Bool) (g : Grow) (unheld : Bool)
+    → same_perm (cap_right (gift p whole g unheld)) perm.None ≡ false
 gives-some profile.One true grow.NtoB unheld = refl
 gives-some profile.One true grow.NtoT unheld = refl
 gives-some profile.One true grow.BtoT unheld = refl
@@ -86,7 +83,8 @@ gives-some profile.Two false grow.NtoT unheld = refl
 gives-some profile.Two false grow.BtoT unheld = refl
 
 -- it carries the block where the protocol says so
-pub data-same : (whole : Bool) (g : Grow) (p : Perm) → handing.is_granted_data (acquire_opcode whole) (grow_code g) p ≡ is_granted_data whole g p
+pub data-same : (whole : Bool) (g : Grow) (p : Perm) → handing.is_granted_data (acquire_opcode whole) (grow_code g)
+    p ≡ is_granted_data whole g p
 data-same true grow.NtoB p = refl
 data-same true grow.NtoT p = refl
 data-same true grow.BtoT p = refl

@@ -1,10 +1,11 @@
 -- Tokens with names of their own: where each name below a bound is of one token at most, there are no more tokens.
-use Rattle.std.proofs.Common.{◌≡◌, ℕ, ◌+◌, ◌<◌, ◌≤◌, Bool, true, false, List, [], ◌∷◌, refl, sym, ◌∙◌, ap, ◌⊎◌, inl, inr, arith}
+use Rattle.tl_coherence.proofs.queues.Imports.{Kind, Packet, is, one_if, count}
+use Rattle.std.proofs.Common.{◌≡◌, ℕ, ◌+◌, ◌<◌, ◌≤◌, Bool, true, false, List, [], ◌∷◌, refl, sym, ◌∙◌, ap, ◌⊎◌, inl}
+use Rattle.std.proofs.Common.{inr, arith}
 use Rattle.std.specs.Prelude.{◌==◌, ◌&&◌, if◌then◌else◌, not, length, Option, Some, None}
 use Rattle.std.proofs.lemmas.Bool.{cases_eq, ne_eqb, eqb-true, and_parts}
 use Rattle.std.proofs.lemmas.Option.{same_Some}
 use Rattle.tl_coherence.specs.bound.Rank.{total}
-use Rattle.tl_coherence.specs.protocol.Packet.{Kind, Packet, is, one_if, count}
 use Rattle.tl_coherence.proofs.queues.Rendered.{same_kind_again}
 use Rattle.tl_coherence.proofs.queues.Tokens.{same_number}
 use Rattle.tl_coherence.proofs.queues.Sums.{total-same, total-le, total-plus, total-zero, total-one, total-const}
@@ -23,7 +24,8 @@ all-pass [] = refl
 all-pass (x ∷ xs) = omega (arith, all-pass xs)
 
 -- those that pass and those that don't are all
-pub pass-or-not : (test : Packet → Bool) (xs : List Packet) → length xs ≡ passing test xs + passing (λ x. not (test x)) xs
+pub pass-or-not : (test : Packet → Bool) (xs : List Packet) → length xs ≡ passing test xs + passing (λ x. not (test x))
+    xs
 unfolding passing
 pass-or-not test [] = omega arith
 pass-or-not test (x ∷ xs) = omega (arith, pass-or-not test xs, one (test x))
@@ -47,7 +49,8 @@ later-there y x xs there = omega (arith, there)
 
 -- ---- all that pass are one token
 
-pub passing-one : (test : Packet → Bool) (k : Kind) (n : ℕ) (xs : List Packet) → ((x : Packet) → IsThere x xs → test x ≡ true → is k n x ≡ true) → passing test xs ≤ count k n xs
+pub passing-one : (test : Packet → Bool) (k : Kind) (n : ℕ) (xs : List Packet)
+    → ((x : Packet) → IsThere x xs → test x ≡ true → is k n x ≡ true) → passing test xs ≤ count k n xs
 unfolding passing count
 passing-one test k n [] one = omega arith
 passing-one test k n (x ∷ xs) one =
@@ -58,7 +61,8 @@ passing-one test k n (x ∷ xs) one =
     here true c so = rw (so refl) (omega arith)
     here false c so = omega arith
 
-pub passing-none : (test : Packet → Bool) (xs : List Packet) → ((x : Packet) → IsThere x xs → test x ≡ false) → passing test xs ≡ 0
+pub passing-none : (test : Packet → Bool) (xs : List Packet) → ((x : Packet) → IsThere x xs → test x ≡ false)
+    → passing test xs ≡ 0
 unfolding passing
 passing-none test [] none = refl
 passing-none test (x ∷ xs) none =
@@ -74,14 +78,16 @@ named test name i x = test x && (name x == i)
 one-name : (b : Bool) (n bound : ℕ) → (b ≡ true → n < bound) → total bound (λ i. one_if (b && (n == i))) ≡ one_if b
 one-name false n bound below = total-zero bound (λ i. 0) (λ i lt. refl)
 one-name true n bound below =
-    total-same bound (λ i. one_if (n == i)) (λ i. if i == n then 1 else 0) (λ i lt. at i (cases_eq i n)) ∙ total-one bound n 1 (below refl)
+    total-same bound (λ i. one_if (n == i)) (λ i. if i == n then 1 else 0) (λ i lt. at i (cases_eq i n)) ∙ total-one
+    bound n 1 (below refl)
   where
     at : (i : ℕ) → (i ≡ n) ⊎ (i ≡ n → ⊥) → one_if (n == i) ≡ (if i == n then 1 else 0)
     at i (inl e) = rw (e, same_number n) refl
     at i (inr ne) = let other : n ≡ i → ⊥ = λ e. ne (sym e) in rw (ne_eqb i n ne, ne_eqb n i other) refl
 
 -- each that passes has one name
-by-names : (test : Packet → Bool) (name : Packet → ℕ) (bound : ℕ) (xs : List Packet) → ((x : Packet) → IsThere x xs → test x ≡ true → name x < bound)
+by-names : (test : Packet → Bool) (name : Packet → ℕ) (bound : ℕ) (xs : List Packet)
+    → ((x : Packet) → IsThere x xs → test x ≡ true → name x < bound)
     → passing test xs ≡ total bound (λ i. passing (named test name i) xs)
 unfolding passing
 by-names test name bound [] below = sym (total-zero bound (λ i. 0) (λ i lt. refl))
@@ -93,7 +99,8 @@ by-names test name bound (x ∷ xs) below =
 -- No token stands twice, each that passes has a name below the bound, and is the one that the name is of: so there are
 -- no more than the bound.
 pub few : (test : Packet → Bool) (name : Packet → ℕ) (owner : ℕ → Option Packet) (bound : ℕ) (xs : List Packet)
-    → ((k : Kind) (n : ℕ) → count k n xs ≤ 1) → ((x : Packet) → IsThere x xs → test x ≡ true → (owner (name x) ≡ Some x) × (name x < bound))
+    → ((k : Kind) (n : ℕ) → count k n xs ≤ 1) → ((x : Packet) → IsThere x xs → test x ≡ true → (owner (name x) ≡ Some x)
+    × (name x < bound))
     → passing test xs ≤ bound
 few test name owner bound xs once own =
     let each = total-le bound (λ i. passing (named test name i) xs) (λ i. 1) (λ i lt. at i (owner i) refl) in
@@ -112,10 +119,12 @@ few test name owner bound xs once own =
             let is : owner i ≡ Some x = ap owner (sym same) ∙ (own x there parts.0).0 in
             absurd cc
     at i (Some t) e =
-        let one = passing-one (named test name i) t.kind t.number xs (λ x there h. same_token x there (and_parts (test x) (name x == i) h)) in
+        let one = passing-one (named test name i) t.kind t.number xs
+        (λ x there h. same_token x there (and_parts (test x) (name x == i) h)) in
         omega (arith, one, once t.kind t.number)
       where
-        same_token : (x : Packet) → IsThere x xs → (test x ≡ true) × ((name x == i) ≡ true) → is t.kind t.number x ≡ true
+        same_token : (x : Packet) → IsThere x xs → (test x ≡ true) × ((name x == i) ≡ true)
+            → is t.kind t.number x ≡ true
         same_token x there parts =
             let same : name x ≡ i = eqb-true (name x) i parts.1 in
             let is_it : owner i ≡ Some x = ap owner (sym same) ∙ (own x there parts.0).0 in

@@ -1,58 +1,66 @@
 -- What every client's calls keep holds of every client's end, whatever has happened.
+use Rattle.tl_coherence.proofs.queues.Imports.{Beat, Channel, Message, Config, EndConfig, is_to_client, System}
+use Rattle.tl_coherence.proofs.queues.Imports.{terms_at}
 use Rattle.std.proofs.Common.{◌≡◌, ℕ, Bool, true, false, List, [], ◌∷◌, refl}
 use Rattle.std.specs.Prelude.{◌==◌, if◌then◌else◌, Option, Some, None, Result, Ok, Err}
 use Rattle.std.proofs.lemmas.Bool.{eqb-true}
-use Rattle.tl_beat.specs.declared.beat.Beat.{Beat}
-use Rattle.tl_beat.specs.declared.channel.Channel.{Channel}
-use Rattle.tl_burst.specs.declared.message.Message.{Message}
-use Rattle.tl_params.specs.declared.config.Config.{Config}
 use Rattle.tl_params.specs.declared.rule.Rule.{Rule}
 use Rattle.tl_client.specs.declared.operation.Op.{Op}
 use Rattle.tl_client.specs.declared.verdict.Verdict.{Verdict}
 use Rattle.tl_client.specs.declared.verdict.Verdict.TheVariants as verdict
 use Rattle.tl_client.specs.statement.Ask.{asked}
-use Rattle.tl_client.specs.statement.Endpoint.{Endpoint, EndConfig, fresh}
+use Rattle.tl_client.specs.statement.Endpoint.{Endpoint, fresh}
 use Rattle.tl_client.specs.statement.Offer.{offered}
 use Rattle.tl_manager.specs.statement.End as manager_end
 use Rattle.tl_manager.specs.statement.Offer as manager
 use Rattle.tl_coherence.specs.declared.event.Event.{Event}
 use Rattle.tl_coherence.specs.declared.event.Event.TheVariants.{Ask, Deliver}
 use Rattle.tl_coherence.specs.statement.Log.{Log, system_after}
-use Rattle.tl_coherence.specs.statement.Step.{stepped, stepped_at, client_of, delivered, judged, manager_took, is_to_client, handed_by}
-use Rattle.tl_coherence.specs.statement.System.{System, terms_at, with_client, with_manager, with_channel}
+use Rattle.tl_coherence.specs.statement.Step.{stepped, stepped_at, client_of, delivered, judged, manager_took}
+use Rattle.tl_coherence.specs.statement.Step.{handed_by}
+use Rattle.tl_coherence.specs.statement.System.{with_client, with_manager, with_channel}
 use Rattle.tl_coherence.proofs.queues.Steps.{clients-with_messages}
 
 -- what is so of each client's end, whatever it is asked and offered
 pub record AreKept {w : ℕ} (config : Config) (P : ℕ → Endpoint w → Type 0) : Type 0 where
   pub fresh : (c : ℕ) → P c fresh
-  pub asked : (c : ℕ) (terms : EndConfig) (op : Op w) (e : Endpoint w) → terms_at config c ≡ Some terms → P c e → P c (asked terms op e).after
-  pub offered : (c : ℕ) (terms : EndConfig) (ch : Channel) (x : Beat w) (e : Endpoint w) → terms_at config c ≡ Some terms → P c e → P c (offered terms ch x e).after
+  pub asked : (c : ℕ) (terms : EndConfig) (op : Op w) (e : Endpoint w) → terms_at config c ≡ Some terms → P c e
+      → P c (asked terms op e).after
+  pub offered : (c : ℕ) (terms : EndConfig) (ch : Channel) (x : Beat w) (e : Endpoint w)
+      → terms_at config c ≡ Some terms → P c e → P c (offered terms ch x e).after
 
 module _ {w : ℕ} (config : Config) (P : ℕ → Endpoint w → Type 0) (keep : AreKept config P) where
   -- one client's end is another one
-  other_end : (k : ℕ) (e : Endpoint w) (s : System w) → P k e → ((c : ℕ) → P c (s.clients c)) → (c : ℕ) → P c ((with_client k e s).clients c)
+  other_end : (k : ℕ) (e : Endpoint w) (s : System w) → P k e → ((c : ℕ) → P c (s.clients c)) → (c : ℕ)
+      → P c ((with_client k e s).clients c)
   other_end k e s here all c = go (c == k) refl
     where
       go : (b : Bool) → (c == k) ≡ b → P c (if b then e else s.clients c)
       go true same = let is : c ≡ k = eqb-true c k same in rw is here
       go false differs = all c
 
-  judged-kept : (r : Result (Verdict × Option (Message w)) Rule) (k : ℕ) (ch : Channel) (x : Beat w) (rest : List (Beat w)) (e : Endpoint w) (s : System w) → P k e → ((c : ℕ) → P c (s.clients c))
+  judged-kept : (r : Result (Verdict × Option (Message w)) Rule) (k : ℕ) (ch : Channel) (x : Beat w)
+      (rest : List (Beat w)) (e : Endpoint w) (s : System w) → P k e → ((c : ℕ) → P c (s.clients c))
       → (c : ℕ) → P c ((judged r k ch x rest e s).after.clients c)
   judged-kept (Err rule) k ch x rest e s here all c = other_end k e s here all c
   judged-kept (Ok (verdict.Stalled, m)) k ch x rest e s here all c = all c
-  judged-kept (Ok (verdict.Taken, m)) k ch x rest e s here all c = rw (clients-with_messages (handed_by k m) (with_client k e (with_channel k ch rest s)))
+  judged-kept (Ok (verdict.Taken, m)) k ch x rest e s here all c =
+      rw (clients-with_messages (handed_by k m) (with_client k e (with_channel k ch rest s)))
       (other_end k e (with_channel k ch rest s) here all c)
   judged-kept (Ok (verdict.Done source f, m)) k ch x rest e s here all c =
-      rw (clients-with_messages (handed_by k m) (with_client k e (with_channel k ch rest s))) (other_end k e (with_channel k ch rest s) here all c)
+      rw (clients-with_messages (handed_by k m) (with_client k e (with_channel k ch rest s)))
+      (other_end k e (with_channel k ch rest s) here all c)
 
-  managed-kept : (a : manager.Reception w × manager_end.End w) (k : ℕ) (ch : Channel) (x : Beat w) (rest : List (Beat w)) (s : System w) → ((c : ℕ) → P c (s.clients c))
+  managed-kept : (a : manager.Reception w × manager_end.End w) (k : ℕ) (ch : Channel) (x : Beat w)
+      (rest : List (Beat w)) (s : System w) → ((c : ℕ) → P c (s.clients c))
       → (c : ℕ) → P c ((manager_took k ch x rest a s).after.clients c)
   managed-kept (manager.Refused rule, e) k ch x rest s all c = all c
   managed-kept (manager.Stalled, e) k ch x rest s all c = all c
-  managed-kept (manager.Sent handed, e) k ch x rest s all c = rw (clients-with_messages handed (with_manager e (with_channel k ch rest s))) (all c)
+  managed-kept (manager.Sent handed, e) k ch x rest s all c =
+      rw (clients-with_messages handed (with_manager e (with_channel k ch rest s))) (all c)
 
-  delivered-kept : (terms : EndConfig) (k : ℕ) (ch : Channel) (beats : List (Beat w)) (s : System w) → terms_at config k ≡ Some terms → ((c : ℕ) → P c (s.clients c))
+  delivered-kept : (terms : EndConfig) (k : ℕ) (ch : Channel) (beats : List (Beat w)) (s : System w)
+      → terms_at config k ≡ Some terms → ((c : ℕ) → P c (s.clients c))
       → (c : ℕ) → P c ((delivered config terms k ch beats s).after.clients c)
   delivered-kept terms k ch [] s is all c = all c
   delivered-kept terms k ch (x ∷ rest) s is all c = go (is_to_client ch)
@@ -60,17 +68,21 @@ module _ {w : ℕ} (config : Config) (P : ℕ → Endpoint w → Type 0) (keep :
       go : (b : Bool) → P c ((if b then judged (offered terms ch x (s.clients k)).answer k ch x rest
           (offered terms ch x (s.clients k)).after s else manager_took k ch x rest
           (manager.offered config (record { 0 = k }) ch x s.manager) s).after.clients c)
-      go true = judged-kept (offered terms ch x (s.clients k)).answer k ch x rest (offered terms ch x (s.clients k)).after s (keep.offered k terms ch x (s.clients k) is (all k)) all c
+      go true = judged-kept (offered terms ch x (s.clients k)).answer k ch x rest
+          (offered terms ch x (s.clients k)).after s (keep.offered k terms ch x (s.clients k) is (all k)) all c
       go false = managed-kept (manager.offered config (record { 0 = k }) ch x s.manager) k ch x rest s all c
 
-  stepped-kept : (event : Event w) (s : System w) → ((c : ℕ) → P c (s.clients c)) → (c : ℕ) → P c ((stepped config event s).after.clients c)
+  stepped-kept : (event : Event w) (s : System w) → ((c : ℕ) → P c (s.clients c)) → (c : ℕ)
+      → P c ((stepped config event s).after.clients c)
   unfolding stepped
   stepped-kept event s all c = go event (terms_at config (client_of event)) refl
     where
-      go : (x : Event w) (o : Option EndConfig) → terms_at config (client_of x) ≡ o → P c ((stepped_at config o x s).after.clients c)
+      go : (x : Event w) (o : Option EndConfig) → terms_at config (client_of x) ≡ o
+          → P c ((stepped_at config o x s).after.clients c)
       go x None is = all c
       go (Ask k op) (Some terms) is =
-          rw (clients-with_messages (handed_by k (asked terms op (s.clients k)).message) (with_client k (asked terms op (s.clients k)).after s))
+          rw (clients-with_messages (handed_by k (asked terms op (s.clients k)).message)
+          (with_client k (asked terms op (s.clients k)).after s))
           (other_end k (asked terms op (s.clients k)).after s (keep.asked k terms op (s.clients k) is (all k)) all c)
       go (Deliver link ch) (Some terms) is = delivered-kept terms link.0 ch (s.channels link.0 ch) s is all c
 

@@ -1,25 +1,25 @@
 -- What holds in every phase that is well, and that no message is refused: by computation.
+use Rattle.tl_coherence.proofs.queues.Imports.{Cap, Grow, Report, Prune, Perm, prune_left, same_perm, ClientBlock, View}
+use Rattle.tl_coherence.proofs.queues.Imports.{Idle, Own, Other, Granting, Acknowledging, ProbePhase, NoProbe}
+use Rattle.tl_coherence.proofs.queues.Imports.{ProbeAnswered, ReleasePhase, ReleaseSent, NoAcquire, AcquireOpen, ok}
+use Rattle.tl_coherence.proofs.queues.Imports.{same_cap}
 use Rattle.std.proofs.Common.{◌≡◌, refl}
 use Rattle.std.proofs.lemmas.Bool.{not-true}
 use Rattle.std.specs.Prelude.{Bool, true, false, not, ◌&&◌, ◌||◌}
-use Rattle.tl_params.specs.declared.param.Cap.{Cap}
 use Rattle.tl_params.specs.declared.param.Cap.TheVariants as cap
-use Rattle.tl_params.specs.declared.param.Grow.{Grow}
 use Rattle.tl_params.specs.declared.param.Grow.TheVariants as grow
-use Rattle.tl_params.specs.declared.param.Report.{Report}
-use Rattle.tl_params.specs.declared.param.Prune.{Prune}
-use Rattle.tl_params.specs.declared.perm.Perm.{Perm}
 use Rattle.tl_params.specs.declared.perm.Perm.TheVariants as perm
-use Rattle.tl_params.specs.statement.Param.{prune_left, report_left, report_right, cap_right, report_at}
-use Rattle.tl_rules.specs.statement.Conformance.{same_perm}
-use Rattle.tl_coherence.specs.protocol.Phase.{grant_fits, grow_fits, ClientBlock, View, Idle, Own, Other, Granting, Acknowledging, ProbePhase, NoProbe, ProbeAnswered, ReleasePhase, ReleaseSent}
-use Rattle.tl_coherence.specs.protocol.Phase.{NoAcquire, AcquireOpen, ok, same_cap, same_report, is_unacquired, is_unreleased, is_unprobed}
+use Rattle.tl_params.specs.statement.Param.{report_left, report_right, cap_right, report_at}
+use Rattle.tl_coherence.specs.protocol.Phase.{grant_fits, grow_fits, same_report, is_unacquired, is_unreleased}
+use Rattle.tl_coherence.specs.protocol.Phase.{is_unprobed}
 use Rattle.tl_coherence.specs.statement.Permissions.{perm_le}
 use Rattle.tl_coherence.specs.protocol.Protocol.{is_granting, is_unserved, is_acked, is_answered}
 use Rattle.tl_coherence.specs.protocol.Invariant.{is_out}
 use Rattle.tl_coherence.proofs.queues.Phases.{and_left, and_right, each_phase, of_phase, implies, implies_is}
-use Rattle.tl_coherence.proofs.queues.PhaseSteps.{on_idle, on_own, on_other, on_granting, on_acknowledging, on_quiet, on_answered, on_releasing, on_wants, idle_is, own_is}
-use Rattle.tl_coherence.proofs.queues.PhaseSteps.{other_is, granting_is, acknowledging_is, quiet_is, answered_is, releasing_is, wants_is}
+use Rattle.tl_coherence.proofs.queues.PhaseSteps.{on_idle, on_own, on_other, on_granting, on_acknowledging, on_quiet}
+use Rattle.tl_coherence.proofs.queues.PhaseSteps.{on_answered, on_releasing, on_wants, idle_is, own_is, other_is}
+use Rattle.tl_coherence.proofs.queues.PhaseSteps.{granting_is, acknowledging_is, quiet_is, answered_is, releasing_is}
+use Rattle.tl_coherence.proofs.queues.PhaseSteps.{wants_is}
 
 -- ---- what is held is no more than is recorded
 
@@ -54,7 +54,8 @@ carries_data _ (ReleaseSent r) = same_perm (prune_left r) perm.Trunk
 carries_data _ _ = false
 
 carried_test : ClientBlock → View → Bool
-carried_test p v = implies (carries_data p.probing p.letting) (same_perm p.recorded perm.Trunk && (not (same_perm p.held perm.Trunk) && not (is_granting v)))
+carried_test p v = implies (carries_data p.probing p.letting)
+    (same_perm p.recorded perm.Trunk && (not (same_perm p.held perm.Trunk) && not (is_granting v)))
 
 carried_all : each_phase carried_test ≡ true
 unfolding each_phase carried_test
@@ -64,7 +65,8 @@ pub data_carried : (p : ClientBlock) (v : View) → ok p v ≡ true → carries_
     → (same_perm p.recorded perm.Trunk && (not (same_perm p.held perm.Trunk) && not (is_granting v))) ≡ true
 unfolding carried_test
 data_carried p v h e = implies_is (carries_data p.probing p.letting)
-    (same_perm p.recorded perm.Trunk && (not (same_perm p.held perm.Trunk) && not (is_granting v))) (of_phase carried_test carried_all p v h) e
+    (same_perm p.recorded perm.Trunk && (not (same_perm p.held perm.Trunk) && not (is_granting v)))
+    (of_phase carried_test carried_all p v h) e
 
 -- ---- held Trunk: recorded Trunk, nothing on C, no Acquire, no Grant
 
@@ -74,30 +76,39 @@ is_silent _ (ReleaseSent r) = false
 is_silent _ _ = true
 
 trunk_test : ClientBlock → View → Bool
-trunk_test p v = implies (same_perm p.held perm.Trunk) (same_perm p.recorded perm.Trunk && (is_silent p.probing p.letting && (is_unacquired p.acquiring && not (is_granting v))))
+trunk_test p v = implies (same_perm p.held perm.Trunk)
+    (same_perm p.recorded perm.Trunk
+    && (is_silent p.probing p.letting && (is_unacquired p.acquiring && not (is_granting v))))
 
 trunk_all : each_phase trunk_test ≡ true
 unfolding each_phase trunk_test
 trunk_all = refl
 
 pub trunk_held : (p : ClientBlock) (v : View) → ok p v ≡ true → same_perm p.held perm.Trunk ≡ true
-    → (same_perm p.recorded perm.Trunk && (is_silent p.probing p.letting && (is_unacquired p.acquiring && not (is_granting v)))) ≡ true
+    → (same_perm p.recorded perm.Trunk
+    && (is_silent p.probing p.letting && (is_unacquired p.acquiring && not (is_granting v)))) ≡ true
 unfolding trunk_test
 trunk_held p v h e = implies_is (same_perm p.held perm.Trunk)
-    (same_perm p.recorded perm.Trunk && (is_silent p.probing p.letting && (is_unacquired p.acquiring && not (is_granting v)))) (of_phase trunk_test trunk_all p v h) e
+    (same_perm p.recorded perm.Trunk
+    && (is_silent p.probing p.letting && (is_unacquired p.acquiring && not (is_granting v))))
+    (of_phase trunk_test trunk_all p v h) e
 
 -- ---- Grant on D: no Probe, no Release
 
 granting_test : ClientBlock → View → Bool
-granting_test p v = on_granting v (λ d k. is_unprobed p.probing && (is_unreleased p.letting && same_perm p.recorded (cap_right k)))
+granting_test p v = on_granting v
+    (λ d k. is_unprobed p.probing && (is_unreleased p.letting && same_perm p.recorded (cap_right k)))
 
 granting_all : each_phase granting_test ≡ true
 unfolding each_phase granting_test
 granting_all = refl
 
-pub granting_alone : (d : Bool) (k : Cap) (p : ClientBlock) (v : View) → ok p v ≡ true → v ≡ Granting d k → (is_unprobed p.probing && (is_unreleased p.letting && same_perm p.recorded (cap_right k))) ≡ true
+pub granting_alone : (d : Bool) (k : Cap) (p : ClientBlock) (v : View) → ok p v ≡ true → v ≡ Granting d k
+    → (is_unprobed p.probing && (is_unreleased p.letting && same_perm p.recorded (cap_right k))) ≡ true
 unfolding granting_test
-granting_alone d k p v h e = granting_is v (λ c j. is_unprobed p.probing && (is_unreleased p.letting && same_perm p.recorded (cap_right j))) d k e (of_phase granting_test granting_all p v h)
+granting_alone d k p v h e =
+    granting_is v (λ c j. is_unprobed p.probing && (is_unreleased p.letting && same_perm p.recorded (cap_right j))) d k
+    e (of_phase granting_test granting_all p v h)
 
 -- ---- in service for the client's own Acquire: no Probe, no Release, recorded is held
 
@@ -108,9 +119,11 @@ own_all : each_phase own_test ≡ true
 unfolding each_phase own_test
 own_all = refl
 
-pub own_alone : (p : ClientBlock) (v : View) → ok p v ≡ true → v ≡ Own → (is_unprobed p.probing && (is_unreleased p.letting && same_perm p.recorded p.held)) ≡ true
+pub own_alone : (p : ClientBlock) (v : View) → ok p v ≡ true → v ≡ Own
+    → (is_unprobed p.probing && (is_unreleased p.letting && same_perm p.recorded p.held)) ≡ true
 unfolding own_test
-own_alone p v h e = own_is v (is_unprobed p.probing && (is_unreleased p.letting && same_perm p.recorded p.held)) e (of_phase own_test own_all p v h)
+own_alone p v h e = own_is v (is_unprobed p.probing && (is_unreleased p.letting && same_perm p.recorded p.held)) e
+    (of_phase own_test own_all p v h)
 
 -- ---- H4, H5: an Acquire at a block that isn't in service
 
@@ -119,18 +132,26 @@ grows_from grow.BtoT p = not (same_perm p perm.Trunk)
 grows_from _ p = same_perm p perm.None
 
 asked_test : ClientBlock → View → Bool
-asked_test p v = on_idle v (on_wants p.acquiring (λ whole g. is_unprobed p.probing && (is_unreleased p.letting && (same_perm p.recorded p.held && grows_from g p.recorded))))
+asked_test p v = on_idle v
+    (on_wants p.acquiring (λ whole g. is_unprobed
+    p.probing && (is_unreleased p.letting && (same_perm p.recorded p.held && grows_from g p.recorded))))
 
 asked_all : each_phase asked_test ≡ true
 unfolding each_phase asked_test
 asked_all = refl
 
-pub asked_alone : (whole : Bool) (g : Grow) (p : ClientBlock) (v : View) → ok p v ≡ true → v ≡ Idle → p.acquiring ≡ AcquireOpen whole g
-    → (is_unprobed p.probing && (is_unreleased p.letting && (same_perm p.recorded p.held && grows_from g p.recorded))) ≡ true
+pub asked_alone : (whole : Bool) (g : Grow) (p : ClientBlock) (v : View) → ok p v ≡ true → v ≡ Idle
+    → p.acquiring ≡ AcquireOpen whole g
+    → (is_unprobed p.probing && (is_unreleased p.letting && (same_perm p.recorded p.held && grows_from g p.recorded)))
+    ≡ true
 unfolding asked_test
 asked_alone whole g p v h e f =
-    wants_is p.acquiring (λ w j. is_unprobed p.probing && (is_unreleased p.letting && (same_perm p.recorded p.held && grows_from j p.recorded))) whole g f
-    (idle_is v (on_wants p.acquiring (λ w j. is_unprobed p.probing && (is_unreleased p.letting && (same_perm p.recorded p.held && grows_from j p.recorded)))) e (of_phase asked_test asked_all p v h))
+    wants_is p.acquiring (λ w j. is_unprobed
+    p.probing && (is_unreleased p.letting && (same_perm p.recorded p.held && grows_from j p.recorded))) whole g f
+    (idle_is v (on_wants p.acquiring
+    (λ w j. is_unprobed p.probing
+    && (is_unreleased p.letting && (same_perm p.recorded p.held && grows_from j p.recorded)))) e
+    (of_phase asked_test asked_all p v h))
 
 -- ---- H9: GrantAck on E: no Probe
 
@@ -141,14 +162,17 @@ acknowledging_all : each_phase acknowledging_test ≡ true
 unfolding each_phase acknowledging_test
 acknowledging_all = refl
 
-pub acknowledging_quiet : (p : ClientBlock) (v : View) → ok p v ≡ true → v ≡ Acknowledging → is_unprobed p.probing ≡ true
+pub acknowledging_quiet : (p : ClientBlock) (v : View) → ok p v ≡ true → v ≡ Acknowledging
+    → is_unprobed p.probing ≡ true
 unfolding acknowledging_test
-acknowledging_quiet p v h e = acknowledging_is v (is_unprobed p.probing) e (of_phase acknowledging_test acknowledging_all p v h)
+acknowledging_quiet p v h e =
+    acknowledging_is v (is_unprobed p.probing) e (of_phase acknowledging_test acknowledging_all p v h)
 
 -- ---- the left end of the first message on C is what is recorded (H12, H13)
 
 first_left_test : ClientBlock → View → Bool
-first_left_test p v = on_answered p.probing (λ r. same_perm (report_left r) p.recorded) && on_releasing p.letting (λ r. is_answered p.probing || same_perm (prune_left r) p.recorded)
+first_left_test p v = on_answered p.probing (λ r. same_perm (report_left r) p.recorded) && on_releasing p.letting
+    (λ r. is_answered p.probing || same_perm (prune_left r) p.recorded)
 
 first_left_all : each_phase first_left_test ≡ true
 unfolding each_phase first_left_test
@@ -167,9 +191,11 @@ report_all : each_phase report_test ≡ true
 unfolding each_phase report_test
 report_all = refl
 
-pub report_fits : (r : Report) (p : ClientBlock) (v : View) → ok p v ≡ true → p.probing ≡ ProbeAnswered r → (on_other v (λ k. same_report r (report_at k p.recorded)) && is_other v) ≡ true
+pub report_fits : (r : Report) (p : ClientBlock) (v : View) → ok p v ≡ true → p.probing ≡ ProbeAnswered r
+    → (on_other v (λ k. same_report r (report_at k p.recorded)) && is_other v) ≡ true
 unfolding report_test
-report_fits r p v h e = answered_is p.probing (λ j. on_other v (λ k. same_report j (report_at k p.recorded)) && is_other v) r e (of_phase report_test report_all p v h)
+report_fits r p v h e = answered_is p.probing (λ j. on_other v (λ k. same_report j (report_at k p.recorded)) && is_other
+    v) r e (of_phase report_test report_all p v h)
 
 -- ---- H11 of what is delivered
 
@@ -180,7 +206,8 @@ flow_all : each_phase flow_test ≡ true
 unfolding each_phase flow_test
 flow_all = refl
 
-pub report_first : (r : Report) (p : ClientBlock) (v : View) → ok p v ≡ true → p.probing ≡ ProbeAnswered r → not (is_acked p.letting) ≡ true
+pub report_first : (r : Report) (p : ClientBlock) (v : View) → ok p v ≡ true → p.probing ≡ ProbeAnswered r
+    → not (is_acked p.letting) ≡ true
 unfolding flow_test
 report_first r p v h e = answered_is p.probing (λ j. not (is_acked p.letting)) r e (of_phase flow_test flow_all p v h)
 
@@ -193,7 +220,8 @@ release_alone_all : each_phase release_alone_test ≡ true
 unfolding each_phase release_alone_test
 release_alone_all = refl
 
-pub release_alone : (p : ClientBlock) (v : View) → ok p v ≡ true → (is_unreleased p.letting || is_unacquired p.acquiring) ≡ true
+pub release_alone : (p : ClientBlock) (v : View) → ok p v ≡ true
+    → (is_unreleased p.letting || is_unacquired p.acquiring) ≡ true
 unfolding release_alone_test
 release_alone p v h = of_phase release_alone_test release_alone_all p v h
 
@@ -201,35 +229,44 @@ release_alone p v h = of_phase release_alone_test release_alone_all p v h
 
 within_test : ClientBlock → View → Bool
 within_test p v =
-    on_other v (λ k. not (same_cap k cap.ToT) && (on_quiet p.probing (perm_le p.recorded (cap_right k)) && on_answered p.probing (λ r. perm_le (report_right r) (cap_right k))))
+    on_other v (λ k. not (same_cap k cap.ToT) && (on_quiet p.probing (perm_le p.recorded (cap_right k)) && on_answered
+    p.probing (λ r. perm_le (report_right r) (cap_right k))))
 
 within_all : each_phase within_test ≡ true
 unfolding each_phase within_test
 within_all = refl
 
 within_of : (k : Cap) (p : ClientBlock) (v : View) → ok p v ≡ true → v ≡ Other k
-    → (not (same_cap k cap.ToT) && (on_quiet p.probing (perm_le p.recorded (cap_right k)) && on_answered p.probing (λ r. perm_le (report_right r) (cap_right k)))) ≡ true
+    → (not (same_cap k cap.ToT) && (on_quiet p.probing (perm_le p.recorded (cap_right k)) && on_answered p.probing
+    (λ r. perm_le (report_right r) (cap_right k)))) ≡ true
 unfolding within_test
 within_of k p v h e =
     other_is v (λ j. not (same_cap j cap.ToT) && (on_quiet p.probing (perm_le p.recorded (cap_right j))
     && on_answered p.probing (λ r. perm_le (report_right r) (cap_right j)))) k e (of_phase within_test within_all p v h)
 
-pub spared_within : (k : Cap) (p : ClientBlock) (v : View) → ok p v ≡ true → v ≡ Other k → p.probing ≡ NoProbe → perm_le p.recorded (cap_right k) ≡ true
+pub spared_within : (k : Cap) (p : ClientBlock) (v : View) → ok p v ≡ true → v ≡ Other k → p.probing ≡ NoProbe
+    → perm_le p.recorded (cap_right k) ≡ true
 spared_within k p v h e quiet =
-    let t = and_right (not (same_cap k cap.ToT)) (on_quiet p.probing (perm_le p.recorded (cap_right k)) && on_answered p.probing (λ r. perm_le (report_right r) (cap_right k))) (within_of k p v h e) in
+    let t = and_right (not (same_cap k cap.ToT)) (on_quiet p.probing (perm_le p.recorded (cap_right k)) && on_answered
+    p.probing (λ r. perm_le (report_right r) (cap_right k))) (within_of k p v h e) in
     quiet_is p.probing (perm_le p.recorded (cap_right k)) quiet
-    (and_left (on_quiet p.probing (perm_le p.recorded (cap_right k))) (on_answered p.probing (λ r. perm_le (report_right r) (cap_right k))) t)
+    (and_left (on_quiet p.probing (perm_le p.recorded (cap_right k)))
+    (on_answered p.probing (λ r. perm_le (report_right r) (cap_right k))) t)
 
-pub reported_within : (k : Cap) (r : Report) (p : ClientBlock) (v : View) → ok p v ≡ true → v ≡ Other k → p.probing ≡ ProbeAnswered r → perm_le (report_right r) (cap_right k) ≡ true
+pub reported_within : (k : Cap) (r : Report) (p : ClientBlock) (v : View) → ok p v ≡ true → v ≡ Other k
+    → p.probing ≡ ProbeAnswered r → perm_le (report_right r) (cap_right k) ≡ true
 reported_within k r p v h e answered =
-    let t = and_right (not (same_cap k cap.ToT)) (on_quiet p.probing (perm_le p.recorded (cap_right k)) && on_answered p.probing (λ j. perm_le (report_right j) (cap_right k))) (within_of k p v h e) in
+    let t = and_right (not (same_cap k cap.ToT)) (on_quiet p.probing (perm_le p.recorded (cap_right k)) && on_answered
+    p.probing (λ j. perm_le (report_right j) (cap_right k))) (within_of k p v h e) in
     answered_is p.probing (λ j. perm_le (report_right j) (cap_right k)) r answered
-    (and_right (on_quiet p.probing (perm_le p.recorded (cap_right k))) (on_answered p.probing (λ j. perm_le (report_right j) (cap_right k))) t)
+    (and_right (on_quiet p.probing (perm_le p.recorded (cap_right k)))
+    (on_answered p.probing (λ j. perm_le (report_right j) (cap_right k))) t)
 
 pub cap_is_low : (k : Cap) (p : ClientBlock) (v : View) → ok p v ≡ true → v ≡ Other k → same_cap k cap.ToT ≡ false
 cap_is_low k p v h e =
     not-true (same_cap k cap.ToT) (and_left (not (same_cap k cap.ToT))
-    (on_quiet p.probing (perm_le p.recorded (cap_right k)) && on_answered p.probing (λ r. perm_le (report_right r) (cap_right k))) (within_of k p v h e))
+    (on_quiet p.probing (perm_le p.recorded (cap_right k)) && on_answered p.probing
+    (λ r. perm_le (report_right r) (cap_right k))) (within_of k p v h e))
 
 -- one whose own Acquire is served isn't recorded Trunk
 own_low_test : ClientBlock → View → Bool
@@ -244,12 +281,14 @@ unfolding own_low_test
 own_low p v h e = own_is v (not (same_perm p.recorded perm.Trunk)) e (of_phase own_low_test own_low_all p v h)
 
 -- a ProbeAck begins at what is recorded
-pub report_begins : (r : Report) (p : ClientBlock) (v : View) → ok p v ≡ true → p.probing ≡ ProbeAnswered r → same_perm (report_left r) p.recorded ≡ true
+pub report_begins : (r : Report) (p : ClientBlock) (v : View) → ok p v ≡ true → p.probing ≡ ProbeAnswered r
+    → same_perm (report_left r) p.recorded ≡ true
 unfolding first_left_test
 report_begins r p v h e =
     answered_is p.probing (λ j. same_perm (report_left j) p.recorded) r e
     (and_left (on_answered p.probing (λ j. same_perm (report_left j) p.recorded))
-    (on_releasing p.letting (λ j. is_answered p.probing || same_perm (prune_left j) p.recorded)) (of_phase first_left_test first_left_all p v h))
+    (on_releasing p.letting (λ j. is_answered p.probing || same_perm (prune_left j) p.recorded))
+    (of_phase first_left_test first_left_all p v h))
 
 own_quiet_test : ClientBlock → View → Bool
 own_quiet_test p v = on_own v (is_unprobed p.probing)
@@ -270,9 +309,11 @@ fit_all : each_phase fit_test ≡ true
 unfolding each_phase fit_test
 fit_all = refl
 
-pub grant_is_fit : (d : Bool) (k : Cap) (p : ClientBlock) (v : View) → ok p v ≡ true → v ≡ Granting d k → grant_fits p.recorded p.held d k p.acquiring ≡ true
+pub grant_is_fit : (d : Bool) (k : Cap) (p : ClientBlock) (v : View) → ok p v ≡ true → v ≡ Granting d k
+    → grant_fits p.recorded p.held d k p.acquiring ≡ true
 unfolding fit_test
-grant_is_fit d k p v h e = granting_is v (λ c j. grant_fits p.recorded p.held c j p.acquiring) d k e (of_phase fit_test fit_all p v h)
+grant_is_fit d k p v h e = granting_is v (λ c j. grant_fits p.recorded p.held c j p.acquiring) d k e
+    (of_phase fit_test fit_all p v h)
 
 -- one whose own Acquire is served has it open
 own_wants_test : ClientBlock → View → Bool
@@ -287,12 +328,15 @@ unfolding own_wants_test
 own_wants p v h e = own_is v (not (is_unacquired p.acquiring)) e (of_phase own_wants_test own_wants_all p v h)
 
 -- a Release that is first begins at what is recorded
-pub release_begins : (r : Prune) (p : ClientBlock) (v : View) → ok p v ≡ true → p.letting ≡ ReleaseSent r → is_answered p.probing ≡ false → same_perm (prune_left r) p.recorded ≡ true
+pub release_begins : (r : Prune) (p : ClientBlock) (v : View) → ok p v ≡ true → p.letting ≡ ReleaseSent r
+    → is_answered p.probing ≡ false → same_perm (prune_left r) p.recorded ≡ true
 unfolding first_left_test
 release_begins r p v h e first =
     let t = and_right (on_answered p.probing (λ j. same_perm (report_left j) p.recorded))
-    (on_releasing p.letting (λ j. is_answered p.probing || same_perm (prune_left j) p.recorded)) (of_phase first_left_test first_left_all p v h) in
-    let u : (is_answered p.probing || same_perm (prune_left r) p.recorded) ≡ true = releasing_is p.letting (λ j. is_answered p.probing || same_perm (prune_left j) p.recorded) r e t in
+    (on_releasing p.letting (λ j. is_answered p.probing || same_perm (prune_left j) p.recorded))
+    (of_phase first_left_test first_left_all p v h) in
+    let u : (is_answered p.probing || same_perm (prune_left r) p.recorded) ≡ true =
+    releasing_is p.letting (λ j. is_answered p.probing || same_perm (prune_left j) p.recorded) r e t in
     rw first at u
 
 -- one who is to be granted at once isn't recorded Trunk
@@ -303,11 +347,13 @@ asked_low_all : each_phase asked_low_test ≡ true
 unfolding each_phase asked_low_test
 asked_low_all = refl
 
-pub asked_low : (whole : Bool) (g : Grow) (p : ClientBlock) (v : View) → ok p v ≡ true → v ≡ Idle → p.acquiring ≡ AcquireOpen whole g → same_perm p.recorded perm.Trunk ≡ false
+pub asked_low : (whole : Bool) (g : Grow) (p : ClientBlock) (v : View) → ok p v ≡ true → v ≡ Idle
+    → p.acquiring ≡ AcquireOpen whole g → same_perm p.recorded perm.Trunk ≡ false
 unfolding asked_low_test
 asked_low whole g p v h e wants =
     let t : (is_unacquired p.acquiring || not (same_perm p.recorded perm.Trunk)) ≡ true =
-    idle_is v (is_unacquired p.acquiring || not (same_perm p.recorded perm.Trunk)) e (of_phase asked_low_test asked_low_all p v h) in
+    idle_is v (is_unacquired p.acquiring || not (same_perm p.recorded perm.Trunk)) e
+    (of_phase asked_low_test asked_low_all p v h) in
     not-true (same_perm p.recorded perm.Trunk) (rw wants at t)
 
 -- what one holds Trunk of is out
@@ -332,7 +378,8 @@ calm_all = refl
 
 pub unserved_calm : (p : ClientBlock) (v : View) → ok p v ≡ true → p.acquiring ≡ NoAcquire → is_unserved v ≡ true
 unfolding calm_test
-unserved_calm p v h e = implies_is (is_unacquired p.acquiring) (is_unserved v) (of_phase calm_test calm_all p v h) (rw e refl)
+unserved_calm p v h e = implies_is (is_unacquired p.acquiring) (is_unserved v) (of_phase calm_test calm_all p v h)
+    (rw e refl)
 
 -- an Acquire for a store of the whole block grows to Trunk
 acquire_test : ClientBlock → View → Bool
@@ -342,9 +389,11 @@ acquire_all : each_phase acquire_test ≡ true
 unfolding each_phase acquire_test
 acquire_all = refl
 
-pub acquire_fits : (whole : Bool) (g : Grow) (p : ClientBlock) (v : View) → ok p v ≡ true → p.acquiring ≡ AcquireOpen whole g → grow_fits p.held (AcquireOpen whole g) ≡ true
+pub acquire_fits : (whole : Bool) (g : Grow) (p : ClientBlock) (v : View) → ok p v ≡ true
+    → p.acquiring ≡ AcquireOpen whole g → grow_fits p.held (AcquireOpen whole g) ≡ true
 unfolding acquire_test
-acquire_fits whole g p v h e = wants_is p.acquiring (λ w j. grow_fits p.held (AcquireOpen w j)) whole g e (of_phase acquire_test acquire_all p v h)
+acquire_fits whole g p v h e = wants_is p.acquiring (λ w j. grow_fits p.held (AcquireOpen w j)) whole g e
+    (of_phase acquire_test acquire_all p v h)
 
 -- who has answered a Probe sees another's service
 answered_test : ClientBlock → View → Bool
@@ -354,7 +403,8 @@ answered_all : each_phase answered_test ≡ true
 unfolding each_phase answered_test
 answered_all = refl
 
-pub answered_other : (r : Report) (p : ClientBlock) (v : View) → ok p v ≡ true → p.probing ≡ ProbeAnswered r → is_other v ≡ true
+pub answered_other : (r : Report) (p : ClientBlock) (v : View) → ok p v ≡ true → p.probing ≡ ProbeAnswered r
+    → is_other v ≡ true
 unfolding answered_test
 answered_other r p v h e = answered_is p.probing (λ j. is_other v) r e (of_phase answered_test answered_all p v h)
 
@@ -366,6 +416,8 @@ granting_asks_all : each_phase granting_asks_test ≡ true
 unfolding each_phase granting_asks_test
 granting_asks_all = refl
 
-pub granting_asks : (d : Bool) (k : Cap) (p : ClientBlock) (v : View) → ok p v ≡ true → v ≡ Granting d k → not (is_unacquired p.acquiring) ≡ true
+pub granting_asks : (d : Bool) (k : Cap) (p : ClientBlock) (v : View) → ok p v ≡ true → v ≡ Granting d k
+    → not (is_unacquired p.acquiring) ≡ true
 unfolding granting_asks_test
-granting_asks d k p v h e = granting_is v (λ c j. not (is_unacquired p.acquiring)) d k e (of_phase granting_asks_test granting_asks_all p v h)
+granting_asks d k p v h e = granting_is v (λ c j. not (is_unacquired p.acquiring)) d k e
+    (of_phase granting_asks_test granting_asks_all p v h)

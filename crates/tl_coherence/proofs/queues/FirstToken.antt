@@ -1,34 +1,29 @@
 -- The beat that comes first on a channel belongs to the message of the first token there.
+use Rattle.tl_coherence.proofs.queues.Imports.{IsWidth, Beat, Channel, Message, unfinished, IsCarried, IsInvariant}
+use Rattle.tl_coherence.proofs.queues.Imports.{ChannelRelation, receiver, State, packet, packets_on, is_on}
+use Rattle.tl_coherence.proofs.queues.Imports.{AccessMessages, message_of, System, Kind, Packet, is, count, one_if}
 use Rattle.std.proofs.Common.{◌≡◌, ℕ, ◌+◌, Bool, true, false, List, [], ◌∷◌, refl, sym, ◌∙◌, ap, arith}
 use Rattle.std.specs.Prelude.{map}
-use Rattle.tl_beat.specs.statement.Width.{IsWidth}
-use Rattle.tl_beat.specs.declared.beat.Beat.{Beat}
-use Rattle.tl_beat.specs.declared.channel.Channel.{Channel}
-use Rattle.tl_burst.specs.declared.message.Message.{Message}
-use Rattle.tl_burst.specs.statement.Messages.{unfinished}
 use Rattle.tl_burst.proofs.Splitting.{beats-positive}
-use Rattle.tl_coherence.specs.refinement.Carried.{IsCarried}
-use Rattle.tl_coherence.specs.protocol.Invariant.{IsInvariant}
-use Rattle.tl_coherence.specs.refinement.ChannelRelation.{ChannelRelation, receiver}
-use Rattle.tl_coherence.specs.protocol.Protocol.{State, packet, packets_on, is_on}
-use Rattle.tl_coherence.specs.refinement.PacketMessages.{AccessMessages, message_of, message_of_kind}
-use Rattle.tl_coherence.specs.statement.System.{System}
-use Rattle.tl_coherence.specs.protocol.Packet.{Kind, Packet, is, count, one_if}
+use Rattle.tl_coherence.specs.refinement.PacketMessages.{message_of_kind}
 use Rattle.tl_coherence.proofs.queues.Carried.{IsNext, carried-next}
 use Rattle.tl_coherence.proofs.queues.Rendered.{same_kind_again}
 use Rattle.tl_coherence.proofs.queues.Tokens.{same_number}
 
 -- the first token of a channel, whose message has this beat next
-pub record IsFirst {w : ℕ} (ch : Channel) (c : ℕ) (mail : AccessMessages w) (s : State (List ℕ)) (sys : System w) (x : Beat w) (queue : List (Beat w)) : Type 0 where
+pub record IsFirst {w : ℕ} (ch : Channel) (c : ℕ) (mail : AccessMessages w) (s : State (List ℕ)) (sys : System w)
+    (x : Beat w) (queue : List (Beat w)) : Type 0 where
   pub kind : Kind
   pub number : ℕ
   pub rest : List Packet
   pub tokens : packets_on ch (s.link c) ≡ packet kind number ∷ rest
   pub own : is_on ch kind ≡ true
-  pub next : IsNext x (unfinished ch (receiver ch c sys)) (message_of_kind kind mail s c number) (map (message_of mail s c) rest) queue
+  pub next : IsNext x (unfinished ch (receiver ch c sys)) (message_of_kind kind mail s c number)
+      (map (message_of mail s c) rest) queue
 
 -- a channel has tokens of its own kinds
-pub own_kind : (caching : ℕ → Bool) (s : State (List ℕ)) (c : ℕ) (ch : Channel) (k : Kind) (n : ℕ) (rest : List Packet) → IsInvariant caching s
+pub own_kind : (caching : ℕ → Bool) (s : State (List ℕ)) (c : ℕ) (ch : Channel) (k : Kind) (n : ℕ) (rest : List Packet)
+    → IsInvariant caching s
     → packets_on ch (s.link c) ≡ packet k n ∷ rest → is_on ch k ≡ true
 unfolding count
 own_kind caching s c ch k n rest inv tokens = go (is_on ch k) refl
@@ -41,13 +36,16 @@ own_kind caching s c ch k n rest inv tokens = go (is_on ch k) refl
         let one : one_if (is k n (packet k n)) ≡ 1 = rw (same_kind_again k, same_number n) refl in
         absurd (omega (arith, all, one))
 
-nothing_first : {w : ℕ} (x : Beat w) (queue rest : List (Beat w)) (channel : List (Beat w)) → channel ≡ x ∷ queue → IsCarried rest [] channel → ⊥
+nothing_first : {w : ℕ} (x : Beat w) (queue rest : List (Beat w)) (channel : List (Beat w)) → channel ≡ x ∷ queue
+    → IsCarried rest [] channel → ⊥
 nothing_first x queue rest channel e h = let no : [] ≡ x ∷ queue = sym h.1 ∙ e in cc
 
-same_carried : {w : ℕ} (rest : List (Beat w)) (ms ms' : List (Message w)) (q q' : List (Beat w)) → ms ≡ ms' → q ≡ q' → IsCarried rest ms q → IsCarried rest ms' q'
+same_carried : {w : ℕ} (rest : List (Beat w)) (ms ms' : List (Message w)) (q q' : List (Beat w)) → ms ≡ ms' → q ≡ q'
+    → IsCarried rest ms q → IsCarried rest ms' q'
 same_carried rest ms ms' q q' e f h = rw (← e, ← f) h
 
-pub first-token : {w : ℕ} (caching : ℕ → Bool) (ch : Channel) (c : ℕ) (mail : AccessMessages w) (s : State (List ℕ)) (sys : System w) (x : Beat w) (queue : List (Beat w))
+pub first-token : {w : ℕ} (caching : ℕ → Bool) (ch : Channel) (c : ℕ) (mail : AccessMessages w) (s : State (List ℕ))
+    (sys : System w) (x : Beat w) (queue : List (Beat w))
     → IsWidth w → IsInvariant caching s → ChannelRelation mail s sys
     → sys.channels c ch ≡ x ∷ queue → IsFirst ch c mail s sys x queue
 first-token {w} caching ch c mail s sys x queue width inv carried beats = go (packets_on ch (s.link c)) refl
@@ -55,7 +53,8 @@ first-token {w} caching ch c mail s sys x queue width inv carried beats = go (pa
     go : (xs : List Packet) → packets_on ch (s.link c) ≡ xs → IsFirst ch c mail s sys x queue
     go [] e =
         absurd (nothing_first x queue (unfinished ch (receiver ch c sys)) (sys.channels c ch) beats
-        (same_carried (unfinished ch (receiver ch c sys)) (map (message_of mail s c) (packets_on ch (s.link c))) [] (sys.channels c ch) (sys.channels c ch)
+        (same_carried (unfinished ch (receiver ch c sys)) (map (message_of mail s c) (packets_on ch (s.link c))) []
+        (sys.channels c ch) (sys.channels c ch)
         (ap (map (message_of mail s c)) e) refl (carried c ch)))
     go (y ∷ ys) e = record {
       kind = y.kind;
@@ -63,7 +62,9 @@ first-token {w} caching ch c mail s sys x queue width inv carried beats = go (pa
       rest = ys;
       tokens = e;
       own = own_kind caching s c ch y.kind y.number ys inv e;
-      next = carried-next x (unfinished ch (receiver ch c sys)) (message_of_kind y.kind mail s c y.number) (map (message_of mail s c) ys) queue (λ m. beats-positive m width)
+      next = carried-next x (unfinished ch (receiver ch c sys)) (message_of_kind y.kind mail s c y.number)
+          (map (message_of mail s c) ys) queue (λ m. beats-positive m width)
           (same_carried (unfinished ch (receiver ch c sys)) (map (message_of mail s c) (packets_on ch (s.link c)))
-          (message_of mail s c y ∷ map (message_of mail s c) ys) (sys.channels c ch) (x ∷ queue) (ap (map (message_of mail s c)) e) beats (carried c ch));
+          (message_of mail s c y ∷ map (message_of mail s c) ys) (sys.channels c ch) (x ∷ queue)
+          (ap (map (message_of mail s c)) e) beats (carried c ch));
     }

@@ -1,22 +1,18 @@
 -- The whole after an event: what each channel gained and lost, and what each receiver has of the first messages.
+use Rattle.tl_coherence.proofs.queues.Imports.{Beat, Channel, Message, beats_of, unfinished, completes, beats_from}
+use Rattle.tl_coherence.proofs.queues.Imports.{receiver, is_to_client, System, same_channel}
 use Rattle.std.proofs.Common.{◌≡◌, ℕ, Bool, true, false, List, [], ◌∷◌, ◌++◌, refl, sym, ◌∙◌, ap, ◌⊎◌, inl, inr}
 use Rattle.std.specs.Prelude.{◌==◌, ◌&&◌, if◌then◌else◌, Option, Some, None}
 use Rattle.std.proofs.lemmas.Bool.{cases_eq, ne_eqb}
-use Rattle.tl_beat.specs.declared.beat.Beat.{Beat}
-use Rattle.tl_beat.specs.declared.channel.Channel.{Channel}
 use Rattle.tl_beat.specs.declared.channel.Channel.TheVariants as channel
-use Rattle.tl_burst.specs.declared.message.Message.{Message}
-use Rattle.tl_burst.specs.statement.Burst.{beats_of}
-use Rattle.tl_burst.specs.statement.Messages.{History, on, grown, unfinished}
-use Rattle.tl_burst.specs.statement.Part.{completes}
+use Rattle.tl_burst.specs.statement.Messages.{History, on, grown}
 use Rattle.tl_rules.specs.statement.Conformance.{on_link}
-use Rattle.tl_rules.specs.statement.Legality.{beats_from}
 use Rattle.tl_client.specs.statement.Endpoint as client
 use Rattle.tl_manager.specs.statement.Handing.{Handed}
 use Rattle.tl_manager.specs.statement.End as manager_end
-use Rattle.tl_coherence.specs.refinement.ChannelRelation.{receiver}
-use Rattle.tl_coherence.specs.statement.Step.{handed_by, is_to_client}
-use Rattle.tl_coherence.specs.statement.System.{System, same_channel, channel_of_message, with_client, with_manager, with_channel, with_messages}
+use Rattle.tl_coherence.specs.statement.Step.{handed_by}
+use Rattle.tl_coherence.specs.statement.System.{channel_of_message, with_client, with_manager, with_channel}
+use Rattle.tl_coherence.specs.statement.System.{with_messages}
 use Rattle.tl_coherence.proofs.queues.Channels.{behind, pushes_at, IsTaken, IsHanded, same_channel-is}
 use Rattle.tl_coherence.proofs.queues.Steps.{clients-with_messages, manager-with_messages}
 use Rattle.tl_coherence.proofs.queues.Tokens.{same_number}
@@ -44,37 +40,47 @@ channels-handed {w} l (Some m) s d at = elim (cases_eq d l) [
     more = beats_from m 0 (beats_of m)
 
     here : (b : Bool) → b ≡ true → (y : Bool) → same_channel at (channel_of_message m) ≡ y
-        → (if b && y then s.channels l (channel_of_message m) ++ more else s.channels l at) ≡ behind (if b then (if y then Some m else None) else None) (s.channels l at)
+        → (if b && y then s.channels l (channel_of_message m) ++ more else s.channels l at) ≡ behind
+        (if b then (if y then Some m else None) else None) (s.channels l at)
     here b e true f = rw (e, same_channel-is at (channel_of_message m) f) refl
     here b e false f = rw e refl
 
     there : (b : Bool) → b ≡ false
-        → (if b && same_channel at (channel_of_message m) then s.channels l (channel_of_message m) ++ more else s.channels d at) ≡ behind (if b then pushes_of (Some m) at else None) (s.channels d at)
+        → (if b && same_channel at (channel_of_message m) then s.channels l (channel_of_message m) ++ more else
+        s.channels d at) ≡ behind (if b then pushes_of (Some m) at else None) (s.channels d at)
     there b e = rw e refl
 
 -- ---- the whole after a beat was taken
 
 -- What a beat leaves that is taken from channel ch of client c's link, whether or not it completes its message.
-pub record IsLanded {w : ℕ} (c : ℕ) (ch : Channel) (x : Beat w) (queue : List (Beat w)) (pushes : ℕ → Channel → Option (Message w)) (sys sys' : System w) : Type 0 where
+pub record IsLanded {w : ℕ} (c : ℕ) (ch : Channel) (x : Beat w) (queue : List (Beat w)) (pushes : ℕ → Channel
+    → Option (Message w)) (sys sys' : System w) : Type 0 where
   pub first : sys.channels c ch ≡ x ∷ queue
-  pub channels : (d : ℕ) (at : Channel) → sys'.channels d at ≡ behind (pushes d at) (if (d == c) && same_channel at ch then queue else sys.channels d at)
-  pub rests : (d : ℕ) (at : Channel) → unfinished at (receiver at d sys') ≡ (if (d == c) && same_channel at ch then grown x (unfinished at (receiver at d sys)) else unfinished at (receiver at d sys))
+  pub channels : (d : ℕ) (at : Channel)
+      → sys'.channels d at ≡ behind (pushes d at) (if (d == c) && same_channel at ch then queue else sys.channels d at)
+  pub rests : (d : ℕ) (at : Channel)
+      → unfinished at (receiver at d sys') ≡ (if (d == c) && same_channel at ch then grown x
+      (unfinished at (receiver at d sys)) else unfinished at (receiver at d sys))
 
 -- with the last beat of a message its receiver has nothing of the next
-pub rests-ended : {w : ℕ} (c : ℕ) (ch : Channel) (x : Beat w) (sys : System w) → completes x (unfinished ch (receiver ch c sys)) ≡ true → (d : ℕ) (at : Channel)
-    → (if (d == c) && same_channel at ch then grown x (unfinished at (receiver at d sys)) else unfinished at (receiver at d sys))
+pub rests-ended : {w : ℕ} (c : ℕ) (ch : Channel) (x : Beat w) (sys : System w)
+    → completes x (unfinished ch (receiver ch c sys)) ≡ true → (d : ℕ) (at : Channel)
+    → (if (d == c) && same_channel at ch then grown x (unfinished at (receiver at d sys)) else unfinished at
+    (receiver at d sys))
     ≡ (if (d == c) && same_channel at ch then [] else unfinished at (receiver at d sys))
 rests-ended {w} c ch x sys last d at = ended (cases_eq d c) (same_channel at ch) refl
   where
     rest : ℕ → Channel → List (Beat w)
     rest i j = unfinished j (receiver j i sys)
 
-    ended : (d ≡ c) ⊎ (d ≡ c → ⊥) → (y : Bool) → same_channel at ch ≡ y → (if (d == c) && y then grown x (rest d at) else rest d at) ≡ (if (d == c) && y then [] else rest d at)
+    ended : (d ≡ c) ⊎ (d ≡ c → ⊥) → (y : Bool) → same_channel at ch ≡ y
+        → (if (d == c) && y then grown x (rest d at) else rest d at) ≡ (if (d == c) && y then [] else rest d at)
     ended (inl same) true f = rw (same, same_channel-is at ch f, last) refl
     ended (inl same) false f = rw (same, same_number c) refl
     ended (inr other) y f = rw (ne_eqb d c other) refl
 
-pub taken-landed : {w : ℕ} (c : ℕ) (ch : Channel) (x : Beat w) (queue : List (Beat w)) (pushes : ℕ → Channel → Option (Message w)) (sys sys' : System w) → IsLanded c ch x queue pushes sys sys'
+pub taken-landed : {w : ℕ} (c : ℕ) (ch : Channel) (x : Beat w) (queue : List (Beat w)) (pushes : ℕ → Channel
+    → Option (Message w)) (sys sys' : System w) → IsLanded c ch x queue pushes sys sys'
     → completes x (unfinished ch (receiver ch c sys)) ≡ true → IsTaken c ch x queue pushes sys sys'
 taken-landed {w} c ch x queue pushes sys sys' is last = record {
   first = is.first;
@@ -87,7 +93,8 @@ taken-landed {w} c ch x queue pushes sys sys' is last = record {
 abbrev pub IsOn : {w : ℕ} → Channel → Beat w → Type 0
 IsOn ch x = (at : Channel) → on at x ≡ same_channel at ch
 
-grown_history : {w : ℕ} (ch at : Channel) (x : Beat w) (t : History w) → IsOn ch x → unfinished at (x ∷ t) ≡ (if same_channel at ch then grown x (unfinished at t) else unfinished at t)
+grown_history : {w : ℕ} (ch at : Channel) (x : Beat w) (t : History w) → IsOn ch x
+    → unfinished at (x ∷ t) ≡ (if same_channel at ch then grown x (unfinished at t) else unfinished at t)
 unfolding unfinished
 grown_history ch at x t is = rw (is at) refl
 
@@ -97,10 +104,12 @@ grown_history ch at x t is = rw (is at) refl
 abbrev pub HasHeard : {w : ℕ} → Beat w → client.Endpoint w → client.Endpoint w → Type 0
 HasHeard x e e' = (at : Channel) → unfinished at e'.past ≡ unfinished at (x ∷ e.past)
 
-pub landed-client : {w : ℕ} (c : ℕ) (ch : Channel) (x : Beat w) (queue : List (Beat w)) (m : Option (Message w)) (e : client.Endpoint w) (sys : System w)
+pub landed-client : {w : ℕ} (c : ℕ) (ch : Channel) (x : Beat w) (queue : List (Beat w)) (m : Option (Message w))
+    (e : client.Endpoint w) (sys : System w)
     → is_to_client ch ≡ true → sys.channels c ch ≡ x ∷ queue → IsOn ch x
     → HasHeard x (sys.clients c) e
-    → IsLanded c ch x queue (pushes_at c (pushes_of m)) sys (with_messages (handed_by c m) (with_client c e (with_channel c ch queue sys)))
+    → IsLanded c ch x queue (pushes_at c (pushes_of m)) sys
+    (with_messages (handed_by c m) (with_client c e (with_channel c ch queue sys)))
 landed-client {w} c ch x queue m e sys to_client first is heard = record {
   first = first;
   channels = λ d at. channels-handed c m base d at;
@@ -120,23 +129,30 @@ landed-client {w} c ch x queue m e sys to_client first is heard = record {
     manager_is = manager-with_messages (handed_by c m) base
 
     ours : (d : ℕ) (at : Channel) → (d ≡ c) ⊎ (d ≡ c → ⊥)
-        → unfinished at (after.clients d).past ≡ (if (d == c) && same_channel at ch then grown x (unfinished at (sys.clients d).past) else unfinished at (sys.clients d).past)
+        → unfinished at (after.clients d).past ≡ (if (d == c) && same_channel at ch then grown x
+        (unfinished at (sys.clients d).past) else unfinished at (sys.clients d).past)
     ours d at (inl same) =
         rw same (ap (λ (f : ℕ → client.Endpoint w). unfinished at (f c).past) clients_are
         ∙ ap (λ (b : Bool). unfinished at (if b then e else sys.clients c).past) (same_number c)
         ∙ heard at ∙ grown_history ch at x (sys.clients c).past is
-        ∙ sym (ap (λ (b : Bool). if b && same_channel at ch then grown x (unfinished at (sys.clients c).past) else unfinished at (sys.clients c).past) (same_number c)))
+        ∙ sym (ap (λ (b : Bool). if b && same_channel at ch then grown x (unfinished at (sys.clients c).past) else
+        unfinished at (sys.clients c).past) (same_number c)))
     ours d at (inr other) =
         ap (λ (f : ℕ → client.Endpoint w). unfinished at (f d).past) clients_are
         ∙ ap (λ (b : Bool). unfinished at (if b then e else sys.clients d).past) (ne_eqb d c other)
-        ∙ sym (ap (λ (b : Bool). if b && same_channel at ch then grown x (unfinished at (sys.clients d).past) else unfinished at (sys.clients d).past) (ne_eqb d c other))
+        ∙ sym (ap (λ (b : Bool). if b && same_channel at ch then grown x (unfinished at (sys.clients d).past) else
+        unfinished at (sys.clients d).past) (ne_eqb d c other))
 
     theirs : (d : ℕ) (at : Channel) → same_channel at ch ≡ false
         → unfinished at (on_link d after.manager.trace) ≡ (if (d == c)
-        && same_channel at ch then grown x (unfinished at (on_link d sys.manager.trace)) else unfinished at (on_link d sys.manager.trace))
-    theirs d at f = rw f (ap (λ (b : manager_end.End w). unfinished at (on_link d b.trace)) manager_is ∙ unless (d == c))
+        && same_channel at ch then grown x (unfinished at (on_link d sys.manager.trace)) else unfinished at
+        (on_link d sys.manager.trace))
+    theirs d at f = rw f (ap (λ (b : manager_end.End w). unfinished at (on_link d b.trace)) manager_is ∙ unless
+        (d == c))
       where
-        unless : (b : Bool) → unfinished at (on_link d sys.manager.trace) ≡ (if b && false then grown x (unfinished at (on_link d sys.manager.trace)) else unfinished at (on_link d sys.manager.trace))
+        unless : (b : Bool) → unfinished at (on_link d sys.manager.trace)
+            ≡ (if b && false then grown x (unfinished at (on_link d sys.manager.trace)) else unfinished at
+            (on_link d sys.manager.trace))
         unless true = refl
         unless false = refl
 
@@ -155,7 +171,9 @@ landed-client {w} c ch x queue m e sys to_client first is heard = record {
     not_here channel.D channel.B a b = absurd cc
     not_here channel.D channel.D a b = absurd cc
 
-    rests : (d : ℕ) (at : Channel) → unfinished at (receiver at d after) ≡ (if (d == c) && same_channel at ch then grown x (unfinished at (receiver at d sys)) else unfinished at (receiver at d sys))
+    rests : (d : ℕ) (at : Channel)
+        → unfinished at (receiver at d after) ≡ (if (d == c) && same_channel at ch then grown x
+        (unfinished at (receiver at d sys)) else unfinished at (receiver at d sys))
     rests d channel.A = theirs d channel.A (not_here ch channel.A to_client refl)
     rests d channel.B = ours d channel.B (cases_eq d c)
     rests d channel.C = theirs d channel.C (not_here ch channel.C to_client refl)
@@ -163,7 +181,8 @@ landed-client {w} c ch x queue m e sys to_client first is heard = record {
     rests d channel.E = theirs d channel.E (not_here ch channel.E to_client refl)
 
 -- a client is asked: its message is handed out, if there is one
-pub handed-client : {w : ℕ} (c : ℕ) (m : Option (Message w)) (e : client.Endpoint w) (sys : System w) → ((at : Channel) → unfinished at e.past ≡ unfinished at (sys.clients c).past)
+pub handed-client : {w : ℕ} (c : ℕ) (m : Option (Message w)) (e : client.Endpoint w) (sys : System w)
+    → ((at : Channel) → unfinished at e.past ≡ unfinished at (sys.clients c).past)
     → IsHanded (pushes_at c (pushes_of m)) sys (with_messages (handed_by c m) (with_client c e sys))
 handed-client {w} c m e sys same = record {
   channels = λ d at. channels-handed c m base d at;
@@ -176,16 +195,20 @@ handed-client {w} c m e sys same = record {
     after : System w
     after = with_messages (handed_by c m) base
 
-    ours : (d : ℕ) (at : Channel) → (d ≡ c) ⊎ (d ≡ c → ⊥) → unfinished at (after.clients d).past ≡ unfinished at (sys.clients d).past
+    ours : (d : ℕ) (at : Channel) → (d ≡ c) ⊎ (d ≡ c → ⊥) → unfinished at (after.clients d).past ≡ unfinished at
+        (sys.clients d).past
     ours d at (inl here) =
-        rw here (ap (λ (f : ℕ → client.Endpoint w). unfinished at (f c).past) (clients-with_messages (handed_by c m) base)
+        rw here (ap (λ (f : ℕ → client.Endpoint w). unfinished at (f c).past)
+        (clients-with_messages (handed_by c m) base)
         ∙ ap (λ (b : Bool). unfinished at (if b then e else sys.clients c).past) (same_number c) ∙ same at)
     ours d at (inr other) =
         ap (λ (f : ℕ → client.Endpoint w). unfinished at (f d).past) (clients-with_messages (handed_by c m) base)
         ∙ ap (λ (b : Bool). unfinished at (if b then e else sys.clients d).past) (ne_eqb d c other)
 
-    theirs : (d : ℕ) (at : Channel) → unfinished at (on_link d after.manager.trace) ≡ unfinished at (on_link d sys.manager.trace)
-    theirs d at = ap (λ (b : manager_end.End w). unfinished at (on_link d b.trace)) (manager-with_messages (handed_by c m) base)
+    theirs : (d : ℕ) (at : Channel) → unfinished at (on_link d after.manager.trace) ≡ unfinished at
+        (on_link d sys.manager.trace)
+    theirs d at = ap (λ (b : manager_end.End w). unfinished at (on_link d b.trace))
+        (manager-with_messages (handed_by c m) base)
 
     rests : (d : ℕ) (at : Channel) → unfinished at (receiver at d after) ≡ unfinished at (receiver at d sys)
     rests d channel.A = theirs d channel.A
@@ -198,13 +221,16 @@ handed-client {w} c m e sys same = record {
 
 -- what the manager's end has of each message that clients send
 abbrev pub HasTaken : {w : ℕ} → ℕ → Beat w → manager_end.End w → manager_end.End w → Type 0
-HasTaken c x e e' = (d : ℕ) (at : Channel) → is_to_client at ≡ false → unfinished at (on_link d e'.trace) ≡ unfinished at (if c == d then x ∷ on_link d e.trace else on_link d e.trace)
+HasTaken c x e e' = (d : ℕ) (at : Channel) → is_to_client at ≡ false
+    → unfinished at (on_link d e'.trace) ≡ unfinished at (if c == d then x ∷ on_link d e.trace else on_link d e.trace)
 
 -- whatever it hands out, it has this beat too
-pub rests-manager : {w : ℕ} (c : ℕ) (ch : Channel) (x : Beat w) (queue : List (Beat w)) (handed : Handed w) (e : manager_end.End w) (sys : System w)
+pub rests-manager : {w : ℕ} (c : ℕ) (ch : Channel) (x : Beat w) (queue : List (Beat w)) (handed : Handed w)
+    (e : manager_end.End w) (sys : System w)
     → is_to_client ch ≡ false → IsOn ch x → HasTaken c x sys.manager e → (d : ℕ) (at : Channel)
     → unfinished at (receiver at d (with_messages handed (with_manager e (with_channel c ch queue sys))))
-    ≡ (if (d == c) && same_channel at ch then grown x (unfinished at (receiver at d sys)) else unfinished at (receiver at d sys))
+    ≡ (if (d == c) && same_channel at ch then grown x (unfinished at (receiver at d sys)) else unfinished at
+    (receiver at d sys))
 rests-manager {w} c ch x queue handed e sys to_manager is heard = rests
   where
     base : System w
@@ -221,16 +247,21 @@ rests-manager {w} c ch x queue handed e sys to_manager is heard = rests
 
     theirs : (d : ℕ) (at : Channel) → is_to_client at ≡ false → (d ≡ c) ⊎ (d ≡ c → ⊥)
         → unfinished at (on_link d after.manager.trace) ≡ (if (d == c)
-        && same_channel at ch then grown x (unfinished at (on_link d sys.manager.trace)) else unfinished at (on_link d sys.manager.trace))
+        && same_channel at ch then grown x (unfinished at (on_link d sys.manager.trace)) else unfinished at
+        (on_link d sys.manager.trace))
     theirs d at up (inl same) =
         rw same (ap (λ (b : manager_end.End w). unfinished at (on_link c b.trace)) manager_is ∙ heard c at up
-        ∙ ap (λ (b : Bool). unfinished at (if b then x ∷ on_link c sys.manager.trace else on_link c sys.manager.trace)) (same_number c)
+        ∙ ap (λ (b : Bool). unfinished at (if b then x ∷ on_link c sys.manager.trace else on_link c sys.manager.trace))
+        (same_number c)
         ∙ grown_history ch at x (on_link c sys.manager.trace) is
-        ∙ sym (ap (λ (b : Bool). if b && same_channel at ch then grown x (unfinished at (on_link c sys.manager.trace)) else unfinished at (on_link c sys.manager.trace)) (same_number c)))
+        ∙ sym (ap (λ (b : Bool). if b && same_channel at ch then grown x (unfinished at (on_link c sys.manager.trace))
+        else unfinished at (on_link c sys.manager.trace)) (same_number c)))
     theirs d at up (inr other) =
         ap (λ (b : manager_end.End w). unfinished at (on_link d b.trace)) manager_is ∙ heard d at up
-        ∙ ap (λ (b : Bool). unfinished at (if b then x ∷ on_link d sys.manager.trace else on_link d sys.manager.trace)) (swapped d other)
-        ∙ sym (ap (λ (b : Bool). if b && same_channel at ch then grown x (unfinished at (on_link d sys.manager.trace)) else unfinished at (on_link d sys.manager.trace)) (ne_eqb d c other))
+        ∙ ap (λ (b : Bool). unfinished at (if b then x ∷ on_link d sys.manager.trace else on_link d sys.manager.trace))
+        (swapped d other)
+        ∙ sym (ap (λ (b : Bool). if b && same_channel at ch then grown x (unfinished at (on_link d sys.manager.trace))
+        else unfinished at (on_link d sys.manager.trace)) (ne_eqb d c other))
 
     not_here : (ch at : Channel) → is_to_client ch ≡ false → is_to_client at ≡ true → same_channel at ch ≡ false
     not_here channel.A channel.B a b = refl
@@ -252,26 +283,33 @@ rests-manager {w} c ch x queue handed e sys to_manager is heard = rests
     not_here channel.E channel.E a b = absurd cc
 
     ours : (d : ℕ) (at : Channel) → same_channel at ch ≡ false
-        → unfinished at (after.clients d).past ≡ (if (d == c) && same_channel at ch then grown x (unfinished at (sys.clients d).past) else unfinished at (sys.clients d).past)
-    ours d at f = rw f (ap (λ (g : ℕ → client.Endpoint w). unfinished at (g d).past) (clients-with_messages handed base) ∙ unless (d == c))
+        → unfinished at (after.clients d).past ≡ (if (d == c) && same_channel at ch then grown x
+        (unfinished at (sys.clients d).past) else unfinished at (sys.clients d).past)
+    ours d at f = rw f (ap (λ (g : ℕ → client.Endpoint w). unfinished at (g d).past) (clients-with_messages handed base)
+        ∙ unless (d == c))
       where
-        unless : (b : Bool) → unfinished at (sys.clients d).past ≡ (if b && false then grown x (unfinished at (sys.clients d).past) else unfinished at (sys.clients d).past)
+        unless : (b : Bool) → unfinished at (sys.clients d).past
+            ≡ (if b && false then grown x (unfinished at (sys.clients d).past) else unfinished at (sys.clients d).past)
         unless true = refl
         unless false = refl
 
-    rests : (d : ℕ) (at : Channel) → unfinished at (receiver at d after) ≡ (if (d == c) && same_channel at ch then grown x (unfinished at (receiver at d sys)) else unfinished at (receiver at d sys))
+    rests : (d : ℕ) (at : Channel)
+        → unfinished at (receiver at d after) ≡ (if (d == c) && same_channel at ch then grown x
+        (unfinished at (receiver at d sys)) else unfinished at (receiver at d sys))
     rests d channel.A = theirs d channel.A refl (cases_eq d c)
     rests d channel.B = ours d channel.B (not_here ch channel.B to_manager refl)
     rests d channel.C = theirs d channel.C refl (cases_eq d c)
     rests d channel.D = ours d channel.D (not_here ch channel.D to_manager refl)
     rests d channel.E = theirs d channel.E refl (cases_eq d c)
 
-pub landed-manager : {w : ℕ} (c : ℕ) (ch : Channel) (x : Beat w) (queue : List (Beat w)) (pushes : ℕ → Channel → Option (Message w)) (handed : Handed w)
+pub landed-manager : {w : ℕ} (c : ℕ) (ch : Channel) (x : Beat w) (queue : List (Beat w)) (pushes : ℕ → Channel
+    → Option (Message w)) (handed : Handed w)
     (e : manager_end.End w) (sys : System w) → is_to_client ch ≡ false
     → sys.channels c ch ≡ x ∷ queue
     → IsOn ch x
     → HasTaken c x sys.manager e
-    → ((d : ℕ) (at : Channel) → (with_messages handed (with_manager e (with_channel c ch queue sys))).channels d at ≡ behind (pushes d at) ((with_channel c ch queue sys).channels d at))
+    → ((d : ℕ) (at : Channel) → (with_messages handed (with_manager e (with_channel c ch queue sys))).channels d
+    at ≡ behind (pushes d at) ((with_channel c ch queue sys).channels d at))
     → IsLanded c ch x queue pushes sys (with_messages handed (with_manager e (with_channel c ch queue sys)))
 landed-manager c ch x queue pushes handed e sys to_manager first is heard pushed = record {
   first = first;

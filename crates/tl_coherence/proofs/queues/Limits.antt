@@ -1,19 +1,22 @@
 -- A configuration within its limits, as arithmetic.
-use Rattle.std.proofs.Common.{◌≡◌, ◌<◌, ◌&&◌, ℕ, zero, suc, Bool, true, false, List, [], ◌∷◌, Some, None, refl, length, arith}
+use Rattle.std.proofs.Common.{◌≡◌, ◌<◌, ◌&&◌, ℕ, zero, suc, Bool, true, false, List, [], ◌∷◌, Some, None, refl, length}
+use Rattle.std.proofs.Common.{arith}
 use Rattle.std.specs.Prelude.{slice_index_or, Option, not, if◌then◌else◌}
 use Rattle.tl_params.specs.declared.config.ClientConfig.{ClientConfig}
 use Rattle.tl_params.specs.declared.config.NewFault.{NewFault}
 use Rattle.tl_params.specs.declared.config.NewFault.TheVariants as fault
 use Rattle.tl_params.specs.statement.Config.{sources_fit, all_sources_fit}
 
-pub all-fit : (clients : List ClientConfig) (i : ℕ) (d : ClientConfig) → all_sources_fit clients ≡ true → i < length clients → sources_fit (slice_index_or clients i d) ≡ true
+pub all-fit : (clients : List ClientConfig) (i : ℕ) (d : ClientConfig) → all_sources_fit clients ≡ true
+    → i < length clients → sources_fit (slice_index_or clients i d) ≡ true
 all-fit [] i d fit lt = absurd (omega (arith, lt))
 all-fit (x ∷ clients) zero d fit lt = both-first (sources_fit x) (all_sources_fit clients) fit
   where
     both-first : (a b : Bool) → (a && b) ≡ true → a ≡ true
     both-first true b e = refl
     both-first false b e = absurd cc
-all-fit (x ∷ clients) (suc i) d fit lt = all-fit clients i d (both-second (sources_fit x) (all_sources_fit clients) fit) (omega (arith, lt))
+all-fit (x ∷ clients) (suc i) d fit lt = all-fit clients i d (both-second (sources_fit x) (all_sources_fit clients) fit)
+    (omega (arith, lt))
   where
     both-second : (a b : Bool) → (a && b) ≡ true → b ≡ true
     both-second true b e = e

@@ -1,16 +1,22 @@
 -- Tokens, and what they stand for, after the moves of an event: one lemma for all events.
-use Rattle.std.proofs.Common.{◌≡◌, ℕ, Bool, true, false, not, ◌&&◌, List, [], ◌∷◌, ◌++◌, Option, refl, sym, ◌∙◌, ap, ◌⊎◌, inl, inr}
+use Rattle.tl_coherence.proofs.queues.Imports.{Channel, Kind, Request, Acquire, Probe, ProbeAck, Release, Answer, Grant}
+use Rattle.tl_coherence.proofs.queues.Imports.{ReleaseAck, GrantAck, Packet, same_kind, count, set, State, packet}
+use Rattle.tl_coherence.proofs.queues.Imports.{packets_on, is_on, shown, Move, Stays, Pushes, Pops, IsMoved, AreMoved}
+use Rattle.tl_coherence.proofs.queues.Imports.{IsInvariant, is_asked, is_replied}
+use Rattle.std.proofs.Common.{◌≡◌, ℕ, Bool, true, false, not, ◌&&◌, List, [], ◌∷◌, ◌++◌, Option, refl, sym, ◌∙◌, ap}
+use Rattle.std.proofs.Common.{◌⊎◌, inl, inr}
 use Rattle.std.specs.Prelude.{◌==◌, if◌then◌else◌}
 use Rattle.std.proofs.lemmas.Bool.{cases_eq, ne_eqb, eqb-true, not-true}
 use Rattle.std.specs.Bool.{beq}
-use Rattle.tl_beat.specs.declared.channel.Channel.{Channel}
 use Rattle.tl_beat.specs.declared.channel.Channel.TheVariants as channel
-use Rattle.tl_coherence.specs.protocol.Packet.{Kind, Request, Acquire, Probe, ProbeAck, Release, Answer, Grant, ReleaseAck, GrantAck, Packet, same_kind, Holds, IsOrdered, count, set, set_at}
-use Rattle.tl_coherence.specs.protocol.Protocol.{Block, State, SourceState, Link, packet, packets_on, is_on, is_transfer, on, shown}
-use Rattle.tl_coherence.specs.refinement.Move.{Move, Stays, Pushes, Pops, IsMoved, AreMoved, agrees, is_own_move, channel_for}
-use Rattle.tl_coherence.proofs.queues.Tokens.{same_number, set-same, set-other, holds-set, holds-push, holds-push_other, holds-pop, holds-pop_other, none-push, none-pop}
-use Rattle.tl_coherence.proofs.queues.Tokens.{set-each, ordered-pop, ordered-push_other, ordered-push_report}
-use Rattle.tl_coherence.specs.protocol.Invariant.{IsWell, IsInvariant, AreNamed, Names, is_asked, is_replied, is_of, acquires_of, serves_of, acquires_with, serves_with, releases_with, tracks_with}
+use Rattle.tl_coherence.specs.protocol.Packet.{Holds, IsOrdered, set_at}
+use Rattle.tl_coherence.specs.protocol.Protocol.{Block, SourceState, Link, is_transfer, on}
+use Rattle.tl_coherence.specs.refinement.Move.{agrees, is_own_move, channel_for}
+use Rattle.tl_coherence.proofs.queues.Tokens.{same_number, set-same, set-other, holds-set, holds-push, holds-push_other}
+use Rattle.tl_coherence.proofs.queues.Tokens.{holds-pop, holds-pop_other, none-push, none-pop, set-each, ordered-pop}
+use Rattle.tl_coherence.proofs.queues.Tokens.{ordered-push_other, ordered-push_report}
+use Rattle.tl_coherence.specs.protocol.Invariant.{IsWell, AreNamed, Names, is_of, acquires_of, serves_of, acquires_with}
+use Rattle.tl_coherence.specs.protocol.Invariant.{serves_with, releases_with, tracks_with}
 use Rattle.tl_coherence.proofs.queues.Phases.{and_left, and_right}
 
 pub same_again : (b : Bool) → beq b b ≡ true
@@ -24,7 +30,8 @@ same_bools false true e = absurd cc
 same_bools false false e = refl
 
 -- the tokens of a kind after a move, where number n gets another value
-pub holds-moved : {B : Type 0} (k : Kind) (move : Move) (xs ys : List Packet) (q : B → Bool) (f : ℕ → B) (n : ℕ) (y : B) → IsMoved move xs ys → agrees move k n (q (f n)) (q y) ≡ true
+pub holds-moved : {B : Type 0} (k : Kind) (move : Move) (xs ys : List Packet) (q : B → Bool) (f : ℕ → B) (n : ℕ) (y : B)
+    → IsMoved move xs ys → agrees move k n (q (f n)) (q y) ≡ true
     → Holds k xs (λ i. q (f i)) → Holds k ys (λ i. q (set n y f i))
 holds-moved k Stays xs ys q f n y moved fits h = rw moved (holds-set k xs q f n y (same_bools (q (f n)) (q y) fits) h)
 holds-moved {B} k (Pushes j i) xs ys q f n y moved fits h = rw moved (go (same_kind j k) refl fits)
@@ -34,16 +41,21 @@ holds-moved {B} k (Pushes j i) xs ys q f n y moved fits h = rw moved (go (same_k
     both false true e = (refl, refl)
     both false false e = absurd cc
 
-    go : (own : Bool) → same_kind j k ≡ own → (if own then (i == n) && (not (q (f n)) && q y) else beq (q (f n)) (q y)) ≡ true → Holds k (xs ++ packet j i ∷ []) (λ m. q (set n y f m))
+    go : (own : Bool) → same_kind j k ≡ own → (if own then (i == n) && (not (q (f n)) && q y) else beq (q (f n)) (q y))
+        ≡ true → Holds k (xs ++ packet j i ∷ []) (λ m. q (set n y f m))
     go true e g =
         let p = both (q (f n)) (q y) (and_right (i == n) (not (q (f n)) && q y) g) in
         holds-push k xs (packet j i) q f n y e (eqb-true i n (and_left (i == n) (not (q (f n)) && q y) g)) p.0 p.1 h
-    go false e g = holds-push_other k xs (packet j i) (λ m. q (set n y f m)) e (holds-set k xs q f n y (same_bools (q (f n)) (q y) g) h)
+    go false e g = holds-push_other k xs (packet j i) (λ m. q (set n y f m)) e
+        (holds-set k xs q f n y (same_bools (q (f n)) (q y) g) h)
 holds-moved {B} k (Pops j i) xs ys q f n y moved fits h = go (same_kind j k) refl fits
   where
-    go : (own : Bool) → same_kind j k ≡ own → (if own then (i == n) && not (q y) else beq (q (f n)) (q y)) ≡ true → Holds k ys (λ m. q (set n y f m))
-    go true e g = holds-pop k xs ys (packet j i) q f n y moved e (eqb-true i n (and_left (i == n) (not (q y)) g)) (not-true (q y) (and_right (i == n) (not (q y)) g)) h
-    go false e g = holds-set k ys q f n y (same_bools (q (f n)) (q y) g) (holds-pop_other k xs ys (packet j i) (λ m. q (f m)) moved e h)
+    go : (own : Bool) → same_kind j k ≡ own → (if own then (i == n) && not (q y) else beq (q (f n)) (q y)) ≡ true
+        → Holds k ys (λ m. q (set n y f m))
+    go true e g = holds-pop k xs ys (packet j i) q f n y moved e (eqb-true i n (and_left (i == n) (not (q y)) g))
+        (not-true (q y) (and_right (i == n) (not (q y)) g)) h
+    go false e g = holds-set k ys q f n y (same_bools (q (f n)) (q y) g)
+        (holds-pop_other k xs ys (packet j i) (λ m. q (f m)) moved e h)
 
 -- a kind that doesn't move
 abbrev pub spares : Move → Kind → Bool
@@ -56,10 +68,13 @@ spared-agrees Stays k n a e = same_again a
 spared-agrees (Pushes j i) k n a e = rw (not-true (same_kind j k) e) (same_again a)
 spared-agrees (Pops j i) k n a e = rw (not-true (same_kind j k) e) (same_again a)
 
-pub holds-spared : (k : Kind) (move : Move) (xs ys : List Packet) (test : ℕ → Bool) → IsMoved move xs ys → spares move k ≡ true → Holds k xs test → Holds k ys test
+pub holds-spared : (k : Kind) (move : Move) (xs ys : List Packet) (test : ℕ → Bool) → IsMoved move xs ys
+    → spares move k ≡ true → Holds k xs test → Holds k ys test
 holds-spared k Stays xs ys test moved fits h = rw moved h
-holds-spared k (Pushes j i) xs ys test moved fits h = rw moved (holds-push_other k xs (packet j i) test (not-true (same_kind j k) fits) h)
-holds-spared k (Pops j i) xs ys test moved fits h = holds-pop_other k xs ys (packet j i) test moved (not-true (same_kind j k) fits) h
+holds-spared k (Pushes j i) xs ys test moved fits h =
+    rw moved (holds-push_other k xs (packet j i) test (not-true (same_kind j k) fits) h)
+holds-spared k (Pops j i) xs ys test moved fits h =
+    holds-pop_other k xs ys (packet j i) test moved (not-true (same_kind j k) fits) h
 
 on_is : (k : Kind) (l : Link) → on k l ≡ packets_on (channel_for k) l
 on_is Request l = refl
@@ -73,12 +88,15 @@ on_is ReleaseAck l = refl
 on_is GrantAck l = refl
 
 -- all transfers of a client after the moves of its link, where one block changes
-pub transfers-moved : {X : Type 0} (moves : Channel → Move) (l m : Link) (d n : ℕ) (b : Block X) (block : ℕ → Block X) → AreMoved moves l m
-    → ((k : Kind) → is_transfer k ≡ true → agrees (moves (channel_for k)) k n (shown k d (block n)) (shown k d b) ≡ true)
+pub transfers-moved : {X : Type 0} (moves : Channel → Move) (l m : Link) (d n : ℕ) (b : Block X) (block : ℕ → Block X)
+    → AreMoved moves l m
+    → ((k : Kind) → is_transfer k ≡ true → agrees (moves (channel_for k)) k n (shown k d (block n)) (shown k d b)
+    ≡ true)
     → ((k : Kind) → is_transfer k ≡ true → Holds k (on k l) (λ i. shown k d (block i)))
     → (k : Kind) → is_transfer k ≡ true → Holds k (on k m) (λ i. shown k d (set n b block i))
 transfers-moved moves l m d n b block moved fits h k t =
-    rw (on_is k m) (holds-moved k (moves (channel_for k)) (packets_on (channel_for k) l) (packets_on (channel_for k) m) (shown k d) block n b
+    rw (on_is k m) (holds-moved k (moves (channel_for k)) (packets_on (channel_for k) l) (packets_on (channel_for k) m)
+    (shown k d) block n b
     (moved (channel_for k)) (fits k t) (rw (on_is k l) at (h k t)))
 
 -- a kind that isn't one of the channel isn't one that is
@@ -95,12 +113,15 @@ kinds_apart ch GrantAck GrantAck e f = absurd cc
 kinds_apart ch _ _ e f = refl
 
 -- a channel has tokens of its own kinds after its move
-pub own_kinds-moved : (ch : Channel) (move : Move) (xs ys : List Packet) (k : Kind) (i : ℕ) → is_own_move ch move ≡ true → IsMoved move xs ys → is_on ch k ≡ false → count k i xs ≡ 0 → count k i ys ≡ 0
+pub own_kinds-moved : (ch : Channel) (move : Move) (xs ys : List Packet) (k : Kind) (i : ℕ) → is_own_move ch move ≡ true
+    → IsMoved move xs ys → is_on ch k ≡ false → count k i xs ≡ 0 → count k i ys ≡ 0
 own_kinds-moved ch Stays xs ys k i own moved off none = rw moved none
-own_kinds-moved ch (Pushes j n) xs ys k i own moved off none = rw moved (none-push k i xs (packet j n) (kinds_apart ch j k own off) none)
+own_kinds-moved ch (Pushes j n) xs ys k i own moved off none =
+    rw moved (none-push k i xs (packet j n) (kinds_apart ch j k own off) none)
 own_kinds-moved ch (Pops j n) xs ys k i own moved off none = none-pop k i xs ys (packet j n) moved none
 
-ordered-moved : (move : Move) (m : ℕ) (xs ys : List Packet) → IsMoved move xs ys → ((n : ℕ) → move ≡ Pushes ProbeAck n → count Release n xs ≡ 0) → IsOrdered m xs → IsOrdered m ys
+ordered-moved : (move : Move) (m : ℕ) (xs ys : List Packet) → IsMoved move xs ys
+    → ((n : ℕ) → move ≡ Pushes ProbeAck n → count Release n xs ≡ 0) → IsOrdered m xs → IsOrdered m ys
 ordered-moved Stays m xs ys moved order h = rw moved h
 ordered-moved (Pops j n) m xs ys moved order h = ordered-pop m xs ys (packet j n) moved h
 ordered-moved (Pushes ProbeAck n) m xs ys moved order h = rw moved (go (cases_eq m n))
@@ -114,50 +135,66 @@ ordered-moved (Pushes Probe n) m xs ys moved order h = rw moved (ordered-push_ot
 ordered-moved (Pushes Release n) m xs ys moved order h = rw moved (ordered-push_other m xs (packet Release n) refl h)
 ordered-moved (Pushes Answer n) m xs ys moved order h = rw moved (ordered-push_other m xs (packet Answer n) refl h)
 ordered-moved (Pushes Grant n) m xs ys moved order h = rw moved (ordered-push_other m xs (packet Grant n) refl h)
-ordered-moved (Pushes ReleaseAck n) m xs ys moved order h = rw moved (ordered-push_other m xs (packet ReleaseAck n) refl h)
+ordered-moved (Pushes ReleaseAck n) m xs ys moved order h =
+    rw moved (ordered-push_other m xs (packet ReleaseAck n) refl h)
 ordered-moved (Pushes GrantAck n) m xs ys moved order h = rw moved (ordered-push_other m xs (packet GrantAck n) refl h)
 
 -- ---- the whole invariant
 
 -- what an event that changes block n, and moves tokens, has to show
-pub record IsEvent {X : Type 0} (caching : ℕ → Bool) (n : ℕ) (b : Block X) (link : ℕ → Link) (moves : ℕ → Channel → Move) (s : State X) : Type 0 where
+pub record IsEvent {X : Type 0} (caching : ℕ → Bool) (n : ℕ) (b : Block X) (link : ℕ → Link) (moves : ℕ → Channel
+    → Move) (s : State X) : Type 0 where
   pub well : IsWell caching b
   pub moved : (d : ℕ) → AreMoved (moves d) (s.link d) (link d)
   pub own : (d : ℕ) (ch : Channel) → is_own_move ch (moves d ch) ≡ true
-  pub fits : (d : ℕ) (k : Kind) → is_transfer k ≡ true → agrees (moves d (channel_for k)) k n (shown k d (s.block n)) (shown k d b) ≡ true
+  pub fits : (d : ℕ) (k : Kind) → is_transfer k ≡ true → agrees (moves d (channel_for k)) k n (shown k d (s.block n))
+      (shown k d b) ≡ true
   -- a ProbeAck isn't sent behind a Release of its block
   pub in_order : (d m : ℕ) → moves d channel.C ≡ Pushes ProbeAck m → count Release m (s.link d).c ≡ 0
 
 -- ---- which block a source or a tracker is of, where one block changes
 
 -- no number changes
-pub names-block : {A B : Type 0} (of : ℕ → A → Bool) (holds : ℕ → B → Bool) (f : ℕ → A) (n : ℕ) (b : B) (block : ℕ → B) → ((i : ℕ) → holds i b ≡ holds i (block n)) → Names of holds f block
+pub names-block : {A B : Type 0} (of : ℕ → A → Bool) (holds : ℕ → B → Bool) (f : ℕ → A) (n : ℕ) (b : B) (block : ℕ → B)
+    → ((i : ℕ) → holds i b ≡ holds i (block n)) → Names of holds f block
     → Names of holds f (set n b block)
-names-block of holds f n b block e h i = set-each (λ m x. of m (f i) ≡ holds i x) n b block (h i n ∙ sym (e i)) (λ m other. h i m)
+names-block of holds f n b block e h i = set-each (λ m x. of m (f i) ≡ holds i x) n b block (h i n ∙ sym (e i))
+    (λ m other. h i m)
 
 -- the value of number i changes from one of no other block than n to another
-pub names-set : {A B : Type 0} (of : ℕ → A → Bool) (holds : ℕ → B → Bool) (f : ℕ → A) (i : ℕ) (y : A) (n : ℕ) (b : B) (block : ℕ → B) → of n y ≡ holds i b
+pub names-set : {A B : Type 0} (of : ℕ → A → Bool) (holds : ℕ → B → Bool) (f : ℕ → A) (i : ℕ) (y : A) (n : ℕ) (b : B)
+    (block : ℕ → B) → of n y ≡ holds i b
     → ((m : ℕ) → (m ≡ n → ⊥) → of m y ≡ of m (f i))
-    → ((j : ℕ) → (j ≡ i → ⊥) → holds j b ≡ holds j (block n)) → Names of holds f block → Names of holds (set i y f) (set n b block)
+    → ((j : ℕ) → (j ≡ i → ⊥) → holds j b ≡ holds j (block n)) → Names of holds f block
+    → Names of holds (set i y f) (set n b block)
 names-set of holds f i y n b block here elsewhere e h j = elim (cases_eq j i) [
-  | inl same ↦ rw (same, set-same i y f) (set-each (λ m x. of m y ≡ holds i x) n b block here (λ m other. elsewhere m other ∙ h i m))
-  | inr other ↦ rw (set-other i j y f other) (set-each (λ m x. of m (f j) ≡ holds j x) n b block (h j n ∙ sym (e j other)) (λ m differs. h j m))
+  | inl same ↦ rw (same, set-same i y f) (set-each (λ m x. of m y ≡ holds i x) n b block here
+      (λ m other. elsewhere m other ∙ h i m))
+  | inr other ↦ rw (set-other i j y f other) (set-each (λ m x. of m (f j) ≡ holds j x) n b block
+      (h j n ∙ sym (e j other)) (λ m differs. h j m))
 ]
 
 -- the value of number i of client c changes
-pub names-set_at : {A B : Type 0} (of : ℕ → A → Bool) (holds : ℕ → ℕ → B → Bool) (c i : ℕ) (y : A) (f : ℕ → ℕ → A) (n : ℕ) (b : B) (block : ℕ → B) → of n y ≡ holds c i b
+pub names-set_at : {A B : Type 0} (of : ℕ → A → Bool) (holds : ℕ → ℕ → B → Bool) (c i : ℕ) (y : A) (f : ℕ → ℕ → A)
+    (n : ℕ) (b : B) (block : ℕ → B) → of n y ≡ holds c i b
     → ((m : ℕ) → (m ≡ n → ⊥) → of m y ≡ of m (f c i))
-    → ((j : ℕ) → (j ≡ i → ⊥) → holds c j b ≡ holds c j (block n)) → ((d j : ℕ) → (d ≡ c → ⊥) → holds d j b ≡ holds d j (block n))
+    → ((j : ℕ) → (j ≡ i → ⊥) → holds c j b ≡ holds c j (block n))
+    → ((d j : ℕ) → (d ≡ c → ⊥) → holds d j b ≡ holds d j (block n))
     → ((d : ℕ) → Names of (holds d) (f d) block) → (d : ℕ) → Names of (holds d) (set_at c i y f d) (set n b block)
 names-set_at of holds c i y f n b block here elsewhere e others h d = elim (cases_eq d c) [
-  | inl same ↦ rw (same, set-same c (set i y (f c)) f) (names-set of (holds c) (f c) i y n b block here elsewhere e (h c))
-  | inr other ↦ rw (set-other c d (set i y (f c)) f other) (names-block of (holds d) (f d) n b block (λ j. others d j other) (h d))
+  | inl same ↦ rw (same, set-same c (set i y (f c)) f) (names-set of (holds c) (f c) i y n b block here elsewhere e
+      (h c))
+  | inr other ↦ rw (set-other c d (set i y (f c)) f other)
+      (names-block of (holds d) (f d) n b block (λ j. others d j other) (h d))
 ]
 
 -- where no source and no tracker changes
-pub names-kept : {X : Type 0} (n : ℕ) (b : Block X) (link : ℕ → Link) (s : State X) → AreNamed s → ((c i : ℕ) → acquires_with c i b ≡ acquires_with c i (s.block n))
+pub names-kept : {X : Type 0} (n : ℕ) (b : Block X) (link : ℕ → Link) (s : State X) → AreNamed s
+    → ((c i : ℕ) → acquires_with c i b ≡ acquires_with c i (s.block n))
     → ((c i : ℕ) → serves_with c i b ≡ serves_with c i (s.block n))
-    → ((c i : ℕ) → releases_with c i b ≡ releases_with c i (s.block n)) → ((i : ℕ) → tracks_with i b ≡ tracks_with i (s.block n)) → AreNamed (record s { block = set n b s.block; link = link })
+    → ((c i : ℕ) → releases_with c i b ≡ releases_with c i (s.block n))
+    → ((i : ℕ) → tracks_with i b ≡ tracks_with i (s.block n))
+    → AreNamed (record s { block = set n b s.block; link = link })
 names-kept n b link s h acquires serves releases trackers = record {
   acquires = λ c. names-block acquires_of (acquires_with c) (s.uses c) n b s.block (acquires c) (h.acquires c);
   serves = λ c. names-block serves_of (serves_with c) (s.uses c) n b s.block (serves c) (h.serves c);
@@ -168,54 +205,78 @@ names-kept n b link s h acquires serves releases trackers = record {
 -- ---- accesses and their answers, where one source's use changes
 
 -- the tokens of a kind of all clients, where the value of number i of client c changes, and others move no token of it
-pub holds-set_at : {A : Type 0} (k : Kind) (moves : ℕ → Move) (f g : ℕ → List Packet) (q : A → Bool) (uses : ℕ → ℕ → A) (c i : ℕ) (y : A) → ((d : ℕ) → IsMoved (moves d) (f d) (g d))
+pub holds-set_at : {A : Type 0} (k : Kind) (moves : ℕ → Move) (f g : ℕ → List Packet) (q : A → Bool) (uses : ℕ → ℕ → A)
+    (c i : ℕ) (y : A) → ((d : ℕ) → IsMoved (moves d) (f d) (g d))
     → agrees (moves c) k i (q (uses c i)) (q y) ≡ true
-    → ((d : ℕ) → (d ≡ c → ⊥) → spares (moves d) k ≡ true) → ((d : ℕ) → Holds k (f d) (λ j. q (uses d j))) → (d : ℕ) → Holds k (g d) (λ j. q (set_at c i y uses d j))
+    → ((d : ℕ) → (d ≡ c → ⊥) → spares (moves d) k ≡ true) → ((d : ℕ) → Holds k (f d) (λ j. q (uses d j))) → (d : ℕ)
+    → Holds k (g d) (λ j. q (set_at c i y uses d j))
 holds-set_at k moves f g q uses c i y moved fits others h d = elim (cases_eq d c) [
-  | inl same ↦ rw (same, set-same c (set i y (uses c)) uses) (holds-moved k (moves c) (f c) (g c) q (uses c) i y (moved c) fits (h c))
-  | inr other ↦ rw (set-other c d (set i y (uses c)) uses other) (holds-spared k (moves d) (f d) (g d) (λ j. q (uses d j)) (moved d) (others d other) (h d))
+  | inl same ↦ rw (same, set-same c (set i y (uses c)) uses) (holds-moved k (moves c) (f c) (g c) q (uses c) i y
+      (moved c) fits (h c))
+  | inr other ↦ rw (set-other c d (set i y (uses c)) uses other)
+      (holds-spared k (moves d) (f d) (g d) (λ j. q (uses d j)) (moved d) (others d other) (h d))
 ]
 
 -- ---- the whole invariant
 
 -- the invariant is kept by every event that has shown this, with these accesses and numbers
-pub invariant-moved_with : {X : Type 0} (caching : ℕ → Bool) (n : ℕ) (b : Block X) (link : ℕ → Link) (moves : ℕ → Channel → Move) (uses : ℕ → ℕ → SourceState)
+pub invariant-moved_with : {X : Type 0} (caching : ℕ → Bool) (n : ℕ) (b : Block X) (link : ℕ → Link) (moves : ℕ
+    → Channel → Move) (uses : ℕ → ℕ → SourceState)
     (lets : ℕ → ℕ → Option ℕ) (tracked : ℕ → Option ℕ) (s : State X)
-    → IsInvariant caching s → IsEvent caching n b link moves s → ((d : ℕ) → Holds Request (link d).a (λ i. is_asked (uses d i))) → ((d : ℕ) → Holds Answer (link d).d (λ i. is_replied (uses d i)))
+    → IsInvariant caching s → IsEvent caching n b link moves s
+    → ((d : ℕ) → Holds Request (link d).a (λ i. is_asked (uses d i)))
+    → ((d : ℕ) → Holds Answer (link d).d (λ i. is_replied (uses d i)))
     → AreNamed (record { block = set n b s.block; link = link; uses = uses; lets = lets; tracked = tracked })
     → IsInvariant caching (record { block = set n b s.block; link = link; uses = uses; lets = lets; tracked = tracked })
 invariant-moved_with caching n b link moves uses lets tracked s inv event requests answers named = record {
   blocks = set-each (λ m. IsWell caching) n b s.block event.well (λ m other. inv.blocks m);
-  transfers = λ d. transfers-moved (moves d) (s.link d) (link d) d n b s.block (event.moved d) (event.fits d) (inv.transfers d);
+  transfers = λ d. transfers-moved (moves d) (s.link d) (link d) d n b s.block (event.moved d) (event.fits d)
+      (inv.transfers d);
   requests = requests;
   answers = answers;
-  own_kinds = λ d ch k i off. own_kinds-moved ch (moves d ch) (packets_on ch (s.link d)) (packets_on ch (link d)) k i (event.own d ch) (event.moved d ch) off (inv.own_kinds d ch k i off);
-  ordered = λ d m. ordered-moved (moves d channel.C) m (s.link d).c (link d).c (event.moved d channel.C) (event.in_order d) (inv.ordered d m);
+  own_kinds = λ d ch k i off. own_kinds-moved ch (moves d ch) (packets_on ch (s.link d)) (packets_on ch (link d)) k i
+      (event.own d ch) (event.moved d ch) off (inv.own_kinds d ch k i off);
+  ordered = λ d m. ordered-moved (moves d channel.C) m (s.link d).c (link d).c (event.moved d channel.C)
+      (event.in_order d) (inv.ordered d m);
   named = named;
 }
 
 -- by every event that moves no access
-pub invariant-moved : {X : Type 0} (caching : ℕ → Bool) (n : ℕ) (b : Block X) (link : ℕ → Link) (moves : ℕ → Channel → Move) (lets : ℕ → ℕ → Option ℕ) (tracked : ℕ → Option ℕ) (s : State X)
-    → IsInvariant caching s → IsEvent caching n b link moves s → ((d : ℕ) → (spares (moves d channel.A) Request ≡ true) × (spares (moves d channel.D) Answer ≡ true))
+pub invariant-moved : {X : Type 0} (caching : ℕ → Bool) (n : ℕ) (b : Block X) (link : ℕ → Link) (moves : ℕ → Channel
+    → Move) (lets : ℕ → ℕ → Option ℕ) (tracked : ℕ → Option ℕ) (s : State X)
+    → IsInvariant caching s → IsEvent caching n b link moves s
+    → ((d : ℕ) → (spares (moves d channel.A) Request ≡ true) × (spares (moves d channel.D) Answer ≡ true))
     → AreNamed (record s { block = set n b s.block; link = link; lets = lets; tracked = tracked })
     → IsInvariant caching (record s { block = set n b s.block; link = link; lets = lets; tracked = tracked })
 invariant-moved caching n b link moves lets tracked s inv event bare named =
     invariant-moved_with caching n b link moves s.uses lets tracked s inv event
-    (λ d. holds-spared Request (moves d channel.A) (s.link d).a (link d).a (λ m. is_asked (s.uses d m)) (event.moved d channel.A) (bare d).0 (inv.requests d))
-    (λ d. holds-spared Answer (moves d channel.D) (s.link d).d (link d).d (λ m. is_replied (s.uses d m)) (event.moved d channel.D) (bare d).1 (inv.answers d))
+    (λ d. holds-spared Request (moves d channel.A) (s.link d).a (link d).a (λ m. is_asked (s.uses d m))
+    (event.moved d channel.A) (bare d).0 (inv.requests d))
+    (λ d. holds-spared Answer (moves d channel.D) (s.link d).d (link d).d (λ m. is_replied (s.uses d m))
+    (event.moved d channel.D) (bare d).1 (inv.answers d))
     named
 
 -- and by every event that changes the use of a source of client c
-pub invariant-moved_use : {X : Type 0} (caching : ℕ → Bool) (n : ℕ) (b : Block X) (link : ℕ → Link) (moves : ℕ → Channel → Move) (c source : ℕ) (u : SourceState) (tracked : ℕ → Option ℕ) (s : State X)
+pub invariant-moved_use : {X : Type 0} (caching : ℕ → Bool) (n : ℕ) (b : Block X) (link : ℕ → Link) (moves : ℕ → Channel
+    → Move) (c source : ℕ) (u : SourceState) (tracked : ℕ → Option ℕ) (s : State X)
     → IsInvariant caching s → IsEvent caching n b link moves s
-    → agrees (moves c channel.A) Request source (is_asked (s.uses c source)) (is_asked u) ≡ true → agrees (moves c channel.D) Answer source (is_replied (s.uses c source)) (is_replied u) ≡ true
+    → agrees (moves c channel.A) Request source (is_asked (s.uses c source)) (is_asked u) ≡ true
+    → agrees (moves c channel.D) Answer source (is_replied (s.uses c source)) (is_replied u) ≡ true
     → ((d : ℕ) → (d ≡ c → ⊥) → (spares (moves d channel.A) Request ≡ true) × (spares (moves d channel.D) Answer ≡ true))
     → AreNamed (record s { block = set n b s.block; link = link; uses = set_at c source u s.uses; tracked = tracked })
-    → IsInvariant caching (record s { block = set n b s.block; link = link; uses = set_at c source u s.uses; tracked = tracked })
+    → IsInvariant caching (record s {
+      block = set n b s.block;
+      link = link;
+      uses = set_at c source u s.uses;
+      tracked =
+          tracked;
+    })
 invariant-moved_use caching n b link moves c source u tracked s inv event asked replied bare named =
     invariant-moved_with caching n b link moves (set_at c source u s.uses) s.lets tracked s inv event
-    (holds-set_at Request (λ d. moves d channel.A) (λ d. (s.link d).a) (λ d. (link d).a) is_asked s.uses c source u (λ d. event.moved d channel.A) asked (λ d ne. (bare d ne).0) inv.requests)
-    (holds-set_at Answer (λ d. moves d channel.D) (λ d. (s.link d).d) (λ d. (link d).d) is_replied s.uses c source u (λ d. event.moved d channel.D) replied (λ d ne. (bare d ne).1) inv.answers)
+    (holds-set_at Request (λ d. moves d channel.A) (λ d. (s.link d).a) (λ d. (link d).a) is_asked s.uses c source u
+    (λ d. event.moved d channel.A) asked (λ d ne. (bare d ne).0) inv.requests)
+    (holds-set_at Answer (λ d. moves d channel.D) (λ d. (s.link d).d) (λ d. (link d).d) is_replied s.uses c source u
+    (λ d. event.moved d channel.D) replied (λ d ne. (bare d ne).1) inv.answers)
     named
 
 -- ---- events at one client
@@ -244,28 +305,35 @@ never_pushed : (m : Move) (i : ℕ) {A : Type 0} → m ≡ Stays → m ≡ Pushe
 never_pushed m i e f = absurd (let g : Stays ≡ Pushes ProbeAck i = sym e ∙ f in cc)
 
 -- what such an event has to show
-pub record IsEventAt {X : Type 0} (caching : ℕ → Bool) (c n : ℕ) (b : Block X) (l : Link) (moves : Channel → Move) (s : State X) : Type 0 where
+pub record IsEventAt {X : Type 0} (caching : ℕ → Bool) (c n : ℕ) (b : Block X) (l : Link) (moves : Channel → Move)
+    (s : State X) : Type 0 where
   pub well : IsWell caching b
   pub moved : AreMoved moves (s.link c) l
   pub own : (ch : Channel) → is_own_move ch (moves ch) ≡ true
-  pub fits : (k : Kind) → is_transfer k ≡ true → agrees (moves (channel_for k)) k n (shown k c (s.block n)) (shown k c b) ≡ true
+  pub fits : (k : Kind) → is_transfer k ≡ true → agrees (moves (channel_for k)) k n (shown k c (s.block n))
+      (shown k c b) ≡ true
   pub others : (d : ℕ) → (d ≡ c → ⊥) → (k : Kind) → is_transfer k ≡ true → shown k d b ≡ shown k d (s.block n)
   pub in_order : (m : ℕ) → moves channel.C ≡ Pushes ProbeAck m → count Release m (s.link c).c ≡ 0
 
-pub event-at : {X : Type 0} (caching : ℕ → Bool) (c n : ℕ) (b : Block X) (l : Link) (moves : Channel → Move) (s : State X) → IsEventAt caching c n b l moves s
+pub event-at : {X : Type 0} (caching : ℕ → Bool) (c n : ℕ) (b : Block X) (l : Link) (moves : Channel → Move)
+    (s : State X) → IsEventAt caching c n b l moves s
     → IsEvent caching n b (set c l s.link) (moves_at c moves) s
 event-at caching c n b l moves s event = record {
   well = event.well;
   moved = λ d ch. elim (cases_eq d c) [
-    | inl same ↦ rw same (moved_as (moves_at c moves c ch) (moves ch) (packets_on ch (s.link c)) (packets_on ch (set c l s.link c)) (packets_on ch l)
+    | inl same ↦ rw same (moved_as (moves_at c moves c ch) (moves ch) (packets_on ch (s.link c))
+        (packets_on ch (set c l s.link c)) (packets_on ch l)
         (moves-here c moves ch) (ap (packets_on ch) (set-same c l s.link)) (event.moved ch))
-    | inr ne ↦ moved_as (moves_at c moves d ch) Stays (packets_on ch (s.link d)) (packets_on ch (set c l s.link d)) (packets_on ch (s.link d))
+    | inr ne ↦ moved_as (moves_at c moves d ch) Stays (packets_on ch (s.link d)) (packets_on ch (set c l s.link d))
+        (packets_on ch (s.link d))
         (moves-there c d moves ch ne) (ap (packets_on ch) (set-other c d l s.link ne)) refl
   ];
   own = λ d ch. own ch (d == c);
   fits = λ d k t. elim (cases_eq d c) [
-    | inl same ↦ rw same (agrees_as k n (moves_at c moves c (channel_for k)) (moves (channel_for k)) (shown k c (s.block n)) (shown k c b) (moves-here c moves (channel_for k)) (event.fits k t))
-    | inr ne ↦ agrees_still k n (moves_at c moves d (channel_for k)) (shown k d (s.block n)) (shown k d b) (moves-there c d moves (channel_for k) ne) (event.others d ne k t)
+    | inl same ↦ rw same (agrees_as k n (moves_at c moves c (channel_for k)) (moves (channel_for k))
+        (shown k c (s.block n)) (shown k c b) (moves-here c moves (channel_for k)) (event.fits k t))
+    | inr ne ↦ agrees_still k n (moves_at c moves d (channel_for k)) (shown k d (s.block n)) (shown k d b)
+        (moves-there c d moves (channel_for k) ne) (event.others d ne k t)
   ];
   in_order = λ d m e. elim (cases_eq d c) [
     | inl same ↦ rw same (event.in_order m (sym (moves-here c moves channel.C) ∙ (rw same at e)))
@@ -278,7 +346,8 @@ event-at caching c n b l moves s event = record {
     own ch false = refl
 
 -- where no access is taken or answered at client c
-pub bare-at : (c : ℕ) (moves : Channel → Move) → spares (moves channel.A) Request ≡ true → spares (moves channel.D) Answer ≡ true → (d : ℕ)
+pub bare-at : (c : ℕ) (moves : Channel → Move) → spares (moves channel.A) Request ≡ true
+    → spares (moves channel.D) Answer ≡ true → (d : ℕ)
     → (spares (moves_at c moves d channel.A) Request ≡ true) × (spares (moves_at c moves d channel.D) Answer ≡ true)
 bare-at c moves a e d = (go (d == c) (moves channel.A) Request a, go (d == c) (moves channel.D) Answer e)
   where
@@ -287,12 +356,15 @@ bare-at c moves a e d = (go (d == c) (moves channel.A) Request a, go (d == c) (m
     go false m k h = refl
 
 -- at other clients than c nothing moves
-pub bare-elsewhere : (c : ℕ) (moves : Channel → Move) (d : ℕ) → (d ≡ c → ⊥) → (spares (moves_at c moves d channel.A) Request ≡ true) × (spares (moves_at c moves d channel.D) Answer ≡ true)
-bare-elsewhere c moves d ne = (rw (moves-there c d moves channel.A ne) refl, rw (moves-there c d moves channel.D ne) refl)
+pub bare-elsewhere : (c : ℕ) (moves : Channel → Move) (d : ℕ) → (d ≡ c → ⊥)
+    → (spares (moves_at c moves d channel.A) Request ≡ true) × (spares (moves_at c moves d channel.D) Answer ≡ true)
+bare-elsewhere c moves d ne =
+    (rw (moves-there c d moves channel.A ne) refl, rw (moves-there c d moves channel.D ne) refl)
 
 -- ---- accesses, which change no block's tokens
 
-names-use : {A B : Type 0} (of : ℕ → A → Bool) (holds : ℕ → ℕ → B → Bool) (c i : ℕ) (y : A) (f : ℕ → ℕ → A) (block : ℕ → B) → ((m : ℕ) → of m y ≡ of m (f c i))
+names-use : {A B : Type 0} (of : ℕ → A → Bool) (holds : ℕ → ℕ → B → Bool) (c i : ℕ) (y : A) (f : ℕ → ℕ → A) (block : ℕ
+    → B) → ((m : ℕ) → of m y ≡ of m (f c i))
     → ((d : ℕ) → Names of (holds d) (f d) block)
     → (d : ℕ) → Names of (holds d) (set_at c i y f d) block
 names-use of holds c i y f block e h d = elim (cases_eq d c) [
@@ -304,7 +376,8 @@ names-use of holds c i y f block e h d = elim (cases_eq d c) [
 ]
 
 -- what such an event at client c has to show
-pub record IsAccessEvent {X : Type 0} (c source : ℕ) (u : SourceState) (l : Link) (moves : Channel → Move) (s : State X) : Type 0 where
+pub record IsAccessEvent {X : Type 0} (c source : ℕ) (u : SourceState) (l : Link) (moves : Channel → Move)
+    (s : State X) : Type 0 where
   pub moved : AreMoved moves (s.link c) l
   pub own : (ch : Channel) → is_own_move ch (moves ch) ≡ true
   pub spared : (k : Kind) → is_transfer k ≡ true → spares (moves (channel_for k)) k ≡ true
@@ -314,29 +387,37 @@ pub record IsAccessEvent {X : Type 0} (c source : ℕ) (u : SourceState) (l : Li
   pub acquires : (m : ℕ) → acquires_of m u ≡ acquires_of m (s.uses c source)
   pub serves : (m : ℕ) → serves_of m u ≡ serves_of m (s.uses c source)
 
-pub invariant-moved_access : {X : Type 0} (caching : ℕ → Bool) (c source : ℕ) (u : SourceState) (l : Link) (moves : Channel → Move) (s : State X) → IsInvariant caching s → IsAccessEvent c source u l moves s
+pub invariant-moved_access : {X : Type 0} (caching : ℕ → Bool) (c source : ℕ) (u : SourceState) (l : Link)
+    (moves : Channel → Move) (s : State X) → IsInvariant caching s → IsAccessEvent c source u l moves s
     → IsInvariant caching (record s { link = set c l s.link; uses = set_at c source u s.uses })
 invariant-moved_access caching c source u l moves s inv event = record {
   blocks = inv.blocks;
   transfers = λ d k t. elim (cases_eq d c) [
     | inl same ↦ rw (same, set-same c l s.link) (rw (on_is k l)
-        (holds-spared k (moves (channel_for k)) (packets_on (channel_for k) (s.link c)) (packets_on (channel_for k) l) (λ i. shown k c (s.block i))
+        (holds-spared k (moves (channel_for k)) (packets_on (channel_for k) (s.link c)) (packets_on (channel_for k) l)
+        (λ i. shown k c (s.block i))
         (event.moved (channel_for k)) (event.spared k t)
         (rw (on_is k (s.link c)) at (inv.transfers c k t))))
     | inr other ↦ rw (set-other c d l s.link other) (inv.transfers d k t)
   ];
-  requests = holds-set_at Request (λ d. moves_at c moves d channel.A) (λ d. (s.link d).a) (λ d. (set c l s.link d).a) is_asked s.uses c source u (λ d. moved d channel.A)
-      (agrees_as Request source (moves_at c moves c channel.A) (moves channel.A) (is_asked (s.uses c source)) (is_asked u) (moves-here c moves channel.A) event.asked)
+  requests = holds-set_at Request (λ d. moves_at c moves d channel.A) (λ d. (s.link d).a) (λ d. (set c l s.link d).a)
+      is_asked s.uses c source u (λ d. moved d channel.A)
+      (agrees_as Request source (moves_at c moves c channel.A) (moves channel.A) (is_asked (s.uses c source))
+      (is_asked u) (moves-here c moves channel.A) event.asked)
       (λ d ne. (bare-elsewhere c moves d ne).0) inv.requests;
-  answers = holds-set_at Answer (λ d. moves_at c moves d channel.D) (λ d. (s.link d).d) (λ d. (set c l s.link d).d) is_replied s.uses c source u (λ d. moved d channel.D)
-      (agrees_as Answer source (moves_at c moves c channel.D) (moves channel.D) (is_replied (s.uses c source)) (is_replied u) (moves-here c moves channel.D) event.replied)
+  answers = holds-set_at Answer (λ d. moves_at c moves d channel.D) (λ d. (s.link d).d) (λ d. (set c l s.link d).d)
+      is_replied s.uses c source u (λ d. moved d channel.D)
+      (agrees_as Answer source (moves_at c moves c channel.D) (moves channel.D) (is_replied (s.uses c source))
+      (is_replied u) (moves-here c moves channel.D) event.replied)
       (λ d ne. (bare-elsewhere c moves d ne).1) inv.answers;
   own_kinds = λ d ch k i off. elim (cases_eq d c) [
-    | inl same ↦ rw (same, set-same c l s.link) (own_kinds-moved ch (moves ch) (packets_on ch (s.link c)) (packets_on ch l) k i (event.own ch) (event.moved ch) off (inv.own_kinds c ch k i off))
+    | inl same ↦ rw (same, set-same c l s.link) (own_kinds-moved ch (moves ch) (packets_on ch (s.link c))
+        (packets_on ch l) k i (event.own ch) (event.moved ch) off (inv.own_kinds c ch k i off))
     | inr other ↦ rw (set-other c d l s.link other) (inv.own_kinds d ch k i off)
   ];
   ordered = λ d m. elim (cases_eq d c) [
-    | inl same ↦ rw (same, set-same c l s.link) (ordered-moved (moves channel.C) m (s.link c).c l.c (event.moved channel.C) (λ n e. never_pushed (moves channel.C) n event.still e) (inv.ordered c m))
+    | inl same ↦ rw (same, set-same c l s.link) (ordered-moved (moves channel.C) m (s.link c).c l.c
+        (event.moved channel.C) (λ n e. never_pushed (moves channel.C) n event.still e) (inv.ordered c m))
     | inr other ↦ rw (set-other c d l s.link other) (inv.ordered d m)
   ];
   named = record {
@@ -347,10 +428,13 @@ invariant-moved_access caching c source u l moves s inv event = record {
   };
 }
   where
-    moved : (d : ℕ) (ch : Channel) → IsMoved (moves_at c moves d ch) (packets_on ch (s.link d)) (packets_on ch (set c l s.link d))
+    moved : (d : ℕ) (ch : Channel) → IsMoved (moves_at c moves d ch) (packets_on ch (s.link d))
+        (packets_on ch (set c l s.link d))
     moved d ch = elim (cases_eq d c) [
-      | inl same ↦ rw same (moved_as (moves_at c moves c ch) (moves ch) (packets_on ch (s.link c)) (packets_on ch (set c l s.link c)) (packets_on ch l)
+      | inl same ↦ rw same (moved_as (moves_at c moves c ch) (moves ch) (packets_on ch (s.link c))
+          (packets_on ch (set c l s.link c)) (packets_on ch l)
           (moves-here c moves ch) (ap (packets_on ch) (set-same c l s.link)) (event.moved ch))
-      | inr ne ↦ moved_as (moves_at c moves d ch) Stays (packets_on ch (s.link d)) (packets_on ch (set c l s.link d)) (packets_on ch (s.link d))
+      | inr ne ↦ moved_as (moves_at c moves d ch) Stays (packets_on ch (s.link d)) (packets_on ch (set c l s.link d))
+          (packets_on ch (s.link d))
           (moves-there c d moves ch ne) (ap (packets_on ch) (set-other c d l s.link ne)) refl
     ]

@@ -1,14 +1,11 @@
 -- Permissions: which are none, which are above another, and which are out.
+use Rattle.tl_coherence.proofs.queues.Imports.{Cap, Perm, same_perm, ClientBlock, View}
 use Rattle.std.specs.Prelude.{false, true}
 use Rattle.std.proofs.Common.{false, refl, true, ◌≡◌}
-use Rattle.tl_params.specs.declared.param.Cap.{Cap}
 use Rattle.tl_params.specs.declared.param.Cap.TheVariants as cap
-use Rattle.tl_params.specs.declared.perm.Perm.{Perm}
 use Rattle.tl_params.specs.declared.perm.Perm.TheVariants as perm
-use Rattle.tl_rules.specs.statement.Conformance.{same_perm}
 use Rattle.tl_client.specs.statement.EndpointInvariant.{holds}
 use Rattle.tl_coherence.specs.protocol.Invariant.{is_out}
-use Rattle.tl_coherence.specs.protocol.Phase.{ClientBlock, View}
 use Rattle.tl_coherence.specs.statement.Permissions.{perm_le}
 use Rattle.tl_coherence.specs.protocol.PhaseSteps.{is_above}
 

@@ -1,18 +1,16 @@
 -- Every phase that is well, by computation.
+use Rattle.tl_coherence.proofs.queues.Imports.{Cap, Grow, Prune, Report, Perm, ClientBlock, View, Idle, Own, Other}
+use Rattle.tl_coherence.proofs.queues.Imports.{Granting, Acknowledging, GrantedOther, ProbePhase, NoProbe}
+use Rattle.tl_coherence.proofs.queues.Imports.{ProbeAnswered, ReleasePhase, ReleaseSent, NoAcquire, AcquireOpen, ok}
 use Rattle.std.proofs.Common.{◌≡◌, refl}
 use Rattle.std.specs.Prelude.{Bool, true, false, ◌&&◌, ⊤}
-use Rattle.tl_params.specs.declared.param.Cap.{Cap}
 use Rattle.tl_params.specs.declared.param.Cap.TheVariants as cap
-use Rattle.tl_params.specs.declared.param.Grow.{Grow}
 use Rattle.tl_params.specs.declared.param.Grow.TheVariants as grow
-use Rattle.tl_params.specs.declared.param.Prune.{Prune}
 use Rattle.tl_params.specs.declared.param.Prune.TheVariants as prune
-use Rattle.tl_params.specs.declared.param.Report.{Report}
 use Rattle.tl_params.specs.declared.param.Report.TheVariants as report
-use Rattle.tl_params.specs.declared.perm.Perm.{Perm}
 use Rattle.tl_params.specs.declared.perm.Perm.TheVariants as perm
-use Rattle.tl_coherence.specs.protocol.Phase.{ClientBlock, View, Idle, Own, Other, Granting, Acknowledging, GrantedOther, ProbePhase, NoProbe, ProbeSent, ProbeAnswered, ReleasePhase, NoRelease, ReleaseSent}
-use Rattle.tl_coherence.specs.protocol.Phase.{ReleaseAcked, AcquirePhase, NoAcquire, AcquireOpen, ok_first, ok_second, ok_third, ok}
+use Rattle.tl_coherence.specs.protocol.Phase.{ProbeSent, NoRelease, ReleaseAcked, AcquirePhase, ok_first, ok_second}
+use Rattle.tl_coherence.specs.protocol.Phase.{ok_third}
 
 -- ---- tests of all values of a type
 
@@ -37,7 +35,8 @@ abbrev pub each_prune : (Prune → Bool) → Bool
 each_prune f = f prune.TtoB && (f prune.TtoN && f prune.BtoN)
 
 abbrev pub each_report : (Report → Bool) → Bool
-each_report f = f report.TtoB && (f report.TtoN && (f report.BtoN && (f report.TtoT && (f report.BtoB && f report.NtoN))))
+each_report f = f report.TtoB
+    && (f report.TtoN && (f report.BtoN && (f report.TtoT && (f report.BtoB && f report.NtoN))))
 
 abbrev pub each_probing : (ProbePhase → Bool) → Bool
 each_probing f = f NoProbe && (each_cap (λ k. f (ProbeSent k)) && each_report (λ r. f (ProbeAnswered r)))
@@ -50,7 +49,8 @@ each_acquiring f = f NoAcquire && each_bool (λ whole. each_grow (λ g. f (Acqui
 
 abbrev pub each_view : (View → Bool) → Bool
 each_view f =
-    f Idle && (f Own && (each_cap (λ k. f (Other k)) && (each_bool (λ d. each_cap (λ k. f (Granting d k))) && (f Acknowledging && f GrantedOther))))
+    f Idle && (f Own && (each_cap (λ k. f (Other k)) && (each_bool (λ d. each_cap (λ k. f (Granting d k)))
+    && (f Acknowledging && f GrantedOther))))
 
 abbrev pub pair_of : Perm → ProbePhase → ReleasePhase → Perm → AcquirePhase → ClientBlock
 pair_of recorded probing letting held acquiring =
@@ -61,7 +61,8 @@ unfoldable pub each_phase : (ClientBlock → View → Bool) → Bool
 each_phase f =
     each_view (λ v. each_probing (λ probing. where_true (ok_first probing v) (λ a.
     each_letting (λ letting. each_acquiring (λ acquiring. where_true (ok_second probing letting acquiring v) (λ b.
-    each_perm (λ recorded. each_perm (λ held. where_true (ok_third (pair_of recorded probing letting held acquiring) v) (λ c.
+    each_perm (λ recorded. each_perm (λ held. where_true (ok_third (pair_of recorded probing letting held acquiring) v)
+    (λ c.
     f (pair_of recorded probing letting held acquiring) v)))))))))
 
 -- ---- a test that holds of all holds of each
@@ -135,55 +136,78 @@ of_report f e report.BtoB = (six_reports f e).4
 of_report f e report.NtoN = (six_reports f e).5
 
 pub of_probing : (f : ProbePhase → Bool) → each_probing f ≡ true → (x : ProbePhase) → f x ≡ true
-of_probing f e NoProbe = (three (f NoProbe) (each_cap (λ k. f (ProbeSent k))) (each_report (λ r. f (ProbeAnswered r))) e).0
-of_probing f e (ProbeSent k) = of_cap (λ j. f (ProbeSent j)) (three (f NoProbe) (each_cap (λ j. f (ProbeSent j))) (each_report (λ r. f (ProbeAnswered r))) e).1 k
-of_probing f e (ProbeAnswered r) = of_report (λ j. f (ProbeAnswered j)) (three (f NoProbe) (each_cap (λ k. f (ProbeSent k))) (each_report (λ j. f (ProbeAnswered j))) e).2 r
+of_probing f e NoProbe =
+    (three (f NoProbe) (each_cap (λ k. f (ProbeSent k))) (each_report (λ r. f (ProbeAnswered r))) e).0
+of_probing f e (ProbeSent k) =
+    of_cap (λ j. f (ProbeSent j)) (three (f NoProbe) (each_cap (λ j. f (ProbeSent j)))
+    (each_report (λ r. f (ProbeAnswered r))) e).1 k
+of_probing f e (ProbeAnswered r) =
+    of_report (λ j. f (ProbeAnswered j)) (three (f NoProbe) (each_cap (λ k. f (ProbeSent k)))
+    (each_report (λ j. f (ProbeAnswered j))) e).2 r
 
 pub of_letting : (f : ReleasePhase → Bool) → each_letting f ≡ true → (x : ReleasePhase) → f x ≡ true
 of_letting f e NoRelease = (three (f NoRelease) (each_prune (λ r. f (ReleaseSent r))) (f ReleaseAcked) e).0
-of_letting f e (ReleaseSent r) = of_prune (λ j. f (ReleaseSent j)) (three (f NoRelease) (each_prune (λ j. f (ReleaseSent j))) (f ReleaseAcked) e).1 r
+of_letting f e (ReleaseSent r) =
+    of_prune (λ j. f (ReleaseSent j)) (three (f NoRelease) (each_prune (λ j. f (ReleaseSent j))) (f ReleaseAcked) e).1 r
 of_letting f e ReleaseAcked = (three (f NoRelease) (each_prune (λ r. f (ReleaseSent r))) (f ReleaseAcked) e).2
 
 pub of_acquiring : (f : AcquirePhase → Bool) → each_acquiring f ≡ true → (x : AcquirePhase) → f x ≡ true
 of_acquiring f e NoAcquire = and_left (f NoAcquire) (each_bool (λ whole. each_grow (λ g. f (AcquireOpen whole g)))) e
 of_acquiring f e (AcquireOpen whole g) =
-    of_grow (λ h. f (AcquireOpen whole h)) (of_bool (λ b. each_grow (λ h. f (AcquireOpen b h))) (and_right (f NoAcquire) (each_bool (λ b. each_grow (λ h. f (AcquireOpen b h)))) e) whole) g
+    of_grow (λ h. f (AcquireOpen whole h)) (of_bool (λ b. each_grow (λ h. f (AcquireOpen b h)))
+    (and_right (f NoAcquire) (each_bool (λ b. each_grow (λ h. f (AcquireOpen b h)))) e) whole) g
 
 abbrev SixViews : (View → Bool) → Type 0
-SixViews f = IsSix (f Idle) (f Own) (each_cap (λ k. f (Other k))) (each_bool (λ d. each_cap (λ k. f (Granting d k)))) (f Acknowledging) (f GrantedOther)
+SixViews f = IsSix (f Idle) (f Own) (each_cap (λ k. f (Other k))) (each_bool (λ d. each_cap (λ k. f (Granting d k))))
+    (f Acknowledging) (f GrantedOther)
 
 six_views : (f : View → Bool) → each_view f ≡ true → SixViews f
-six_views f e = six (f Idle) (f Own) (each_cap (λ k. f (Other k))) (each_bool (λ d. each_cap (λ k. f (Granting d k)))) (f Acknowledging) (f GrantedOther) e
+six_views f e = six (f Idle) (f Own) (each_cap (λ k. f (Other k))) (each_bool (λ d. each_cap (λ k. f (Granting d k))))
+    (f Acknowledging) (f GrantedOther) e
 
 pub of_view : (f : View → Bool) → each_view f ≡ true → (x : View) → f x ≡ true
 of_view f e Idle = (six_views f e).0
 of_view f e Own = (six_views f e).1
 of_view f e (Other k) = of_cap (λ j. f (Other j)) (six_views f e).2 k
-of_view f e (Granting d k) = of_cap (λ j. f (Granting d j)) (of_bool (λ b. each_cap (λ j. f (Granting b j))) (six_views f e).3 d) k
+of_view f e (Granting d k) =
+    of_cap (λ j. f (Granting d j)) (of_bool (λ b. each_cap (λ j. f (Granting b j))) (six_views f e).3 d) k
 of_view f e Acknowledging = (six_views f e).4
 of_view f e GrantedOther = (six_views f e).5
 
 -- so a test of all phases holds in each that is well
-pub of_phase : (f : ClientBlock → View → Bool) → each_phase f ≡ true → (p : ClientBlock) (v : View) → ok p v ≡ true → f p v ≡ true
+pub of_phase : (f : ClientBlock → View → Bool) → each_phase f ≡ true → (p : ClientBlock) (v : View) → ok p v ≡ true
+    → f p v ≡ true
 unfolding each_phase ok
 of_phase f e p v h =
     let rest = and_right (ok_first p.probing v) (ok_second p.probing p.letting p.acquiring v && ok_third p v) h in
-    let first : ok_first p.probing v ≡ true = and_left (ok_first p.probing v) (ok_second p.probing p.letting p.acquiring v && ok_third p v) h in
-    let second : ok_second p.probing p.letting p.acquiring v ≡ true = and_left (ok_second p.probing p.letting p.acquiring v) (ok_third p v) rest in
+    let first : ok_first p.probing v ≡ true =
+    and_left (ok_first p.probing v) (ok_second p.probing p.letting p.acquiring v && ok_third p v) h in
+    let second : ok_second p.probing p.letting p.acquiring v ≡ true =
+    and_left (ok_second p.probing p.letting p.acquiring v) (ok_third p v) rest in
     let third : ok_third p v ≡ true = and_right (ok_second p.probing p.letting p.acquiring v) (ok_third p v) rest in
-    let last = λ (probing : ProbePhase) (letting : ReleasePhase) (acquiring : AcquirePhase) (u : View) (recorded held : Perm).
-    where_true (ok_third (pair_of recorded probing letting held acquiring) u) (λ c. f (pair_of recorded probing letting held acquiring) u) in
+    let last = λ (probing : ProbePhase) (letting : ReleasePhase) (acquiring : AcquirePhase) (u : View)
+    (recorded held : Perm).
+    where_true (ok_third (pair_of recorded probing letting held acquiring) u)
+    (λ c. f (pair_of recorded probing letting held acquiring) u) in
     let middle = λ (probing : ProbePhase) (u : View) (letting : ReleasePhase) (acquiring : AcquirePhase).
-    where_true (ok_second probing letting acquiring u) (λ b. each_perm (λ recorded. each_perm (λ held. last probing letting acquiring u recorded held))) in
+    where_true (ok_second probing letting acquiring u)
+    (λ b. each_perm (λ recorded. each_perm (λ held. last probing letting acquiring u recorded held))) in
     let outer = λ (u : View) (probing : ProbePhase).
-    where_true (ok_first probing u) (λ a. each_letting (λ letting. each_acquiring (λ acquiring. middle probing u letting acquiring))) in
-    let one = of_probing (λ probing. outer v probing) (of_view (λ u. each_probing (λ probing. outer u probing)) e v) p.probing in
-    let two = where_is (ok_first p.probing v) (λ a. each_letting (λ letting. each_acquiring (λ acquiring. middle p.probing v letting acquiring))) one first in
+    where_true (ok_first probing u)
+    (λ a. each_letting (λ letting. each_acquiring (λ acquiring. middle probing u letting acquiring))) in
+    let one = of_probing (λ probing. outer v probing) (of_view (λ u. each_probing (λ probing. outer u probing)) e v)
+    p.probing in
+    let two = where_is (ok_first p.probing v)
+    (λ a. each_letting (λ letting. each_acquiring (λ acquiring. middle p.probing v letting acquiring))) one first in
     let three_ = of_acquiring (λ acquiring. middle p.probing v p.letting acquiring)
-    (of_letting (λ letting. each_acquiring (λ acquiring. middle p.probing v letting acquiring)) two p.letting) p.acquiring in
-    let four = where_is (ok_second p.probing p.letting p.acquiring v) (λ b. each_perm (λ recorded. each_perm (λ held. last p.probing p.letting p.acquiring v recorded held))) three_ second in
+    (of_letting (λ letting. each_acquiring (λ acquiring. middle p.probing v letting acquiring)) two p.letting)
+    p.acquiring in
+    let four = where_is (ok_second p.probing p.letting p.acquiring v)
+    (λ b. each_perm (λ recorded. each_perm (λ held. last p.probing p.letting p.acquiring v recorded held))) three_
+    second in
     let five = of_perm (λ held. last p.probing p.letting p.acquiring v p.recorded held)
-    (of_perm (λ recorded. each_perm (λ held. last p.probing p.letting p.acquiring v recorded held)) four p.recorded) p.held in
+    (of_perm (λ recorded. each_perm (λ held. last p.probing p.letting p.acquiring v recorded held)) four p.recorded)
+    p.held in
     where_is (ok_third p v) (λ c. f p v) five third
 
 -- ---- tests that are tried only where another one holds

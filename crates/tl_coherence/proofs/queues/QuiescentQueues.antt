@@ -1,42 +1,51 @@
 -- Where no delivery is movable, nothing is on a channel; and where nothing is on a channel, none is movable.
+use Rattle.tl_coherence.proofs.queues.Imports.{Channel, Config, EndConfig, System, terms_at}
 use Rattle.std.proofs.Common.{◌≡◌, ℕ, zero, suc, ◌+◌, ◌<◌, ◌≤◌, Bool, true, false, [], refl, subst, inl, inr, arith}
 use Rattle.std.specs.Prelude.{if◌then◌else◌, length, Option, Some, None, option_map, slice_get}
 use Rattle.std.proofs.lemmas.Bool.{cases_eq}
 use Rattle.std.proofs.lemmas.Option.{same_Some, slice_get_within}
 use Rattle.tl_beat.specs.declared.beat.Link.{Link}
-use Rattle.tl_beat.specs.declared.channel.Channel.{Channel}
 use Rattle.tl_beat.specs.declared.channel.Channel.TheVariants as channel
 use Rattle.tl_params.specs.declared.config.ClientConfig.{ClientConfig}
-use Rattle.tl_params.specs.declared.config.Config.{Config}
-use Rattle.tl_client.specs.statement.Endpoint.{EndConfig}
 use Rattle.tl_coherence.specs.statement.Movable.{is_movable, first_movable, moves, movable_on, next_delivery, or_later}
-use Rattle.tl_coherence.specs.statement.System.{System, terms_at}
 
 -- ---- which delivery is next
 
-none-first : {w : ℕ} (config : Config) (ch : Channel) (link n : ℕ) (s : System w) → first_movable config ch link n s ≡ None → (c : ℕ) → link ≤ c → c < link + n → is_movable config c ch s ≡ false
+none-first : {w : ℕ} (config : Config) (ch : Channel) (link n : ℕ) (s : System w)
+    → first_movable config ch link n s ≡ None → (c : ℕ) → link ≤ c → c < link + n → is_movable config c ch s ≡ false
 unfolding first_movable
 none-first config ch link zero s none c low high = absurd (omega (arith, low, high))
-none-first config ch link (suc n) s none c low high = go (is_movable config link ch s) refl none (λ h l. none-first config ch (link + 1) n s h c l (omega (arith, high)))
+none-first config ch link (suc n) s none c low high =
+    go (is_movable config link ch s) refl none (λ h l. none-first config ch (link + 1) n s h c l (omega (arith, high)))
   where
-    go : (b : Bool) → is_movable config link ch s ≡ b → (if b then Some (record { 0 = link }, ch) else first_movable config ch (link + 1) n s) ≡ None
-        → (first_movable config ch (link + 1) n s ≡ None → link + 1 ≤ c → is_movable config c ch s ≡ false) → is_movable config c ch s ≡ false
+    go : (b : Bool) → is_movable config link ch s ≡ b
+        → (if b then Some (record { 0 = link }, ch) else first_movable config ch (link + 1) n s) ≡ None
+        → (first_movable config ch (link + 1) n s ≡ None → link + 1 ≤ c → is_movable config c ch s ≡ false)
+        → is_movable config c ch s ≡ false
     go true e h rest = absurd cc
     go false e h rest = elim (cases_eq c link) [
       | inl same ↦ rw same e
       | inr differs ↦ rest h (omega (arith, low, differs))
     ]
 
-pub first-none : {w : ℕ} (config : Config) (ch : Channel) (link n : ℕ) (s : System w) → ((c : ℕ) → is_movable config c ch s ≡ false) → first_movable config ch link n s ≡ None
+pub first-none : {w : ℕ} (config : Config) (ch : Channel) (link n : ℕ) (s : System w)
+    → ((c : ℕ) → is_movable config c ch s ≡ false) → first_movable config ch link n s ≡ None
 unfolding first_movable
 first-none config ch link zero s none = refl
 first-none config ch link (suc n) s none = rw (none link) (first-none config ch (link + 1) n s none)
 
-pub client_below : (config : Config) (c : ℕ) (terms : EndConfig) → terms_at config c ≡ Some terms → c < length config.clients.items
+pub client_below : (config : Config) (c : ℕ) (terms : EndConfig) → terms_at config c ≡ Some terms
+    → c < length config.clients.items
 client_below config c terms is = go (slice_get config.clients.items c) refl is
   where
     go : (o : Option ClientConfig) → slice_get config.clients.items c ≡ o
-        → option_map (λ x. record { level = x.level; profile = config.profile; sources = x.sources; blocks = config.blocks }) o ≡ Some terms
+        → option_map (λ x. record {
+          level = x.level;
+          profile = config.profile;
+          sources = x.sources;
+          blocks =
+              config.blocks;
+        }) o ≡ Some terms
         → c < length config.clients.items
     go None e f = absurd cc
     go (Some x) e f = slice_get_within config.clients.items c x e
@@ -46,7 +55,8 @@ none-both None b e = (refl, e)
 none-both (Some x) b e = absurd cc
 
 -- no delivery is next: so none of a client's link is movable
-pub nothing-moves : {w : ℕ} (config : Config) (s : System w) (c : ℕ) (terms : EndConfig) (ch : Channel) → terms_at config c ≡ Some terms → next_delivery config s ≡ None → is_movable config c ch s ≡ false
+pub nothing-moves : {w : ℕ} (config : Config) (s : System w) (c : ℕ) (terms : EndConfig) (ch : Channel)
+    → terms_at config c ≡ Some terms → next_delivery config s ≡ None → is_movable config c ch s ≡ false
 unfolding next_delivery
 nothing-moves config s c terms ch is none =
     let e = none-both (movable_on config channel.E s) _ none in
@@ -56,9 +66,11 @@ nothing-moves config s c terms ch is none =
     go ch e.0 d.0 c_and.0 b_and.0 b_and.1
   where
     on : (x : Channel) → movable_on config x s ≡ None → is_movable config c x s ≡ false
-    on x h = none-first config x 0 (length config.clients.items) s h c (omega arith) (let below = client_below config c terms is in omega (arith, below))
+    on x h = none-first config x 0 (length config.clients.items) s h c (omega arith) (let below =
+        client_below config c terms is in omega (arith, below))
 
-    go : (x : Channel) → movable_on config channel.E s ≡ None → movable_on config channel.D s ≡ None → movable_on config channel.C s ≡ None → movable_on config channel.B s ≡ None
+    go : (x : Channel) → movable_on config channel.E s ≡ None → movable_on config channel.D s ≡ None
+        → movable_on config channel.C s ≡ None → movable_on config channel.B s ≡ None
         → movable_on config channel.A s ≡ None → is_movable config c x s ≡ false
     go channel.E e d c_is b a = on channel.E e
     go channel.D e d c_is b a = on channel.D d
@@ -66,7 +78,8 @@ nothing-moves config s c terms ch is none =
     go channel.B e d c_is b a = on channel.B b
     go channel.A e d c_is b a = on channel.A a
 
-pub no-next : {w : ℕ} (config : Config) (s : System w) → ((c : ℕ) (ch : Channel) → is_movable config c ch s ≡ false) → next_delivery config s ≡ None
+pub no-next : {w : ℕ} (config : Config) (s : System w) → ((c : ℕ) (ch : Channel) → is_movable config c ch s ≡ false)
+    → next_delivery config s ≡ None
 unfolding next_delivery
 no-next config s none =
     rw (
@@ -79,21 +92,28 @@ no-next config s none =
 
 -- ---- the delivery that is next is movable
 
-first-some : {w : ℕ} (config : Config) (ch : Channel) (link n : ℕ) (s : System w) (d : Link × Channel) → first_movable config ch link n s ≡ Some d → is_movable config d.0.0 d.1 s ≡ true
+first-some : {w : ℕ} (config : Config) (ch : Channel) (link n : ℕ) (s : System w) (d : Link × Channel)
+    → first_movable config ch link n s ≡ Some d → is_movable config d.0.0 d.1 s ≡ true
 unfolding first_movable
 first-some config ch link zero s d e = absurd cc
-first-some config ch link (suc n) s d e = go (is_movable config link ch s) refl e (λ f. first-some config ch (link + 1) n s d f)
+first-some config ch link (suc n) s d e =
+    go (is_movable config link ch s) refl e (λ f. first-some config ch (link + 1) n s d f)
   where
-    go : (b : Bool) → is_movable config link ch s ≡ b → (if b then Some (record { 0 = link }, ch) else first_movable config ch (link + 1) n s) ≡ Some d
-        → (first_movable config ch (link + 1) n s ≡ Some d → is_movable config d.0.0 d.1 s ≡ true) → is_movable config d.0.0 d.1 s ≡ true
-    go true f g rest = subst (λ (i : Link × Channel). is_movable config i.0.0 i.1 s ≡ true) (same_Some (record { 0 = link }, ch) d g) f
+    go : (b : Bool) → is_movable config link ch s ≡ b
+        → (if b then Some (record { 0 = link }, ch) else first_movable config ch (link + 1) n s) ≡ Some d
+        → (first_movable config ch (link + 1) n s ≡ Some d → is_movable config d.0.0 d.1 s ≡ true)
+        → is_movable config d.0.0 d.1 s ≡ true
+    go true f g rest = subst (λ (i : Link × Channel). is_movable config i.0.0 i.1 s ≡ true)
+        (same_Some (record { 0 = link }, ch) d g) f
     go false f g rest = rest g
 
-by-either : {X : Type 0} (a b : Option X) (x : X) (P : Type 0) → (a ≡ Some x → P) → (b ≡ Some x → P) → or_later a b ≡ Some x → P
+by-either : {X : Type 0} (a b : Option X) (x : X) (P : Type 0) → (a ≡ Some x → P) → (b ≡ Some x → P)
+    → or_later a b ≡ Some x → P
 by-either (Some y) b x P first later e = first e
 by-either None b x P first later e = later e
 
-pub next-movable : {w : ℕ} (config : Config) (s : System w) (d : Link × Channel) → next_delivery config s ≡ Some d → is_movable config d.0.0 d.1 s ≡ true
+pub next-movable : {w : ℕ} (config : Config) (s : System w) (d : Link × Channel) → next_delivery config s ≡ Some d
+    → is_movable config d.0.0 d.1 s ≡ true
 unfolding next_delivery
 next-movable {w} config s d next =
     by-either (movable_on config channel.E s) _ d IsIt (on channel.E)
@@ -109,7 +129,8 @@ next-movable {w} config s d next =
 
 -- ---- a channel without a beat
 
-pub empty-still : {w : ℕ} (config : Config) (s : System w) (c : ℕ) (ch : Channel) → s.channels c ch ≡ [] → is_movable config c ch s ≡ false
+pub empty-still : {w : ℕ} (config : Config) (s : System w) (c : ℕ) (ch : Channel) → s.channels c ch ≡ []
+    → is_movable config c ch s ≡ false
 unfolding is_movable
 empty-still config s c ch none = rw none (go (terms_at config c))
   where

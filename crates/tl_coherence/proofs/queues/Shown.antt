@@ -1,27 +1,25 @@
 -- What an event does to the channels at which a message is taken: which tokens stay, and which move.
+use Rattle.tl_coherence.proofs.queues.Imports.{IsWidth, Beat, Channel, Message, ChannelRelation, Move, State, packet}
+use Rattle.tl_coherence.proofs.queues.Imports.{AccessMessages, message_of, System, same_channel}
 use Rattle.std.proofs.Common.{ℕ, Bool, List}
 use Rattle.std.specs.Prelude.{◌==◌, ◌&&◌, Option}
-use Rattle.tl_beat.specs.statement.Width.{IsWidth}
-use Rattle.tl_beat.specs.declared.beat.Beat.{Beat}
-use Rattle.tl_beat.specs.declared.channel.Channel.{Channel}
-use Rattle.tl_burst.specs.declared.message.Message.{Message}
-use Rattle.tl_coherence.specs.refinement.ChannelRelation.{ChannelRelation}
-use Rattle.tl_coherence.specs.refinement.Move.{Move}
-use Rattle.tl_coherence.specs.protocol.Protocol.{State, packet}
-use Rattle.tl_coherence.specs.refinement.PacketMessages.{AccessMessages, message_of}
-use Rattle.tl_coherence.specs.statement.System.{System, same_channel}
 use Rattle.tl_coherence.proofs.queues.Channels.{IsShowing, IsTaken, Fits, carried-event, queued-taken}
 
 -- The tokens move, and those that stay show the same messages, as the first message on channel ch of client c is taken,
 -- and these are handed out.
-pub record IsShown {w : ℕ} (caching : ℕ → Bool) (n c : ℕ) (ch : Channel) (pushes : ℕ → Channel → Option (Message w)) (mail mail' : AccessMessages w) (s s' : State (List ℕ)) : Type 0 where
+pub record IsShown {w : ℕ} (caching : ℕ → Bool) (n c : ℕ) (ch : Channel) (pushes : ℕ → Channel → Option (Message w))
+    (mail mail' : AccessMessages w) (s s' : State (List ℕ)) : Type 0 where
   pub moves : ℕ → Channel → Move
   pub showing : IsShowing caching n moves mail mail' s s'
-  pub fits : (d : ℕ) (at : Channel) → Fits ((d == c) && same_channel at ch) (pushes d at) (moves d at) (λ k i. message_of mail' s' d (packet k i))
+  pub fits : (d : ℕ) (at : Channel) → Fits ((d == c) && same_channel at ch) (pushes d at) (moves d at)
+      (λ k i. message_of mail' s' d (packet k i))
 
 -- the channels carry the messages of the tokens after it
-pub carried-shown : {w : ℕ} (caching : ℕ → Bool) (n c : ℕ) (ch : Channel) (pushes : ℕ → Channel → Option (Message w)) (mail mail' : AccessMessages w)
+pub carried-shown : {w : ℕ} (caching : ℕ → Bool) (n c : ℕ) (ch : Channel) (pushes : ℕ → Channel → Option (Message w))
+    (mail mail' : AccessMessages w)
     (s s' : State (List ℕ)) (sys sys' : System w) (x : Beat w) (queue : List (Beat w)) → IsWidth w
-    → IsShown caching n c ch pushes mail mail' s s' → IsTaken c ch x queue pushes sys sys' → ChannelRelation mail s sys → ChannelRelation mail' s' sys'
+    → IsShown caching n c ch pushes mail mail' s s' → IsTaken c ch x queue pushes sys sys' → ChannelRelation mail s sys
+    → ChannelRelation mail' s' sys'
 carried-shown caching n c ch pushes mail mail' s s' sys sys' x queue width shown taken h =
-    carried-event caching n shown.moves mail mail' s s' sys sys' width shown.showing (queued-taken c ch x queue pushes shown.moves mail' s' sys sys' taken shown.fits) h
+    carried-event caching n shown.moves mail mail' s s' sys sys' width shown.showing
+    (queued-taken c ch x queue pushes shown.moves mail' s' sys sys' taken shown.fits) h

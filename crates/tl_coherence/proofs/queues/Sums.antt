@@ -32,9 +32,11 @@ unfolding total
 total-set zero m v f lt = absurd (omega (arith, lt))
 total-set (suc n) m v f lt = go (cases_eq n m) (λ below. total-set n m v f below)
   where
-    go : (n ≡ m) ⊎ (n ≡ m → ⊥) → (m < n → total n (set m v f) + f m ≡ total n f + v) → total n (set m v f) + set m v f n + f m ≡ total n f + f n + v
+    go : (n ≡ m) ⊎ (n ≡ m → ⊥) → (m < n → total n (set m v f) + f m ≡ total n f + v)
+        → total n (set m v f) + set m v f n + f m ≡ total n f + f n + v
     go (inl same) rest =
-        let others : total n (set m v f) ≡ total n f = total-same n (set m v f) f (λ i below. set-other m i v f (λ e. absurd (omega (arith, e, below, same)))) in
+        let others : total n (set m v f) ≡ total n f =
+        total-same n (set m v f) f (λ i below. set-other m i v f (λ e. absurd (omega (arith, e, below, same)))) in
         let here : set m v f n ≡ v = rw same (set-same m v f) in
         let was : f n ≡ f m = ap f same in
         omega (arith, others, here, was)
@@ -55,12 +57,15 @@ unfolding total
 one-at-most zero m v = omega arith
 one-at-most (suc n) m v = go (cases_eq n m) (one-at-most n m v)
   where
-    go : (n ≡ m) ⊎ (n ≡ m → ⊥) → total n (λ i. if i == m then v else 0) ≤ v → total n (λ i. if i == m then v else 0) + (if n == m then v else 0) ≤ v
+    go : (n ≡ m) ⊎ (n ≡ m → ⊥) → total n (λ i. if i == m then v else 0) ≤ v
+        → total n (λ i. if i == m then v else 0) + (if n == m then v else 0) ≤ v
     go (inl same) rest =
         let none : total n (λ i. if i == m then v else 0) ≡ 0 =
-        total-zero n (λ i. if i == m then v else 0) (λ i lt. let ne : i ≡ m → ⊥ = λ e. absurd (omega (arith, e, lt, same)) in rw (ne_eqb i m ne) refl)
+        total-zero n (λ i. if i == m then v else 0) (λ i lt. let ne : i ≡ m → ⊥ =
+        λ e. absurd (omega (arith, e, lt, same)) in rw (ne_eqb i m ne) refl)
         in
-        rw (same, same_number m) (let z : total m (λ i. if i == m then v else 0) ≡ 0 = rw same at none in omega (arith, z))
+        rw (same, same_number m) (let z : total m (λ i. if i == m then v else 0) ≡ 0 = rw same at none in
+        omega (arith, z))
     go (inr differs) rest = rw (ne_eqb n m differs) (omega (arith, rest))
 
 -- ---- what the Probes of one service weigh: one for itself and one for its report

@@ -1,8 +1,9 @@
 -- Tokens that are pushed and popped.
+use Rattle.tl_coherence.proofs.queues.Imports.{Kind, ProbeAck, Release, Packet, same_kind, is, one_if, count, set}
 use Rattle.std.proofs.Common.{◌≡◌, refl, ◌∙◌, inl, inr, arith, ap}
 use Rattle.std.specs.Prelude.{ℕ, Bool, true, false, List, [], ◌∷◌, ◌++◌, ◌==◌, ◌+◌}
 use Rattle.std.proofs.lemmas.Bool.{cases_eq, ne_eqb}
-use Rattle.tl_coherence.specs.protocol.Packet.{Kind, ProbeAck, Release, Packet, same_kind, is, one_if, count, Holds, IsOrdered, set, set_at}
+use Rattle.tl_coherence.specs.protocol.Packet.{Holds, IsOrdered, set_at}
 
 -- ---- one place of a function
 
@@ -16,14 +17,16 @@ pub set-other : {X : Type 0} (k n : ℕ) (x : X) (f : ℕ → X) → (n ≡ k �
 set-other k n x f ne = rw (ne_eqb n k ne) refl
 
 -- what holds of the new value at its place, and elsewhere of the old ones, holds everywhere
-pub set-each : {Y : Type 0} (P : ℕ → Y → Type 0) (k : ℕ) (y : Y) (f : ℕ → Y) → P k y → ((n : ℕ) → (n ≡ k → ⊥) → P n (f n)) → (n : ℕ) → P n (set k y f n)
+pub set-each : {Y : Type 0} (P : ℕ → Y → Type 0) (k : ℕ) (y : Y) (f : ℕ → Y) → P k y
+    → ((n : ℕ) → (n ≡ k → ⊥) → P n (f n)) → (n : ℕ) → P n (set k y f n)
 set-each P k y f here others n = elim (cases_eq n k) [
   | inl same ↦ rw (same, set-same k y f) here
   | inr other ↦ rw (set-other k n y f other) (others n other)
 ]
 
 -- a part that the new value has in common with the old one is everywhere as before
-pub set-part : {A Y : Type 0} (part : Y → A) (k : ℕ) (y : Y) (f : ℕ → Y) → part y ≡ part (f k) → (n : ℕ) → part (set k y f n) ≡ part (f n)
+pub set-part : {A Y : Type 0} (part : Y → A) (k : ℕ) (y : Y) (f : ℕ → Y) → part y ≡ part (f k) → (n : ℕ)
+    → part (set k y f n) ≡ part (f n)
 set-part part k y f e n = elim (cases_eq n k) [
   | inl same ↦ rw (same, set-same k y f) e
   | inr other ↦ rw (set-other k n y f other) refl
@@ -31,7 +34,8 @@ set-part part k y f e n = elim (cases_eq n k) [
 
 -- ---- one place of a count
 
-count-push : (k : Kind) (n : ℕ) (xs : List Packet) (x : Packet) → count k n (xs ++ x ∷ []) ≡ count k n xs + one_if (is k n x)
+count-push : (k : Kind) (n : ℕ) (xs : List Packet) (x : Packet) → count k n (xs ++ x ∷ []) ≡ count k n xs + one_if
+    (is k n x)
 unfolding count
 count-push k n [] x = omega arith
 count-push k n (y ∷ xs) x = omega (arith, count-push k n xs x)
@@ -42,20 +46,23 @@ kind_apart k x e n = rw e refl
 -- ---- the tokens of a kind, by blocks or sources that have this test
 
 -- one place changes, and not its test
-pub holds-set : {B : Type 0} (k : Kind) (xs : List Packet) (q : B → Bool) (f : ℕ → B) (m : ℕ) (y : B) → q y ≡ q (f m) → Holds k xs (λ n. q (f n)) → Holds k xs (λ n. q (set m y f n))
+pub holds-set : {B : Type 0} (k : Kind) (xs : List Packet) (q : B → Bool) (f : ℕ → B) (m : ℕ) (y : B) → q y ≡ q (f m)
+    → Holds k xs (λ n. q (f n)) → Holds k xs (λ n. q (set m y f n))
 holds-set k xs q f m y e h n = elim (cases_eq n m) [
   | inl same ↦ rw (same, set-same m y f, e) (h m)
   | inr other ↦ rw (set-other m n y f other) (h n)
 ]
 
 -- a token of another kind is pushed
-pub holds-push_other : (k : Kind) (xs : List Packet) (x : Packet) (test : ℕ → Bool) → same_kind x.kind k ≡ false → Holds k xs test → Holds k (xs ++ x ∷ []) test
+pub holds-push_other : (k : Kind) (xs : List Packet) (x : Packet) (test : ℕ → Bool) → same_kind x.kind k ≡ false
+    → Holds k xs test → Holds k (xs ++ x ∷ []) test
 holds-push_other k xs x test off h n =
     let no : one_if (is k n x) ≡ 0 = rw (kind_apart k x off n) refl in
     omega (arith, count-push k n xs x, h n, no)
 
 -- a token of the kind is pushed
-pub holds-push : {B : Type 0} (k : Kind) (xs : List Packet) (x : Packet) (q : B → Bool) (f : ℕ → B) (m : ℕ) (y : B) → same_kind x.kind k ≡ true → x.number ≡ m → q (f m) ≡ false → q y ≡ true
+pub holds-push : {B : Type 0} (k : Kind) (xs : List Packet) (x : Packet) (q : B → Bool) (f : ℕ → B) (m : ℕ) (y : B)
+    → same_kind x.kind k ≡ true → x.number ≡ m → q (f m) ≡ false → q y ≡ true
     → Holds k xs (λ n. q (f n)) → Holds k (xs ++ x ∷ []) (λ n. q (set m y f n))
 holds-push k xs x q f m y on at was now h n = elim (cases_eq n m) [
   | inl same ↦
@@ -68,7 +75,8 @@ holds-push k xs x q f m y on at was now h n = elim (cases_eq n m) [
 ]
 
 -- a token of another kind is popped
-pub holds-pop_other : (k : Kind) (xs rest : List Packet) (x : Packet) (test : ℕ → Bool) → xs ≡ x ∷ rest → same_kind x.kind k ≡ false → Holds k xs test → Holds k rest test
+pub holds-pop_other : (k : Kind) (xs rest : List Packet) (x : Packet) (test : ℕ → Bool) → xs ≡ x ∷ rest
+    → same_kind x.kind k ≡ false → Holds k xs test → Holds k rest test
 unfolding count
 holds-pop_other k xs rest x test e off h n =
     let no : one_if (is k n x) ≡ 0 = rw (kind_apart k x off n) refl in
@@ -76,7 +84,8 @@ holds-pop_other k xs rest x test e off h n =
     omega (arith, all, no)
 
 -- the first is one that passes the test
-pub holds-first : (k : Kind) (xs rest : List Packet) (x : Packet) (test : ℕ → Bool) → xs ≡ x ∷ rest → same_kind x.kind k ≡ true → Holds k xs test → test x.number ≡ true
+pub holds-first : (k : Kind) (xs rest : List Packet) (x : Packet) (test : ℕ → Bool) → xs ≡ x ∷ rest
+    → same_kind x.kind k ≡ true → Holds k xs test → test x.number ≡ true
 unfolding count
 holds-first k xs rest x test e on h =
     let yes : one_if (is k x.number x) ≡ 1 = rw (on, same_number x.number) refl in
@@ -88,7 +97,8 @@ holds-first k xs rest x test e on h =
     go false f = absurd (omega (arith, f))
 
 -- a token of the kind is popped
-pub holds-pop : {B : Type 0} (k : Kind) (xs rest : List Packet) (x : Packet) (q : B → Bool) (f : ℕ → B) (m : ℕ) (y : B) → xs ≡ x ∷ rest → same_kind x.kind k ≡ true → x.number ≡ m → q y ≡ false
+pub holds-pop : {B : Type 0} (k : Kind) (xs rest : List Packet) (x : Packet) (q : B → Bool) (f : ℕ → B) (m : ℕ) (y : B)
+    → xs ≡ x ∷ rest → same_kind x.kind k ≡ true → x.number ≡ m → q y ≡ false
     → Holds k xs (λ n. q (f n)) → Holds k rest (λ n. q (set m y f n))
 unfolding count
 holds-pop k xs rest x q f m y e on at now h n = elim (cases_eq n m) [
@@ -108,37 +118,48 @@ holds-pop k xs rest x q f m y e on at now h n = elim (cases_eq n m) [
 
 -- ---- a kind of which there are none
 
-pub none-push : (k : Kind) (n : ℕ) (xs : List Packet) (x : Packet) → same_kind x.kind k ≡ false → count k n xs ≡ 0 → count k n (xs ++ x ∷ []) ≡ 0
+pub none-push : (k : Kind) (n : ℕ) (xs : List Packet) (x : Packet) → same_kind x.kind k ≡ false → count k n xs ≡ 0
+    → count k n (xs ++ x ∷ []) ≡ 0
 none-push k n xs x off none =
     let differs : one_if (is k n x) ≡ 0 = rw (kind_apart k x off n) refl in
     omega (arith, count-push k n xs x, none, differs)
 
-pub none-pop : (k : Kind) (n : ℕ) (xs rest : List Packet) (x : Packet) → xs ≡ x ∷ rest → count k n xs ≡ 0 → count k n rest ≡ 0
+pub none-pop : (k : Kind) (n : ℕ) (xs rest : List Packet) (x : Packet) → xs ≡ x ∷ rest → count k n xs ≡ 0
+    → count k n rest ≡ 0
 unfolding count
 none-pop k n xs rest x e none = let all : count k n (x ∷ rest) ≡ 0 = rw e at none in omega (arith, all)
 
 -- ---- the order of ProbeAcks and Releases
 
-pub ordered-push_other : (b : ℕ) (xs : List Packet) (x : Packet) → is ProbeAck b x ≡ false → IsOrdered b xs → IsOrdered b (xs ++ x ∷ [])
+pub ordered-push_other : (b : ℕ) (xs : List Packet) (x : Packet) → is ProbeAck b x ≡ false → IsOrdered b xs
+    → IsOrdered b (xs ++ x ∷ [])
 unfolding IsOrdered count
 ordered-push_other b [] x off h = (λ e. refl, tt)
-ordered-push_other b (y ∷ xs) x off h =
-    (λ e. let no : one_if (is ProbeAck b x) ≡ 0 = rw off refl in omega (arith, count-push ProbeAck b xs x, h.0 e, no), ordered-push_other b xs x off h.1)
+ordered-push_other b (y ∷ xs) x off h = (
+  λ e. let no : one_if (is ProbeAck b x) ≡ 0 = rw off refl in omega (arith, count-push ProbeAck b xs x, h.0 e, no),
+  ordered-push_other b xs x off h.1,
+)
 
-pub ordered-push_report : (b : ℕ) (xs : List Packet) (x : Packet) → count Release b xs ≡ 0 → IsOrdered b xs → IsOrdered b (xs ++ x ∷ [])
+pub ordered-push_report : (b : ℕ) (xs : List Packet) (x : Packet) → count Release b xs ≡ 0 → IsOrdered b xs
+    → IsOrdered b (xs ++ x ∷ [])
 unfolding IsOrdered count
 ordered-push_report b [] x none h = (λ e. refl, tt)
-ordered-push_report b (y ∷ xs) x none h =
-    (λ e. absurd (let yes : one_if (is Release b y) ≡ 1 = rw e refl in omega (arith, none, yes)), ordered-push_report b xs x (omega (arith, none)) h.1)
+ordered-push_report b (y ∷ xs) x none h = (
+  λ e. absurd (let yes : one_if (is Release b y) ≡ 1 = rw e refl in omega (arith, none, yes)),
+  ordered-push_report b
+      xs x (omega (arith, none)) h.1,
+)
 
 pub ordered-pop : (b : ℕ) (xs rest : List Packet) (x : Packet) → xs ≡ x ∷ rest → IsOrdered b xs → IsOrdered b rest
 unfolding IsOrdered
 ordered-pop b xs rest x e h = let all : IsOrdered b (x ∷ rest) = rw e at h in all.1
 
 -- a Release that is first has no ProbeAck of its block behind it
-pub ordered-first : (b : ℕ) (xs rest : List Packet) (x : Packet) → xs ≡ x ∷ rest → is Release b x ≡ true → IsOrdered b xs → count ProbeAck b rest ≡ 0
+pub ordered-first : (b : ℕ) (xs rest : List Packet) (x : Packet) → xs ≡ x ∷ rest → is Release b x ≡ true
+    → IsOrdered b xs → count ProbeAck b rest ≡ 0
 unfolding IsOrdered
 ordered-first b xs rest x e first h = let all : IsOrdered b (x ∷ rest) = rw e at h in all.0 first
 
 pub set_at-same : {X : Type 0} (c source : ℕ) (x : X) (f : ℕ → ℕ → X) → set_at c source x f c source ≡ x
-set_at-same {X} c source x f = ap (λ (g : ℕ → X). g source) (set-same c (set source x (f c)) f) ∙ set-same source x (f c)
+set_at-same {X} c source x f = ap (λ (g : ℕ → X). g source) (set-same c (set source x (f c)) f) ∙ set-same source x
+    (f c)

@@ -1,11 +1,13 @@
--- How many beats are left of what is on the channels: no more than a block has, of a report one unless it is the writer's,
+-- How many beats are left of what is on the channels: no more than a block has, of a report one unless it is the
+-- writer's,
 -- and of an access and its answer one more than a block has.
+use Rattle.tl_coherence.proofs.rank.Imports.{Beat, Channel, Config, IsInvariant, View, ProbePhase, NoProbe, ProbeSent}
+use Rattle.tl_coherence.proofs.rank.Imports.{ProbeAnswered, State, Asked, Replied, view, AccessMessages, Request}
+use Rattle.tl_coherence.proofs.rank.Imports.{Acquire, ProbeAck, Answer}
 use Rattle.std.proofs.Common.{◌≡◌, ℕ, ◌+◌, ◌/◌, ◌≤◌, Bool, true, false, List, [], ◌∷◌, refl, sym, ◌∙◌, arith, inl, inr}
 use Rattle.std.specs.Prelude.{not, ◌==◌, ◌||◌, if◌then◌else◌, Option, Some, None}
 use Rattle.std.proofs.lemmas.Bool.{eqb-true, not-false}
 use Rattle.tl_beat.specs.statement.Width.{IsWidth}
-use Rattle.tl_beat.specs.declared.beat.Beat.{Beat}
-use Rattle.tl_beat.specs.declared.channel.Channel.{Channel}
 use Rattle.tl_beat.specs.declared.opcode.OpA.{OpA}
 use Rattle.tl_beat.specs.declared.opcode.OpA.TheVariants as a
 use Rattle.tl_beat.specs.declared.opcode.OpB.TheVariants as opb
@@ -16,7 +18,6 @@ use Rattle.tl_burst.specs.declared.message.Message.{Message}
 use Rattle.tl_burst.specs.declared.message.Message.TheVariants as message
 use Rattle.tl_burst.specs.declared.message.MessageA.{MessageA}
 use Rattle.tl_burst.specs.statement.Burst.{beats_of, data_beats}
-use Rattle.tl_params.specs.declared.config.Config.{Config}
 use Rattle.tl_params.specs.declared.level.Level.{Level}
 use Rattle.tl_params.specs.declared.param.Report.{Report}
 use Rattle.tl_params.specs.declared.perm.Perm.{Perm}
@@ -30,11 +31,8 @@ use Rattle.tl_client.specs.statement.Send.{probe_ack}
 use Rattle.tl_manager.specs.code.Kept.{illegal_message_at}
 use Rattle.tl_manager.specs.statement.Service.{is_access_answer}
 use Rattle.tl_manager.specs.statement.Offer.{level_of}
-use Rattle.tl_coherence.specs.protocol.Invariant.{IsInvariant}
-use Rattle.tl_coherence.specs.protocol.Phase.{ClientBlock, View, AcquirePhase, NoAcquire, AcquireOpen, ProbePhase, NoProbe, ProbeSent, ProbeAnswered, ok}
-use Rattle.tl_coherence.specs.protocol.Protocol.{State, Asked, Replied, view}
-use Rattle.tl_coherence.specs.refinement.PacketMessages.{AccessMessages, acquire_of, report_told, block_message, message_of_kind}
-use Rattle.tl_coherence.specs.protocol.Packet.{Request, Acquire, ProbeAck, Answer}
+use Rattle.tl_coherence.specs.protocol.Phase.{ClientBlock, AcquirePhase, NoAcquire, AcquireOpen, ok}
+use Rattle.tl_coherence.specs.refinement.PacketMessages.{acquire_of, report_told, block_message, message_of_kind}
 use Rattle.tl_coherence.specs.refinement.SimulationRelation.{IsRequest, IsSourced, IsAnswer, IsAnswered}
 use Rattle.tl_coherence.proofs.queues.Facts.{data_carried}
 use Rattle.tl_coherence.proofs.protocol.BeatsRemaining.{beats_left, left-few}
@@ -61,8 +59,18 @@ answer_to mail c source = answer_beats (mail.request c source)
 
 -- data have at most a block's beats
 data-few : {w : ℕ} (m : MessageA w) → IsWidth w → data_beats w m.size ≤ 64 / w
-data-few {w} m width = beats-few (message.D (record
-    { opcode = d.AccessAckData; param = 0; size = m.size; source = 0; sink = 0; denied = false; payload = m.payload; corrupt = 0; small = m.small })) width
+data-few {w} m width = beats-few (message.D (record {
+  opcode = d.AccessAckData;
+  param = 0;
+  size = m.size;
+  source = 0;
+  sink = 0;
+  denied = false;
+  payload =
+      m.payload;
+  corrupt = 0;
+  small = m.small;
+})) width
 
 -- a block has four beats or more
 pub wide-block : (w : ℕ) → IsWidth w → 4 ≤ 64 / w
@@ -82,7 +90,8 @@ answer-few {w} (message.D m) width = let four = wide-block w width in omega (ari
 answer-few {w} (message.E m) width = let four = wide-block w width in omega (arith, four)
 
 -- an answer has as many beats as its request is answered with
-answer_opcode : (x : OpD) (o : OpA) (n : ℕ) → is_access_answer x ≡ true → answers x o ≡ true → (if d_carries_data x then n else 1) ≡ (if is_read o then n else 1)
+answer_opcode : (x : OpD) (o : OpA) (n : ℕ) → is_access_answer x ≡ true → answers x o ≡ true
+    → (if d_carries_data x then n else 1) ≡ (if is_read o then n else 1)
 answer_opcode d.AccessAck a.PutFullData n e f = refl
 answer_opcode d.AccessAck a.PutPartialData n e f = refl
 answer_opcode d.AccessAckData a.ArithmeticData n e f = refl
@@ -92,7 +101,8 @@ answer_opcode d.HintAck a.Intent n e f = refl
 answer_opcode _ _ n e f = absurd cc
 
 pub answer-is : {w : ℕ} (source : ℕ) (m x : Message w) → IsAnswer source m x → beats_of x ≡ answer_beats m
-answer-is {w} source (message.A m) (message.D x) h = rw h.3 (answer_opcode x.opcode m.opcode (data_beats w m.size) h.0 h.1)
+answer-is {w} source (message.A m) (message.D x) h =
+    rw h.3 (answer_opcode x.opcode m.opcode (data_beats w m.size) h.0 h.1)
 answer-is source (message.A m) (message.A x) h = absurd h
 answer-is source (message.A m) (message.B x) h = absurd h
 answer-is source (message.A m) (message.C x) h = absurd h
@@ -122,14 +132,17 @@ both-few : (w size : ℕ) (l : Level) (o : OpA) → IsWidth w → a_has_size w l
     → (if a_carries_data o then data_beats w size else 1) + (if is_read o then data_beats w size else 1) ≤ 64 / w + 1
 both-few w size l a.PutFullData width e few = omega (arith, few)
 both-few w size l a.PutPartialData width e few = omega (arith, few)
-both-few w size l a.ArithmeticData width e few = let two = atomic-few w size width e in let four = wide-block w width in omega (arith, two, four)
-both-few w size l a.LogicalData width e few = let two = atomic-few w size width e in let four = wide-block w width in omega (arith, two, four)
+both-few w size l a.ArithmeticData width e few = let two = atomic-few w size width e in let four = wide-block w width in
+    omega (arith, two, four)
+both-few w size l a.LogicalData width e few = let two = atomic-few w size width e in let four = wide-block w width in
+    omega (arith, two, four)
 both-few w size l a.Get width e few = omega (arith, few)
 both-few w size l a.Intent width e few = let four = wide-block w width in omega (arith, four)
 both-few w size l a.AcquireBlock width e few = let four = wide-block w width in omega (arith, four)
 both-few w size l a.AcquirePerm width e few = let four = wide-block w width in omega (arith, four)
 
-access_at : {w : ℕ} (o : Option Level) (m : MessageA w) → IsWidth w → illegal_message_at o (message.A m) ≡ None → beats_of (message.A m) + answer_beats (message.A m) ≤ 64 / w + 1
+access_at : {w : ℕ} (o : Option Level) (m : MessageA w) → IsWidth w → illegal_message_at o (message.A m) ≡ None
+    → beats_of (message.A m) + answer_beats (message.A m) ≤ 64 / w + 1
 access_at None m width e = absurd cc
 access_at {w} (Some l) m width e =
     let control = control_of_legal l m width e in
@@ -138,7 +151,8 @@ access_at {w} (Some l) m width e =
     let three = next_rule (not (a_has_size w l m.opcode m.size)) L3 _ two.1 in
     both-few w m.size l m.opcode width (not-false _ three.0) (data-few m width)
 
-pub access-few : {w : ℕ} (config : Config) (c source : ℕ) (m : Message w) → IsWidth w → IsRequest config c source m → beats_of m + answer_beats m ≤ 64 / w + 1
+pub access-few : {w : ℕ} (config : Config) (c source : ℕ) (m : Message w) → IsWidth w → IsRequest config c source m
+    → beats_of m + answer_beats m ≤ 64 / w + 1
 access-few config c source (message.A m) width h = access_at (level_of config c) m width h.1
 access-few config c source (message.B m) width h = absurd (let no = h.0 in cc)
 access-few config c source (message.C m) width h = absurd (let no = h.0 in cc)
@@ -152,18 +166,22 @@ acquire-one w (AcquireOpen true g) source n = refl
 acquire-one w (AcquireOpen false g) source n = refl
 acquire-one w NoAcquire source n = refl
 
-report-one : (w : ℕ) (p : Perm) (r : Report) (n : ℕ) (bytes : List ℕ) → same_perm p perm.Trunk ≡ false → beats_of (probe_ack {w = w} opb.ProbeBlock p r n bytes) ≡ 1
+report-one : (w : ℕ) (p : Perm) (r : Report) (n : ℕ) (bytes : List ℕ) → same_perm p perm.Trunk ≡ false
+    → beats_of (probe_ack {w = w} opb.ProbeBlock p r n bytes) ≡ 1
 report-one w perm.None r n bytes e = refl
 report-one w perm.Branch r n bytes e = refl
 report-one w perm.Trunk r n bytes e = absurd cc
 
-untold : (p : ClientBlock) (v : View) → ok p v ≡ true → same_perm p.recorded perm.Trunk ≡ false → same_perm (report_left (report_told p.probing)) perm.Trunk ≡ false
+untold : (p : ClientBlock) (v : View) → ok p v ≡ true → same_perm p.recorded perm.Trunk ≡ false
+    → same_perm (report_left (report_told p.probing)) perm.Trunk ≡ false
 untold p v h none = go p.probing refl
   where
-    answered : (r : Report) → p.probing ≡ ProbeAnswered r → (b : Bool) → same_perm (report_left r) perm.Trunk ≡ b → b ≡ false
+    answered : (r : Report) → p.probing ≡ ProbeAnswered r → (b : Bool) → same_perm (report_left r) perm.Trunk ≡ b
+        → b ≡ false
     answered r e false f = refl
     answered r e true f =
-        let recorded : same_perm p.recorded perm.Trunk ≡ true = and_left (same_perm p.recorded perm.Trunk) _ (data_carried p v h (rw e f)) in
+        let recorded : same_perm p.recorded perm.Trunk ≡ true =
+        and_left (same_perm p.recorded perm.Trunk) _ (data_carried p v h (rw e f)) in
         absurd (let both : false ≡ true = sym none ∙ recorded in cc)
 
     go : (x : ProbePhase) → p.probing ≡ x → same_perm (report_left (report_told x)) perm.Trunk ≡ false
@@ -173,17 +191,21 @@ untold p v h none = go p.probing refl
 
 -- ---- all
 
-module _ {w : ℕ} (config : Config) (caching : ℕ → Bool) (mail : AccessMessages w) (s : State (List ℕ)) (rest : ℕ → Channel → List (Beat w)) (width : IsWidth w) (inv : IsInvariant caching s)
+module _ {w : ℕ} (config : Config) (caching : ℕ → Bool) (mail : AccessMessages w) (s : State (List ℕ)) (rest : ℕ
+    → Channel → List (Beat w)) (width : IsWidth w) (inv : IsInvariant caching s)
     (sourced : (c source : ℕ) → IsSourced config c source (mail.request c source) (s.uses c source)) where
   pub is-left : IsLeft (64 / w) (beats_left mail s rest) (answer_to mail) s
   unfolding block_message
   is-left = record {
-    few = λ c k m. let all = left-few mail s rest c k m in let few = beats-few (message_of_kind k mail s c m) width in omega (arith, all, few);
-    acquires = λ c m. let all = left-few mail s rest c Acquire m in let one = acquire-one w ((s.block m).pair c).acquiring ((s.block m).source c) m in omega (arith, all, one);
+    few = λ c k m. let all = left-few mail s rest c k m in let few = beats-few (message_of_kind k mail s c m) width in
+        omega (arith, all, few);
+    acquires = λ c m. let all = left-few mail s rest c Acquire m in let one =
+        acquire-one w ((s.block m).pair c).acquiring ((s.block m).source c) m in omega (arith, all, one);
     reports = λ c m probed spared.
         let all = left-few mail s rest c ProbeAck m in
         let told = untold ((s.block m).pair c) (view (s.block m).service c) ((inv.blocks m).phases c) spared in
-        let one = report-one w (report_left (report_told ((s.block m).pair c).probing)) (report_told ((s.block m).pair c).probing) m (s.block m).truth told in
+        let one = report-one w (report_left (report_told ((s.block m).pair c).probing))
+        (report_told ((s.block m).pair c).probing) m (s.block m).truth told in
         omega (arith, all, one);
     accesses = λ c source asked.
         let all = left-few mail s rest c Request source in
@@ -194,7 +216,8 @@ module _ {w : ℕ} (config : Config) (caching : ℕ → Bool) (mail : AccessMess
   }
 
   -- what is left of an answer
-  pub answer-left : (c source : ℕ) → IsAnswered source (mail.request c source) (mail.answer c source) (s.uses c source) → s.uses c source ≡ Replied
+  pub answer-left : (c source : ℕ) → IsAnswered source (mail.request c source) (mail.answer c source) (s.uses c source)
+      → s.uses c source ≡ Replied
       → beats_left mail s rest c Answer source ≤ answer_to mail c source
   answer-left c source answered replied =
       let all = left-few mail s rest c Answer source in

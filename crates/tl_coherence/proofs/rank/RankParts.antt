@@ -1,24 +1,22 @@
 -- What is owed falls with each delivery: block by block.
+use Rattle.tl_coherence.proofs.rank.Imports.{Beat, Channel, Config, sources_of, IsInvariant, Own, Granting}
+use Rattle.tl_coherence.proofs.rank.Imports.{Acknowledging, GrantedOther, Left, pair_weight, probes_weight}
+use Rattle.tl_coherence.proofs.rank.Imports.{letting_weight, rank, State, SourceState, SourceFree, Asked, InService}
+use Rattle.tl_coherence.proofs.rank.Imports.{Replied, Acquires, view, AccessMessages, terms_at, Release}
 use Rattle.std.proofs.Common.{◌≡◌, ℕ, ◌+◌, ◌<◌, ◌≤◌, Bool, true, false, List, refl, sym, ◌∙◌, ap, arith, ◌⊎◌, inl, inr}
 use Rattle.std.specs.Prelude.{◌==◌, if◌then◌else◌, Some, length}
 use Rattle.std.proofs.lemmas.Bool.{cases_eq, eqb-true}
-use Rattle.tl_beat.specs.declared.beat.Beat.{Beat}
-use Rattle.tl_beat.specs.declared.channel.Channel.{Channel}
-use Rattle.tl_params.specs.declared.config.Config.{Config}
 use Rattle.tl_params.specs.declared.param.Cap.{Cap}
-use Rattle.tl_coherence.specs.statement.Delivery.{sources_of}
-use Rattle.tl_coherence.specs.protocol.Invariant.{IsInvariant, serves_of, serves_with}
+use Rattle.tl_coherence.specs.protocol.Invariant.{serves_of, serves_with}
 use Rattle.tl_coherence.specs.refinement.Move.{Move}
-use Rattle.tl_coherence.specs.protocol.Phase.{Own, Granting, Acknowledging, GrantedOther, is_unprobed}
-use Rattle.tl_coherence.specs.bound.Rank.{Left, pair_weight, probes_weight, letting_weight, rank}
-use Rattle.tl_coherence.specs.protocol.Protocol.{Service, Free, Waits, GrantSent, GrantTaken, State, SourceState, SourceFree, Asked, InService, Replied, Acquires, view}
-use Rattle.tl_coherence.specs.refinement.PacketMessages.{AccessMessages}
-use Rattle.tl_coherence.specs.statement.System.{terms_at}
-use Rattle.tl_coherence.specs.protocol.Packet.{Release}
+use Rattle.tl_coherence.specs.protocol.Phase.{is_unprobed}
+use Rattle.tl_coherence.specs.protocol.Protocol.{Service, Free, Waits, GrantSent, GrantTaken}
 use Rattle.tl_coherence.proofs.protocol.Capacities.{source_of_acquire}
 use Rattle.tl_coherence.proofs.queues.Channels.{IsShowing}
-use Rattle.tl_coherence.proofs.rank.RankDecreases.{IsNoMore, owed_use, owed_use', owed_let, owed_let', clients, use-falls, let-falls, ack-falls, grant-falls, total-falls}
-use Rattle.tl_coherence.proofs.rank.Frames.{IsBlockNoMore, acquire-stays, use-stays, let-all, let-stays, pair-stays, wants-used}
+use Rattle.tl_coherence.proofs.rank.RankDecreases.{IsNoMore, owed_use, owed_use', owed_let, owed_let', clients}
+use Rattle.tl_coherence.proofs.rank.RankDecreases.{use-falls, let-falls, ack-falls, grant-falls, total-falls}
+use Rattle.tl_coherence.proofs.rank.Frames.{IsBlockNoMore, acquire-stays, use-stays, let-all, let-stays, pair-stays}
+use Rattle.tl_coherence.proofs.rank.Frames.{wants-used}
 use Rattle.tl_coherence.proofs.protocol.BeatsRemaining.{IsPopped, beats_left}
 use Rattle.tl_coherence.proofs.protocol.QuiescentProtocol.{owns_ask, serves_another}
 use Rattle.tl_coherence.proofs.queues.Sums.{total-le}
@@ -33,7 +31,8 @@ pub record AreClients {X : Type 0} (config : Config) (s : State X) : Type 0 wher
   pub releases : (d i n : ℕ) → s.lets d i ≡ Some n → i < sources_of (terms_at config d)
 
 -- the access for which a block waits
-pub serving-use : {X : Type 0} (caching : ℕ → Bool) (s : State X) (n q source : ℕ) (k : Cap) → IsInvariant caching s → (s.block n).service ≡ Waits q false source k → s.uses q source ≡ InService n
+pub serving-use : {X : Type 0} (caching : ℕ → Bool) (s : State X) (n q source : ℕ) (k : Cap) → IsInvariant caching s
+    → (s.block n).service ≡ Waits q false source k → s.uses q source ≡ InService n
 serving-use caching s n q source k inv e =
     let it : serves_with q source (s.block n) ≡ true = rw (e, same_number q, same_number source) refl in
     is_serving (s.uses q source) n (inv.named.serves q source n ∙ it)
@@ -50,19 +49,28 @@ pub record IsAsking {X : Type 0} (n q : ℕ) (own : Bool) (source : ℕ) (s : St
   pub at : ℕ
   pub used : s.uses q at ≡ (if own then Acquires n else InService n)
 
-pub asking : {X : Type 0} (caching : ℕ → Bool) (s : State X) (n q : ℕ) (own : Bool) (source : ℕ) (k : Cap) → IsInvariant caching s
+pub asking : {X : Type 0} (caching : ℕ → Bool) (s : State X) (n q : ℕ) (own : Bool) (source : ℕ) (k : Cap)
+    → IsInvariant caching s
     → (s.block n).service ≡ Waits q own source k → IsAsking n q own source s
 asking caching s n q true source k inv e =
     let viewed : view (s.block n).service q ≡ Own = rw (e, same_number q) refl in
-    record { at = (s.block n).source q; used = source_of_acquire caching s q n inv (owns_ask ((s.block n).pair q) (view (s.block n).service q) ((inv.blocks n).phases q) (rw viewed refl)) }
+    record {
+      at = (s.block n).source q;
+      used =
+          source_of_acquire caching s q n inv (owns_ask ((s.block n).pair q) (view (s.block n).service q)
+          ((inv.blocks n).phases q) (rw viewed refl));
+    }
 asking caching s n q false source k inv e = record { at = source; used = serving-use caching s n q source k inv e }
 
-pub open_use : (own : Bool) (n : ℕ) (u : SourceState) → u ≡ (if own then Acquires n else InService n) → u ≡ SourceFree → ⊥
+pub open_use : (own : Bool) (n : ℕ) (u : SourceState) → u ≡ (if own then Acquires n else InService n) → u ≡ SourceFree
+    → ⊥
 open_use true n u e f = absurd (let both : Acquires n ≡ SourceFree = sym e ∙ f in cc)
 open_use false n u e f = absurd (let both : InService n ≡ SourceFree = sym e ∙ f in cc)
 
-module _ {w : ℕ} (config : Config) (caching : ℕ → Bool) (n : ℕ) (moves : ℕ → Channel → Move) (mail mail' : AccessMessages w) (s s' : State (List ℕ)) (showing : IsShowing caching n moves mail mail' s s')
-    (c : ℕ) (ch : Channel) (rest rest' : ℕ → Channel → List (Beat w)) (popped : IsPopped c ch moves rest rest' s s') (size : ℕ) (answer : ℕ → ℕ → ℕ) (all : AreClients config s) where
+module _ {w : ℕ} (config : Config) (caching : ℕ → Bool) (n : ℕ) (moves : ℕ → Channel → Move)
+    (mail mail' : AccessMessages w) (s s' : State (List ℕ)) (showing : IsShowing caching n moves mail mail' s s')
+    (c : ℕ) (ch : Channel) (rest rest' : ℕ → Channel → List (Beat w)) (popped : IsPopped c ch moves rest rest' s s')
+    (size : ℕ) (answer : ℕ → ℕ → ℕ) (all : AreClients config s) where
   abbrev left : Left
   left = beats_left mail s rest
 
@@ -73,10 +81,14 @@ module _ {w : ℕ} (config : Config) (caching : ℕ → Bool) (n : ℕ) (moves :
   number = clients config size left left' answer answer s s'
 
   -- a Probe or report of the block, which is in service as before, owes one less
-  pub service-falls : (q : ℕ) (own : Bool) (source : ℕ) (k : Cap) → (s.block n).service ≡ Waits q own source k → (s'.block n).service ≡ (s.block n).service
-      → ((d i : ℕ) → s'.uses d i ≡ s.uses d i) → ((d i : ℕ) → s'.lets d i ≡ s.lets d i) → ((d : ℕ) → length (s'.link d).e ≤ length (s.link d).e)
+  pub service-falls : (q : ℕ) (own : Bool) (source : ℕ) (k : Cap) → (s.block n).service ≡ Waits q own source k
+      → (s'.block n).service ≡ (s.block n).service
+      → ((d i : ℕ) → s'.uses d i ≡ s.uses d i) → ((d i : ℕ) → s'.lets d i ≡ s.lets d i)
+      → ((d : ℕ) → length (s'.link d).e ≤ length (s.link d).e)
       → ((d : ℕ) → ((s'.block n).pair d).acquiring ≡ ((s.block n).pair d).acquiring)
-      → ((d i : ℕ) → s.lets d i ≡ Some n → letting_weight (left' d Release n) ((s'.block n).pair d).letting ≤ letting_weight (left d Release n) ((s.block n).pair d).letting)
+      → ((d i : ℕ) → s.lets d i ≡ Some n
+      → letting_weight (left' d Release n) ((s'.block n).pair d).letting ≤ letting_weight (left d Release n)
+      ((s.block n).pair d).letting)
       → probes_weight number size left' n (s'.block n) + 1 ≤ probes_weight number size left n (s.block n)
       → rank config size left' answer s' + 1 ≤ rank config size left answer s
   service-falls q own source k waits served uses lets acks acquiring letting less =
@@ -92,20 +104,25 @@ module _ {w : ℕ} (config : Config) (caching : ℕ → Bool) (n : ℕ) (moves :
       block : IsBlockNoMore config caching n moves mail mail' s s' showing c ch rest rest' popped size answer
       block = record {
         serves = λ d i e f. no_more;
-        acquires = λ d i e f. acquire-stays config caching n moves mail mail' s s' showing c ch rest rest' popped size answer d n
+        acquires = λ d i e f. acquire-stays config caching n moves mail mail' s s' showing c ch rest rest' popped size
+            answer d n
             (wants-used caching s showing.before d i n e) (acquiring d) (ap (λ (x : Service). view x d) served) no_more;
         lets = λ d i e f. letting d i e;
       }
 
       none_more : IsNoMore config size left left' answer answer s s'
       none_more = record {
-        uses = λ d i. use-stays config caching n moves mail mail' s s' showing c ch rest rest' popped size answer block d i (uses d i);
-        lets = λ d i. let-all config caching n moves mail mail' s s' showing c ch rest rest' popped size answer block d i (lets d i);
+        uses = λ d i. use-stays config caching n moves mail mail' s s' showing c ch rest rest' popped size answer block
+            d i (uses d i);
+        lets = λ d i. let-all config caching n moves mail mail' s s' showing c ch rest rest' popped size answer block d
+            i (lets d i);
         acks = acks;
       }
 
-      strict : (o : Bool) → s.uses q who.at ≡ (if o then Acquires n else InService n) → (s.block n).service ≡ Waits q o source k
-          → owed_use' config size left left' answer answer s s' q who.at + 1 ≤ owed_use config size left left' answer answer s s' q who.at
+      strict : (o : Bool) → s.uses q who.at ≡ (if o then Acquires n else InService n)
+          → (s.block n).service ≡ Waits q o source k
+          → owed_use' config size left left' answer answer s s' q who.at + 1 ≤ owed_use config size left left' answer
+          answer s s' q who.at
       strict true e f =
           let before : view (s.block n).service q ≡ Own = rw (f, same_number q) refl in
           let after : view (s'.block n).service q ≡ Own = rw served before in
@@ -135,25 +152,38 @@ waited (GrantTaken q) c e = never (c == q) e
     never true f = absurd cc
     never false f = absurd cc
 
-pub waited-probing : {X : Type 0} (caching : ℕ → Bool) (s : State X) (c n : ℕ) → IsInvariant caching s → is_unprobed ((s.block n).pair c).probing ≡ false → IsWaited (s.block n).service
-waited-probing caching s c n inv probed = waited (s.block n).service c (serves_another ((s.block n).pair c) (view (s.block n).service c) ((inv.blocks n).phases c) probed)
+pub waited-probing : {X : Type 0} (caching : ℕ → Bool) (s : State X) (c n : ℕ) → IsInvariant caching s
+    → is_unprobed ((s.block n).pair c).probing ≡ false → IsWaited (s.block n).service
+waited-probing caching s c n inv probed =
+    waited (s.block n).service c (serves_another ((s.block n).pair c) (view (s.block n).service c)
+    ((inv.blocks n).phases c) probed)
 
 -- ---- a Probe is taken, or a report that isn't the last one missing
 
-module _ {w : ℕ} (config : Config) (caching : ℕ → Bool) (n : ℕ) (moves : ℕ → Channel → Move) (mail mail' : AccessMessages w) (s s' : State (List ℕ)) (showing : IsShowing caching n moves mail mail' s s')
-    (c : ℕ) (ch : Channel) (rest rest' : ℕ → Channel → List (Beat w)) (popped : IsPopped c ch moves rest rest' s s') (size : ℕ) (answer : ℕ → ℕ → ℕ) (all : AreClients config s) where
+module _ {w : ℕ} (config : Config) (caching : ℕ → Bool) (n : ℕ) (moves : ℕ → Channel → Move)
+    (mail mail' : AccessMessages w) (s s' : State (List ℕ)) (showing : IsShowing caching n moves mail mail' s s')
+    (c : ℕ) (ch : Channel) (rest rest' : ℕ → Channel → List (Beat w)) (popped : IsPopped c ch moves rest rest' s s')
+    (size : ℕ) (answer : ℕ → ℕ → ℕ) (all : AreClients config s) where
   -- one client's pair owes one less, and the others' are as before
-  pub pair-falls : c < length config.clients.items → is_unprobed ((s.block n).pair c).probing ≡ false → (s'.block n).service ≡ (s.block n).service
-      → ((d : ℕ) → (d ≡ c → ⊥) → (s'.block n).pair d ≡ (s.block n).pair d) → ((s'.block n).pair c).acquiring ≡ ((s.block n).pair c).acquiring
+  pub pair-falls : c < length config.clients.items → is_unprobed ((s.block n).pair c).probing ≡ false
+      → (s'.block n).service ≡ (s.block n).service
+      → ((d : ℕ) → (d ≡ c → ⊥) → (s'.block n).pair d ≡ (s.block n).pair d)
+      → ((s'.block n).pair c).acquiring ≡ ((s.block n).pair c).acquiring
       → ((s'.block n).pair c).letting ≡ ((s.block n).pair c).letting
-      → ((d i : ℕ) → s'.uses d i ≡ s.uses d i) → ((d i : ℕ) → s'.lets d i ≡ s.lets d i) → ((d : ℕ) → length (s'.link d).e ≤ length (s.link d).e)
-      → pair_weight size (beats_left mail' s' rest') n c ((s'.block n).pair c) + 1 ≤ pair_weight size (beats_left mail s rest) n c ((s.block n).pair c)
+      → ((d i : ℕ) → s'.uses d i ≡ s.uses d i) → ((d i : ℕ) → s'.lets d i ≡ s.lets d i)
+      → ((d : ℕ) → length (s'.link d).e ≤ length (s.link d).e)
+      → pair_weight size (beats_left mail' s' rest') n c ((s'.block n).pair c) + 1 ≤ pair_weight size
+      (beats_left mail s rest) n c ((s.block n).pair c)
       → rank config size (beats_left mail' s' rest') answer s' + 1 ≤ rank config size (beats_left mail s rest) answer s
   pair-falls lt probed served others acquiring letting uses lets acks less =
-      service-falls config caching n moves mail mail' s s' showing c ch rest rest' popped size answer all who.client who.own who.source who.cap who.is served uses lets acks
-      (λ d. wanted d (cases_eq d c)) (λ d i e. let-stays config caching n moves mail mail' s s' showing c ch rest rest' popped size answer d n (let_as d (cases_eq d c)))
-      (total-falls (length config.clients.items) c 1 (λ d. pair_weight size (beats_left mail s rest) n d ((s.block n).pair d))
-      (λ d. pair_weight size (beats_left mail' s' rest') n d ((s'.block n).pair d)) lt (λ d h. each d (cases_eq d c)) less)
+      service-falls config caching n moves mail mail' s s' showing c ch rest rest' popped size answer all who.client
+      who.own who.source who.cap who.is served uses lets acks
+      (λ d. wanted d (cases_eq d c)) (λ d i e. let-stays config caching n moves mail mail' s s' showing c ch rest rest'
+      popped size answer d n (let_as d (cases_eq d c)))
+      (total-falls (length config.clients.items) c 1 (λ d. pair_weight size (beats_left mail s rest) n d
+      ((s.block n).pair d))
+      (λ d. pair_weight size (beats_left mail' s' rest') n d ((s'.block n).pair d)) lt (λ d h. each d (cases_eq d c))
+      less)
     where
       who : IsWaited (s.block n).service
       who = waited-probing caching s c n showing.before probed
@@ -166,95 +196,123 @@ module _ {w : ℕ} (config : Config) (caching : ℕ → Bool) (n : ℕ) (moves :
       let_as d (inl same) = rw same letting
       let_as d (inr differs) = rw (others d differs) refl
 
-      each : (d : ℕ) → (d ≡ c) ⊎ (d ≡ c → ⊥) → pair_weight size (beats_left mail' s' rest') n d ((s'.block n).pair d) ≤ pair_weight size (beats_left mail s rest) n d ((s.block n).pair d)
+      each : (d : ℕ) → (d ≡ c) ⊎ (d ≡ c → ⊥) → pair_weight size (beats_left mail' s' rest') n d
+          ((s'.block n).pair d) ≤ pair_weight size (beats_left mail s rest) n d ((s.block n).pair d)
       each d (inl same) = rw same (omega (arith, less))
-      each d (inr differs) = pair-stays config caching n moves mail mail' s s' showing c ch rest rest' popped size answer d n (rw (others d differs) refl) (rw (others d differs) refl)
+      each d (inr differs) = pair-stays config caching n moves mail mail' s s' showing c ch rest rest' popped size
+          answer d n (rw (others d differs) refl) (rw (others d differs) refl)
 
   -- ---- any other event
 
   -- a block that is as before owes no more
-  pub block-same : (s'.block n ≡ s.block n) → IsBlockNoMore config caching n moves mail mail' s s' showing c ch rest rest' popped size answer
+  pub block-same : (s'.block n ≡ s.block n) → IsBlockNoMore config caching n moves mail mail' s s' showing c ch rest
+      rest' popped size answer
   block-same same = record {
     serves = λ d i e f. probes;
-    acquires = λ d i e f. acquire-stays config caching n moves mail mail' s s' showing c ch rest rest' popped size answer d n
+    acquires = λ d i e f. acquire-stays config caching n moves mail mail' s s' showing c ch rest rest' popped size
+        answer d n
         (wants-used caching s showing.before d i n e) (rw same refl) (rw same refl) probes;
-    lets = λ d i e f. let-stays config caching n moves mail mail' s s' showing c ch rest rest' popped size answer d n (rw same refl);
+    lets = λ d i e f. let-stays config caching n moves mail mail' s s' showing c ch rest rest' popped size answer d n
+        (rw same refl);
   }
     where
-      probes : probes_weight (length config.clients.items) size (beats_left mail' s' rest') n (s'.block n) ≤ probes_weight (length config.clients.items) size (beats_left mail s rest) n (s.block n)
-      probes = total-le (length config.clients.items) (λ d. pair_weight size (beats_left mail' s' rest') n d ((s'.block n).pair d))
+      probes : probes_weight (length config.clients.items) size (beats_left mail' s' rest') n
+          (s'.block n) ≤ probes_weight (length config.clients.items) size (beats_left mail s rest) n (s.block n)
+      probes = total-le (length config.clients.items) (λ d. pair_weight size (beats_left mail' s' rest') n d
+          ((s'.block n).pair d))
           (λ d. pair_weight size (beats_left mail s rest) n d ((s.block n).pair d))
-          (λ d lt. pair-stays config caching n moves mail mail' s s' showing c ch rest rest' popped size answer d n (rw same refl) (rw same refl))
+          (λ d lt. pair-stays config caching n moves mail mail' s s' showing c ch rest rest' popped size answer d n
+          (rw same refl) (rw same refl))
 
-  module _ (block : IsBlockNoMore config caching n moves mail mail' s s' showing c ch rest rest' popped size answer) where
-    abbrev owed : ℕ → ℕ → ℕ
-    owed d i = owed_use config size (beats_left mail s rest) (beats_left mail' s' rest') answer answer s s' d i
+  module _ (block : IsBlockNoMore config caching n moves mail mail' s s' showing c ch rest rest' popped size answer)
+    where
+      abbrev owed : ℕ → ℕ → ℕ
+      owed d i = owed_use config size (beats_left mail s rest) (beats_left mail' s' rest') answer answer s s' d i
 
-    abbrev owed' : ℕ → ℕ → ℕ
-    owed' d i = owed_use' config size (beats_left mail s rest) (beats_left mail' s' rest') answer answer s s' d i
+      abbrev owed' : ℕ → ℕ → ℕ
+      owed' d i = owed_use' config size (beats_left mail s rest) (beats_left mail' s' rest') answer answer s s' d i
 
-    abbrev due : ℕ → ℕ → ℕ
-    due d i = owed_let config size (beats_left mail s rest) (beats_left mail' s' rest') answer answer s s' d i
+      abbrev due : ℕ → ℕ → ℕ
+      due d i = owed_let config size (beats_left mail s rest) (beats_left mail' s' rest') answer answer s s' d i
 
-    abbrev due' : ℕ → ℕ → ℕ
-    due' d i = owed_let' config size (beats_left mail s rest) (beats_left mail' s' rest') answer answer s s' d i
+      abbrev due' : ℕ → ℕ → ℕ
+      due' d i = owed_let' config size (beats_left mail s rest) (beats_left mail' s' rest') answer answer s s' d i
 
-    -- where one request's use changes alone, and it owes no more, none does
-    uses-else : (q j : ℕ) → ((d i : ℕ) → (d ≡ q → i ≡ j → ⊥) → s'.uses d i ≡ s.uses d i) → owed' q j ≤ owed q j → (d i : ℕ) → owed' d i ≤ owed d i
-    uses-else q j unlike here d i = go (cases_eq d q) (cases_eq i j)
-      where
-        other : (d ≡ q → i ≡ j → ⊥) → owed' d i ≤ owed d i
-        other ne = use-stays config caching n moves mail mail' s s' showing c ch rest rest' popped size answer block d i (unlike d i ne)
+      -- where one request's use changes alone, and it owes no more, none does
+      uses-else : (q j : ℕ) → ((d i : ℕ) → (d ≡ q → i ≡ j → ⊥) → s'.uses d i ≡ s.uses d i) → owed' q j ≤ owed q j
+          → (d i : ℕ) → owed' d i ≤ owed d i
+      uses-else q j unlike here d i = go (cases_eq d q) (cases_eq i j)
+        where
+          other : (d ≡ q → i ≡ j → ⊥) → owed' d i ≤ owed d i
+          other ne = use-stays config caching n moves mail mail' s s' showing c ch rest rest' popped size answer block d i
+              (unlike d i ne)
 
-        go : (d ≡ q) ⊎ (d ≡ q → ⊥) → (i ≡ j) ⊎ (i ≡ j → ⊥) → owed' d i ≤ owed d i
-        go (inl e) (inl f) = rw (e, f) here
-        go (inr ne) at = other (λ e f. ne e)
-        go (inl e) (inr ne) = other (λ g f. ne f)
+          go : (d ≡ q) ⊎ (d ≡ q → ⊥) → (i ≡ j) ⊎ (i ≡ j → ⊥) → owed' d i ≤ owed d i
+          go (inl e) (inl f) = rw (e, f) here
+          go (inr ne) at = other (λ e f. ne e)
+          go (inl e) (inr ne) = other (λ g f. ne f)
 
-    lets-else : (q j : ℕ) → ((d i : ℕ) → (d ≡ q → i ≡ j → ⊥) → s'.lets d i ≡ s.lets d i) → due' q j ≤ due q j → (d i : ℕ) → due' d i ≤ due d i
-    lets-else q j unlike here d i = go (cases_eq d q) (cases_eq i j)
-      where
-        other : (d ≡ q → i ≡ j → ⊥) → due' d i ≤ due d i
-        other ne = let-all config caching n moves mail mail' s s' showing c ch rest rest' popped size answer block d i (unlike d i ne)
+      lets-else : (q j : ℕ) → ((d i : ℕ) → (d ≡ q → i ≡ j → ⊥) → s'.lets d i ≡ s.lets d i) → due' q j ≤ due q j
+          → (d i : ℕ) → due' d i ≤ due d i
+      lets-else q j unlike here d i = go (cases_eq d q) (cases_eq i j)
+        where
+          other : (d ≡ q → i ≡ j → ⊥) → due' d i ≤ due d i
+          other ne = let-all config caching n moves mail mail' s s' showing c ch rest rest' popped size answer block d i
+              (unlike d i ne)
 
-        go : (d ≡ q) ⊎ (d ≡ q → ⊥) → (i ≡ j) ⊎ (i ≡ j → ⊥) → due' d i ≤ due d i
-        go (inl e) (inl f) = rw (e, f) here
-        go (inr ne) at = other (λ e f. ne e)
-        go (inl e) (inr ne) = other (λ g f. ne f)
+          go : (d ≡ q) ⊎ (d ≡ q → ⊥) → (i ≡ j) ⊎ (i ≡ j → ⊥) → due' d i ≤ due d i
+          go (inl e) (inl f) = rw (e, f) here
+          go (inr ne) at = other (λ e f. ne e)
+          go (inl e) (inr ne) = other (λ g f. ne f)
 
-    lets-same : ((d i : ℕ) → s'.lets d i ≡ s.lets d i) → (d i : ℕ) → due' d i ≤ due d i
-    lets-same same d i = let-all config caching n moves mail mail' s s' showing c ch rest rest' popped size answer block d i (same d i)
+      lets-same : ((d i : ℕ) → s'.lets d i ≡ s.lets d i) → (d i : ℕ) → due' d i ≤ due d i
+      lets-same same d i = let-all config caching n moves mail mail' s s' showing c ch rest rest' popped size answer block
+          d i (same d i)
 
-    uses-same : ((d i : ℕ) → s'.uses d i ≡ s.uses d i) → (d i : ℕ) → owed' d i ≤ owed d i
-    uses-same same d i = use-stays config caching n moves mail mail' s s' showing c ch rest rest' popped size answer block d i (same d i)
+      uses-same : ((d i : ℕ) → s'.uses d i ≡ s.uses d i) → (d i : ℕ) → owed' d i ≤ owed d i
+      uses-same same d i = use-stays config caching n moves mail mail' s s' showing c ch rest rest' popped size answer
+          block d i (same d i)
 
-    -- one request owes one less
-    pub request-falls : (q j : ℕ) → (s.uses q j ≡ SourceFree → ⊥) → ((d i : ℕ) → (d ≡ q → i ≡ j → ⊥) → s'.uses d i ≡ s.uses d i) → ((d i : ℕ) → s'.lets d i ≡ s.lets d i)
-        → ((d : ℕ) → length (s'.link d).e ≤ length (s.link d).e) → owed' q j + 1 ≤ owed q j
-        → rank config size (beats_left mail' s' rest') answer s' + 1 ≤ rank config size (beats_left mail s rest) answer s
-    request-falls q j used unlike lets acks less =
-        use-falls config size (beats_left mail s rest) (beats_left mail' s' rest') answer answer s s' q j (all.clients q j used) (all.sources q j used)
-        (record { uses = uses-else q j unlike (omega (arith, less)); lets = lets-same lets; acks = acks }) less
+      -- one request owes one less
+      pub request-falls : (q j : ℕ) → (s.uses q j ≡ SourceFree → ⊥)
+          → ((d i : ℕ) → (d ≡ q → i ≡ j → ⊥) → s'.uses d i ≡ s.uses d i) → ((d i : ℕ) → s'.lets d i ≡ s.lets d i)
+          → ((d : ℕ) → length (s'.link d).e ≤ length (s.link d).e) → owed' q j + 1 ≤ owed q j
+          → rank config size (beats_left mail' s' rest') answer s' + 1 ≤ rank config size (beats_left mail s rest) answer
+          s
+      request-falls q j used unlike lets acks less =
+          use-falls config size (beats_left mail s rest) (beats_left mail' s' rest') answer answer s s' q j
+          (all.clients q j used) (all.sources q j used)
+          (record { uses = uses-else q j unlike (omega (arith, less)); lets = lets-same lets; acks = acks }) less
 
-    -- one Release owes one less
-    pub release-falls : (q j m : ℕ) → s.lets q j ≡ Some m → ((d i : ℕ) → s'.uses d i ≡ s.uses d i) → ((d i : ℕ) → (d ≡ q → i ≡ j → ⊥) → s'.lets d i ≡ s.lets d i)
-        → ((d : ℕ) → length (s'.link d).e ≤ length (s.link d).e) → due' q j + 1 ≤ due q j
-        → rank config size (beats_left mail' s' rest') answer s' + 1 ≤ rank config size (beats_left mail s rest) answer s
-    release-falls q j m is uses unlike acks less =
-        let-falls config size (beats_left mail s rest) (beats_left mail' s' rest') answer answer s s' q j (all.letters q j m is) (all.releases q j m is)
-        (record { uses = uses-same uses; lets = lets-else q j unlike (omega (arith, less)); acks = acks }) less
+      -- one Release owes one less
+      pub release-falls : (q j m : ℕ) → s.lets q j ≡ Some m → ((d i : ℕ) → s'.uses d i ≡ s.uses d i)
+          → ((d i : ℕ) → (d ≡ q → i ≡ j → ⊥) → s'.lets d i ≡ s.lets d i)
+          → ((d : ℕ) → length (s'.link d).e ≤ length (s.link d).e) → due' q j + 1 ≤ due q j
+          → rank config size (beats_left mail' s' rest') answer s' + 1 ≤ rank config size (beats_left mail s rest) answer
+          s
+      release-falls q j m is uses unlike acks less =
+          let-falls config size (beats_left mail s rest) (beats_left mail' s' rest') answer answer s s' q j
+          (all.letters q j m is) (all.releases q j m is)
+          (record { uses = uses-same uses; lets = lets-else q j unlike (omega (arith, less)); acks = acks }) less
 
-    -- a GrantAck is taken
-    pub acknowledged-falls : (q : ℕ) → q < length config.clients.items → ((d i : ℕ) → s'.uses d i ≡ s.uses d i) → ((d i : ℕ) → s'.lets d i ≡ s.lets d i)
-        → ((d : ℕ) → length (s'.link d).e ≤ length (s.link d).e) → length (s'.link q).e + 1 ≤ length (s.link q).e
-        → rank config size (beats_left mail' s' rest') answer s' + 1 ≤ rank config size (beats_left mail s rest) answer s
-    acknowledged-falls q lt uses lets acks less =
-        ack-falls config size (beats_left mail s rest) (beats_left mail' s' rest') answer answer s s' q lt (record { uses = uses-same uses; lets = lets-same lets; acks = acks }) less
+      -- a GrantAck is taken
+      pub acknowledged-falls : (q : ℕ) → q < length config.clients.items → ((d i : ℕ) → s'.uses d i ≡ s.uses d i)
+          → ((d i : ℕ) → s'.lets d i ≡ s.lets d i)
+          → ((d : ℕ) → length (s'.link d).e ≤ length (s.link d).e) → length (s'.link q).e + 1 ≤ length (s.link q).e
+          → rank config size (beats_left mail' s' rest') answer s' + 1 ≤ rank config size (beats_left mail s rest) answer
+          s
+      acknowledged-falls q lt uses lets acks less =
+          ack-falls config size (beats_left mail s rest) (beats_left mail' s' rest') answer answer s s' q lt
+          (record { uses = uses-same uses; lets = lets-same lets; acks = acks }) less
 
-    -- a Grant is taken
-    pub granted-falls : (q j : ℕ) → (s.uses q j ≡ SourceFree → ⊥) → ((d i : ℕ) → (d ≡ q → i ≡ j → ⊥) → s'.uses d i ≡ s.uses d i) → ((d i : ℕ) → s'.lets d i ≡ s.lets d i)
-        → ((d : ℕ) → (d ≡ q → ⊥) → length (s'.link d).e ≤ length (s.link d).e) → length (s'.link q).e ≡ length (s.link q).e + 1 → owed' q j + 2 ≤ owed q j
-        → rank config size (beats_left mail' s' rest') answer s' + 1 ≤ rank config size (beats_left mail s rest) answer s
-    granted-falls q j used unlike lets acks more less =
-        grant-falls config size (beats_left mail s rest) (beats_left mail' s' rest') answer answer s s' q j (all.clients q j used) (all.sources q j used)
-        (uses-else q j unlike (omega (arith, less))) (lets-same lets) acks more less
+      -- a Grant is taken
+      pub granted-falls : (q j : ℕ) → (s.uses q j ≡ SourceFree → ⊥)
+          → ((d i : ℕ) → (d ≡ q → i ≡ j → ⊥) → s'.uses d i ≡ s.uses d i) → ((d i : ℕ) → s'.lets d i ≡ s.lets d i)
+          → ((d : ℕ) → (d ≡ q → ⊥) → length (s'.link d).e ≤ length (s.link d).e)
+          → length (s'.link q).e ≡ length (s.link q).e + 1 → owed' q j + 2 ≤ owed q j
+          → rank config size (beats_left mail' s' rest') answer s' + 1 ≤ rank config size (beats_left mail s rest) answer
+          s
+      granted-falls q j used unlike lets acks more less =
+          grant-falls config size (beats_left mail s rest) (beats_left mail' s' rest') answer answer s s' q j
+          (all.clients q j used) (all.sources q j used)
+          (uses-else q j unlike (omega (arith, less))) (lets-same lets) acks more less

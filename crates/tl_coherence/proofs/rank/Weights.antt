@@ -1,20 +1,22 @@
--- What is owed for each open request is at most 33 beats and those of a block, for each Release one and those of a block.
+-- What is owed for each open request is at most 33 beats and those of a block, for each Release one and those of a
+-- block.
+use Rattle.tl_coherence.proofs.rank.Imports.{Config, sources_of, IsInvariant, View, Idle, Own, Other, Granting}
+use Rattle.tl_coherence.proofs.rank.Imports.{Acknowledging, GrantedOther, ProbePhase, NoProbe, ProbeSent, ProbeAnswered}
+use Rattle.tl_coherence.proofs.rank.Imports.{Left, pair_weight, probes_weight, acquire_weight, letting_weight}
+use Rattle.tl_coherence.proofs.rank.Imports.{let_weight, rank, State, SourceState, SourceFree, Asked, InService}
+use Rattle.tl_coherence.proofs.rank.Imports.{Replied, Acquires, view, terms_at, Request, Acquire, ProbeAck, Release}
+use Rattle.tl_coherence.proofs.rank.Imports.{Answer, Grant}
 use Rattle.std.proofs.Common.{◌≡◌, ℕ, zero, suc, ◌+◌, ◌*◌, ◌<◌, ◌≤◌, Bool, true, false, refl, arith, ◌⊎◌, inl, inr}
 use Rattle.std.specs.Prelude.{not, ◌==◌, ◌&&◌, if◌then◌else◌, Option, Some, None, length}
 use Rattle.std.proofs.lemmas.Bool.{cases_eq, ne_eqb}
-use Rattle.tl_params.specs.declared.config.Config.{Config}
 use Rattle.tl_params.specs.declared.perm.Perm.{Perm}
 use Rattle.tl_params.specs.declared.perm.Perm.TheVariants as perm
 use Rattle.tl_rules.specs.statement.Conformance.{same_perm}
-use Rattle.tl_coherence.specs.statement.Delivery.{sources_of}
 use Rattle.tl_coherence.specs.refinement.AbstractStep.{some_below}
-use Rattle.tl_coherence.specs.protocol.Invariant.{IsInvariant}
-use Rattle.tl_coherence.specs.protocol.Phase.{View, Idle, Own, Other, Granting, Acknowledging, GrantedOther, ProbePhase, NoProbe, ProbeSent, ProbeAnswered, ReleasePhase, NoRelease, ReleaseSent, ReleaseAcked, is_unprobed}
-use Rattle.tl_coherence.specs.bound.Rank.{total, Left, probing_weight, pair_weight, probes_weight, acquire_weight, use_weight, letting_weight, let_weight}
-use Rattle.tl_coherence.specs.bound.Rank.{client_weight, rank, is_used, is_let, open_requests, open_releases}
-use Rattle.tl_coherence.specs.protocol.Protocol.{State, SourceState, SourceFree, Asked, InService, Replied, Acquires, view}
-use Rattle.tl_coherence.specs.statement.System.{terms_at}
-use Rattle.tl_coherence.specs.protocol.Packet.{Kind, Request, Acquire, ProbeAck, Release, Answer, Grant, one_if}
+use Rattle.tl_coherence.specs.protocol.Phase.{ReleasePhase, NoRelease, ReleaseSent, ReleaseAcked, is_unprobed}
+use Rattle.tl_coherence.specs.bound.Rank.{total, probing_weight, use_weight, client_weight, is_used, is_let}
+use Rattle.tl_coherence.specs.bound.Rank.{open_requests, open_releases}
+use Rattle.tl_coherence.specs.protocol.Packet.{Kind, one_if}
 use Rattle.tl_coherence.proofs.protocol.FollowKept.{some-none, some-one}
 use Rattle.tl_coherence.proofs.queues.Sums.{total-le, total-const, probes-light, one-at-most}
 use Rattle.tl_coherence.proofs.queues.Tokens.{same_number}
@@ -24,11 +26,13 @@ use Rattle.tl_coherence.proofs.queues.Tokens.{same_number}
 pub record IsLeft {X : Type 0} (n : ℕ) (left : Left) (answer : ℕ → ℕ → ℕ) (s : State X) : Type 0 where
   pub few : (c : ℕ) (k : Kind) (m : ℕ) → left c k m ≤ n
   pub acquires : (c m : ℕ) → left c Acquire m ≤ 1
-  pub reports : (c m : ℕ) → is_unprobed ((s.block m).pair c).probing ≡ false → same_perm ((s.block m).pair c).recorded perm.Trunk ≡ false → left c ProbeAck m ≤ 1
+  pub reports : (c m : ℕ) → is_unprobed ((s.block m).pair c).probing ≡ false
+      → same_perm ((s.block m).pair c).recorded perm.Trunk ≡ false → left c ProbeAck m ≤ 1
   pub accesses : (c source : ℕ) → s.uses c source ≡ Asked → left c Request source + answer c source ≤ n + 1
   pub answers : (c source : ℕ) → answer c source ≤ n
 
-two-totals : (bound : ℕ) (f g h : ℕ → ℕ) (j k : ℕ) → ((c : ℕ) → f c ≤ j * g c + k * h c) → total bound f ≤ j * total bound g + k * total bound h
+two-totals : (bound : ℕ) (f g h : ℕ → ℕ) (j k : ℕ) → ((c : ℕ) → f c ≤ j * g c + k * h c)
+    → total bound f ≤ j * total bound g + k * total bound h
 unfolding total
 two-totals zero f g h j k le = omega arith
 two-totals (suc bound) f g h j k le =
@@ -39,12 +43,15 @@ two-totals (suc bound) f g h j k le =
     omega (arith, rest, here, first, second)
 
 -- at most two each, and nothing from one
-total-less : (bound m : ℕ) (f : ℕ → ℕ) → m < bound → ((i : ℕ) → i < bound → f i ≤ 2) → f m ≡ 0 → total bound f + 2 ≤ 2 * bound
+total-less : (bound m : ℕ) (f : ℕ → ℕ) → m < bound → ((i : ℕ) → i < bound → f i ≤ 2) → f m ≡ 0
+    → total bound f + 2 ≤ 2 * bound
 unfolding total
 total-less zero m f lt le none = absurd (omega (arith, lt))
-total-less (suc bound) m f lt le none = go (cases_eq m bound) (λ below. total-less bound m f below (λ i h. le i (omega (arith, h))) none)
+total-less (suc bound) m f lt le none =
+    go (cases_eq m bound) (λ below. total-less bound m f below (λ i h. le i (omega (arith, h))) none)
   where
-    go : (m ≡ bound) ⊎ (m ≡ bound → ⊥) → (m < bound → total bound f + 2 ≤ 2 * bound) → total bound f + f bound + 2 ≤ 2 * suc bound
+    go : (m ≡ bound) ⊎ (m ≡ bound → ⊥) → (m < bound → total bound f + 2 ≤ 2 * bound)
+        → total bound f + f bound + 2 ≤ 2 * suc bound
     go (inl same) rest =
         let others = total-le bound f (λ i. 2) (λ i h. le i (omega (arith, h))) in
         let all = total-const bound 2 in
@@ -57,17 +64,20 @@ total-less (suc bound) m f lt le none = go (cases_eq m bound) (λ below. total-l
 
 -- ---- the Probes and reports of a block
 
-light-pair : (n left : ℕ) (recorded : Perm) (x : ProbePhase) → same_perm recorded perm.Trunk ≡ false → (is_unprobed x ≡ false → left ≤ 1) → probing_weight n left recorded x ≤ 2
+light-pair : (n left : ℕ) (recorded : Perm) (x : ProbePhase) → same_perm recorded perm.Trunk ≡ false
+    → (is_unprobed x ≡ false → left ≤ 1) → probing_weight n left recorded x ≤ 2
 light-pair n left recorded NoProbe e le = omega arith
 light-pair n left recorded (ProbeSent k) e le = rw e (omega arith)
 light-pair n left recorded (ProbeAnswered r) e le = let one = le refl in omega (arith, one)
 
-quiet-pair : (n left : ℕ) (recorded : Perm) (x : ProbePhase) → is_unprobed x ≡ true → probing_weight n left recorded x ≡ 0
+quiet-pair : (n left : ℕ) (recorded : Perm) (x : ProbePhase) → is_unprobed x ≡ true
+    → probing_weight n left recorded x ≡ 0
 quiet-pair n left recorded NoProbe e = refl
 quiet-pair n left recorded (ProbeSent k) e = absurd cc
 quiet-pair n left recorded (ProbeAnswered r) e = absurd cc
 
-heavy-pair : (n left : ℕ) (recorded : Perm) (x : ProbePhase) → left ≤ n → 1 ≤ n → probing_weight n left recorded x ≤ n + 1
+heavy-pair : (n left : ℕ) (recorded : Perm) (x : ProbePhase) → left ≤ n → 1 ≤ n
+    → probing_weight n left recorded x ≤ n + 1
 heavy-pair n left recorded NoProbe le some = omega arith
 heavy-pair n left recorded (ProbeSent k) le some = go (same_perm recorded perm.Trunk)
   where
@@ -76,11 +86,13 @@ heavy-pair n left recorded (ProbeSent k) le some = go (same_perm recorded perm.T
     go false = omega (arith, some)
 heavy-pair n left recorded (ProbeAnswered r) le some = omega (arith, le)
 
-module _ {X : Type 0} (caching : ℕ → Bool) (s : State X) (inv : IsInvariant caching s) (n : ℕ) (left : Left) (answer : ℕ → ℕ → ℕ) (is : IsLeft n left answer s)
+module _ {X : Type 0} (caching : ℕ → Bool) (s : State X) (inv : IsInvariant caching s) (n : ℕ) (left : Left) (answer : ℕ
+    → ℕ → ℕ) (is : IsLeft n left answer s)
     (some : 1 ≤ n) (few : n ≤ 16) (clients : ℕ) (sixteen : clients ≤ 16) where
   -- the writer is probed
   writes_probed : ℕ → ℕ → Bool
-  writes_probed m d = not (is_unprobed ((s.block m).pair d).probing) && same_perm ((s.block m).pair d).recorded perm.Trunk
+  writes_probed m d = not (is_unprobed ((s.block m).pair d).probing) && same_perm ((s.block m).pair d).recorded
+      perm.Trunk
 
   both : (a b : Bool) → (not a && b) ≡ true → (a ≡ false) × (b ≡ true)
   both false true e = (refl, refl)
@@ -91,8 +103,10 @@ module _ {X : Type 0} (caching : ℕ → Bool) (s : State X) (inv : IsInvariant 
   neither false b e f = e
   neither true b e f = absurd cc
 
-  -- a bound for the Probes and reports where each client weighs two at most, and which one with a block's beats meets too
-  pub probes-within : (m bound : ℕ) → 17 ≤ bound → (((d : ℕ) → d < clients → pair_weight n left m d ((s.block m).pair d) ≤ 2)
+  -- a bound for the Probes and reports where each client weighs two at most, and which one with a block's beats meets
+  -- too
+  pub probes-within : (m bound : ℕ) → 17 ≤ bound
+      → (((d : ℕ) → d < clients → pair_weight n left m d ((s.block m).pair d) ≤ 2)
       → probes_weight clients n left m (s.block m) ≤ bound) → probes_weight clients n left m (s.block m) ≤ bound
   unfolding writes_probed
   probes-within m bound wide light = go (some_below clients (writes_probed m)) refl
@@ -100,50 +114,65 @@ module _ {X : Type 0} (caching : ℕ → Bool) (s : State X) (inv : IsInvariant 
       weight : ℕ → ℕ
       weight d = pair_weight n left m d ((s.block m).pair d)
 
-      go : (b : Bool) → some_below clients (writes_probed m) ≡ b → total clients (λ d. pair_weight n left m d ((s.block m).pair d)) ≤ bound
-      go false none = light (λ d lt. each d (is_unprobed ((s.block m).pair d).probing) refl (some-none clients (writes_probed m) none d lt))
+      go : (b : Bool) → some_below clients (writes_probed m) ≡ b
+          → total clients (λ d. pair_weight n left m d ((s.block m).pair d)) ≤ bound
+      go false none = light (λ d lt. each d (is_unprobed ((s.block m).pair d).probing) refl
+          (some-none clients (writes_probed m) none d lt))
         where
-          each : (d : ℕ) (b : Bool) → is_unprobed ((s.block m).pair d).probing ≡ b → writes_probed m d ≡ false → pair_weight n left m d ((s.block m).pair d) ≤ 2
-          each d true e f = let z = quiet-pair n (left d ProbeAck m) ((s.block m).pair d).recorded ((s.block m).pair d).probing e in omega (arith, z)
+          each : (d : ℕ) (b : Bool) → is_unprobed ((s.block m).pair d).probing ≡ b → writes_probed m d ≡ false
+              → pair_weight n left m d ((s.block m).pair d) ≤ 2
+          each d true e f = let z = quiet-pair n (left d ProbeAck m) ((s.block m).pair d).recorded
+              ((s.block m).pair d).probing e in omega (arith, z)
           each d false e f =
               let spared = neither _ _ f e in
-              light-pair n (left d ProbeAck m) ((s.block m).pair d).recorded ((s.block m).pair d).probing spared (λ probed. is.reports d m probed spared)
+              light-pair n (left d ProbeAck m) ((s.block m).pair d).recorded ((s.block m).pair d).probing spared
+              (λ probed. is.reports d m probed spared)
       go true found =
           let d = some-one clients (writes_probed m) found in
           let parts = both _ _ d.1 in
           alone d.0 parts.1 parts.0
         where
-          alone : (d : ℕ) → same_perm ((s.block m).pair d).recorded perm.Trunk ≡ true → is_unprobed ((s.block m).pair d).probing ≡ false
+          alone : (d : ℕ) → same_perm ((s.block m).pair d).recorded perm.Trunk ≡ true
+              → is_unprobed ((s.block m).pair d).probing ≡ false
               → total clients (λ i. pair_weight n left m i ((s.block m).pair i)) ≤ bound
           alone d trunk probed =
-              let others = total-le clients (λ i. pair_weight n left m i ((s.block m).pair i)) (λ i. if i == d then n + 1 else 0) (λ i lt. at i (cases_eq i d)) in
+              let others = total-le clients (λ i. pair_weight n left m i ((s.block m).pair i))
+              (λ i. if i == d then n + 1 else 0) (λ i lt. at i (cases_eq i d)) in
               omega (arith, others, at_most d, few, wide)
             where
-              at : (i : ℕ) → (i ≡ d) ⊎ (i ≡ d → ⊥) → pair_weight n left m i ((s.block m).pair i) ≤ (if i == d then n + 1 else 0)
-              at i (inl e) = rw (e, same_number d) (heavy-pair n (left d ProbeAck m) ((s.block m).pair d).recorded ((s.block m).pair d).probing (is.few d ProbeAck m) some)
+              at : (i : ℕ) → (i ≡ d) ⊎ (i ≡ d → ⊥)
+                  → pair_weight n left m i ((s.block m).pair i) ≤ (if i == d then n + 1 else 0)
+              at i (inl e) = rw (e, same_number d) (heavy-pair n (left d ProbeAck m) ((s.block m).pair d).recorded
+                  ((s.block m).pair d).probing (is.few d ProbeAck m) some)
               at i (inr ne) =
-                  let z = quiet-pair n (left i ProbeAck m) ((s.block m).pair i).recorded ((s.block m).pair i).probing ((inv.blocks m).alone d i trunk probed ne) in
+                  let z = quiet-pair n (left i ProbeAck m) ((s.block m).pair i).recorded ((s.block m).pair i).probing
+                  ((inv.blocks m).alone d i trunk probed ne) in
                   rw (ne_eqb i d ne) (omega (arith, z))
 
               at_most : (d : ℕ) → total clients (λ i. if i == d then n + 1 else 0) ≤ n + 1
               at_most d = one-at-most clients d (n + 1)
 
   pub probes-few : (m : ℕ) → probes_weight clients n left m (s.block m) ≤ 32
-  probes-few m = probes-within m 32 (omega arith) (λ light. probes-light clients (λ d. pair_weight n left m d ((s.block m).pair d)) sixteen light)
+  probes-few m = probes-within m 32 (omega arith)
+      (λ light. probes-light clients (λ d. pair_weight n left m d ((s.block m).pair d)) sixteen light)
 
   -- the sender of an Acquire isn't probed
-  pub probes-fewer : (m r : ℕ) → r < clients → is_unprobed ((s.block m).pair r).probing ≡ true → probes_weight clients n left m (s.block m) ≤ 30
+  pub probes-fewer : (m r : ℕ) → r < clients → is_unprobed ((s.block m).pair r).probing ≡ true
+      → probes_weight clients n left m (s.block m) ≤ 30
   probes-fewer m r lt quiet = probes-within m 30 (omega arith) (λ light. without light)
     where
-      without : ((d : ℕ) → d < clients → pair_weight n left m d ((s.block m).pair d) ≤ 2) → probes_weight clients n left m (s.block m) ≤ 30
+      without : ((d : ℕ) → d < clients → pair_weight n left m d ((s.block m).pair d) ≤ 2)
+          → probes_weight clients n left m (s.block m) ≤ 30
       without light =
-          let none = quiet-pair n (left r ProbeAck m) ((s.block m).pair r).recorded ((s.block m).pair r).probing quiet in
+          let none = quiet-pair n (left r ProbeAck m) ((s.block m).pair r).recorded ((s.block m).pair r).probing quiet
+          in
           let others = total-less clients r (λ d. pair_weight n left m d ((s.block m).pair d)) lt light none in
           omega (arith, others, sixteen)
 
   -- ---- each open request, and each Release
 
-  acquire-few : (asked granted probes : ℕ) (v : View) → asked ≤ 1 → granted ≤ n → probes ≤ 32 → acquire_weight n asked granted probes v ≤ n + 33
+  acquire-few : (asked granted probes : ℕ) (v : View) → asked ≤ 1 → granted ≤ n → probes ≤ 32
+      → acquire_weight n asked granted probes v ≤ n + 33
   acquire-few asked granted probes Own a g p = omega (arith, p)
   acquire-few asked granted probes (Granting d k) a g p = omega (arith, g)
   acquire-few asked granted probes Idle a g p = omega (arith, a)
@@ -151,13 +180,15 @@ module _ {X : Type 0} (caching : ℕ → Bool) (s : State X) (inv : IsInvariant 
   acquire-few asked granted probes Acknowledging a g p = omega (arith, a)
   acquire-few asked granted probes GrantedOther a g p = omega (arith, a)
 
-  use-few : (c source : ℕ) (u : SourceState) → s.uses c source ≡ u → use_weight clients n left answer s c source u ≤ (n + 33) * one_if (is_used u)
+  use-few : (c source : ℕ) (u : SourceState) → s.uses c source ≡ u
+      → use_weight clients n left answer s c source u ≤ (n + 33) * one_if (is_used u)
   use-few c source SourceFree e = omega arith
   use-few c source Asked e = let few = is.accesses c source e in omega (arith, few)
   use-few c source (InService m) e = let a = is.answers c source in let p = probes-few m in omega (arith, a, p)
   use-few c source Replied e = let a = is.few c Answer source in omega (arith, a)
   use-few c source (Acquires m) e =
-      let all = acquire-few (left c Acquire m) (left c Grant m) (probes_weight clients n left m (s.block m)) (view (s.block m).service c) (is.acquires c m) (is.few c Grant m) (probes-few m) in
+      let all = acquire-few (left c Acquire m) (left c Grant m) (probes_weight clients n left m (s.block m))
+      (view (s.block m).service c) (is.acquires c m) (is.few c Grant m) (probes-few m) in
       omega (arith, all)
 
   letting-few : (l : ℕ) (x : ReleasePhase) → l ≤ n → letting_weight l x ≤ n + 1
@@ -167,7 +198,8 @@ module _ {X : Type 0} (caching : ℕ → Bool) (s : State X) (inv : IsInvariant 
 
   let-few : (c source : ℕ) (o : Option ℕ) → s.lets c source ≡ o → let_weight left s c o ≤ (n + 1) * one_if (is_let o)
   let-few c source None e = omega arith
-  let-few c source (Some m) e = let all = letting-few (left c Release m) ((s.block m).pair c).letting (is.few c Release m) in omega (arith, all)
+  let-few c source (Some m) e = let all = letting-few (left c Release m) ((s.block m).pair c).letting
+      (is.few c Release m) in omega (arith, all)
 
   -- ---- the whole
 
@@ -181,19 +213,24 @@ module _ {X : Type 0} (caching : ℕ → Bool) (s : State X) (inv : IsInvariant 
       omega (arith, rest, here, split)
 
   client-few : (sources c : ℕ) → client_weight clients n left answer s sources c
-      ≤ (n + 33) * (total sources (λ i. one_if (is_used (s.uses c i))) + length (s.link c).e) + (n + 1) * total sources (λ i. one_if (is_let (s.lets c i)))
+      ≤ (n + 33) * (total sources (λ i. one_if (is_used (s.uses c i))) + length (s.link c).e) + (n + 1) * total sources
+      (λ i. one_if (is_let (s.lets c i)))
   client-few sources c =
-      let uses = times-total (n + 33) sources (λ i. use_weight clients n left answer s c i (s.uses c i)) (λ i. one_if (is_used (s.uses c i))) (λ i. use-few c i (s.uses c i) refl) in
-      let lets = times-total (n + 1) sources (λ i. let_weight left s c (s.lets c i)) (λ i. one_if (is_let (s.lets c i))) (λ i. let-few c i (s.lets c i) refl) in
+      let uses = times-total (n + 33) sources (λ i. use_weight clients n left answer s c i (s.uses c i))
+      (λ i. one_if (is_used (s.uses c i))) (λ i. use-few c i (s.uses c i) refl) in
+      let lets = times-total (n + 1) sources (λ i. let_weight left s c (s.lets c i)) (λ i. one_if (is_let (s.lets c i)))
+      (λ i. let-few c i (s.lets c i) refl) in
       let acks = one-each (n + 33) (length (s.link c).e) (omega arith) in
-      let split : (n + 33) * (total sources (λ i. one_if (is_used (s.uses c i))) + length (s.link c).e) ≡ (n + 33) * total sources
+      let split : (n + 33) * (total sources (λ i. one_if (is_used (s.uses c i))) + length (s.link c).e)
+      ≡ (n + 33) * total sources
       (λ i. one_if (is_used (s.uses c i))) + (n + 33) * length (s.link c).e = grind arith in
       omega (arith, uses, lets, acks, split)
     where
       one-each : (k l : ℕ) → 1 ≤ k → l ≤ k * l
       one-each k l le = grind (arith, le)
 
-  pub potential-few : (config : Config) → length config.clients.items ≡ clients → rank config n left answer s ≤ (n + 33) * open_requests config s + (n + 1) * open_releases config s
+  pub potential-few : (config : Config) → length config.clients.items ≡ clients
+      → rank config n left answer s ≤ (n + 33) * open_requests config s + (n + 1) * open_releases config s
   potential-few config e =
       rw e (two-totals clients (λ c. client_weight clients n left answer s (sources_of (terms_at config c)) c)
       (λ c. total (sources_of (terms_at config c)) (λ i. one_if (is_used (s.uses c i))) + length (s.link c).e)

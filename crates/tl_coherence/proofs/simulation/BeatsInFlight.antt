@@ -1,42 +1,37 @@
--- Each beat on a channel is sound, and has the lanes of its width: of those that stay, and of those that are handed out.
-use Rattle.std.proofs.Common.{◌≡◌, ℕ, zero, suc, ◌+◌, ◌<◌, Bool, true, false, ◌&&◌, ◌||◌, List, [], ◌∷◌, ◌++◌, Option, Some, None, refl, sym, ◌∙◌, ap, inl, inr, arith}
+-- Each beat on a channel is sound, and has the lanes of its width: of those that stay, and of those that are handed
+-- out.
+use Rattle.tl_coherence.proofs.simulation.Imports.{IsWidth, Beat, Channel, Message, beats_of, Config, Report, Rule}
+use Rattle.tl_coherence.proofs.simulation.Imports.{unfinished, block_at, Op, Verdict, IsTypedOp, EndConfig, Offered}
+use Rattle.tl_coherence.proofs.simulation.Imports.{System, same_channel, channel_of_message, terms_at, with_channel}
+use Rattle.tl_coherence.proofs.simulation.Imports.{with_messages}
+use Rattle.std.proofs.Common.{◌≡◌, ℕ, zero, suc, ◌+◌, ◌<◌, Bool, true, false, ◌&&◌, ◌||◌, List, [], ◌∷◌, ◌++◌, Option}
+use Rattle.std.proofs.Common.{Some, None, refl, sym, ◌∙◌, ap, inl, inr, arith}
 use Rattle.std.specs.Prelude.{◌==◌, if◌then◌else◌, All, slice_get, nat_le, length, option_map, Result, Ok, Err, ⊤}
 use Rattle.std.proofs.lemmas.Bool.{cases_eq, ne_eqb}
 use Rattle.std.proofs.lemmas.List.Elements.{All-nil, All-cons, All-append, All-rest}
-use Rattle.tl_beat.specs.statement.Width.{IsWidth}
-use Rattle.tl_beat.specs.declared.beat.Beat.{Beat}
 use Rattle.tl_beat.specs.declared.beat.Beat.TheVariants as beat
-use Rattle.tl_beat.specs.declared.channel.Channel.{Channel}
 use Rattle.tl_beat.specs.declared.channel.Channel.TheVariants as channel
 use Rattle.tl_beat.specs.declared.opcode.OpB.{OpB}
 use Rattle.tl_beat.specs.declared.opcode.OpD.{OpD}
 use Rattle.tl_beat.specs.declared.opcode.OpD.TheVariants as d
-use Rattle.tl_burst.specs.declared.message.Message.{Message}
 use Rattle.tl_burst.specs.declared.message.Message.TheVariants as message
-use Rattle.tl_burst.specs.statement.Burst.{beats_of, beat_of}
+use Rattle.tl_burst.specs.statement.Burst.{beat_of}
 use Rattle.tl_burst.specs.statement.Messages.{channel_of}
-use Rattle.tl_params.specs.declared.config.Config.{Config}
 use Rattle.tl_params.specs.declared.level.Level.{Level}
 use Rattle.tl_params.specs.declared.param.Prune.{Prune}
 use Rattle.tl_params.specs.declared.param.Prune.TheVariants as prune
-use Rattle.tl_params.specs.declared.param.Report.{Report}
 use Rattle.tl_params.specs.declared.perm.Perm.{Perm}
 use Rattle.tl_params.specs.declared.perm.Perm.TheVariants as perm
-use Rattle.tl_params.specs.declared.rule.Rule.{Rule}
 use Rattle.tl_beat.specs.declared.beat.BeatD.{BeatD}
-use Rattle.tl_burst.specs.statement.Messages.{unfinished}
 use Rattle.tl_params.specs.declared.config.ClientConfig.{ClientConfig}
 use Rattle.tl_rules.specs.statement.Admission.{is_outside, is_spoiled, payload_of}
-use Rattle.tl_rules.specs.statement.History.{block_at, ends, request_of}
-use Rattle.tl_client.specs.declared.operation.Op.{Op}
+use Rattle.tl_rules.specs.statement.History.{ends, request_of}
 use Rattle.tl_client.specs.declared.operation.Op.TheVariants as op
 use Rattle.tl_client.specs.declared.verdict.Finish.{Finish}
-use Rattle.tl_client.specs.declared.verdict.Verdict.{Verdict}
 use Rattle.tl_client.specs.declared.verdict.Verdict.TheVariants as verdict
 use Rattle.tl_client.specs.statement.Ask.{asked, done, load, store, free_release, source_or_0}
-use Rattle.tl_coherence.specs.statement.Headline.{IsTypedOp}
-use Rattle.tl_client.specs.statement.Endpoint.{EndConfig, Endpoint, copy_at, held_at, with_past}
-use Rattle.tl_client.specs.statement.Offer.{Offered, taken, ended, responded, silent, report_for}
+use Rattle.tl_client.specs.statement.Endpoint.{Endpoint, copy_at, held_at, with_past}
+use Rattle.tl_client.specs.statement.Offer.{taken, ended, responded, silent, report_for}
 use Rattle.tl_client.proofs.Cases.{NotBusy, asked-cases, probe_ack-cases}
 use Rattle.tl_client.proofs.HeldAfter.{same_block}
 use Rattle.tl_rules.specs.statement.Legality.{beats_from, illegal}
@@ -51,18 +46,21 @@ use Rattle.tl_manager.specs.code.Kept as manager
 use Rattle.tl_manager.specs.code.Kept.{Each, illegal_at, IsClean, IsFilled, AreLawful}
 use Rattle.tl_manager.specs.statement.Offer.{level_of}
 use Rattle.tl_manager.proofs.Lawful.{IsHandable, no_bit}
-use Rattle.tl_coherence.specs.statement.System.{System, same_channel, channel_of_message, terms_at, with_channel, with_message, with_messages}
+use Rattle.tl_coherence.specs.statement.System.{with_message}
 use Rattle.tl_coherence.specs.refinement.SimulationRelation.{AreLanes}
 use Rattle.tl_coherence.proofs.queues.Tokens.{same_number}
 
 -- ---- what holds of each beat of each channel
 
-all_beats : {w : ℕ} (P : Beat w → Type 0) (m : Message w) (k n : ℕ) → ((i : ℕ) → i < k + n → P (beat_of m i)) → All P (beats_from m k n)
+all_beats : {w : ℕ} (P : Beat w → Type 0) (m : Message w) (k n : ℕ) → ((i : ℕ) → i < k + n → P (beat_of m i))
+    → All P (beats_from m k n)
 unfolding beats_from
 all_beats P m k zero each = All-nil P
-all_beats P m k (suc n) each = All-cons P (beat_of m k) (beats_from m (k + 1) n) (each k (omega arith)) (all_beats P m (k + 1) n (λ i lt. each i (omega (arith, lt))))
+all_beats P m k (suc n) each = All-cons P (beat_of m k) (beats_from m (k + 1) n) (each k (omega arith))
+    (all_beats P m (k + 1) n (λ i lt. each i (omega (arith, lt))))
 
-pub all-message : {w : ℕ} (P : ℕ → Beat w → Type 0) (l : ℕ) (m : Message w) (s : System w) → ((i : ℕ) → i < beats_of m → P l (beat_of m i))
+pub all-message : {w : ℕ} (P : ℕ → Beat w → Type 0) (l : ℕ) (m : Message w) (s : System w)
+    → ((i : ℕ) → i < beats_of m → P l (beat_of m i))
     → ((d : ℕ) (at : Channel) → All (P d) (s.channels d at)) → (d : ℕ) (at : Channel)
     → All (P d) ((with_message l m s).channels d at)
 all-message {w} P l m s each before d at = elim (cases_eq d l) [
@@ -74,22 +72,27 @@ all-message {w} P l m s each before d at = elim (cases_eq d l) [
     more = s.channels l (channel_of_message m) ++ beats_from m 0 (beats_of m)
 
     here : (x : Bool) → x ≡ true → (y : Bool) → All (P l) (if x && y then more else s.channels l at)
-    here x e true = rw e (All-append (P l) (s.channels l (channel_of_message m)) (beats_from m 0 (beats_of m)) (before l (channel_of_message m))
+    here x e true = rw e (All-append (P l) (s.channels l (channel_of_message m)) (beats_from m 0 (beats_of m))
+        (before l (channel_of_message m))
         (all_beats (P l) m 0 (beats_of m) (λ i lt. each i (omega (arith, lt)))))
     here x e false = rw e (before l at)
 
-    there : (x : Bool) → x ≡ false → All (P d) (if x && same_channel at (channel_of_message m) then more else s.channels d at)
+    there : (x : Bool) → x ≡ false
+        → All (P d) (if x && same_channel at (channel_of_message m) then more else s.channels d at)
     there x e = rw e (before d at)
 
 pub all-messages : {w : ℕ} (P : ℕ → Beat w → Type 0) (handed : Handed w) (s : System w)
-    → Each (λ x. (i : ℕ) → i < beats_of x.1 → P x.0.0 (beat_of x.1 i)) handed → ((d : ℕ) (at : Channel) → All (P d) (s.channels d at))
+    → Each (λ x. (i : ℕ) → i < beats_of x.1 → P x.0.0 (beat_of x.1 i)) handed
+    → ((d : ℕ) (at : Channel) → All (P d) (s.channels d at))
     → (d : ℕ) (at : Channel)
     → All (P d) ((with_messages handed s).channels d at)
 unfolding with_messages
 all-messages P [] s each before d at = before d at
-all-messages P (x ∷ handed) s each before d at = all-messages P handed (with_message x.0.0 x.1 s) each.1 (λ i j. all-message P x.0.0 x.1 s each.0 before i j) d at
+all-messages P (x ∷ handed) s each before d at = all-messages P handed (with_message x.0.0 x.1 s) each.1
+    (λ i j. all-message P x.0.0 x.1 s each.0 before i j) d at
 
-pub all-popped : {w : ℕ} (P : ℕ → Beat w → Type 0) (c : ℕ) (ch : Channel) (x : Beat w) (queue : List (Beat w)) (s : System w) → s.channels c ch ≡ x ∷ queue
+pub all-popped : {w : ℕ} (P : ℕ → Beat w → Type 0) (c : ℕ) (ch : Channel) (x : Beat w) (queue : List (Beat w))
+    (s : System w) → s.channels c ch ≡ x ∷ queue
     → ((d : ℕ) (at : Channel) → All (P d) (s.channels d at)) → (d : ℕ) (at : Channel)
     → All (P d) ((with_channel c ch queue s).channels d at)
 all-popped {w} P c ch x queue s first before d at = elim (cases_eq d c) [
@@ -97,7 +100,8 @@ all-popped {w} P c ch x queue s first before d at = elim (cases_eq d c) [
   | inr other ↦ there (d == c) (ne_eqb d c other)
 ]
   where
-    here : (a : Bool) → a ≡ true → (y : Bool) → same_channel at ch ≡ y → All (P c) (if a && y then queue else s.channels c at)
+    here : (a : Bool) → a ≡ true → (y : Bool) → same_channel at ch ≡ y
+        → All (P c) (if a && y then queue else s.channels c at)
     here a e true f = rw e (All-rest (P c) x queue (s.channels c ch) first (before c ch))
     here a e false f = rw e (before c at)
 
@@ -135,7 +139,8 @@ same_channel_of (message.C m) i = refl
 same_channel_of (message.D m) i = refl
 same_channel_of (message.E m) i = refl
 
-same_outside : {w : ℕ} (blocks : ℕ) (m : Message w) (i : ℕ) → is_outside blocks (beat_of m i) ≡ is_outside blocks (beat_of m 0)
+same_outside : {w : ℕ} (blocks : ℕ) (m : Message w) (i : ℕ) → is_outside blocks (beat_of m i) ≡ is_outside blocks
+    (beat_of m 0)
 same_outside blocks (message.A m) i = refl
 same_outside blocks (message.B m) i = refl
 same_outside blocks (message.C m) i = refl
@@ -157,13 +162,15 @@ unspoiled (message.C m) i is clean = rw clean (no_bit i)
 unspoiled (message.D m) i is clean = absurd is
 unspoiled (message.E m) i is clean = refl
 
-pub good-message : {w : ℕ} (config : Config) (c : ℕ) (l : Level) (m : Message w) → IsWidth w → level_of config c ≡ Some l → IsSound l m → IsOfClient m
+pub good-message : {w : ℕ} (config : Config) (c : ℕ) (l : Level) (m : Message w) → IsWidth w
+    → level_of config c ≡ Some l → IsSound l m → IsOfClient m
     → is_outside config.blocks (beat_of m 0) ≡ false → HasBlock m → AreGood config c m
 good-message {w} config c l m width level sound ours inside long i lt =
     let typed : rules.IsTyped (beat_of m i) = typed-beat m i width long lt in
     record {
       sound = record {
-        lawful = rw level (ap (λ ch. illegal l ch (beat_of m i)) (same_channel_of m i) ∙ legal_beat l (channel_of (beat_of m 0)) m i sound.is_legal lt);
+        lawful = rw level (ap (λ ch. illegal l ch (beat_of m i)) (same_channel_of m i) ∙ legal_beat l
+            (channel_of (beat_of m 0)) m i sound.is_legal lt);
         inside = same_outside config.blocks m i ∙ inside;
         clean = unspoiled m i ours sound.is_clean;
         typed = typed_is (beat_of m i) typed;
@@ -180,34 +187,47 @@ block_of_filled (message.C m) filled = filled
 block_of_filled (message.D m) filled = filled
 block_of_filled (message.E m) filled = tt
 
-pub good-handed : {w : ℕ} (config : Config) (handed : Handed w) → IsWidth w → Each (IsHandable config) handed → Each (λ x. (i : ℕ) → i < beats_of x.1 → IsGood config x.0.0 (beat_of x.1 i)) handed
+pub good-handed : {w : ℕ} (config : Config) (handed : Handed w) → IsWidth w → Each (IsHandable config) handed
+    → Each (λ x. (i : ℕ) → i < beats_of x.1 → IsGood config x.0.0 (beat_of x.1 i)) handed
 good-handed config [] width each = tt
-good-handed config (x ∷ handed) width each =
-    ((λ i lt. record { sound = each.0.beats i lt; lanes = lanes_are (beat_of x.1 i) (typed-beat x.1 i width (block_of_filled x.1 each.0.filled) lt) }), good-handed config handed width each.1)
+good-handed config (x ∷ handed) width each = (
+  (λ i lt. record {
+    sound = each.0.beats i lt;
+    lanes =
+        lanes_are (beat_of x.1 i) (typed-beat x.1 i width (block_of_filled x.1 each.0.filled) lt);
+  }),
+  good-handed config
+      handed width each.1,
+)
 
 -- ---- the terms of a client
 
 abbrev terms_in : Config → ClientConfig → EndConfig
 terms_in config x = record { level = x.level; profile = config.profile; sources = x.sources; blocks = config.blocks }
 
-pub level-terms : (config : Config) (c : ℕ) (terms : EndConfig) → terms_at config c ≡ Some terms → (level_of config c ≡ Some terms.level) × (terms.blocks ≡ config.blocks)
+pub level-terms : (config : Config) (c : ℕ) (terms : EndConfig) → terms_at config c ≡ Some terms
+    → (level_of config c ≡ Some terms.level) × (terms.blocks ≡ config.blocks)
 level-terms config c terms e = go (slice_get config.clients.items c) e
   where
     some_is : (t u : EndConfig) → Some t ≡ Some u → t ≡ u
     some_is t u f = cc
 
-    go : (o : Option ClientConfig) → option_map (terms_in config) o ≡ Some terms → (option_map (λ x. x.level) o ≡ Some terms.level) × (terms.blocks ≡ config.blocks)
+    go : (o : Option ClientConfig) → option_map (terms_in config) o ≡ Some terms
+        → (option_map (λ x. x.level) o ≡ Some terms.level) × (terms.blocks ≡ config.blocks)
     go None f = absurd cc
-    go (Some x) f = let g : terms_in config x ≡ terms = some_is (terms_in config x) terms f in (ap (λ (t : EndConfig). Some t.level) g, sym (ap (λ (t : EndConfig). t.blocks) g))
+    go (Some x) f = let g : terms_in config x ≡ terms = some_is (terms_in config x) terms f in
+        (ap (λ (t : EndConfig). Some t.level) g, sym (ap (λ (t : EndConfig). t.blocks) g))
 
 -- ---- what a client is asked for
 
-copied_release : (w : ℕ) (p : Prune) (source n : ℕ) (copy : List ℕ) → length copy ≡ 64 → HasBlock {w = w} (release p source n copy) × IsOfClient {w = w} (release p source n copy)
+copied_release : (w : ℕ) (p : Prune) (source n : ℕ) (copy : List ℕ) → length copy ≡ 64
+    → HasBlock {w = w} (release p source n copy) × IsOfClient {w = w} (release p source n copy)
 copied_release w prune.TtoB source n copy long = (long, tt)
 copied_release w prune.TtoN source n copy long = (long, tt)
 copied_release w prune.BtoN source n copy long = (refl, tt)
 
-release_inside : (w blocks : ℕ) (p : Prune) (source n : ℕ) (copy : List ℕ) → nat_le blocks n ≡ false → is_outside blocks (beat_of {w = w} (release p source n copy) 0) ≡ false
+release_inside : (w blocks : ℕ) (p : Prune) (source n : ℕ) (copy : List ℕ) → nat_le blocks n ≡ false
+    → is_outside blocks (beat_of {w = w} (release p source n copy) 0) ≡ false
 release_inside w blocks prune.TtoB source n copy e = rw (same_block n) e
 release_inside w blocks prune.TtoN source n copy e = rw (same_block n) e
 release_inside w blocks prune.BtoN source n copy e = rw (same_block n) e
@@ -226,45 +246,64 @@ first_false : (x y : Bool) → (x || y) ≡ false → x ≡ false
 first_false false y e = refl
 first_false true y e = absurd cc
 
-fit_load : {w : ℕ} (blocks address size : ℕ) (p : Perm) (e : Endpoint w) → IsFitIfAny blocks (load address size p e).message
+fit_load : {w : ℕ} (blocks address size : ℕ) (p : Perm) (e : Endpoint w)
+    → IsFitIfAny blocks (load address size p e).message
 fit_load blocks address size perm.None e = tt
 fit_load blocks address size perm.Branch e = tt
 fit_load blocks address size perm.Trunk e = tt
 
-fit_store : {w : ℕ} (blocks address size value : ℕ) (p : Perm) (e : Endpoint w) → IsFitIfAny blocks (store address size value p e).message
+fit_store : {w : ℕ} (blocks address size value : ℕ) (p : Perm) (e : Endpoint w)
+    → IsFitIfAny blocks (store address size value p e).message
 fit_store blocks address size value perm.None e = tt
 fit_store blocks address size value perm.Branch e = tt
 fit_store blocks address size value perm.Trunk e = tt
 
-fit_done : {w : ℕ} (terms : EndConfig) (op : Op w) (e : Endpoint w) → NotBusy terms op e → IsTypedOp op → ((n : ℕ) → length (copy_at e n) ≡ 64) → IsFitIfAny terms.blocks (done terms op e).message
-fit_done terms (op.Load address size) e free typed copies = fit_load terms.blocks address size (held_at e (block_at address)) e
-fit_done terms (op.Store address size value) e free typed copies = fit_store terms.blocks address size value (held_at e (block_at address)) e
-fit_done terms (op.Acquire n g) e free typed copies = record { long = refl; ours = tt; inside = rw (same_block n) (first_false (nat_le terms.blocks n) _ free.b5) }
-fit_done terms (op.AcquireWhole n bytes) e free typed copies = record { long = refl; ours = tt; inside = rw (same_block n) (first_false (nat_le terms.blocks n) _ free.b5) }
+fit_done : {w : ℕ} (terms : EndConfig) (op : Op w) (e : Endpoint w) → NotBusy terms op e → IsTypedOp op
+    → ((n : ℕ) → length (copy_at e n) ≡ 64) → IsFitIfAny terms.blocks (done terms op e).message
+fit_done terms (op.Load address size) e free typed copies =
+    fit_load terms.blocks address size (held_at e (block_at address)) e
+fit_done terms (op.Store address size value) e free typed copies =
+    fit_store terms.blocks address size value (held_at e (block_at address)) e
+fit_done terms (op.Acquire n g) e free typed copies =
+    record { long = refl; ours = tt; inside = rw (same_block n) (first_false (nat_le terms.blocks n) _ free.b5) }
+fit_done terms (op.AcquireWhole n bytes) e free typed copies =
+    record { long = refl; ours = tt; inside = rw (same_block n) (first_false (nat_le terms.blocks n) _ free.b5) }
 fit_done {w} terms (op.Release n p) e free typed copies =
     let s = source_or_0 (free_release terms e.past) in
     let one = copied_release w p s n (copy_at e n) (copies n) in
-    record { long = one.0; ours = one.1; inside = release_inside w terms.blocks p s n (copy_at e n) (first_false (nat_le terms.blocks n) _ free.b5) }
-fit_done terms (op.Access (message.A m)) e free typed copies = record { long = typed; ours = tt; inside = first_false (nat_le terms.blocks (block_at m.address)) _ free.b5 }
+    record {
+      long = one.0;
+      ours = one.1;
+      inside =
+          release_inside w terms.blocks p s n (copy_at e n) (first_false (nat_le terms.blocks n) _ free.b5);
+    }
+fit_done terms (op.Access (message.A m)) e free typed copies =
+    record { long = typed; ours = tt; inside = first_false (nat_le terms.blocks (block_at m.address)) _ free.b5 }
 fit_done terms (op.Access (message.B m)) e free typed copies = tt
 fit_done terms (op.Access (message.C m)) e free typed copies = tt
 fit_done terms (op.Access (message.D m)) e free typed copies = tt
 fit_done terms (op.Access (message.E m)) e free typed copies = tt
 
-pub fit-asked : {w : ℕ} (terms : EndConfig) (op : Op w) (e : Endpoint w) → IsTypedOp op → ((n : ℕ) → length (copy_at e n) ≡ 64) → IsFitIfAny terms.blocks (asked terms op e).message
-fit-asked terms op e typed copies = asked-cases terms op e (λ o. IsFitIfAny terms.blocks o.message) (λ busy. tt) (λ free. fit_done terms op e free typed copies)
+pub fit-asked : {w : ℕ} (terms : EndConfig) (op : Op w) (e : Endpoint w) → IsTypedOp op
+    → ((n : ℕ) → length (copy_at e n) ≡ 64) → IsFitIfAny terms.blocks (asked terms op e).message
+fit-asked terms op e typed copies = asked-cases terms op e (λ o. IsFitIfAny terms.blocks o.message) (λ busy. tt)
+    (λ free. fit_done terms op e free typed copies)
 
 -- ---- what is delivered to a client
 
-ack_fit : (w blocks : ℕ) (opcode : OpB) (p : Perm) (r : Report) (n : ℕ) (copy : List ℕ) → length copy ≡ 64 → nat_le blocks n ≡ false → IsFit {w = w} blocks (probe_ack opcode p r n copy)
+ack_fit : (w blocks : ℕ) (opcode : OpB) (p : Perm) (r : Report) (n : ℕ) (copy : List ℕ) → length copy ≡ 64
+    → nat_le blocks n ≡ false → IsFit {w = w} blocks (probe_ack opcode p r n copy)
 ack_fit w blocks opcode p r n copy long e =
-    probe_ack-cases opcode p r n copy (λ m. IsFit {w = w} blocks m) (record { long = long; ours = tt; inside = rw (same_block n) e }) (record { long = refl; ours = tt; inside = rw (same_block n) e })
+    probe_ack-cases opcode p r n copy (λ m. IsFit {w = w} blocks m)
+    (record { long = long; ours = tt; inside = rw (same_block n) e })
+    (record { long = refl; ours = tt; inside = rw (same_block n) e })
 
 abbrev pub IsFitAnswer : {w : ℕ} → ℕ → Result (Verdict × Option (Message w)) Rule → Type 0
 IsFitAnswer blocks (Ok v) = IsFitIfAny blocks v.1
 IsFitAnswer blocks (Err rule) = ⊤
 
-ended_fit : {w : ℕ} (blocks : ℕ) (opcode : OpD) (x : BeatD w) (f : Finish) (e : Endpoint w) → IsFitAnswer blocks (ended opcode x f e).answer
+ended_fit : {w : ℕ} (blocks : ℕ) (opcode : OpD) (x : BeatD w) (f : Finish) (e : Endpoint w)
+    → IsFitAnswer blocks (ended opcode x f e).answer
 ended_fit blocks d.Grant x f e = record { long = tt; ours = tt; inside = refl }
 ended_fit blocks d.GrantData x f e = record { long = tt; ours = tt; inside = refl }
 ended_fit blocks d.AccessAck x f e = tt
@@ -272,9 +311,11 @@ ended_fit blocks d.AccessAckData x f e = tt
 ended_fit blocks d.HintAck x f e = tt
 ended_fit blocks d.ReleaseAck x f e = tt
 
-pub fit-taken : {w : ℕ} (blocks : ℕ) (x : Beat w) (e : Endpoint w) → is_outside blocks x ≡ false → ((n : ℕ) → length (copy_at e n) ≡ 64) → IsFitAnswer blocks (taken x e).answer
+pub fit-taken : {w : ℕ} (blocks : ℕ) (x : Beat w) (e : Endpoint w) → is_outside blocks x ≡ false
+    → ((n : ℕ) → length (copy_at e n) ≡ 64) → IsFitAnswer blocks (taken x e).answer
 fit-taken blocks (beat.A x) e inside copies = tt
-fit-taken {w} blocks (beat.B x) e inside copies = ack_fit w blocks x.opcode (held_at e (block_at x.address)) (report_for x (held_at e (block_at x.address)))
+fit-taken {w} blocks (beat.B x) e inside copies = ack_fit w blocks x.opcode (held_at e (block_at x.address))
+    (report_for x (held_at e (block_at x.address)))
     (block_at x.address) (copy_at e (block_at x.address)) (copies (block_at x.address)) inside
 fit-taken blocks (beat.C x) e inside copies = tt
 fit-taken {w} blocks (beat.D x) e inside copies = go (ends (beat.D x) e.past)
@@ -282,7 +323,8 @@ fit-taken {w} blocks (beat.D x) e inside copies = go (ends (beat.D x) e.past)
     o : Offered w
     o = responded x (request_of x.source e.past) (payload_of (beat.D x ∷ unfinished channel.D e.past)) e
 
-    go : (y : Bool) → IsFitAnswer blocks (if y then o else silent verdict.Taken (with_past (beat.D x ∷ e.past) e)).answer
+    go : (y : Bool) → IsFitAnswer blocks
+        (if y then o else silent verdict.Taken (with_past (beat.D x ∷ e.past) e)).answer
     go true = ended_fit blocks x.opcode x _ _
     go false = tt
 fit-taken blocks (beat.E x) e inside copies = tt

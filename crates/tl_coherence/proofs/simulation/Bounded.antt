@@ -1,36 +1,34 @@
 -- Sources and trackers that are used are below the numbers that the configuration gives.
+use Rattle.tl_coherence.proofs.simulation.Imports.{Message, MessageA, Config, pending, services, Service, Free, Waits}
+use Rattle.tl_coherence.proofs.simulation.Imports.{GrantSent, GrantTaken, State, SourceState, SourceFree, Asked}
+use Rattle.tl_coherence.proofs.simulation.Imports.{InService, Replied, Acquires, AccessMessages, block_message, Log}
+use Rattle.tl_coherence.proofs.simulation.Imports.{System, terms_at, SimulationRelation}
 use Rattle.std.proofs.Common.{◌≡◌, ℕ, ◌<◌, Bool, true, false, List, [], ◌∷◌, refl, sym, ◌∙◌, ap}
 use Rattle.std.specs.Prelude.{◌==◌, ◌||◌, Option, Some, is_some}
 use Rattle.std.proofs.lemmas.Bool.{eqb-true, and_parts}
-use Rattle.tl_burst.specs.declared.message.Message.{Message}
 use Rattle.tl_burst.specs.declared.message.Message.TheVariants as message
-use Rattle.tl_burst.specs.declared.message.MessageA.{MessageA}
-use Rattle.tl_params.specs.declared.config.Config.{Config}
 use Rattle.tl_params.specs.declared.key.Key.TheVariants.{RequestSource, ReleaseSource}
-use Rattle.tl_rules.specs.statement.History.{pending}
 use Rattle.tl_rules.specs.statement.Legality.{is_one_of}
 use Rattle.tl_manager.specs.code.Kept as kept
-use Rattle.tl_manager.specs.statement.Service.{services, service_of_block, trackers_of}
+use Rattle.tl_manager.specs.statement.Service.{service_of_block, trackers_of}
 use Rattle.tl_manager.proofs.Serving.{tracker_among}
 use Rattle.tl_coherence.specs.statement.Delivery.{sources_of}
 use Rattle.tl_coherence.specs.protocol.Invariant.{tracks_with, is_busy}
 use Rattle.tl_coherence.specs.refinement.ManagerRelation.{client_in, service_with}
-use Rattle.tl_coherence.specs.protocol.Protocol.{Service, Free, Waits, GrantSent, GrantTaken, State, SourceState, SourceFree, Asked, InService, Replied, Acquires}
-use Rattle.tl_coherence.specs.refinement.PacketMessages.{AccessMessages, block_message}
 use Rattle.tl_coherence.specs.statement.OneMemory.{one_memory_after}
 use Rattle.tl_coherence.specs.statement.Machine.{Requests}
 use Rattle.tl_coherence.specs.refinement.MemoryRelation.{IsOpened}
-use Rattle.tl_coherence.specs.statement.Log.{Log}
-use Rattle.tl_coherence.specs.statement.System.{System, terms_at}
-use Rattle.tl_coherence.specs.refinement.SimulationRelation.{SimulationRelation, asked_by, first_of, request_source, IsSourced}
+use Rattle.tl_coherence.specs.refinement.SimulationRelation.{asked_by, first_of, request_source, IsSourced}
 use Rattle.tl_coherence.proofs.protocol.Capacities.{AreBounded}
 use Rattle.tl_coherence.proofs.queues.Tokens.{same_number}
 use Rattle.tl_coherence.proofs.client.Askable.{acquires_something}
 
 -- a client's sources that are pending are its own
 pub record IsOwn {w : ℕ} (config : Config) (c : ℕ) (sys : System w) : Type 0 where
-  pub requests : (source : ℕ) → pending (RequestSource source) (sys.clients c).past ≡ true → source < sources_of (terms_at config c)
-  pub releases : (source : ℕ) → pending (ReleaseSource source) (sys.clients c).past ≡ true → source < sources_of (terms_at config c)
+  pub requests : (source : ℕ) → pending (RequestSource source) (sys.clients c).past ≡ true
+      → source < sources_of (terms_at config c)
+  pub releases : (source : ℕ) → pending (ReleaseSource source) (sys.clients c).past ≡ true
+      → source < sources_of (terms_at config c)
 
 -- ---- an open request has a first beat
 
@@ -62,35 +60,44 @@ someone Free e = absurd cc
 
 -- ---- what the whole says
 
-module _ {w : ℕ} (config : Config) (log : Log w) (mail : AccessMessages w) (request : ℕ → MessageA w) (s : State (List ℕ)) (sys : System w) (matched : SimulationRelation config log mail request s sys) (c : ℕ) where
+module _ {w : ℕ} (config : Config) (log : Log w) (mail : AccessMessages w) (request : ℕ → MessageA w)
+    (s : State (List ℕ)) (sys : System w) (matched : SimulationRelation config log mail request s sys) (c : ℕ) where
   -- a source that isn't free is one of an open request
-  asked_of : (source : ℕ) (u : SourceState) → s.uses c source ≡ u → (u ≡ SourceFree → ⊥) → is_some (asked_by mail s c source) ≡ true
+  asked_of : (source : ℕ) (u : SourceState) → s.uses c source ≡ u → (u ≡ SourceFree → ⊥)
+      → is_some (asked_by mail s c source) ≡ true
   unfolding block_message
   asked_of source SourceFree e used = absurd (used refl)
   asked_of source Asked e used =
       let sourced : IsSourced config c source (mail.request c source) Asked = rw e at (matched.sourced c source) in
       rw e (source_known (mail.request c source) source sourced.0)
   asked_of source (InService n) e used =
-      let sourced : IsSourced config c source (mail.request c source) (InService n) = rw e at (matched.sourced c source) in
+      let sourced : IsSourced config c source (mail.request c source) (InService n) =
+      rw e at (matched.sourced c source) in
       rw e (source_known (mail.request c source) source sourced.0)
   asked_of source Replied e used =
-      let opened : IsOpened c source mail s Replied ((one_memory_after config log).opened c Requests source) = rw e at (matched.beside.requests c source) in
+      let opened : IsOpened c source mail s Replied ((one_memory_after config log).opened c Requests source) =
+      rw e at (matched.beside.requests c source) in
       rw e (has_first (mail.request c source) _ opened.1.1)
-  asked_of source (Acquires n) e used = rw e (acquires_something w ((s.block n).pair c).acquiring ((s.block n).source c) n)
+  asked_of source (Acquires n) e used =
+      rw e (acquires_something w ((s.block n).pair c).acquiring ((s.block n).source c) n)
 
   tracker_below : (i n : ℕ) → s.tracked i ≡ Some n → i < config.trackers
   tracker_below i n e =
-      let named : tracks_with i (s.block n) ≡ true = sym (matched.invariant.named.trackers i n) ∙ rw e (same_number n) in
+      let named : tracks_with i (s.block n) ≡ true = sym (matched.invariant.named.trackers i n) ∙ rw e (same_number n)
+      in
       let parts = and_parts (is_busy (s.block n).service) (i == (s.block n).tracker) named in
       let q = someone (s.block n).service parts.0 in
-      let is : service_of_block n (services sys.manager.trace) ≡ Some (record { tracker = (s.block n).tracker; link = record { 0 = q.0 }; request = request n }) =
+      let is : service_of_block n (services sys.manager.trace) ≡ Some
+      (record { tracker = (s.block n).tracker; link = record { 0 = q.0 }; request = request n }) =
       matched.managed.serving_is n ∙ ap (λ (o : Option ℕ). service_with o (s.block n).tracker (request n)) q.1 in
       let same : i ≡ (s.block n).tracker = eqb-true i (s.block n).tracker parts.1 in
-      rw same (of_each (λ k. k < config.trackers) (trackers_of (services sys.manager.trace)) (s.block n).tracker (tracker_among n (services sys.manager.trace) _ is) matched.manager_kept.tracked)
+      rw same (of_each (λ k. k < config.trackers) (trackers_of (services sys.manager.trace)) (s.block n).tracker
+      (tracker_among n (services sys.manager.trace) _ is) matched.manager_kept.tracked)
 
   pub matched-bounded : IsOwn config c sys → AreBounded c (sources_of (terms_at config c)) config.trackers s
   matched-bounded own = record {
-    requests = λ source used. own.requests source ((matched.opened c).requests source ∙ asked_of source (s.uses c source) refl used);
+    requests = λ source used. own.requests source ((matched.opened c).requests source ∙ asked_of source
+        (s.uses c source) refl used);
     releases = λ source n e. own.releases source ((matched.opened c).releases source ∙ rw e refl);
     tracked = tracker_below;
   }

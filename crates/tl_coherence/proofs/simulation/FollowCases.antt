@@ -1,30 +1,20 @@
--- What the protocol does at an event of the world: nothing, what a client is asked for, or the first token of a channel.
-use Rattle.std.proofs.Common.{◌≡◌, subst, ℕ, Bool, true, false, ◌&&◌, List, [], ◌∷◌, Option, Some, None, refl, sym, ◌∙◌, ap}
+-- What the protocol does at an event of the world: nothing, what a client is asked for, or the first token of a
+-- channel.
+use Rattle.tl_coherence.proofs.simulation.Imports.{IsWidth, Beat, Link, Channel, MessageA, unfinished, Config, Op}
+use Rattle.tl_coherence.proofs.simulation.Imports.{EndConfig, Deliver, is_moving, AbstractState, asked, kind_taken, Log}
+use Rattle.tl_coherence.proofs.simulation.Imports.{receiver, State, packet, on, packets_on, AccessMessages, stepped}
+use Rattle.tl_coherence.proofs.simulation.Imports.{stepped_at, System, terms_at, Kind, Packet, SimulationRelation}
+use Rattle.tl_coherence.proofs.simulation.Imports.{is_caching}
+use Rattle.std.proofs.Common.{◌≡◌, subst, ℕ, Bool, true, false, ◌&&◌, List, [], ◌∷◌, Option, Some, None, refl, sym, ◌∙◌}
+use Rattle.std.proofs.Common.{ap}
 use Rattle.std.specs.Prelude.{if◌then◌else◌}
-use Rattle.tl_beat.specs.statement.Width.{IsWidth}
-use Rattle.tl_beat.specs.declared.beat.Beat.{Beat}
-use Rattle.tl_beat.specs.declared.beat.Link.{Link}
-use Rattle.tl_beat.specs.declared.channel.Channel.{Channel}
-use Rattle.tl_burst.specs.declared.message.MessageA.{MessageA}
-use Rattle.tl_burst.specs.statement.Messages.{unfinished}
 use Rattle.tl_burst.specs.statement.Part.{completes}
-use Rattle.tl_params.specs.declared.config.Config.{Config}
-use Rattle.tl_client.specs.declared.operation.Op.{Op}
 use Rattle.tl_client.specs.statement.Ask as ask
-use Rattle.tl_client.specs.statement.Endpoint.{EndConfig}
 use Rattle.tl_coherence.specs.declared.event.Event.{Event}
-use Rattle.tl_coherence.specs.declared.event.Event.TheVariants.{Ask, Deliver}
+use Rattle.tl_coherence.specs.declared.event.Event.TheVariants.{Ask}
 use Rattle.tl_coherence.specs.declared.event.Outcome.{Outcome}
-use Rattle.tl_coherence.specs.statement.Draining.{is_moving}
-use Rattle.tl_coherence.specs.refinement.AbstractStep.{AbstractState, asked, delivered, abstract_step_by, abstract_step, is_last, kind_taken, packet_taken}
-use Rattle.tl_coherence.specs.statement.Log.{Log}
-use Rattle.tl_coherence.specs.refinement.ChannelRelation.{receiver}
-use Rattle.tl_coherence.specs.protocol.Protocol.{State, packet, on, packets_on}
-use Rattle.tl_coherence.specs.refinement.PacketMessages.{AccessMessages}
-use Rattle.tl_coherence.specs.statement.Step.{stepped, stepped_at}
-use Rattle.tl_coherence.specs.statement.System.{System, terms_at}
-use Rattle.tl_coherence.specs.protocol.Packet.{Kind, Packet}
-use Rattle.tl_coherence.specs.refinement.SimulationRelation.{SimulationRelation, is_caching}
+use Rattle.tl_coherence.specs.refinement.AbstractStep.{delivered, abstract_step_by, abstract_step, is_last}
+use Rattle.tl_coherence.specs.refinement.AbstractStep.{packet_taken}
 use Rattle.tl_coherence.proofs.client.Askable.{askable}
 use Rattle.tl_coherence.proofs.client.AnswersKept.{AreAnswered, answered-asked, answered-kind_taken}
 use Rattle.tl_coherence.proofs.client.ClientDelivered.{shadow_of}
@@ -34,20 +24,25 @@ use Rattle.tl_coherence.proofs.manager.RequestsTaken.{next_tracker}
 use Rattle.tl_coherence.proofs.client.GrantMatchesAcquire.{AreGiven, given-asked, given-kind_taken}
 
 -- a delivery that completes a message: the beat is moved, and is the last of the message of the first token
-pub record IsDelivery {w : ℕ} (config : Config) (mail : AccessMessages w) (s : State (List ℕ)) (sys : System w) (link : Link) (ch : Channel) (x : Beat w) (queue : List (Beat w)) : Type 0 where
+pub record IsDelivery {w : ℕ} (config : Config) (mail : AccessMessages w) (s : State (List ℕ)) (sys : System w)
+    (link : Link) (ch : Channel) (x : Beat w) (queue : List (Beat w)) : Type 0 where
   pub moves : is_moving (stepped config (Deliver link ch) sys).outcome ≡ true
   pub beats : sys.channels link.0 ch ≡ x ∷ queue
   pub whole : completes x (unfinished ch (receiver ch link.0 sys)) ≡ true
   pub first : IsFirst ch link.0 mail s sys x queue
 
 -- what the protocol does then
-abbrev pub taken_of : {w : ℕ} → Config → AccessMessages w → (ℕ → MessageA w) → (s : State (List ℕ)) → (sys : System w) → ℕ → Kind → ℕ → List Packet → AbstractState w
-taken_of config mail request s sys c k i rest = kind_taken config (next_tracker sys) c k i rest (shadow_of mail request s)
+abbrev pub taken_of : {w : ℕ} → Config → AccessMessages w → (ℕ → MessageA w) → (s : State (List ℕ)) → (sys : System w)
+    → ℕ → Kind → ℕ → List Packet → AbstractState w
+taken_of config mail request s sys c k i rest =
+    kind_taken config (next_tracker sys) c k i rest (shadow_of mail request s)
 
-pub delivered-cases : {w : ℕ} (config : Config) (log : Log w) (mail : AccessMessages w) (request : ℕ → MessageA w) (s : State (List ℕ)) (sys : System w) (link : Link)
+pub delivered-cases : {w : ℕ} (config : Config) (log : Log w) (mail : AccessMessages w) (request : ℕ → MessageA w)
+    (s : State (List ℕ)) (sys : System w) (link : Link)
     (ch : Channel) (P : AbstractState w → Type 0) → IsWidth w
     → SimulationRelation config log mail request s sys → P (shadow_of mail request s)
-    → ((x : Beat w) (queue : List (Beat w)) (d : IsDelivery config mail s sys link ch x queue) → P (taken_of config mail request s sys link.0 d.first.kind d.first.number d.first.rest))
+    → ((x : Beat w) (queue : List (Beat w)) (d : IsDelivery config mail s sys link ch x queue)
+    → P (taken_of config mail request s sys link.0 d.first.kind d.first.number d.first.rest))
     → P (delivered config link.0 ch (stepped config (Deliver link ch) sys).outcome sys (shadow_of mail request s))
 delivered-cases {w} config log mail request s sys link ch P width h none kinds = go (sys.channels link.0 ch) refl
   where
@@ -64,71 +59,94 @@ delivered-cases {w} config log mail request s sys link ch P width h none kinds =
     event = packet_taken config (next_tracker sys) link.0 (packets_on ch (s.link link.0)) before
 
     taken : (x : Beat w) (queue : List (Beat w)) → IsDelivery config mail s sys link ch x queue → P event
-    taken x queue d = subst (λ (xs : List Packet). P (packet_taken config (next_tracker sys) link.0 xs before)) (sym d.first.tokens) (kinds x queue d)
+    taken x queue d = subst (λ (xs : List Packet). P (packet_taken config (next_tracker sys) link.0 xs before))
+        (sym d.first.tokens) (kinds x queue d)
 
     either : (x y : Bool) → (x ≡ true → y ≡ true → P event) → P (if x && y then event else before)
     either true true both = both refl refl
     either true false both = none
     either false y both = none
 
-    go : (beats : List (Beat w)) → sys.channels link.0 ch ≡ beats → P (if is_moving o && is_last (sys.channels link.0 ch) rest_now then event else before)
+    go : (beats : List (Beat w)) → sys.channels link.0 ch ≡ beats
+        → P (if is_moving o && is_last (sys.channels link.0 ch) rest_now then event else before)
     go [] e = either (is_moving o) (is_last (sys.channels link.0 ch) rest_now)
-        (λ moves last. absurd (let no : false ≡ true = sym (ap (λ (beats : List (Beat w)). is_last beats rest_now) e) ∙ last in cc))
-    go (x ∷ queue) e = either (is_moving o) (is_last (sys.channels link.0 ch) rest_now) (λ moves last. taken x queue (record {
-      moves = moves;
-      beats = e;
-      whole = sym (ap (λ (beats : List (Beat w)). is_last beats rest_now) e) ∙ last;
-      first = first-token (is_caching config) ch link.0 mail s sys x queue width h.invariant h.carried e;
-    }))
+        (λ moves last. absurd (let no : false ≡ true = sym (ap (λ (beats : List (Beat w)). is_last beats rest_now) e)
+        ∙ last in cc))
+    go (x ∷ queue) e = either (is_moving o) (is_last (sys.channels link.0 ch) rest_now)
+        (λ moves last. taken x queue (record {
+          moves = moves;
+          beats = e;
+          whole = sym (ap (λ (beats : List (Beat w)). is_last beats rest_now) e) ∙ last;
+          first = first-token (is_caching config) ch link.0 mail s sys x queue width h.invariant h.carried e;
+        }))
 
-pub asked-cases : {w : ℕ} (config : Config) (log : Log w) (mail : AccessMessages w) (request : ℕ → MessageA w) (s : State (List ℕ)) (sys : System w) (c : ℕ)
+pub asked-cases : {w : ℕ} (config : Config) (log : Log w) (mail : AccessMessages w) (request : ℕ → MessageA w)
+    (s : State (List ℕ)) (sys : System w) (c : ℕ)
     (operation : Op w) (o : Option EndConfig) (P : AbstractState w → Type 0)
     → terms_at config c ≡ o → P (shadow_of mail request s)
-    → ((terms : EndConfig) → terms_at config c ≡ Some terms → P (asked c operation (ask.asked terms operation (sys.clients c)).reply (shadow_of mail request s)))
-    → P (abstract_step_by config (Ask c operation) (stepped_at config o (Ask c operation) sys).outcome sys (shadow_of mail request s))
+    → ((terms : EndConfig) → terms_at config c ≡ Some terms
+    → P (asked c operation (ask.asked terms operation (sys.clients c)).reply (shadow_of mail request s)))
+    → P (abstract_step_by config (Ask c operation) (stepped_at config o (Ask c operation) sys).outcome sys
+    (shadow_of mail request s))
 asked-cases config log mail request s sys c operation None P at none asks = none
 asked-cases config log mail request s sys c operation (Some terms) P at none asks = asks terms at
 
-asked_now : {w : ℕ} (config : Config) (mail : AccessMessages w) (request : ℕ → MessageA w) (s : State (List ℕ)) (sys : System w) (c : ℕ) (operation : Op w) (P : AbstractState w → Type 0)
-    → P (abstract_step_by config (Ask c operation) (stepped_at config (terms_at config c) (Ask c operation) sys).outcome sys (shadow_of mail request s))
+asked_now : {w : ℕ} (config : Config) (mail : AccessMessages w) (request : ℕ → MessageA w) (s : State (List ℕ))
+    (sys : System w) (c : ℕ) (operation : Op w) (P : AbstractState w → Type 0)
+    → P (abstract_step_by config (Ask c operation) (stepped_at config (terms_at config c) (Ask c operation) sys).outcome
+    sys (shadow_of mail request s))
     → P (abstract_step config (Ask c operation) sys (shadow_of mail request s))
 unfolding stepped
 asked_now config mail request s sys c operation P is = is
 
 -- what holds of the protocol as it is, after what a client was asked for, and after the first token of each channel
 -- where its message is complete, holds as it follows the event
-pub followed-cases : {w : ℕ} (config : Config) (log : Log w) (mail : AccessMessages w) (request : ℕ → MessageA w) (s : State (List ℕ)) (sys : System w) (event : Event w) (P : AbstractState w → Type 0) → IsWidth w
+pub followed-cases : {w : ℕ} (config : Config) (log : Log w) (mail : AccessMessages w) (request : ℕ → MessageA w)
+    (s : State (List ℕ)) (sys : System w) (event : Event w) (P : AbstractState w → Type 0) → IsWidth w
     → SimulationRelation config log mail request s sys → P (shadow_of mail request s)
-    → ((terms : EndConfig) (c : ℕ) (operation : Op w) → terms_at config c ≡ Some terms → P (asked c operation (ask.asked terms operation (sys.clients c)).reply (shadow_of mail request s)))
-    → ((link : Link) (ch : Channel) (x : Beat w) (queue : List (Beat w)) (d : IsDelivery config mail s sys link ch x queue)
+    → ((terms : EndConfig) (c : ℕ) (operation : Op w) → terms_at config c ≡ Some terms
+    → P (asked c operation (ask.asked terms operation (sys.clients c)).reply (shadow_of mail request s)))
+    → ((link : Link) (ch : Channel) (x : Beat w) (queue : List (Beat w))
+    (d : IsDelivery config mail s sys link ch x queue)
     → P (taken_of config mail request s sys link.0 d.first.kind d.first.number d.first.rest))
     → P (abstract_step config event sys (shadow_of mail request s))
 followed-cases {w} config log mail request s sys (Ask c operation) P width h none asks kinds =
-    asked_now config mail request s sys c operation P (asked-cases config log mail request s sys c operation (terms_at config c) P refl none (λ terms at. asks terms c operation at))
-followed-cases config log mail request s sys (Deliver link ch) P width h none asks kinds = delivered-cases config log mail request s sys link ch P width h none (λ x queue d. kinds link ch x queue d)
+    asked_now config mail request s sys c operation P (asked-cases config log mail request s sys c operation
+    (terms_at config c) P refl none (λ terms at. asks terms c operation at))
+followed-cases config log mail request s sys (Deliver link ch) P width h none asks kinds =
+    delivered-cases config log mail request s sys link ch P width h none (λ x queue d. kinds link ch x queue d)
 
 -- ---- answers and Grants that are on their way
 
 -- the first token of its kind
-pub on-first : {w : ℕ} (config : Config) (mail : AccessMessages w) (s : State (List ℕ)) (sys : System w) (link : Link) (ch : Channel) (x : Beat w) (queue : List (Beat w))
+pub on-first : {w : ℕ} (config : Config) (mail : AccessMessages w) (s : State (List ℕ)) (sys : System w) (link : Link)
+    (ch : Channel) (x : Beat w) (queue : List (Beat w))
     (d : IsDelivery config mail s sys link ch x queue)
     → on d.first.kind (s.link link.0) ≡ packet d.first.kind d.first.number ∷ d.first.rest
 on-first config mail s sys link ch x queue d = on_same ch d.first.kind (s.link link.0) d.first.own ∙ d.first.tokens
 
-pub answered-followed : {w : ℕ} (config : Config) (log : Log w) (mail : AccessMessages w) (request : ℕ → MessageA w) (s : State (List ℕ)) (sys : System w)
+pub answered-followed : {w : ℕ} (config : Config) (log : Log w) (mail : AccessMessages w) (request : ℕ → MessageA w)
+    (s : State (List ℕ)) (sys : System w)
     (event : Event w) → IsWidth w → SimulationRelation config log mail request s sys
-    → AreAnswered (abstract_step config event sys (shadow_of mail request s)).mail (abstract_step config event sys (shadow_of mail request s)).state
+    → AreAnswered (abstract_step config event sys (shadow_of mail request s)).mail
+    (abstract_step config event sys (shadow_of mail request s)).state
 answered-followed {w} config log mail request s sys event width h =
-    followed-cases config log mail request s sys event (λ (x : AbstractState w). AreAnswered x.mail x.state) width h h.answered
+    followed-cases config log mail request s sys event (λ (x : AbstractState w). AreAnswered x.mail x.state) width h
+    h.answered
     (λ terms c o at. answered-asked c o (ask.asked terms o (sys.clients c)).reply (shadow_of mail request s) h.answered)
-    (λ link ch x queue d. answered-kind_taken config log (next_tracker sys) link.0 d.first.kind d.first.number d.first.rest (shadow_of mail request s) sys h
+    (λ link ch x queue d. answered-kind_taken config log (next_tracker sys) link.0 d.first.kind d.first.number
+    d.first.rest (shadow_of mail request s) sys h
     (on-first config mail s sys link ch x queue d))
 
-pub given-followed : {w : ℕ} (config : Config) (log : Log w) (mail : AccessMessages w) (request : ℕ → MessageA w) (s : State (List ℕ)) (sys : System w) (event : Event w)
+pub given-followed : {w : ℕ} (config : Config) (log : Log w) (mail : AccessMessages w) (request : ℕ → MessageA w)
+    (s : State (List ℕ)) (sys : System w) (event : Event w)
     → IsWidth w → SimulationRelation config log mail request s sys
     → AreGiven config.profile (abstract_step config event sys (shadow_of mail request s)).state
 given-followed {w} config log mail request s sys event width h =
-    followed-cases config log mail request s sys event (λ (x : AbstractState w). AreGiven config.profile x.state) width h h.given
-    (λ terms c o at. given-asked (is_caching config) config.profile c o (ask.asked terms o (sys.clients c)).reply (shadow_of mail request s) h.invariant
+    followed-cases config log mail request s sys event (λ (x : AbstractState w). AreGiven config.profile x.state) width
+    h h.given
+    (λ terms c o at. given-asked (is_caching config) config.profile c o (ask.asked terms o (sys.clients c)).reply
+    (shadow_of mail request s) h.invariant
     (askable config log mail request s sys terms c o h at) h.given)
-    (λ link ch x queue d. given-kind_taken config (next_tracker sys) link.0 d.first.kind d.first.number d.first.rest (shadow_of mail request s) h.given)
+    (λ link ch x queue d. given-kind_taken config (next_tracker sys) link.0 d.first.kind d.first.number d.first.rest
+    (shadow_of mail request s) h.given)

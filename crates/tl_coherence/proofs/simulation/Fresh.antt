@@ -1,30 +1,29 @@
 -- As a world begins, it is matched by the protocol as that begins.
+use Rattle.tl_coherence.proofs.simulation.Imports.{Channel, unfinished, Config, pending, services, IsInvariant}
+use Rattle.tl_coherence.proofs.simulation.Imports.{receiver, on, shown, packets_on, Kind, Request, Acquire, Probe}
+use Rattle.tl_coherence.proofs.simulation.Imports.{ProbeAck, Release, Answer, Grant, ReleaseAck, GrantAck}
+use Rattle.tl_coherence.proofs.simulation.Imports.{SimulationRelation, is_caching}
 use Rattle.std.proofs.Common.{◌≡◌, ℕ, zero, suc, ◌*◌, ◌+◌, true, List, [], ◌∷◌, replicate, Bool, refl, sym, ap, arith}
 use Rattle.std.proofs.lemmas.List.{get_or-replicate}
-use Rattle.tl_beat.specs.declared.channel.Channel.{Channel}
 use Rattle.tl_beat.specs.declared.channel.Channel.TheVariants as channel
-use Rattle.tl_burst.specs.statement.Messages.{unfinished}
-use Rattle.tl_params.specs.declared.config.Config.{Config}
 use Rattle.tl_rules.specs.statement.Conformance.{on_link}
 use Rattle.tl_rules.specs.statement.Effect.{bytes_from, IsBlock}
-use Rattle.tl_rules.specs.statement.History.{held, pending}
+use Rattle.tl_rules.specs.statement.History.{held}
 use Rattle.tl_client.specs.statement.Endpoint.{zeros}
 use Rattle.tl_client.proofs.Accounted.{accounted-fresh}
 use Rattle.tl_client.proofs.KeptOffered.{kept-fresh}
-use Rattle.tl_manager.specs.statement.Service.{services}
 use Rattle.tl_manager.proofs.Keeping.{fresh-kept}
 use Rattle.tl_coherence.specs.refinement.Carried.{IsCarried}
 use Rattle.tl_coherence.specs.statement.Flow.{flow}
 use Rattle.tl_coherence.specs.refinement.AbstractStep.{first_block, first_link, first_state, first_abstract_state}
-use Rattle.tl_coherence.specs.protocol.Invariant.{IsWell, IsInvariant}
-use Rattle.tl_coherence.specs.refinement.ChannelRelation.{receiver}
+use Rattle.tl_coherence.specs.protocol.Invariant.{IsWell}
 use Rattle.tl_coherence.specs.protocol.Phase.{ok}
-use Rattle.tl_coherence.specs.protocol.Protocol.{on, shown, is_transfer, packets_on}
+use Rattle.tl_coherence.specs.protocol.Protocol.{is_transfer}
 use Rattle.tl_coherence.specs.statement.OneMemory.{one_memory_after}
 use Rattle.tl_coherence.specs.refinement.PacketMessages.{messages_on}
 use Rattle.tl_coherence.specs.statement.System.{fresh}
-use Rattle.tl_coherence.specs.protocol.Packet.{Kind, Request, Acquire, Probe, ProbeAck, Release, Answer, Grant, ReleaseAck, GrantAck, count, Holds, IsOrdered}
-use Rattle.tl_coherence.specs.refinement.SimulationRelation.{SimulationRelation, MonitorRelations, is_caching}
+use Rattle.tl_coherence.specs.protocol.Packet.{count, Holds, IsOrdered}
+use Rattle.tl_coherence.specs.refinement.SimulationRelation.{MonitorRelations}
 
 -- ---- the protocol
 
@@ -86,7 +85,8 @@ zeros-block n i lt = sym (get_or-replicate {A = ℕ} 64 i 0 0 lt)
 
 -- ---- the whole
 
-none-carried : (w c : ℕ) (ch : Channel) → IsCarried {w = w} (unfinished ch (receiver ch c fresh)) (messages_on ch (first_abstract_state {w = w}).mail first_state c) []
+none-carried : (w c : ℕ) (ch : Channel) → IsCarried {w = w} (unfinished ch (receiver ch c fresh))
+    (messages_on ch (first_abstract_state {w = w}).mail first_state c) []
 unfolding unfinished on_link
 none-carried w c channel.A = (refl, refl)
 none-carried w c channel.B = (refl, refl)
@@ -103,7 +103,8 @@ none-left w c channel.D = refl
 none-left w c channel.E = refl
 
 -- a whole of ends and channels that are fresh is that of the protocol's first state
-pub fresh-matched : {w : ℕ} (config : Config) → SimulationRelation {w = w} config [] first_abstract_state.mail first_abstract_state.request first_state fresh
+pub fresh-matched : {w : ℕ} (config : Config) → SimulationRelation {w = w} config [] first_abstract_state.mail
+    first_abstract_state.request first_state fresh
 unfolding held pending unfinished on_link services one_memory_after
 fresh-matched {w} config = record {
   invariant = first-invariant (is_caching config);
@@ -125,7 +126,13 @@ fresh-matched {w} config = record {
     sinks = λ sink. refl;
     grants = λ n. refl;
   };
-  opened = λ c. record { requests = λ source. refl; releases = λ source. refl; released = λ source n some. absurd cc; sizes = λ source n some. absurd cc };
+  opened = λ c. record {
+    requests = λ source. refl;
+    releases = λ source. refl;
+    released =
+        λ source n some. absurd cc;
+    sizes = λ source n some. absurd cc;
+  };
   kept = λ c. kept-fresh w;
   accounted = λ c. accounted-fresh w;
   copies = λ c n some. absurd cc;

@@ -1,25 +1,18 @@
 -- Each client's open sources are its own, in every world; and so no channel holds more than it is made for.
+use Rattle.tl_coherence.proofs.simulation.Imports.{IsWidth, Channel, MessageA, Config, pending, EndConfig, Log}
+use Rattle.tl_coherence.proofs.simulation.Imports.{system_after, State, AccessMessages, terms_at, SimulationRelation}
+use Rattle.tl_coherence.proofs.simulation.Imports.{is_caching}
 use Rattle.std.proofs.Common.{◌≡◌, ℕ, ◌/◌, ◌≤◌, true, List, refl}
 use Rattle.std.specs.Prelude.{Option, Some, None, length}
-use Rattle.tl_beat.specs.statement.Width.{IsWidth}
-use Rattle.tl_beat.specs.declared.channel.Channel.{Channel}
-use Rattle.tl_burst.specs.declared.message.MessageA.{MessageA}
-use Rattle.tl_params.specs.declared.config.Config.{Config}
 use Rattle.tl_params.specs.declared.key.Key.{Key}
 use Rattle.tl_params.specs.declared.key.Key.TheVariants.{RequestSource, ReleaseSource}
-use Rattle.tl_rules.specs.statement.History.{pending}
-use Rattle.tl_client.specs.statement.Endpoint.{Endpoint, EndConfig, fresh}
+use Rattle.tl_client.specs.statement.Endpoint.{Endpoint, fresh}
 use Rattle.tl_client.specs.laws.Inside.{IsInside}
 use Rattle.tl_client.specs.statement.EndpointInvariant.{IsEndpointInvariant}
 use Rattle.tl_client.proofs.Inside.{inside-fresh, inside-asked, inside-offered}
 use Rattle.tl_client.proofs.KeptAsked.{kept-asked}
 use Rattle.tl_client.proofs.KeptOffered.{kept-fresh, kept-offered}
 use Rattle.tl_coherence.specs.statement.Delivery.{capacity, sources_of}
-use Rattle.tl_coherence.specs.statement.Log.{Log, system_after}
-use Rattle.tl_coherence.specs.protocol.Protocol.{State}
-use Rattle.tl_coherence.specs.refinement.PacketMessages.{AccessMessages}
-use Rattle.tl_coherence.specs.statement.System.{terms_at}
-use Rattle.tl_coherence.specs.refinement.SimulationRelation.{SimulationRelation, is_caching}
 use Rattle.tl_coherence.proofs.simulation.Bounded.{IsOwn, matched-bounded}
 use Rattle.tl_coherence.proofs.queues.Ends.{AreKept, ends-kept}
 use Rattle.tl_coherence.proofs.protocol.Room.{channel-few}
@@ -41,17 +34,20 @@ within-kept {w} config width = record {
   fresh = λ c. record { kept = kept-fresh w; inside = λ terms is. inside-fresh w terms; nobody = λ is. refl };
   asked = λ c terms op e is was. record {
     kept = kept-asked terms op e width was.kept;
-    inside = λ other so. rw (some_is (terms_at config c) so is) (inside-asked terms op e width was.kept (was.inside terms is));
+    inside = λ other so. rw (some_is (terms_at config c) so is)
+        (inside-asked terms op e width was.kept (was.inside terms is));
     nobody = λ so. none_is (terms_at config c) is so;
   };
   offered = λ c terms ch x e is was. record {
     kept = kept-offered terms ch x e width was.kept;
-    inside = λ other so. rw (some_is (terms_at config c) so is) (inside-offered terms ch x e width was.kept (was.inside terms is));
+    inside = λ other so. rw (some_is (terms_at config c) so is)
+        (inside-offered terms ch x e width was.kept (was.inside terms is));
     nobody = λ so. none_is (terms_at config c) is so;
   };
 }
 
-pub ends-within : {w : ℕ} (config : Config) (log : Log w) (c : ℕ) → IsWidth w → IsWithin config c ((system_after config log).clients c)
+pub ends-within : {w : ℕ} (config : Config) (log : Log w) (c : ℕ) → IsWidth w
+    → IsWithin config c ((system_after config log).clients c)
 ends-within config log c width = ends-kept config (IsWithin config) (within-kept config width) log c
 
 pub sources-own : {w : ℕ} (config : Config) (log : Log w) (c : ℕ) → IsWidth w → IsOwn config c (system_after config log)
@@ -61,7 +57,8 @@ sources-own {w} config log c width = go (terms_at config c) refl
     within : IsWithin config c ((system_after config log).clients c)
     within = ends-within config log c width
 
-    not_pending : (k : Key) → ((system_after config log).clients c) ≡ fresh → pending k ((system_after config log).clients c).past ≡ true → pending k (fresh {w = w}).past ≡ true
+    not_pending : (k : Key) → ((system_after config log).clients c) ≡ fresh
+        → pending k ((system_after config log).clients c).past ≡ true → pending k (fresh {w = w}).past ≡ true
     not_pending k e p = rw e at p
 
     go : (o : Option EndConfig) → terms_at config c ≡ o → IsOwn config c (system_after config log)
@@ -75,8 +72,12 @@ sources-own {w} config log c width = go (terms_at config c) refl
     }
 
 -- no channel holds more than it is made for
-pub channels-few : {w : ℕ} (config : Config) (log : Log w) (mail : AccessMessages w) (request : ℕ → MessageA w) (s : State (List ℕ)) → IsWidth w → SimulationRelation config log mail request s (system_after config log)
-    → (c : ℕ) (ch : Channel) → length ((system_after config log).channels c ch) ≤ capacity (64 / w) (sources_of (terms_at config c)) config.trackers ch
+pub channels-few : {w : ℕ} (config : Config) (log : Log w) (mail : AccessMessages w) (request : ℕ → MessageA w)
+    (s : State (List ℕ)) → IsWidth w → SimulationRelation config log mail request s (system_after config log)
+    → (c : ℕ) (ch : Channel) → length ((system_after config log).channels c ch) ≤ capacity (64 / w)
+    (sources_of (terms_at config c)) config.trackers ch
 channels-few {w} config log mail request s width matched c ch =
-    channel-few (is_caching config) mail s c (sources_of (terms_at config c)) config.trackers ch _ _ width matched.invariant
-    (matched-bounded config log mail request s (system_after config log) matched c (sources-own config log c width)) (matched.carried c ch)
+    channel-few (is_caching config) mail s c (sources_of (terms_at config c)) config.trackers ch _ _ width
+    matched.invariant
+    (matched-bounded config log mail request s (system_after config log) matched c (sources-own config log c width))
+    (matched.carried c ch)

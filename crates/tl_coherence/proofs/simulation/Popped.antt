@@ -1,26 +1,18 @@
 -- What a delivery leaves on the channels, who has something open, and how much is left of what is taken.
+use Rattle.tl_coherence.proofs.simulation.Imports.{IsWidth, Beat, Channel, Message, MessageA, beats_of, unfinished}
+use Rattle.tl_coherence.proofs.simulation.Imports.{Config, EndConfig, Log, system_after, receiver, Move, Stays, State}
+use Rattle.tl_coherence.proofs.simulation.Imports.{SourceFree, packet, packets_on, is_on, AccessMessages, System}
+use Rattle.tl_coherence.proofs.simulation.Imports.{same_channel, terms_at, Kind, Request, Acquire, Probe, ProbeAck}
+use Rattle.tl_coherence.proofs.simulation.Imports.{Release, Answer, Grant, ReleaseAck, GrantAck, Packet}
+use Rattle.tl_coherence.proofs.simulation.Imports.{SimulationRelation}
 use Rattle.std.proofs.Common.{◌≡◌, ℕ, ◌+◌, ◌<◌, Bool, true, false, List, [], ◌∷◌, refl, sym, ◌∙◌, ap, arith}
 use Rattle.std.specs.Prelude.{◌==◌, ◌&&◌, if◌then◌else◌, Option, Some, None, length}
 use Rattle.std.proofs.lemmas.Bool.{eqb-true}
-use Rattle.tl_beat.specs.statement.Width.{IsWidth}
-use Rattle.tl_beat.specs.declared.beat.Beat.{Beat}
-use Rattle.tl_beat.specs.declared.channel.Channel.{Channel}
 use Rattle.tl_beat.specs.declared.channel.Channel.TheVariants as channel
-use Rattle.tl_burst.specs.declared.message.Message.{Message}
-use Rattle.tl_burst.specs.declared.message.MessageA.{MessageA}
-use Rattle.tl_burst.specs.statement.Burst.{beats_of}
-use Rattle.tl_burst.specs.statement.Messages.{unfinished}
 use Rattle.tl_burst.proofs.Begun.{length-begun}
-use Rattle.tl_params.specs.declared.config.Config.{Config}
-use Rattle.tl_client.specs.statement.Endpoint.{EndConfig}
-use Rattle.tl_coherence.specs.statement.Log.{Log, system_after}
-use Rattle.tl_coherence.specs.refinement.ChannelRelation.{receiver}
-use Rattle.tl_coherence.specs.refinement.Move.{Move, Stays, Pushes, Pops, IsMoved, AreMoved, channel_for}
-use Rattle.tl_coherence.specs.protocol.Protocol.{State, SourceFree, packet, packets_on, is_on}
-use Rattle.tl_coherence.specs.refinement.PacketMessages.{AccessMessages, message_of_kind}
-use Rattle.tl_coherence.specs.statement.System.{System, same_channel, terms_at}
-use Rattle.tl_coherence.specs.protocol.Packet.{Kind, Request, Acquire, Probe, ProbeAck, Release, Answer, Grant, ReleaseAck, GrantAck, Packet, is}
-use Rattle.tl_coherence.specs.refinement.SimulationRelation.{SimulationRelation}
+use Rattle.tl_coherence.specs.refinement.Move.{Pushes, Pops, IsMoved, AreMoved, channel_for}
+use Rattle.tl_coherence.specs.refinement.PacketMessages.{message_of_kind}
+use Rattle.tl_coherence.specs.protocol.Packet.{is}
 use Rattle.tl_coherence.proofs.simulation.Bounded.{matched-bounded}
 use Rattle.tl_coherence.proofs.queues.Channels.{Fits, same_channel-is}
 use Rattle.tl_coherence.proofs.queues.FirstToken.{IsFirst}
@@ -39,7 +31,8 @@ unfinished_at sys c ch = unfinished ch (receiver ch c sys)
 
 -- The receiver of channel ch of client c's link has the last beat of a message, and the others have what they had.
 abbrev pub IsReceived : {w : ℕ} → ℕ → Channel → System w → System w → Type 0
-IsReceived c ch sys sys' = (d : ℕ) (at : Channel) → unfinished_at sys' d at ≡ (if (d == c) && same_channel at ch then [] else unfinished_at sys d at)
+IsReceived c ch sys sys' = (d : ℕ) (at : Channel)
+    → unfinished_at sys' d at ≡ (if (d == c) && same_channel at ch then [] else unfinished_at sys d at)
 
 -- ---- a channel loses its first token, the others lose none
 
@@ -48,13 +41,15 @@ pub record IsHead (xs ys : List Packet) : Type 0 where
   pub first : Packet
   pub is : xs ≡ first ∷ ys
 
-popped_first : {w : ℕ} (push : Option (Message w)) (move : Move) (render : Kind → ℕ → Message w) (xs ys : List Packet) → Fits true push move render → IsMoved move xs ys → IsHead xs ys
+popped_first : {w : ℕ} (push : Option (Message w)) (move : Move) (render : Kind → ℕ → Message w) (xs ys : List Packet)
+    → Fits true push move render → IsMoved move xs ys → IsHead xs ys
 popped_first None (Pops k n) render xs ys fits e = record { first = packet k n; is = e }
 popped_first None Stays render xs ys fits e = absurd fits
 popped_first None (Pushes k n) render xs ys fits e = absurd fits
 popped_first (Some m) move render xs ys fits e = absurd fits
 
-not_popped : {w : ℕ} (push : Option (Message w)) (move : Move) (render : Kind → ℕ → Message w) → Fits false push move render → is_pop move ≡ false
+not_popped : {w : ℕ} (push : Option (Message w)) (move : Move) (render : Kind → ℕ → Message w)
+    → Fits false push move render → is_pop move ≡ false
 not_popped None Stays render fits = refl
 not_popped (Some m) (Pushes k n) render fits = refl
 not_popped None (Pops k n) render fits = absurd fits
@@ -70,19 +65,25 @@ elsewhere c d ch at ne = go (d == c) (same_channel at ch) refl refl
     go true false e f = refl
     go true true e f = absurd (ne (eqb-true d c e) (same_channel-is at ch f))
 
-fits_by : {w : ℕ} (a b : Bool) (push : Option (Message w)) (move : Move) (render : Kind → ℕ → Message w) → a ≡ b → Fits a push move render → Fits b push move render
+fits_by : {w : ℕ} (a b : Bool) (push : Option (Message w)) (move : Move) (render : Kind → ℕ → Message w) → a ≡ b
+    → Fits a push move render → Fits b push move render
 fits_by a b push move render e fits = rw (← e) fits
 
-pub popped-received : {w : ℕ} (c : ℕ) (ch : Channel) (pushes : ℕ → Channel → Option (Message w)) (moves : ℕ → Channel → Move)
+pub popped-received : {w : ℕ} (c : ℕ) (ch : Channel) (pushes : ℕ → Channel → Option (Message w)) (moves : ℕ → Channel
+    → Move)
     (render : ℕ → Kind → ℕ → Message w) (s s' : State (List ℕ)) (sys sys' : System w) → IsReceived c ch sys sys'
     → ((d : ℕ) (at : Channel) → Fits ((d == c) && same_channel at ch) (pushes d at) (moves d at) (render d))
-    → ((d : ℕ) → AreMoved (moves d) (s.link d) (s'.link d)) → IsPopped c ch moves (unfinished_at sys) (unfinished_at sys') s s'
+    → ((d : ℕ) → AreMoved (moves d) (s.link d) (s'.link d))
+    → IsPopped c ch moves (unfinished_at sys) (unfinished_at sys') s s'
 popped-received {w} c ch pushes moves render s s' sys sys' received fits moved = record {
   first = head.first;
   tokens = head.is;
   none = received c ch ∙ ap (λ (b : Bool). if b then [] else unfinished_at sys c ch) here;
-  unpopped = λ d at ne. not_popped (pushes d at) (moves d at) (render d) (fits_by ((d == c) && same_channel at ch) false (pushes d at) (moves d at) (render d) (elsewhere c d ch at ne) (fits d at));
-  rests = λ d at ne. received d at ∙ ap (λ (b : Bool). if b then [] else unfinished_at sys d at) (elsewhere c d ch at ne);
+  unpopped = λ d at ne. not_popped (pushes d at) (moves d at) (render d)
+      (fits_by ((d == c) && same_channel at ch) false (pushes d at) (moves d at) (render d) (elsewhere c d ch at ne)
+      (fits d at));
+  rests = λ d at ne. received d at ∙ ap (λ (b : Bool). if b then [] else unfinished_at sys d at)
+      (elsewhere c d ch at ne);
 }
   where
     here : ((c == c) && same_channel ch ch) ≡ true
@@ -90,26 +91,34 @@ popped-received {w} c ch pushes moves render s s' sys sys' received fits moved =
 
     head : IsHead (packets_on ch (s.link c)) (packets_on ch (s'.link c))
     head = popped_first (pushes c ch) (moves c ch) (render c) (packets_on ch (s.link c)) (packets_on ch (s'.link c))
-        (fits_by ((c == c) && same_channel ch ch) true (pushes c ch) (moves c ch) (render c) here (fits c ch)) (moved c ch)
+        (fits_by ((c == c) && same_channel ch ch) true (pushes c ch) (moves c ch) (render c) here (fits c ch))
+        (moved c ch)
 
 -- ---- who has something open
 
-module _ {w : ℕ} (config : Config) (log : Log w) (mail : AccessMessages w) (request : ℕ → MessageA w) (s : State (List ℕ))
+module _ {w : ℕ} (config : Config) (log : Log w) (mail : AccessMessages w) (request : ℕ → MessageA w)
+    (s : State (List ℕ))
     (matched : SimulationRelation config log mail request s (system_after config log)) (width : IsWidth w) where
   pub are-clients : AreClients config s
   are-clients = record {
     clients = λ d i used. user d i (terms_at config d) refl used;
-    sources = λ d i used. (matched-bounded config log mail request s (system_after config log) matched d (sources-own config log d width)).requests i used;
+    sources = λ d i used. (matched-bounded config log mail request s (system_after config log) matched d
+        (sources-own config log d width)).requests i used;
     letters = λ d i n e. letter d i n (terms_at config d) refl e;
-    releases = λ d i n e. (matched-bounded config log mail request s (system_after config log) matched d (sources-own config log d width)).releases i n e;
+    releases = λ d i n e. (matched-bounded config log mail request s (system_after config log) matched d
+        (sources-own config log d width)).releases i n e;
   }
     where
-      user : (d i : ℕ) (o : Option EndConfig) → terms_at config d ≡ o → (s.uses d i ≡ SourceFree → ⊥) → d < length config.clients.items
+      user : (d i : ℕ) (o : Option EndConfig) → terms_at config d ≡ o → (s.uses d i ≡ SourceFree → ⊥)
+          → d < length config.clients.items
       user d i None is used = absurd (used (no_use config log mail request s matched width d is i))
       user d i (Some terms) is used = client_below config d terms is
 
-      letter : (d i n : ℕ) (o : Option EndConfig) → terms_at config d ≡ o → s.lets d i ≡ Some n → d < length config.clients.items
-      letter d i n None is e = absurd (let none : s.lets d i ≡ None = no_let config log mail request s matched width d is i in let both = sym e ∙ none in cc)
+      letter : (d i n : ℕ) (o : Option EndConfig) → terms_at config d ≡ o → s.lets d i ≡ Some n
+          → d < length config.clients.items
+      letter d i n None is e =
+          absurd (let none : s.lets d i ≡ None = no_let config log mail request s matched width d is i in let both =
+          sym e ∙ none in cc)
       letter d i n (Some terms) is e = client_below config d terms is
 
 -- ---- what is taken
@@ -128,11 +137,20 @@ kind_channel channel.E GrantAck e = refl
 kind_channel ch k e = absurd cc
 
 -- at least its last beat is left of the message that comes first
-pub first-left : {w : ℕ} (ch : Channel) (c : ℕ) (mail : AccessMessages w) (s : State (List ℕ)) (sys : System w) (x : Beat w) (queue : List (Beat w)) → (first : IsFirst ch c mail s sys x queue)
-    → beats_left mail s (unfinished_at sys) c first.kind first.number + first.next.k ≡ beats_of (message_of_kind first.kind mail s c first.number)
+pub first-left : {w : ℕ} (ch : Channel) (c : ℕ) (mail : AccessMessages w) (s : State (List ℕ)) (sys : System w)
+    (x : Beat w) (queue : List (Beat w)) → (first : IsFirst ch c mail s sys x queue)
+    → beats_left mail s (unfinished_at sys) c first.kind first.number + first.next.k ≡ beats_of
+    (message_of_kind first.kind mail s c first.number)
 first-left {w} ch c mail s sys x queue first =
-    let taken : taken_of (unfinished_at sys c (channel_for first.kind)) (is_front first.kind first.number (packets_on (channel_for first.kind) (s.link c))) ≡ first.next.k =
-    rw (kind_channel ch first.kind first.own, first.tokens, same_kind_again first.kind, same_number first.number, first.next.rest_is)
+    let taken : taken_of (unfinished_at sys c (channel_for first.kind))
+    (is_front first.kind first.number (packets_on (channel_for first.kind) (s.link c))) ≡ first.next.k =
+    rw (
+      kind_channel ch first.kind first.own,
+      first.tokens,
+      same_kind_again first.kind,
+      same_number first.number,
+      first.next.rest_is,
+    )
     (length-begun (message_of_kind first.kind mail s c first.number) first.next.k) in
     let within = first.next.within in
     omega (arith, taken, within)

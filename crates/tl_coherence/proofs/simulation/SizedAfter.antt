@@ -1,19 +1,19 @@
 -- The bytes of each block are 64, and each access that is under way has its source, after every event.
-use Rattle.std.proofs.Common.{◌≡◌, ℕ, ◌*◌, Bool, true, false, ◌&&◌, List, ◌∷◌, Option, Some, None, refl, sym, ◌∙◌, ap, ◌⊎◌, inl, inr}
+use Rattle.tl_coherence.proofs.simulation.Imports.{Message, MessageA, Config, Cap, Report, block_at, Op, AbstractState}
+use Rattle.tl_coherence.proofs.simulation.Imports.{asked, kind_taken, IsTypedOp, IsInvariant, NoAcquire, Service, Free}
+use Rattle.tl_coherence.proofs.simulation.Imports.{Waits, GrantSent, GrantTaken, Block, State, SourceState, SourceFree}
+use Rattle.tl_coherence.proofs.simulation.Imports.{Asked, InService, Replied, Acquires, packet, on, Kind, Request}
+use Rattle.tl_coherence.proofs.simulation.Imports.{Acquire, Probe, ProbeAck, Release, Answer, Grant, ReleaseAck}
+use Rattle.tl_coherence.proofs.simulation.Imports.{GrantAck, Packet, set, set_at}
+use Rattle.std.proofs.Common.{◌≡◌, ℕ, ◌*◌, Bool, true, false, ◌&&◌, List, ◌∷◌, Option, Some, None, refl, sym, ◌∙◌, ap}
+use Rattle.std.proofs.Common.{◌⊎◌, inl, inr}
 use Rattle.std.specs.Prelude.{◌==◌, if◌then◌else◌, length, ⊤}
 use Rattle.std.proofs.lemmas.Bool.{cases_eq, ne_eqb}
-use Rattle.tl_burst.specs.declared.message.Message.{Message}
 use Rattle.tl_burst.specs.declared.message.Message.TheVariants as message
-use Rattle.tl_burst.specs.declared.message.MessageA.{MessageA}
-use Rattle.tl_params.specs.declared.config.Config.{Config}
-use Rattle.tl_params.specs.declared.param.Cap.{Cap}
 use Rattle.tl_params.specs.declared.param.Grow.{Grow}
-use Rattle.tl_params.specs.declared.param.Report.{Report}
 use Rattle.tl_params.specs.declared.profile.Profile.{Profile}
 use Rattle.tl_params.specs.declared.perm.Perm.TheVariants as perm
-use Rattle.tl_rules.specs.statement.History.{block_at}
 use Rattle.tl_rules.specs.statement.Conformance.{same_perm}
-use Rattle.tl_client.specs.declared.operation.Op.{Op}
 use Rattle.tl_client.specs.declared.operation.Op.TheVariants as op
 use Rattle.tl_client.specs.declared.reply.Reply.{Reply}
 use Rattle.tl_client.specs.declared.reply.Reply.TheVariants as reply
@@ -21,15 +21,16 @@ use Rattle.tl_client.specs.statement.Ask.{copy_stored, is_word}
 use Rattle.tl_client.specs.statement.Send.{access}
 use Rattle.tl_client.proofs.Stores.{word_room, length-stored}
 use Rattle.tl_manager.proofs.Filled.{length-bytes}
-use Rattle.tl_coherence.specs.refinement.AbstractStep.{AbstractState, asked, performs, access_taken, request_taken, acquire_taken, granted_after, last_taken, is_whole, taken_by_client, kind_taken}
-use Rattle.tl_coherence.specs.statement.Headline.{IsTypedOp}
-use Rattle.tl_coherence.specs.protocol.Invariant.{is_asked, IsInvariant}
-use Rattle.tl_coherence.specs.protocol.Phase.{ClientBlock, AcquirePhase, NoAcquire, AcquireOpen}
-use Rattle.tl_coherence.specs.protocol.PhaseSteps.{after_acquire, after_release, after_served, after_grant_sent, after_probe, after_report, after_release_taken, after_release_ack, after_grant}
-use Rattle.tl_coherence.specs.protocol.Protocol.{Service, Free, Waits, GrantSent, GrantTaken, Block, State, SourceState, SourceFree, Asked, InService, Replied, Acquires, packet, on}
-use Rattle.tl_coherence.specs.protocol.Protocol.{acquiring_block, stored_block, performed_block, served_block, ended_block, granted_block, granted_pair, taken_block}
-use Rattle.tl_coherence.specs.protocol.Protocol.{granted_truth, freed_block}
-use Rattle.tl_coherence.specs.protocol.Packet.{Kind, Request, Acquire, Probe, ProbeAck, Release, Answer, Grant, ReleaseAck, GrantAck, Packet, set, set_at}
+use Rattle.tl_coherence.specs.refinement.AbstractStep.{performs, access_taken, request_taken, acquire_taken}
+use Rattle.tl_coherence.specs.refinement.AbstractStep.{granted_after, last_taken, is_whole, taken_by_client}
+use Rattle.tl_coherence.specs.protocol.Invariant.{is_asked}
+use Rattle.tl_coherence.specs.protocol.Phase.{ClientBlock, AcquirePhase, AcquireOpen}
+use Rattle.tl_coherence.specs.protocol.PhaseSteps.{after_acquire, after_release, after_served, after_grant_sent}
+use Rattle.tl_coherence.specs.protocol.PhaseSteps.{after_probe, after_report, after_release_taken, after_release_ack}
+use Rattle.tl_coherence.specs.protocol.PhaseSteps.{after_grant}
+use Rattle.tl_coherence.specs.protocol.Protocol.{acquiring_block, stored_block, performed_block, served_block}
+use Rattle.tl_coherence.specs.protocol.Protocol.{ended_block, granted_block, granted_pair, taken_block, granted_truth}
+use Rattle.tl_coherence.specs.protocol.Protocol.{freed_block}
 use Rattle.tl_coherence.specs.refinement.SimulationRelation.{AreSized, IsRequest, IsSourced, is_storing}
 use Rattle.tl_coherence.proofs.simulation.Sized.{each-set_at}
 use Rattle.tl_coherence.proofs.queues.Tokens.{same_number, set-same, set-other, set-each, set-part, holds-first}
@@ -42,21 +43,28 @@ use Rattle.tl_coherence.proofs.rank.RankParts.{serving-use}
 abbrev pub AreSourced : {w : ℕ} → Config → (ℕ → ℕ → Message w) → (ℕ → ℕ → SourceState) → Type 0
 AreSourced config request uses = (c source : ℕ) → IsSourced config c source (request c source) (uses c source)
 
-sourced_set : {w : ℕ} (config : Config) (request : ℕ → ℕ → Message w) (c source : ℕ) (u : SourceState) (uses : ℕ → ℕ → SourceState)
-    → IsSourced config c source (request c source) u → AreSourced config request uses → AreSourced config request (set_at c source u uses)
-sourced_set config request c source u uses here before d i = each-set_at (λ j k v. IsSourced config j k (request j k) v) c source u uses here before d i
+sourced_set : {w : ℕ} (config : Config) (request : ℕ → ℕ → Message w) (c source : ℕ) (u : SourceState) (uses : ℕ → ℕ
+    → SourceState)
+    → IsSourced config c source (request c source) u → AreSourced config request uses
+    → AreSourced config request (set_at c source u uses)
+sourced_set config request c source u uses here before d i = each-set_at (λ j k v. IsSourced config j k (request j k) v)
+    c source u uses here before d i
 
 -- a source that is asked with has its request
-asked_request : {w : ℕ} (config : Config) (c source : ℕ) (m : Message w) (u : SourceState) → u ≡ Asked → IsSourced config c source m u → IsRequest config c source m
+asked_request : {w : ℕ} (config : Config) (c source : ℕ) (m : Message w) (u : SourceState) → u ≡ Asked
+    → IsSourced config c source m u → IsRequest config c source m
 asked_request config c source m u e h = rw e at h
 
 -- and so has one that is in service
-pub served-request : {w : ℕ} (config : Config) (q source n : ℕ) (m : Message w) (u : SourceState) → u ≡ InService n → IsSourced config q source m u → IsRequest config q source m
+pub served-request : {w : ℕ} (config : Config) (q source n : ℕ) (m : Message w) (u : SourceState) → u ≡ InService n
+    → IsSourced config q source m u → IsRequest config q source m
 served-request config q source n m u e h = rw e at h
 
-sourced_access : {w : ℕ} (config : Config) (c source : ℕ) (m : MessageA w) (tracker : ℕ) (p : Bool) (o : Option Cap) (rest : List Packet) (h : AbstractState w)
+sourced_access : {w : ℕ} (config : Config) (c source : ℕ) (m : MessageA w) (tracker : ℕ) (p : Bool) (o : Option Cap)
+    (rest : List Packet) (h : AbstractState w)
     → h.state.uses c source ≡ Asked → AreSourced config h.mail.request h.state.uses
-    → AreSourced config (access_taken c source m tracker p o rest h).mail.request (access_taken c source m tracker p o rest h).state.uses
+    → AreSourced config (access_taken c source m tracker p o rest h).mail.request
+    (access_taken c source m tracker p o rest h).state.uses
 sourced_access config c source m tracker true (Some k) rest h used before =
     sourced_set config h.mail.request c source (InService (block_at m.address)) h.state.uses
     (asked_request config c source (h.mail.request c source) (h.state.uses c source) used (before c source)) before
@@ -67,67 +75,94 @@ sourced_access config c source m tracker false o rest h used before =
     sourced_set config h.mail.request c source Replied h.state.uses
     (asked_request config c source (h.mail.request c source) (h.state.uses c source) used (before c source)) before
 
-sourced_request : {w : ℕ} (config : Config) (clients c source : ℕ) (m : Message w) (tracker : ℕ) (rest : List Packet) (h : AbstractState w)
+sourced_request : {w : ℕ} (config : Config) (clients c source : ℕ) (m : Message w) (tracker : ℕ) (rest : List Packet)
+    (h : AbstractState w)
     → h.state.uses c source ≡ Asked → AreSourced config h.mail.request h.state.uses
-    → AreSourced config (request_taken clients c source m tracker rest h).mail.request (request_taken clients c source m tracker rest h).state.uses
-sourced_request config clients c source (message.A m) tracker rest h used before = sourced_access config c source m tracker _ _ rest h used before
+    → AreSourced config (request_taken clients c source m tracker rest h).mail.request
+    (request_taken clients c source m tracker rest h).state.uses
+sourced_request config clients c source (message.A m) tracker rest h used before =
+    sourced_access config c source m tracker _ _ rest h used before
 sourced_request config clients c source (message.B m) tracker rest h used before = before
 sourced_request config clients c source (message.C m) tracker rest h used before = before
 sourced_request config clients c source (message.D m) tracker rest h used before = before
 sourced_request config clients c source (message.E m) tracker rest h used before = before
 
-sourced_acquire : {w : ℕ} (config : Config) (clients : ℕ) (p : Profile) (c n : ℕ) (x : AcquirePhase) (tracker : ℕ) (rest : List Packet) (h : AbstractState w) → AreSourced config h.mail.request h.state.uses
-    → AreSourced config (acquire_taken clients p c n x tracker rest h).mail.request (acquire_taken clients p c n x tracker rest h).state.uses
+sourced_acquire : {w : ℕ} (config : Config) (clients : ℕ) (p : Profile) (c n : ℕ) (x : AcquirePhase) (tracker : ℕ)
+    (rest : List Packet) (h : AbstractState w) → AreSourced config h.mail.request h.state.uses
+    → AreSourced config (acquire_taken clients p c n x tracker rest h).mail.request
+    (acquire_taken clients p c n x tracker rest h).state.uses
 sourced_acquire config clients p c n NoAcquire tracker rest h before = before
 sourced_acquire {w} config clients p c n (AcquireOpen whole g) tracker rest h before = either _ _ _ before before
   where
-    either : (b : Bool) (s t : State (List ℕ)) → AreSourced config h.mail.request s.uses → AreSourced config h.mail.request t.uses → AreSourced config h.mail.request (if b then s else t).uses
+    either : (b : Bool) (s t : State (List ℕ)) → AreSourced config h.mail.request s.uses
+        → AreSourced config h.mail.request t.uses → AreSourced config h.mail.request (if b then s else t).uses
     either true s t f g = f
     either false s t f g = g
 
-sourced_granted : {w : ℕ} (config : Config) (clients : ℕ) (p : Profile) (c q n : ℕ) (r : Report) (x : AcquirePhase) (rest : List Packet) (h : AbstractState w) → AreSourced config h.mail.request h.state.uses
-    → AreSourced config (granted_after clients p c q n r x rest h).mail.request (granted_after clients p c q n r x rest h).state.uses
+sourced_granted : {w : ℕ} (config : Config) (clients : ℕ) (p : Profile) (c q n : ℕ) (r : Report) (x : AcquirePhase)
+    (rest : List Packet) (h : AbstractState w) → AreSourced config h.mail.request h.state.uses
+    → AreSourced config (granted_after clients p c q n r x rest h).mail.request
+    (granted_after clients p c q n r x rest h).state.uses
 sourced_granted config clients p c q n r NoAcquire rest h before = before
 sourced_granted config clients p c q n r (AcquireOpen whole g) rest h before = before
 
-sourced_last : {w : ℕ} (config : Config) (clients : ℕ) (p : Profile) (c n : ℕ) (r : Report) (v : Service) (rest : List Packet) (h : AbstractState w)
-    → ((q source : ℕ) (k : Cap) → v ≡ Waits q false source k → h.state.uses q source ≡ InService n) → AreSourced config h.mail.request h.state.uses
-    → AreSourced config (last_taken clients p c n r v rest h).mail.request (last_taken clients p c n r v rest h).state.uses
+sourced_last : {w : ℕ} (config : Config) (clients : ℕ) (p : Profile) (c n : ℕ) (r : Report) (v : Service)
+    (rest : List Packet) (h : AbstractState w)
+    → ((q source : ℕ) (k : Cap) → v ≡ Waits q false source k → h.state.uses q source ≡ InService n)
+    → AreSourced config h.mail.request h.state.uses
+    → AreSourced config (last_taken clients p c n r v rest h).mail.request
+    (last_taken clients p c n r v rest h).state.uses
 sourced_last config clients p c n r Free rest h used before = before
-sourced_last config clients p c n r (Waits q true source k) rest h used before = sourced_granted config clients p c q n r ((h.state.block n).pair q).acquiring rest h before
+sourced_last config clients p c n r (Waits q true source k) rest h used before =
+    sourced_granted config clients p c q n r ((h.state.block n).pair q).acquiring rest h before
 sourced_last config clients p c n r (Waits q false source k) rest h used before =
-    sourced_set config h.mail.request q source Replied h.state.uses (served-request config q source n (h.mail.request q source) (h.state.uses q source) (used q source k refl) (before q source)) before
+    sourced_set config h.mail.request q source Replied h.state.uses
+    (served-request config q source n (h.mail.request q source) (h.state.uses q source) (used q source k refl)
+    (before q source)) before
 sourced_last config clients p c n r (GrantSent q d k) rest h used before = before
 sourced_last config clients p c n r (GrantTaken q) rest h used before = before
 
-sourced_taken : {w : ℕ} (config : Config) (c n : ℕ) (v : Service) (rest : List Packet) (h : AbstractState w) → AreSourced config h.mail.request h.state.uses
+sourced_taken : {w : ℕ} (config : Config) (c n : ℕ) (v : Service) (rest : List Packet) (h : AbstractState w)
+    → AreSourced config h.mail.request h.state.uses
     → AreSourced config (taken_by_client c n v rest h).mail.request (taken_by_client c n v rest h).state.uses
 sourced_taken config c n Free rest h before = before
 sourced_taken config c n (Waits q own source k) rest h before = before
-sourced_taken config c n (GrantSent q d k) rest h before = sourced_set config h.mail.request c ((h.state.block n).source c) SourceFree h.state.uses tt before
+sourced_taken config c n (GrantSent q d k) rest h before =
+    sourced_set config h.mail.request c ((h.state.block n).source c) SourceFree h.state.uses tt before
 sourced_taken config c n (GrantTaken q) rest h before = before
 
-pub first-asked : {w : ℕ} (caching : ℕ → Bool) (c i : ℕ) (rest : List Packet) (h : AbstractState w) → IsInvariant caching h.state
+pub first-asked : {w : ℕ} (caching : ℕ → Bool) (c i : ℕ) (rest : List Packet) (h : AbstractState w)
+    → IsInvariant caching h.state
     → on Request (h.state.link c) ≡ packet Request i ∷ rest → h.state.uses c i ≡ Asked
-first-asked caching c i rest h inv first = is_asked-is (h.state.uses c i) (holds-first Request (h.state.link c).a rest (packet Request i) (λ j. is_asked (h.state.uses c j)) first refl (inv.requests c))
+first-asked caching c i rest h inv first =
+    is_asked-is (h.state.uses c i) (holds-first Request (h.state.link c).a rest (packet Request i)
+    (λ j. is_asked (h.state.uses c j)) first refl (inv.requests c))
 
-pub sourced-kind_taken : {w : ℕ} (caching : ℕ → Bool) (config : Config) (tracker c : ℕ) (k : Kind) (i : ℕ) (rest : List Packet) (h : AbstractState w)
+pub sourced-kind_taken : {w : ℕ} (caching : ℕ → Bool) (config : Config) (tracker c : ℕ) (k : Kind) (i : ℕ)
+    (rest : List Packet) (h : AbstractState w)
     → IsInvariant caching h.state → on k (h.state.link c) ≡ packet k i ∷ rest
-    → AreSourced config h.mail.request h.state.uses → AreSourced config (kind_taken config tracker c k i rest h).mail.request (kind_taken config tracker c k i rest h).state.uses
-sourced-kind_taken caching config tracker c Request i rest h inv first before = sourced_request config _ c i (h.mail.request c i) tracker rest h (first-asked caching c i rest h inv first) before
-sourced-kind_taken caching config tracker c Acquire i rest h inv first before = sourced_acquire config _ config.profile c i ((h.state.block i).pair c).acquiring tracker rest h before
+    → AreSourced config h.mail.request h.state.uses
+    → AreSourced config (kind_taken config tracker c k i rest h).mail.request
+    (kind_taken config tracker c k i rest h).state.uses
+sourced-kind_taken caching config tracker c Request i rest h inv first before =
+    sourced_request config _ c i (h.mail.request c i) tracker rest h (first-asked caching c i rest h inv first) before
+sourced-kind_taken caching config tracker c Acquire i rest h inv first before =
+    sourced_acquire config _ config.profile c i ((h.state.block i).pair c).acquiring tracker rest h before
 sourced-kind_taken caching config tracker c Probe i rest h inv first before = before
 sourced-kind_taken {w} caching config tracker c ProbeAck i rest h inv first before =
     either _ _ _ before (sourced_last config _ config.profile c i _ (h.state.block i).service rest h
     (λ q source k e. serving-use caching h.state i q source k inv e) before)
   where
-    either : (b : Bool) (s t : AbstractState w) → AreSourced config s.mail.request s.state.uses → AreSourced config t.mail.request t.state.uses
+    either : (b : Bool) (s t : AbstractState w) → AreSourced config s.mail.request s.state.uses
+        → AreSourced config t.mail.request t.state.uses
         → AreSourced config (if b then s else t).mail.request (if b then s else t).state.uses
     either true s t f g = f
     either false s t f g = g
 sourced-kind_taken caching config tracker c Release i rest h inv first before = before
-sourced-kind_taken caching config tracker c Answer i rest h inv first before = sourced_set config h.mail.request c i SourceFree h.state.uses tt before
-sourced-kind_taken caching config tracker c Grant i rest h inv first before = sourced_taken config c i (h.state.block i).service rest h before
+sourced-kind_taken caching config tracker c Answer i rest h inv first before =
+    sourced_set config h.mail.request c i SourceFree h.state.uses tt before
+sourced-kind_taken caching config tracker c Grant i rest h inv first before =
+    sourced_taken config c i (h.state.block i).service rest h before
 sourced-kind_taken caching config tracker c ReleaseAck i rest h inv first before = before
 sourced-kind_taken caching config tracker c GrantAck i rest h inv first before = before
 
@@ -136,7 +171,8 @@ abbrev pub IsSourcedAsk : {w : ℕ} → Config → ℕ → Op w → Reply → Ty
 IsSourcedAsk config c (op.Access (message.A m)) (reply.Started source) = IsRequest config c source (access source m)
 IsSourcedAsk config c o r = ⊤
 
-pub sourced-asked : {w : ℕ} (config : Config) (c : ℕ) (o : Op w) (r : Reply) (h : AbstractState w) → IsSourcedAsk config c o r → AreSourced config h.mail.request h.state.uses
+pub sourced-asked : {w : ℕ} (config : Config) (c : ℕ) (o : Op w) (r : Reply) (h : AbstractState w)
+    → IsSourcedAsk config c o r → AreSourced config h.mail.request h.state.uses
     → AreSourced config (asked c o r h).mail.request (asked c o r h).state.uses
 sourced-asked config c (op.Load address size) r h ask before = before
 sourced-asked config c (op.Store address size value) reply.Stored h ask before = before
@@ -144,12 +180,14 @@ sourced-asked config c (op.Store address size value) (reply.Value v) h ask befor
 sourced-asked config c (op.Store address size value) reply.Miss h ask before = before
 sourced-asked config c (op.Store address size value) (reply.Started source) h ask before = before
 sourced-asked config c (op.Store address size value) (reply.Busy why) h ask before = before
-sourced-asked config c (op.Acquire n g) (reply.Started source) h ask before = sourced_set config h.mail.request c source (Acquires n) h.state.uses tt before
+sourced-asked config c (op.Acquire n g) (reply.Started source) h ask before =
+    sourced_set config h.mail.request c source (Acquires n) h.state.uses tt before
 sourced-asked config c (op.Acquire n g) (reply.Value v) h ask before = before
 sourced-asked config c (op.Acquire n g) reply.Stored h ask before = before
 sourced-asked config c (op.Acquire n g) reply.Miss h ask before = before
 sourced-asked config c (op.Acquire n g) (reply.Busy why) h ask before = before
-sourced-asked config c (op.AcquireWhole n bytes) (reply.Started source) h ask before = sourced_set config h.mail.request c source (Acquires n) h.state.uses tt before
+sourced-asked config c (op.AcquireWhole n bytes) (reply.Started source) h ask before =
+    sourced_set config h.mail.request c source (Acquires n) h.state.uses tt before
 sourced-asked config c (op.AcquireWhole n bytes) (reply.Value v) h ask before = before
 sourced-asked config c (op.AcquireWhole n bytes) reply.Stored h ask before = before
 sourced-asked config c (op.AcquireWhole n bytes) reply.Miss h ask before = before
@@ -161,9 +199,12 @@ sourced-asked config c (op.Release n p) reply.Miss h ask before = before
 sourced-asked config c (op.Release n p) (reply.Busy why) h ask before = before
 sourced-asked {w} config c (op.Access (message.A m)) (reply.Started source) h ask before = λ d i. elim (cases_eq d c) [
   | inl same ↦ elim (cases_eq i source) [
-    | inl also ↦ rw (same, also) (now _ _ (ap (λ (f : ℕ → Message w). f source) (set-same c (set source (access source m) (h.mail.request c)) h.mail.request)
+    | inl also ↦ rw (same, also)
+        (now _ _ (ap (λ (f : ℕ → Message w). f source) (set-same c (set source (access source m) (h.mail.request c))
+        h.mail.request)
         ∙ set-same source (access source m) (h.mail.request c))
-        (ap (λ (f : ℕ → SourceState). f source) (set-same c (set source Asked (h.state.uses c)) h.state.uses) ∙ set-same source Asked (h.state.uses c)))
+        (ap (λ (f : ℕ → SourceState). f source) (set-same c (set source Asked (h.state.uses c)) h.state.uses) ∙ set-same
+        source Asked (h.state.uses c)))
     | inr other ↦ rw (same, same_number c, ne_eqb i source other) (before c i)
   ]
   | inr other ↦ rw (ne_eqb d c other) (before d i)
@@ -185,60 +226,83 @@ sourced-asked config c (op.Access (message.E m)) r h ask before = before
 abbrev pub AllSized : State (List ℕ) → Type 0
 AllSized s = (n : ℕ) → AreSized (s.block n)
 
-sized_block : (n : ℕ) (new : Block (List ℕ)) (block : ℕ → Block (List ℕ)) → AreSized new → ((i : ℕ) → AreSized (block i)) → (i : ℕ) → AreSized (set n new block i)
+sized_block : (n : ℕ) (new : Block (List ℕ)) (block : ℕ → Block (List ℕ)) → AreSized new
+    → ((i : ℕ) → AreSized (block i)) → (i : ℕ) → AreSized (set n new block i)
 sized_block n new block here before = λ i. set-each (λ j b. AreSized b) n new block here (λ j ne. before j) i
 
 -- where no more bytes wait than before
 sized_same : (old new : Block (List ℕ)) → length new.truth ≡ 64 → ((c : ℕ) → new.waiting c ≡ old.waiting c)
-    → ((c : ℕ) → is_storing (new.pair c).acquiring ≡ true → is_storing (old.pair c).acquiring ≡ true) → AreSized old → AreSized new
-sized_same old new long waiting storing h = record { truth = long; waiting = λ c e. ap length (waiting c) ∙ h.waiting c (storing c e) }
+    → ((c : ℕ) → is_storing (new.pair c).acquiring ≡ true → is_storing (old.pair c).acquiring ≡ true) → AreSized old
+    → AreSized new
+sized_same old new long waiting storing h =
+    record { truth = long; waiting = λ c e. ap length (waiting c) ∙ h.waiting c (storing c e) }
 
 -- one client's pair changes, and not what it acquires
-still_acquires : (c : ℕ) (p : ClientBlock) (f : ℕ → ClientBlock) → p.acquiring ≡ (f c).acquiring → (d : ℕ) → is_storing (set c p f d).acquiring ≡ true → is_storing (f d).acquiring ≡ true
+still_acquires : (c : ℕ) (p : ClientBlock) (f : ℕ → ClientBlock) → p.acquiring ≡ (f c).acquiring → (d : ℕ)
+    → is_storing (set c p f d).acquiring ≡ true → is_storing (f d).acquiring ≡ true
 still_acquires c p f same d e = sym (ap is_storing (set-part (λ (q : ClientBlock). q.acquiring) c p f same d)) ∙ e
 
-sized_pair : (c : ℕ) (p : ClientBlock) (old new : Block (List ℕ)) → new.pair ≡ set c p old.pair → p.acquiring ≡ (old.pair c).acquiring → new.truth ≡ old.truth
+sized_pair : (c : ℕ) (p : ClientBlock) (old new : Block (List ℕ)) → new.pair ≡ set c p old.pair
+    → p.acquiring ≡ (old.pair c).acquiring → new.truth ≡ old.truth
     → new.waiting ≡ old.waiting → AreSized old → AreSized new
 sized_pair c p old new pairs same truth waiting h =
     sized_same old new (ap length truth ∙ h.truth) (λ d. ap (λ (f : ℕ → List ℕ). f d) waiting)
-    (λ d e. still_acquires c p old.pair same d (ap (λ (f : ℕ → ClientBlock). is_storing (f d).acquiring) (sym pairs) ∙ e)) h
+    (λ d e. still_acquires c p old.pair same d (ap (λ (f : ℕ → ClientBlock). is_storing (f d).acquiring) (sym pairs)
+    ∙ e)) h
 
-sized_served : (r : ℕ) (own : Bool) (source tracker : ℕ) (k : Cap) (b : Block (List ℕ)) → AreSized b → AreSized (served_block r own source tracker k b)
-sized_served r own source tracker k b h = sized_same b (served_block r own source tracker k b) h.truth (λ c. refl) (λ c e. go c (own && (c == r)) e) h
+sized_served : (r : ℕ) (own : Bool) (source tracker : ℕ) (k : Cap) (b : Block (List ℕ)) → AreSized b
+    → AreSized (served_block r own source tracker k b)
+sized_served r own source tracker k b h = sized_same b (served_block r own source tracker k b) h.truth (λ c. refl)
+    (λ c e. go c (own && (c == r)) e) h
   where
-    go : (c : ℕ) (x : Bool) → is_storing (if x then b.pair c else after_served k (b.pair c)).acquiring ≡ true → is_storing (b.pair c).acquiring ≡ true
+    go : (c : ℕ) (x : Bool) → is_storing (if x then b.pair c else after_served k (b.pair c)).acquiring ≡ true
+        → is_storing (b.pair c).acquiring ≡ true
     go c true e = e
     go c false e = e
 
-sized_granted_block : (c q : ℕ) (r : Report) (d : Bool) (k : Cap) (b : Block (List ℕ)) → AreSized b → AreSized (granted_block c q r d k b)
-sized_granted_block c q r d k b h = sized_same b (granted_block c q r d k b) h.truth (λ i. refl) (λ i e. storing i (cases_eq i q) e) h
+sized_granted_block : (c q : ℕ) (r : Report) (d : Bool) (k : Cap) (b : Block (List ℕ)) → AreSized b
+    → AreSized (granted_block c q r d k b)
+sized_granted_block c q r d k b h = sized_same b (granted_block c q r d k b) h.truth (λ i. refl)
+    (λ i e. storing i (cases_eq i q) e) h
   where
     reported : ℕ → ClientBlock
     reported = set c (after_report r (b.pair c)) b.pair
 
-    storing : (i : ℕ) → (i ≡ q) ⊎ (i ≡ q → ⊥) → is_storing (granted_pair c q r k b.pair i).acquiring ≡ true → is_storing (b.pair i).acquiring ≡ true
-    storing i (inl same) e = let f : (set q (after_grant_sent k (b.pair q)) reported q).acquiring ≡ (b.pair q).acquiring =
+    storing : (i : ℕ) → (i ≡ q) ⊎ (i ≡ q → ⊥) → is_storing (granted_pair c q r k b.pair i).acquiring ≡ true
+        → is_storing (b.pair i).acquiring ≡ true
+    storing i (inl same) e = let f : (set q (after_grant_sent k (b.pair q)) reported q).acquiring
+        ≡ (b.pair q).acquiring =
         ap (λ (p : ClientBlock). p.acquiring) (set-same q (after_grant_sent k (b.pair q)) reported) in
-        ap (λ (j : ℕ). is_storing (b.pair j).acquiring) same ∙ sym (ap is_storing f) ∙ ap (λ (j : ℕ). is_storing (set q (after_grant_sent k (b.pair q)) reported j).acquiring) (sym same) ∙ e
+        ap (λ (j : ℕ). is_storing (b.pair j).acquiring) same ∙ sym (ap is_storing f) ∙ ap
+        (λ (j : ℕ). is_storing (set q (after_grant_sent k (b.pair q)) reported j).acquiring) (sym same) ∙ e
     storing i (inr other) e = still_acquires c (after_report r (b.pair c)) b.pair refl i
-        (sym (ap (λ (p : ClientBlock). is_storing p.acquiring) (set-other q i (after_grant_sent k (b.pair q)) reported other)) ∙ e)
+        (sym (ap (λ (p : ClientBlock). is_storing p.acquiring) (set-other q i (after_grant_sent k (b.pair q)) reported
+        other)) ∙ e)
 
-sized_taken_block : (c : ℕ) (d : Bool) (k : Cap) (b : Block (List ℕ)) → AreSized b → AreSized (taken_block c (is_whole (b.pair c).acquiring) d k b)
-sized_taken_block c d k b h = sized_same b (taken_block c (is_whole (b.pair c).acquiring) d k b) (bytes (b.pair c).acquiring refl) (λ i. refl) (λ i e. storing i (cases_eq i c) e) h
+sized_taken_block : (c : ℕ) (d : Bool) (k : Cap) (b : Block (List ℕ)) → AreSized b
+    → AreSized (taken_block c (is_whole (b.pair c).acquiring) d k b)
+sized_taken_block c d k b h = sized_same b (taken_block c (is_whole (b.pair c).acquiring) d k b)
+    (bytes (b.pair c).acquiring refl) (λ i. refl) (λ i e. storing i (cases_eq i c) e) h
   where
-    bytes : (x : AcquirePhase) → (b.pair c).acquiring ≡ x → length (granted_truth (is_whole x) (b.waiting c) b.truth) ≡ 64
+    bytes : (x : AcquirePhase) → (b.pair c).acquiring ≡ x
+        → length (granted_truth (is_whole x) (b.waiting c) b.truth) ≡ 64
     bytes NoAcquire e = h.truth
     bytes (AcquireOpen true g) e = h.waiting c (ap is_storing e)
     bytes (AcquireOpen false g) e = h.truth
 
-    storing : (i : ℕ) → (i ≡ c) ⊎ (i ≡ c → ⊥) → is_storing (set c (after_grant k (b.pair c)) b.pair i).acquiring ≡ true → is_storing (b.pair i).acquiring ≡ true
-    storing i (inl same) e = absurd (let f : is_storing (set c (after_grant k (b.pair c)) b.pair c).acquiring ≡ true = rw same at e in let g : false ≡ true =
+    storing : (i : ℕ) → (i ≡ c) ⊎ (i ≡ c → ⊥) → is_storing (set c (after_grant k (b.pair c)) b.pair i).acquiring ≡ true
+        → is_storing (b.pair i).acquiring ≡ true
+    storing i (inl same) e = absurd (let f : is_storing (set c (after_grant k (b.pair c)) b.pair c).acquiring ≡ true =
+        rw same at e in let g : false ≡ true =
         sym (ap (λ (p : ClientBlock). is_storing p.acquiring) (set-same c (after_grant k (b.pair c)) b.pair)) ∙ f in cc)
-    storing i (inr other) e = sym (ap (λ (p : ClientBlock). is_storing p.acquiring) (set-other c i (after_grant k (b.pair c)) b.pair other)) ∙ e
+    storing i (inr other) e =
+        sym (ap (λ (p : ClientBlock). is_storing p.acquiring) (set-other c i (after_grant k (b.pair c)) b.pair other))
+        ∙ e
 
 -- ---- messages that are taken
 
-sized_access : {w : ℕ} (c source : ℕ) (m : MessageA w) (tracker : ℕ) (p : Bool) (o : Option Cap) (rest : List Packet) (h : AbstractState w) → AllSized h.state
+sized_access : {w : ℕ} (c source : ℕ) (m : MessageA w) (tracker : ℕ) (p : Bool) (o : Option Cap) (rest : List Packet)
+    (h : AbstractState w) → AllSized h.state
     → AllSized (access_taken c source m tracker p o rest h).state
 sized_access {w} c source m tracker p o rest h before = go p o
   where
@@ -249,26 +313,32 @@ sized_access {w} c source m tracker p o rest h before = go p o
     b = h.state.block n
 
     answered : (i : ℕ) → AreSized (set n (performed_block (performs m) b) h.state.block i)
-    answered i = sized_block n (performed_block (performs m) b) h.state.block (sized_same b (performed_block (performs m) b) (length-bytes _ (64 * n) 64) (λ j. refl) (λ j e. e) (before n)) before i
+    answered i = sized_block n (performed_block (performs m) b) h.state.block
+        (sized_same b (performed_block (performs m) b) (length-bytes _ (64 * n) 64) (λ j. refl) (λ j e. e) (before n))
+        before i
 
     go : (p : Bool) (o : Option Cap) → AllSized (access_taken c source m tracker p o rest h).state
-    go true (Some k) i = sized_block n (served_block c false source tracker k b) h.state.block (sized_served c false source tracker k b (before n)) before i
+    go true (Some k) i = sized_block n (served_block c false source tracker k b) h.state.block
+        (sized_served c false source tracker k b (before n)) before i
     go true None i = answered i
     go false o i = answered i
 
-sized_request : {w : ℕ} (clients c source : ℕ) (m : Message w) (tracker : ℕ) (rest : List Packet) (h : AbstractState w) → AllSized h.state → AllSized (request_taken clients c source m tracker rest h).state
+sized_request : {w : ℕ} (clients c source : ℕ) (m : Message w) (tracker : ℕ) (rest : List Packet) (h : AbstractState w)
+    → AllSized h.state → AllSized (request_taken clients c source m tracker rest h).state
 sized_request clients c source (message.A m) tracker rest h before = sized_access c source m tracker _ _ rest h before
 sized_request clients c source (message.B m) tracker rest h before = before
 sized_request clients c source (message.C m) tracker rest h before = before
 sized_request clients c source (message.D m) tracker rest h before = before
 sized_request clients c source (message.E m) tracker rest h before = before
 
-sized_acquire : {w : ℕ} (clients : ℕ) (p : Profile) (c n : ℕ) (x : AcquirePhase) (tracker : ℕ) (rest : List Packet) (h : AbstractState w) → AllSized h.state
+sized_acquire : {w : ℕ} (clients : ℕ) (p : Profile) (c n : ℕ) (x : AcquirePhase) (tracker : ℕ) (rest : List Packet)
+    (h : AbstractState w) → AllSized h.state
     → AllSized (acquire_taken clients p c n x tracker rest h).state
 sized_acquire clients p c n NoAcquire tracker rest h before = before
 sized_acquire {w} clients p c n (AcquireOpen whole g) tracker rest h before =
     either _ _ _ (λ i. sized_block n _ h.state.block (sized_served c true (b.source c) tracker _ b (before n)) before i)
-    (λ i. sized_block n _ h.state.block (sized_pair c (after_grant_sent _ (b.pair c)) b _ refl refl refl refl (before n)) before i)
+    (λ i. sized_block n _ h.state.block (sized_pair c (after_grant_sent _ (b.pair c)) b _ refl refl refl refl
+    (before n)) before i)
   where
     b : Block (List ℕ)
     b = h.state.block n
@@ -277,96 +347,124 @@ sized_acquire {w} clients p c n (AcquireOpen whole g) tracker rest h before =
     either true s t f g = f
     either false s t f g = g
 
-sized_granted : {w : ℕ} (clients : ℕ) (p : Profile) (c q n : ℕ) (r : Report) (x : AcquirePhase) (rest : List Packet) (h : AbstractState w) → AllSized h.state
+sized_granted : {w : ℕ} (clients : ℕ) (p : Profile) (c q n : ℕ) (r : Report) (x : AcquirePhase) (rest : List Packet)
+    (h : AbstractState w) → AllSized h.state
     → AllSized (granted_after clients p c q n r x rest h).state
 sized_granted clients p c q n r NoAcquire rest h before = before
-sized_granted clients p c q n r (AcquireOpen whole g) rest h before = λ i. sized_block n _ h.state.block (sized_granted_block c q r _ _ (h.state.block n) (before n)) before i
+sized_granted clients p c q n r (AcquireOpen whole g) rest h before =
+    λ i. sized_block n _ h.state.block (sized_granted_block c q r _ _ (h.state.block n) (before n)) before i
 
-sized_last : {w : ℕ} (clients : ℕ) (p : Profile) (c n : ℕ) (r : Report) (v : Service) (rest : List Packet) (h : AbstractState w) → AllSized h.state → AllSized (last_taken clients p c n r v rest h).state
+sized_last : {w : ℕ} (clients : ℕ) (p : Profile) (c n : ℕ) (r : Report) (v : Service) (rest : List Packet)
+    (h : AbstractState w) → AllSized h.state → AllSized (last_taken clients p c n r v rest h).state
 sized_last clients p c n r Free rest h before = before
-sized_last clients p c n r (Waits q true source k) rest h before = sized_granted clients p c q n r ((h.state.block n).pair q).acquiring rest h before
+sized_last clients p c n r (Waits q true source k) rest h before =
+    sized_granted clients p c q n r ((h.state.block n).pair q).acquiring rest h before
 sized_last clients p c n r (Waits q false source k) rest h before = λ i.
     sized_block n (ended_block c r (performs (h.request n)) (h.state.block n)) h.state.block
-    (sized_same (h.state.block n) (ended_block c r (performs (h.request n)) (h.state.block n)) (length-bytes _ (64 * block_at (h.request n).address) 64)
-    (λ j. refl) (λ j e. still_acquires c (after_report r ((h.state.block n).pair c)) (h.state.block n).pair refl j e) (before n)) before i
+    (sized_same (h.state.block n) (ended_block c r (performs (h.request n)) (h.state.block n))
+    (length-bytes _ (64 * block_at (h.request n).address) 64)
+    (λ j. refl) (λ j e. still_acquires c (after_report r ((h.state.block n).pair c)) (h.state.block n).pair refl j e)
+    (before n)) before i
 sized_last clients p c n r (GrantSent q d k) rest h before = before
 sized_last clients p c n r (GrantTaken q) rest h before = before
 
-sized_taken : {w : ℕ} (c n : ℕ) (v : Service) (rest : List Packet) (h : AbstractState w) → AllSized h.state → AllSized (taken_by_client c n v rest h).state
+sized_taken : {w : ℕ} (c n : ℕ) (v : Service) (rest : List Packet) (h : AbstractState w) → AllSized h.state
+    → AllSized (taken_by_client c n v rest h).state
 sized_taken c n Free rest h before = before
 sized_taken c n (Waits q own source k) rest h before = before
-sized_taken c n (GrantSent q d k) rest h before = λ i. sized_block n _ h.state.block (sized_taken_block c d k (h.state.block n) (before n)) before i
+sized_taken c n (GrantSent q d k) rest h before =
+    λ i. sized_block n _ h.state.block (sized_taken_block c d k (h.state.block n) (before n)) before i
 sized_taken c n (GrantTaken q) rest h before = before
 
-pub sized-kind_taken : {w : ℕ} (config : Config) (tracker c : ℕ) (k : Kind) (i : ℕ) (rest : List Packet) (h : AbstractState w) → AllSized h.state → AllSized (kind_taken config tracker c k i rest h).state
-sized-kind_taken config tracker c Request i rest h before = sized_request _ c i (h.mail.request c i) tracker rest h before
-sized-kind_taken config tracker c Acquire i rest h before = sized_acquire _ config.profile c i ((h.state.block i).pair c).acquiring tracker rest h before
+pub sized-kind_taken : {w : ℕ} (config : Config) (tracker c : ℕ) (k : Kind) (i : ℕ) (rest : List Packet)
+    (h : AbstractState w) → AllSized h.state → AllSized (kind_taken config tracker c k i rest h).state
+sized-kind_taken config tracker c Request i rest h before = sized_request _ c i (h.mail.request c i) tracker rest h
+    before
+sized-kind_taken config tracker c Acquire i rest h before =
+    sized_acquire _ config.profile c i ((h.state.block i).pair c).acquiring tracker rest h before
 sized-kind_taken config tracker c Probe i rest h before = λ j.
-    sized_block i _ h.state.block (sized_pair c (after_probe _ ((h.state.block i).pair c)) (h.state.block i) _ refl refl refl refl (before i)) before j
+    sized_block i _ h.state.block (sized_pair c (after_probe _ ((h.state.block i).pair c)) (h.state.block i) _ refl refl
+    refl refl (before i)) before j
 sized-kind_taken {w} config tracker c ProbeAck i rest h before =
-    either _ _ _ (λ j. sized_block i _ h.state.block (sized_pair c (after_report _ ((h.state.block i).pair c)) (h.state.block i) _ refl refl refl refl (before i)) before j)
+    either _ _ _ (λ j. sized_block i _ h.state.block (sized_pair c (after_report _ ((h.state.block i).pair c))
+    (h.state.block i) _ refl refl refl refl (before i)) before j)
     (sized_last _ config.profile c i _ (h.state.block i).service rest h before)
   where
-    either : (b : Bool) (s t : AbstractState w) → AllSized s.state → AllSized t.state → AllSized (if b then s else t).state
+    either : (b : Bool) (s t : AbstractState w) → AllSized s.state → AllSized t.state
+        → AllSized (if b then s else t).state
     either true s t f g = f
     either false s t f g = g
 sized-kind_taken config tracker c Release i rest h before = λ j.
-    sized_block i _ h.state.block (sized_pair c (after_release_taken _ ((h.state.block i).pair c)) (h.state.block i) _ refl refl refl refl (before i)) before j
+    sized_block i _ h.state.block (sized_pair c (after_release_taken _ ((h.state.block i).pair c)) (h.state.block i) _
+    refl refl refl refl (before i)) before j
 sized-kind_taken config tracker c Answer i rest h before = before
 sized-kind_taken config tracker c Grant i rest h before = sized_taken c i (h.state.block i).service rest h before
 sized-kind_taken config tracker c ReleaseAck i rest h before = λ j.
-    sized_block i _ h.state.block (sized_pair c (after_release_ack ((h.state.block i).pair c)) (h.state.block i) _ refl refl refl refl (before i)) before j
+    sized_block i _ h.state.block (sized_pair c (after_release_ack ((h.state.block i).pair c)) (h.state.block i) _ refl
+    refl refl refl (before i)) before j
 sized-kind_taken config tracker c GrantAck i rest h before = λ j.
     sized_block i (freed_block (h.state.block i)) h.state.block
-    (sized_same (h.state.block i) (freed_block (h.state.block i)) (before i).truth (λ d. refl) (λ d e. e) (before i)) before j
+    (sized_same (h.state.block i) (freed_block (h.state.block i)) (before i).truth (λ d. refl) (λ d e. e) (before i))
+    before j
 
 -- ---- operations that are asked
 
 -- what the client's answer says of a Store that is done: it is one of a word, of a block that the client may write
 abbrev pub IsSizedAsk : {w : ℕ} → ℕ → Op w → Reply → AbstractState w → Type 0
-IsSizedAsk c (op.Store address size value) reply.Stored h = (is_word address size ≡ true) × (same_perm ((h.state.block (block_at address)).pair c).held perm.Trunk ≡ true)
+IsSizedAsk c (op.Store address size value) reply.Stored h = (is_word address size ≡ true)
+    × (same_perm ((h.state.block (block_at address)).pair c).held perm.Trunk ≡ true)
 IsSizedAsk c o r h = ⊤
 
-sized_acquiring : (c source : ℕ) (whole : Bool) (g : Grow) (bytes : List ℕ) (b : Block (List ℕ)) → (whole ≡ true → length bytes ≡ 64) → AreSized b → AreSized (acquiring_block c source whole g bytes b)
+sized_acquiring : (c source : ℕ) (whole : Bool) (g : Grow) (bytes : List ℕ) (b : Block (List ℕ))
+    → (whole ≡ true → length bytes ≡ 64) → AreSized b → AreSized (acquiring_block c source whole g bytes b)
 sized_acquiring c source whole g bytes b long h = record { truth = h.truth; waiting = λ d e. go d (cases_eq d c) e }
   where
     after : ClientBlock
     after = after_acquire whole g (b.pair c)
 
-    go : (d : ℕ) → (d ≡ c) ⊎ (d ≡ c → ⊥) → is_storing (set c after b.pair d).acquiring ≡ true → length (set c bytes b.waiting d) ≡ 64
+    go : (d : ℕ) → (d ≡ c) ⊎ (d ≡ c → ⊥) → is_storing (set c after b.pair d).acquiring ≡ true
+        → length (set c bytes b.waiting d) ≡ 64
     go d (inl same) e =
-        let f : whole ≡ true = sym (ap (λ (p : ClientBlock). is_storing p.acquiring) (set-same c after b.pair)) ∙ ap (λ (j : ℕ). is_storing (set c after b.pair j).acquiring) (sym same) ∙ e in
+        let f : whole ≡ true = sym (ap (λ (p : ClientBlock). is_storing p.acquiring) (set-same c after b.pair)) ∙ ap
+        (λ (j : ℕ). is_storing (set c after b.pair j).acquiring) (sym same) ∙ e in
         rw same (ap length (set-same c bytes b.waiting) ∙ long f)
-    go d (inr other) e = ap length (set-other c d bytes b.waiting other) ∙ h.waiting d (sym (ap (λ (p : ClientBlock). is_storing p.acquiring) (set-other c d after b.pair other)) ∙ e)
+    go d (inr other) e = ap length (set-other c d bytes b.waiting other) ∙ h.waiting d
+        (sym (ap (λ (p : ClientBlock). is_storing p.acquiring) (set-other c d after b.pair other)) ∙ e)
 
-pub sized-asked : {w : ℕ} (caching : ℕ → Bool) (c : ℕ) (o : Op w) (r : Reply) (h : AbstractState w) → IsInvariant caching h.state → IsTypedOp o → IsSizedAsk c o r h
+pub sized-asked : {w : ℕ} (caching : ℕ → Bool) (c : ℕ) (o : Op w) (r : Reply) (h : AbstractState w)
+    → IsInvariant caching h.state → IsTypedOp o → IsSizedAsk c o r h
     → AllSized h.state → AllSized (asked c o r h).state
 sized-asked caching c (op.Load address size) r h inv typed ask before = before
 sized-asked caching c (op.Store address size value) reply.Stored h inv typed ask before = λ i.
     let n : ℕ = block_at address in
     let b : Block (List ℕ) = h.state.block n in
-    let long : length (b.copy c) ≡ 64 = ap length ((inv.blocks n).copies c (trunk-some (b.pair c).held ask.1)) ∙ (before n).truth in
+    let long : length (b.copy c) ≡ 64 = ap length ((inv.blocks n).copies c (trunk-some (b.pair c).held ask.1))
+    ∙ (before n).truth in
     sized_block n (stored_block c (copy_stored address size value (b.copy c)) b) h.state.block
     (sized_same b (stored_block c (copy_stored address size value (b.copy c)) b)
-    (length-stored address size value (b.copy c) long (word_room address size ask.0)) (λ d. refl) (λ d e. e) (before n)) before i
+    (length-stored address size value (b.copy c) long (word_room address size ask.0)) (λ d. refl) (λ d e. e) (before n))
+    before i
 sized-asked caching c (op.Store address size value) (reply.Value v) h inv typed ask before = before
 sized-asked caching c (op.Store address size value) reply.Miss h inv typed ask before = before
 sized-asked caching c (op.Store address size value) (reply.Started source) h inv typed ask before = before
 sized-asked caching c (op.Store address size value) (reply.Busy why) h inv typed ask before = before
 sized-asked caching c (op.Acquire n g) (reply.Started source) h inv typed ask before = λ i.
-    sized_block n _ h.state.block (sized_acquiring c source false g ((h.state.block n).waiting c) (h.state.block n) (λ e. absurd cc) (before n)) before i
+    sized_block n _ h.state.block (sized_acquiring c source false g ((h.state.block n).waiting c) (h.state.block n)
+    (λ e. absurd cc) (before n)) before i
 sized-asked caching c (op.Acquire n g) (reply.Value v) h inv typed ask before = before
 sized-asked caching c (op.Acquire n g) reply.Stored h inv typed ask before = before
 sized-asked caching c (op.Acquire n g) reply.Miss h inv typed ask before = before
 sized-asked caching c (op.Acquire n g) (reply.Busy why) h inv typed ask before = before
 sized-asked caching c (op.AcquireWhole n bytes) (reply.Started source) h inv typed ask before = λ i.
-    sized_block n _ h.state.block (sized_acquiring c source true _ bytes (h.state.block n) (λ e. typed) (before n)) before i
+    sized_block n _ h.state.block (sized_acquiring c source true _ bytes (h.state.block n) (λ e. typed) (before n))
+    before i
 sized-asked caching c (op.AcquireWhole n bytes) (reply.Value v) h inv typed ask before = before
 sized-asked caching c (op.AcquireWhole n bytes) reply.Stored h inv typed ask before = before
 sized-asked caching c (op.AcquireWhole n bytes) reply.Miss h inv typed ask before = before
 sized-asked caching c (op.AcquireWhole n bytes) (reply.Busy why) h inv typed ask before = before
 sized-asked caching c (op.Release n p) (reply.Started source) h inv typed ask before = λ i.
-    sized_block n _ h.state.block (sized_pair c (after_release p ((h.state.block n).pair c)) (h.state.block n) _ refl refl refl refl (before n)) before i
+    sized_block n _ h.state.block (sized_pair c (after_release p ((h.state.block n).pair c)) (h.state.block n) _ refl
+    refl refl refl (before n)) before i
 sized-asked caching c (op.Release n p) (reply.Value v) h inv typed ask before = before
 sized-asked caching c (op.Release n p) reply.Stored h inv typed ask before = before
 sized-asked caching c (op.Release n p) reply.Miss h inv typed ask before = before

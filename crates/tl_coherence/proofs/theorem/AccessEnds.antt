@@ -1,24 +1,23 @@
 -- What the one-memory machine allows at a delivery: how an access ends as its answer comes.
-use Rattle.std.proofs.Common.{◌≡◌, ℕ, ◌+◌, ◌-◌, ◌*◌, ◌%◌, ◌^◌, ◌≤◌, Bool, true, false, List, ◌∷◌, ◌++◌, length, take, drop, Option, Some, None, refl, sym, ◌∙◌, ap, subst, cond, arith}
+use Rattle.tl_coherence.proofs.theorem.Imports.{IsWidth, Beat, Link, Channel, Message, Config, Finish, AbstractState}
+use Rattle.tl_coherence.proofs.theorem.Imports.{Log, system_after, Ends, Machine, pool_of, SourceState, packet}
+use Rattle.tl_coherence.proofs.theorem.Imports.{one_memory_after, System, Kind, Acquire, Answer, SimulationRelation}
+use Rattle.tl_coherence.proofs.theorem.Imports.{is_caching}
+use Rattle.std.proofs.Common.{◌≡◌, ℕ, ◌+◌, ◌-◌, ◌*◌, ◌%◌, ◌^◌, ◌≤◌, Bool, true, false, List, ◌∷◌, ◌++◌, length, take}
+use Rattle.std.proofs.Common.{drop, Option, Some, None, refl, sym, ◌∙◌, ap, subst, cond, arith}
 use Rattle.std.specs.Prelude.{replicate}
 use Rattle.std.proofs.lemmas.Bool.{eqb-true}
 use Rattle.std.proofs.lemmas.List.{append_assoc, drop_at, take_at, length-replicate}
 use Rattle.std.proofs.lemmas.Nat.{pow_pos}
-use Rattle.tl_beat.specs.statement.Width.{IsWidth}
-use Rattle.tl_beat.specs.declared.beat.Beat.{Beat}
 use Rattle.tl_beat.specs.declared.beat.Beat.TheVariants as beat
 use Rattle.tl_beat.specs.declared.beat.BeatA.{BeatA}
-use Rattle.tl_beat.specs.declared.beat.Link.{Link}
-use Rattle.tl_beat.specs.declared.channel.Channel.{Channel}
 use Rattle.tl_beat.specs.declared.channel.Channel.TheVariants as channel
 use Rattle.tl_beat.specs.declared.opcode.OpD.TheVariants as opd
-use Rattle.tl_burst.specs.declared.message.Message.{Message}
 use Rattle.tl_burst.specs.declared.message.Message.TheVariants as message
 use Rattle.tl_burst.specs.declared.message.MessageA.{MessageA}
 use Rattle.tl_burst.specs.declared.message.MessageD.{MessageD}
 use Rattle.tl_burst.specs.statement.Burst.{a_beat_of, beats_of, burst_of, d_beat_of, data_beats, IsBlankAfter}
 use Rattle.tl_burst.specs.statement.Messages.{History, unfinished}
-use Rattle.tl_params.specs.declared.config.Config.{Config}
 use Rattle.tl_params.specs.declared.key.Key.TheVariants.{RequestSource}
 use Rattle.tl_params.specs.declared.level.Level.{Level}
 use Rattle.tl_rules.specs.statement.Admission.{payload_of}
@@ -28,7 +27,6 @@ use Rattle.tl_rules.specs.statement.History.{pending, request_of}
 use Rattle.tl_rules.proofs.Bursts.{control_of_legal, control_aligned}
 use Rattle.tl_rules.proofs.Payload.{payload-d}
 use Rattle.tl_client.specs.declared.operation.Op.TheVariants.{Access}
-use Rattle.tl_client.specs.declared.verdict.Finish.{Finish}
 use Rattle.tl_client.specs.declared.verdict.Finish.TheVariants as finish
 use Rattle.tl_client.specs.statement.Offer.{address_asked, finish_of, padded}
 use Rattle.tl_client.specs.statement.Requests.{open_beat}
@@ -38,15 +36,10 @@ use Rattle.tl_manager.specs.code.Kept.{illegal_message_at}
 use Rattle.tl_manager.specs.statement.Offer.{level_of}
 use Rattle.tl_manager.proofs.Filled.{data_room, payload-long, payload-zero, room_in_beats}
 use Rattle.tl_coherence.specs.refinement.MemoryRelation.{Answers, IsOpened, IsReach}
-use Rattle.tl_coherence.specs.refinement.AbstractStep.{AbstractState}
-use Rattle.tl_coherence.specs.statement.Log.{Log, system_after}
-use Rattle.tl_coherence.specs.statement.Machine.{Ends, Machine, Requests, finish_with, pool_of}
-use Rattle.tl_coherence.specs.protocol.Protocol.{SourceState, Replied, packet}
-use Rattle.tl_coherence.specs.statement.OneMemory.{one_memory_after}
+use Rattle.tl_coherence.specs.statement.Machine.{Requests, finish_with}
+use Rattle.tl_coherence.specs.protocol.Protocol.{Replied}
 use Rattle.tl_coherence.specs.refinement.PacketMessages.{message_of_kind, block_message}
-use Rattle.tl_coherence.specs.statement.System.{System}
-use Rattle.tl_coherence.specs.protocol.Packet.{Kind, Acquire, Answer}
-use Rattle.tl_coherence.specs.refinement.SimulationRelation.{SimulationRelation, IsRequest, IsSourced, asked_for, block_used, first_of, is_caching}
+use Rattle.tl_coherence.specs.refinement.SimulationRelation.{IsRequest, IsSourced, asked_for, block_used, first_of}
 use Rattle.tl_coherence.proofs.client.AnswersKept.{answer_message}
 use Rattle.tl_coherence.proofs.protocol.HeadOfD.{IsAnswerDue, answer-due}
 use Rattle.tl_coherence.proofs.links.Ending.{IsEnding}
@@ -59,21 +52,29 @@ bytes_again : (first : ℕ) (bytes : List ℕ) → take (length bytes) (drop fir
 bytes_again first bytes =
     let none : ℕ = 0 in
     let more : ℕ = 64 - first - length bytes in
-    ap (λ (xs : List ℕ). take (length bytes) (drop first xs)) (append_assoc (replicate first none) bytes (replicate more none))
-    ∙ ap (take (length bytes)) (drop_at (replicate first none) (bytes ++ replicate more none) first (length-replicate first none))
+    ap (λ (xs : List ℕ). take (length bytes) (drop first xs))
+    (append_assoc (replicate first none) bytes (replicate more none))
+    ∙ ap (take (length bytes)) (drop_at (replicate first none) (bytes ++ replicate more none) first
+    (length-replicate first none))
     ∙ take_at bytes (replicate more none) (length bytes) refl
 
 -- the address of a lawful access is aligned
-aligned : {w : ℕ} (o : Option Level) (m : MessageA w) → IsWidth w → illegal_message_at o (message.A m) ≡ None → m.address % 2 ^ m.size ≡ 0
+aligned : {w : ℕ} (o : Option Level) (m : MessageA w) → IsWidth w → illegal_message_at o (message.A m) ≡ None
+    → m.address % 2 ^ m.size ≡ 0
 aligned None m width lawful = absurd cc
-aligned {w} (Some l) m width lawful = eqb-true (m.address % 2 ^ m.size) 0 (control_aligned w l m.opcode m.param m.size m.address (control_of_legal l m width lawful))
+aligned {w} (Some l) m width lawful =
+    eqb-true (m.address % 2 ^ m.size) 0 (control_aligned w l m.opcode m.param m.size m.address
+    (control_of_legal l m width lawful))
 
 -- the bytes that come are those of the reply
-bytes_come : {w : ℕ} (o : Option Level) (m : MessageA w) (bytes : List ℕ) (beats : List (Beat w)) → IsWidth w → illegal_message_at o (message.A m) ≡ None → length bytes ≡ 2 ^ m.size
-    → beats ≡ burst_of (message.D (answer_message opd.AccessAckData (as_payload (m.address % w) bytes) m)) → take (2 ^ m.size) (drop (m.address % w) (payload_of beats)) ≡ bytes
+bytes_come : {w : ℕ} (o : Option Level) (m : MessageA w) (bytes : List ℕ) (beats : List (Beat w)) → IsWidth w
+    → illegal_message_at o (message.A m) ≡ None → length bytes ≡ 2 ^ m.size
+    → beats ≡ burst_of (message.D (answer_message opd.AccessAckData (as_payload (m.address % w) bytes) m))
+    → take (2 ^ m.size) (drop (m.address % w) (payload_of beats)) ≡ bytes
 bytes_come {w} o m bytes beats width lawful long burst =
     ap (λ (p : List ℕ). take (2 ^ m.size) (drop (m.address % w) p)) whole
-    ∙ ap (λ (n : ℕ). take n (drop (m.address % w) (as_payload (m.address % w) bytes))) (sym long) ∙ bytes_again (m.address % w) bytes
+    ∙ ap (λ (n : ℕ). take n (drop (m.address % w) (as_payload (m.address % w) bytes))) (sym long) ∙ bytes_again
+    (m.address % w) bytes
   where
     d : MessageD w
     d = answer_message opd.AccessAckData (as_payload (m.address % w) bytes) m
@@ -85,27 +86,37 @@ bytes_come {w} o m bytes beats width lawful long burst =
     room = data_room w m.size width m.small
 
     blank : IsBlankAfter (beats_of (message.D d)) (message.D d)
-    blank = (payload-zero (m.address % w) (2 ^ m.size) (w * data_beats w m.size) bytes long carried room, pow_pos (data_beats w m.size))
+    blank = (
+      payload-zero (m.address % w) (2 ^ m.size) (w * data_beats w m.size) bytes long carried room,
+      pow_pos
+          (data_beats w m.size),
+    )
 
     whole : payload_of beats ≡ as_payload (m.address % w) bytes
-    whole = payload-d d beats width (payload-long (m.address % w) (2 ^ m.size) bytes long (omega (arith, carried, room))) (burst, blank)
+    whole = payload-d d beats width (payload-long (m.address % w) (2 ^ m.size) bytes long
+        (omega (arith, carried, room))) (burst, blank)
 
 -- ---- how the client ends an access that is answered
 
-ends_answered : {w : ℕ} (o : Option Level) (m : MessageA w) (d : MessageD w) (r : memory.AccessResult) (beats : List (Beat w)) → IsWidth w → illegal_message_at o (message.A m) ≡ None
+ends_answered : {w : ℕ} (o : Option Level) (m : MessageA w) (d : MessageD w) (r : memory.AccessResult)
+    (beats : List (Beat w)) → IsWidth w → illegal_message_at o (message.A m) ≡ None
     → message.D d ≡ access_answer m (answer_of (message.A m) r) → IsReach m r → beats ≡ burst_of (message.D d)
     → finish_of w d.opcode d.param d.size m.address (payload_of beats) ≡ finish_with (message.A m) r
 ends_answered {w} o m d memory.Done beats width lawful answer reach burst =
-    ap (λ (i : MessageD w). finish_of w i.opcode i.param i.size m.address (payload_of beats)) (same-response d (answer_message opd.AccessAck no_payload m) answer)
+    ap (λ (i : MessageD w). finish_of w i.opcode i.param i.size m.address (payload_of beats))
+    (same-response d (answer_message opd.AccessAck no_payload m) answer)
 ends_answered {w} o m d memory.Hinted beats width lawful answer reach burst =
-    ap (λ (i : MessageD w). finish_of w i.opcode i.param i.size m.address (payload_of beats)) (same-response d (answer_message opd.HintAck no_payload m) answer)
+    ap (λ (i : MessageD w). finish_of w i.opcode i.param i.size m.address (payload_of beats))
+    (same-response d (answer_message opd.HintAck no_payload m) answer)
 ends_answered {w} o m d (memory.Bytes bytes) beats width lawful answer reach burst =
     let same = same-response d (answer_message opd.AccessAckData (as_payload (m.address % w) bytes) m) answer in
     ap (λ (i : MessageD w). finish_of w i.opcode i.param i.size m.address (payload_of beats)) same
-    ∙ ap (λ (b : List ℕ). finish.Data m.size (padded b)) (bytes_come o m bytes beats width lawful reach (burst ∙ ap (λ (i : MessageD w). burst_of (message.D i)) same))
+    ∙ ap (λ (b : List ℕ). finish.Data m.size (padded b))
+    (bytes_come o m bytes beats width lawful reach (burst ∙ ap (λ (i : MessageD w). burst_of (message.D i)) same))
 
 -- the source makes no difference
-finish_sourced : {w : ℕ} (source : ℕ) (m : MessageA w) (r : memory.AccessResult) → finish_with (message.A (sourced source m)) r ≡ finish_with (message.A m) r
+finish_sourced : {w : ℕ} (source : ℕ) (m : MessageA w) (r : memory.AccessResult)
+    → finish_with (message.A (sourced source m)) r ≡ finish_with (message.A m) r
 finish_sourced source m memory.Done = refl
 finish_sourced source m memory.Hinted = refl
 finish_sourced source m (memory.Bytes bytes) = refl
@@ -121,14 +132,16 @@ open_ends c source m a memory.Hinted x e = rw e refl
 open_ends c source m a (memory.Bytes bytes) x e = rw e refl
 
 -- a request that is open is the pending one
-request_open : {w : ℕ} (source : ℕ) (x : BeatA w) (t : History w) → open_beat source t ≡ Some x → request_of source t ≡ Some x
+request_open : {w : ℕ} (source : ℕ) (x : BeatA w) (t : History w) → open_beat source t ≡ Some x
+    → request_of source t ≡ Some x
 request_open {w} source x t e = go (pending (RequestSource source) t) e
   where
     go : (b : Bool) → cond b (request_of source t) None ≡ Some x → request_of source t ≡ Some x
     go true f = f
     go false f = absurd cc
 
-sourced_request : {w : ℕ} (config : Config) (c source : ℕ) (m : Message w) (u : SourceState) → u ≡ Replied → IsSourced config c source m u → IsRequest config c source m
+sourced_request : {w : ℕ} (config : Config) (c source : ℕ) (m : Message w) (u : SourceState) → u ≡ Replied
+    → IsSourced config c source m u → IsRequest config c source m
 sourced_request config c source m u e h = rw e at h
 
 asked_replied : {w : ℕ} (u : SourceState) (m acquire : Message w) → u ≡ Replied → asked_for u m acquire ≡ first_of m
@@ -140,27 +153,34 @@ record IsOver {w : ℕ} (config : Config) (log : Log w) (c source : ℕ) (h : Ab
   pub reply : memory.AccessResult
   pub request : h.mail.request c source ≡ message.A (sourced source asked)
   pub lawful : illegal_message_at (level_of config c) (message.A (sourced source asked)) ≡ None
-  pub opened : (one_memory_after config log).opened c Requests source ≡ Some (record { asked = Access (message.A asked); answer = Some reply })
-  pub answer : h.mail.answer c source ≡ access_answer (sourced source asked) (answer_of (message.A (sourced source asked)) reply)
+  pub opened : (one_memory_after config log).opened c Requests source ≡ Some
+      (record { asked = Access (message.A asked); answer = Some reply })
+  pub answer : h.mail.answer c source ≡ access_answer (sourced source asked)
+      (answer_of (message.A (sourced source asked)) reply)
   pub reach : IsReach (sourced source asked) reply
-  pub pending_is : request_of source ((system_after config log).clients c).past ≡ Some (a_beat_of (sourced source asked) 0)
+  pub pending_is : request_of source ((system_after config log).clients c).past ≡ Some
+      (a_beat_of (sourced source asked) 0)
 
-over : {w : ℕ} (config : Config) (log : Log w) (c source : ℕ) (h : AbstractState w) → SimulationRelation config log h.mail h.request h.state (system_after config log)
+over : {w : ℕ} (config : Config) (log : Log w) (c source : ℕ) (h : AbstractState w)
+    → SimulationRelation config log h.mail h.request h.state (system_after config log)
     → h.state.uses c source ≡ Replied → IsOver config log c source h
 over {w} config log c source h is used = record {
   asked = open_.1.0;
   reply = open_.0;
   request = open_.1.1;
-  lawful = (subst (IsRequest config c source) open_.1.1 (sourced_request config c source (h.mail.request c source) (h.state.uses c source) used (is.sourced c source))).1;
+  lawful = (subst (IsRequest config c source) open_.1.1 (sourced_request config c source (h.mail.request c source)
+      (h.state.uses c source) used (is.sourced c source))).1;
   opened = open_.1.2;
   answer = answers.0;
   reach = answers.1;
   pending_is = request_open source (a_beat_of (sourced source open_.1.0) 0) ((system_after config log).clients c).past
       ((is.known c).opens source ∙ asked_replied (h.state.uses c source) (h.mail.request c source)
-      (block_message Acquire c (block_used (h.state.uses c source)) (h.state.block (block_used (h.state.uses c source)))) used ∙ ap first_of open_.1.1);
+      (block_message Acquire c (block_used (h.state.uses c source))
+      (h.state.block (block_used (h.state.uses c source)))) used ∙ ap first_of open_.1.1);
 }
   where
-    opened_as : (u : SourceState) → u ≡ Replied → IsOpened c source h.mail h.state u ((one_memory_after config log).opened c Requests source)
+    opened_as : (u : SourceState) → u ≡ Replied
+        → IsOpened c source h.mail h.state u ((one_memory_after config log).opened c Requests source)
         → IsOpened c source h.mail h.state Replied ((one_memory_after config log).opened c Requests source)
     opened_as u e i = rw e at i
 
@@ -171,20 +191,25 @@ over {w} config log c source h is used = record {
     answers = subst (λ (i : Message w). Answers i open_.0 (h.mail.answer c source)) open_.1.1 open_.2
 
 -- the beats of the response, whole
-whole_response : {w : ℕ} (config : Config) (log : Log w) (link : Link) (ch : Channel) (h : AbstractState w) (x : Beat w) (source : ℕ) (f : Finish) (end : IsEnding config log link ch h x source f)
-    → beat.D (d_beat_of end.response end.first.next.k) ∷ unfinished channel.D ((system_after config log).clients link.0).past ≡ burst_of (message.D end.response)
+whole_response : {w : ℕ} (config : Config) (log : Log w) (link : Link) (ch : Channel) (h : AbstractState w) (x : Beat w)
+    (source : ℕ) (f : Finish) (end : IsEnding config log link ch h x source f)
+    → beat.D (d_beat_of end.response end.first.next.k) ∷ unfinished channel.D
+    ((system_after config log).clients link.0).past ≡ burst_of (message.D end.response)
 whole_response {w} config log link ch h x source f end =
     ap (λ (y : Beat w). y ∷ unfinished channel.D ((system_after config log).clients link.0).past) (sym end.beat_is)
     ∙ (end.first.next.last (eqb-true (end.first.next.k + 1) _ (sym end.first.next.completes_is ∙ end.last))).1
     ∙ ap burst_of end.response_is
 
 -- an answer ends its access as the machine allows
-pub ends-answer : {w : ℕ} (config : Config) (log : Log w) (link : Link) (ch : Channel) (h : AbstractState w) (x : Beat w) (source : ℕ) (f : Finish) → IsWidth w
+pub ends-answer : {w : ℕ} (config : Config) (log : Log w) (link : Link) (ch : Channel) (h : AbstractState w)
+    (x : Beat w) (source : ℕ) (f : Finish) → IsWidth w
     → SimulationRelation config log h.mail h.request h.state (system_after config log)
-    → (end : IsEnding config log link ch h x source f) → end.first.kind ≡ Answer → Ends ((one_memory_after config log).opened link.0 (pool_of f) source) x f
+    → (end : IsEnding config log link ch h x source f) → end.first.kind ≡ Answer
+    → Ends ((one_memory_after config log).opened link.0 (pool_of f) source) x f
 ends-answer {w} config log link ch h x source f width is end e =
     subst (λ (i : Finish). Ends (m.opened c (pool_of i) source) x i) (sym fin)
-    (subst (λ (i : ℕ). Ends (m.opened c (pool_of (finish_with (message.A it.asked) it.reply)) i) x (finish_with (message.A it.asked) it.reply)) (sym from)
+    (subst (λ (i : ℕ). Ends (m.opened c (pool_of (finish_with (message.A it.asked) it.reply)) i) x
+    (finish_with (message.A it.asked) it.reply)) (sym from)
     (open_ends c n m it.asked it.reply x it.opened))
   where
     sys : System w
@@ -200,7 +225,8 @@ ends-answer {w} config log link ch h x source f width is end e =
     n = end.first.number
 
     due : IsAnswerDue c n h.mail h.state
-    due = answer-due (is_caching config) c n end.first.rest h.mail h.state is.invariant (is.answered c n) (end.first.tokens ∙ ap (λ (i : Kind). packet i n ∷ end.first.rest) e)
+    due = answer-due (is_caching config) c n end.first.rest h.mail h.state is.invariant (is.answered c n)
+        (end.first.tokens ∙ ap (λ (i : Kind). packet i n ∷ end.first.rest) e)
 
     it : IsOver config log c n h
     it = over config log c n h is due.used
@@ -209,7 +235,8 @@ ends-answer {w} config log link ch h x source f width is end e =
     response_is = sym end.response_is ∙ ap (λ (i : Kind). message_of_kind i h.mail h.state c n) e
 
     from : source ≡ n
-    from = end.source_is ∙ ap (λ (i : MessageD w). i.source) (same-response end.response due.answer (response_is ∙ due.answer_is)) ∙ due.from
+    from = end.source_is ∙ ap (λ (i : MessageD w). i.source)
+        (same-response end.response due.answer (response_is ∙ due.answer_is)) ∙ due.from
 
     asked_is : request_of end.response.source (sys.clients c).past ≡ Some (a_beat_of (sourced n it.asked) 0)
     asked_is = ap (λ (i : ℕ). request_of i (sys.clients c).past) (sym end.source_is ∙ from) ∙ it.pending_is
@@ -220,6 +247,8 @@ ends-answer {w} config log link ch h x source f width is end e =
     fin : f ≡ finish_with (message.A it.asked) it.reply
     fin =
         end.finish_is
-        ∙ ap (λ (i : Option (BeatA w)). finish_of w end.response.opcode end.response.param end.response.size (address_asked i) payload) asked_is
-        ∙ ends_answered (level_of config c) (sourced n it.asked) end.response it.reply _ width it.lawful (response_is ∙ it.answer) it.reach (whole_response config log link ch h x source f end)
+        ∙ ap (λ (i : Option (BeatA w)). finish_of w end.response.opcode end.response.param end.response.size
+        (address_asked i) payload) asked_is
+        ∙ ends_answered (level_of config c) (sourced n it.asked) end.response it.reply _ width it.lawful
+        (response_is ∙ it.answer) it.reach (whole_response config log link ch h x source f end)
         ∙ finish_sourced n it.asked it.reply

@@ -1,32 +1,26 @@
 -- What a delivery answers of accesses is performed after the step of the one-memory machine.
-use Rattle.std.proofs.Common.{◌≡◌, ℕ, Bool, true, false, List, [], ◌∷◌, Option, Some, None, refl, sym, ◌∙◌, ap, subst, inl}
+use Rattle.tl_coherence.proofs.theorem.Imports.{IsWidth, Beat, Link, Channel, Message, Config, Deliver, AbstractState}
+use Rattle.tl_coherence.proofs.theorem.Imports.{Log, system_after, Machine, one_memory_after, System}
+use Rattle.tl_coherence.proofs.theorem.Imports.{SimulationRelation}
+use Rattle.std.proofs.Common.{◌≡◌, ℕ, Bool, true, false, List, [], ◌∷◌, Option, Some, None, refl, sym, ◌∙◌, ap, subst}
+use Rattle.std.proofs.Common.{inl}
 use Rattle.std.specs.Prelude.{All, Ok}
 use Rattle.std.proofs.lemmas.List.Elements.{All-head}
-use Rattle.tl_beat.specs.statement.Width.{IsWidth}
-use Rattle.tl_beat.specs.declared.beat.Beat.{Beat}
 use Rattle.tl_beat.specs.declared.beat.Beat.TheVariants as beat
 use Rattle.tl_beat.specs.declared.beat.BeatE.{BeatE}
-use Rattle.tl_beat.specs.declared.beat.Link.{Link}
-use Rattle.tl_beat.specs.declared.channel.Channel.{Channel}
 use Rattle.tl_beat.specs.declared.channel.Channel.TheVariants as channel
-use Rattle.tl_burst.specs.declared.message.Message.{Message}
 use Rattle.tl_burst.specs.declared.message.Message.TheVariants as message
 use Rattle.tl_burst.specs.statement.Messages.{channel_of}
-use Rattle.tl_params.specs.declared.config.Config.{Config}
 use Rattle.tl_client.specs.declared.verdict.Verdict.{Verdict}
 use Rattle.tl_client.specs.statement.Endpoint.{EndConfig}
 use Rattle.tl_manager.specs.code.Kept as manager
 use Rattle.tl_manager.specs.statement.Reaction.{reaction}
 use Rattle.tl_manager.proofs.Events.{reaction-ack}
-use Rattle.tl_coherence.specs.declared.event.Event.TheVariants.{Deliver}
 use Rattle.tl_coherence.specs.statement.Draining.{is_moving}
-use Rattle.tl_coherence.specs.refinement.AbstractStep.{AbstractState}
-use Rattle.tl_coherence.specs.statement.Log.{Log, system_after}
-use Rattle.tl_coherence.specs.statement.Machine.{Machine, Performs, moved}
-use Rattle.tl_coherence.specs.statement.OneMemory.{one_memory_after, performing, accesses_answered}
+use Rattle.tl_coherence.specs.statement.Machine.{Performs, moved}
+use Rattle.tl_coherence.specs.statement.OneMemory.{performing, accesses_answered}
 use Rattle.tl_coherence.specs.statement.Step.{Step, stepped, handed_by, is_to_client}
-use Rattle.tl_coherence.specs.statement.System.{System, terms_at}
-use Rattle.tl_coherence.specs.refinement.SimulationRelation.{SimulationRelation}
+use Rattle.tl_coherence.specs.statement.System.{terms_at}
 use Rattle.tl_coherence.proofs.memory.BesideRequests.{IsOnce, once-performs}
 use Rattle.tl_coherence.proofs.links.HeadsOfLinks.{first-of}
 use Rattle.tl_coherence.proofs.simulation.BeatsInFlight.{IsOfClient, IsFitAnswer, fit-taken}
@@ -52,7 +46,8 @@ none-quiet : (w c : ℕ) → accesses_answered (handed_by {w = w} c None) ≡ []
 unfolding accesses_answered
 none-quiet w c = refl
 
-fit-quiet : {w : ℕ} (blocks c : ℕ) (v : Verdict) (m : Option (Message w)) → IsFitAnswer blocks (Ok (v, m)) → accesses_answered (handed_by c m) ≡ []
+fit-quiet : {w : ℕ} (blocks c : ℕ) (v : Verdict) (m : Option (Message w)) → IsFitAnswer blocks (Ok (v, m))
+    → accesses_answered (handed_by c m) ≡ []
 fit-quiet {w} blocks c v None fit = none-quiet w c
 fit-quiet blocks c v (Some m) fit = ours-quiet c m fit.ours
 
@@ -62,21 +57,27 @@ performs-none : {w : ℕ} (l : List (ℕ × ℕ)) (m : Machine w) → l ≡ [] �
 unfolding Performs performing
 performs-none l m e = rw e refl
 
-still-none : {w : ℕ} (config : Config) (link : Link) (ch : Channel) (sys : System w) → is_moving (stepped config (Deliver link ch) sys).outcome ≡ false
+still-none : {w : ℕ} (config : Config) (link : Link) (ch : Channel) (sys : System w)
+    → is_moving (stepped config (Deliver link ch) sys).outcome ≡ false
     → accesses_answered (stepped config (Deliver link ch) sys).handed ≡ []
 unfolding accesses_answered
 still-none config link ch sys still = rw ((unmoved config link ch sys still).handed) refl
 
-ack-none : {w : ℕ} (config : Config) (link : Link) (x : Beat w) (sys : System w) → (y : BeatE) → x ≡ beat.E y → accesses_answered (reaction config link x sys.manager).handed ≡ []
+ack-none : {w : ℕ} (config : Config) (link : Link) (x : Beat w) (sys : System w) → (y : BeatE) → x ≡ beat.E y
+    → accesses_answered (reaction config link x sys.manager).handed ≡ []
 unfolding accesses_answered
 ack-none config link x sys y e = rw (e, reaction-ack config link y sys.manager) refl
 
-pub performs-delivered : {w : ℕ} (config : Config) (log : Log w) (link : Link) (ch : Channel) (h : AbstractState w) → IsWidth w → SimulationRelation config log h.mail h.request h.state (system_after config log)
+pub performs-delivered : {w : ℕ} (config : Config) (log : Log w) (link : Link) (ch : Channel) (h : AbstractState w)
+    → IsWidth w → SimulationRelation config log h.mail h.request h.state (system_after config log)
     → Performs (accesses_answered (stepped config (Deliver link ch) (system_after config log)).handed)
-    (moved (Deliver link ch) (stepped config (Deliver link ch) (system_after config log)).outcome (one_memory_after config log))
-    (one_memory_after config ((Deliver link ch, (stepped config (Deliver link ch) (system_after config log)).outcome) ∷ log))
+    (moved (Deliver link ch) (stepped config (Deliver link ch) (system_after config log)).outcome
+    (one_memory_after config log))
+    (one_memory_after config ((Deliver link ch, (stepped config (Deliver link ch) (system_after config log)).outcome)
+    ∷ log))
 unfolding one_memory_after
-performs-delivered {w} config log link ch h width is = go (is_moving (stepped config (Deliver link ch) sys).outcome) refl
+performs-delivered {w} config log link ch h width is = go (is_moving (stepped config (Deliver link ch) sys).outcome)
+    refl
   where
     sys : System w
     sys = system_after config log
@@ -89,64 +90,84 @@ performs-delivered {w} config log link ch h width is = go (is_moving (stepped co
 
     Then : Channel → Type 0
     Then at =
-        Performs (accesses_answered (stepped config (Deliver link at) sys).handed) (moved (Deliver link at) (stepped config (Deliver link at) sys).outcome m)
-        (performing (accesses_answered (stepped config (Deliver link at) sys).handed) (moved (Deliver link at) (stepped config (Deliver link at) sys).outcome m))
+        Performs (accesses_answered (stepped config (Deliver link at) sys).handed)
+        (moved (Deliver link at) (stepped config (Deliver link at) sys).outcome m)
+        (performing (accesses_answered (stepped config (Deliver link at) sys).handed)
+        (moved (Deliver link at) (stepped config (Deliver link at) sys).outcome m))
 
-    head : (at : Channel) (x : Beat w) (queue : List (Beat w)) → sys.channels c at ≡ x ∷ queue → manager.IsSound config (record { 0 = c }, x)
-    head at x queue beats = All-head (λ y. manager.IsSound config (record { 0 = c }, y)) x queue (same beats (is.sound c at))
+    head : (at : Channel) (x : Beat w) (queue : List (Beat w)) → sys.channels c at ≡ x ∷ queue
+        → manager.IsSound config (record { 0 = c }, x)
+    head at x queue beats = All-head (λ y. manager.IsSound config (record { 0 = c }, y)) x queue
+        (same beats (is.sound c at))
       where
-        same : sys.channels c at ≡ x ∷ queue → All (λ y. manager.IsSound config (record { 0 = c }, y)) (sys.channels c at) → All (λ y. manager.IsSound config (record { 0 = c }, y)) (x ∷ queue)
+        same : sys.channels c at ≡ x ∷ queue → All (λ y. manager.IsSound config (record { 0 = c }, y))
+            (sys.channels c at) → All (λ y. manager.IsSound config (record { 0 = c }, y)) (x ∷ queue)
         same e f = rw e at f
 
     -- a client takes it
-    down : (at : Channel) (terms : EndConfig) (x : Beat w) (queue : List (Beat w)) → is_to_client at ≡ true → terms_at config c ≡ Some terms
+    down : (at : Channel) (terms : EndConfig) (x : Beat w) (queue : List (Beat w)) → is_to_client at ≡ true
+        → terms_at config c ≡ Some terms
         → sys.channels c at ≡ x ∷ queue → is_moving (stepped config (Deliver link at) sys).outcome ≡ true → Then at
     down at terms x queue theirs known beats moving =
         let t = client-moves config link at sys terms x queue known beats theirs moving in
         let fit : IsFitAnswer config.blocks (Ok (t.verdict_is, t.message)) =
-        subst (IsFitAnswer config.blocks) t.answer (fit-taken config.blocks x (sys.clients c) (head at x queue beats).inside
+        subst (IsFitAnswer config.blocks) t.answer
+        (fit-taken config.blocks x (sys.clients c) (head at x queue beats).inside
         (copy-long config log h.mail h.request h.state sys is c)) in
         performs-none (accesses_answered (stepped config (Deliver link at) sys).handed) _
-        (ap (λ (s : Step w). accesses_answered s.handed) t.step_is ∙ fit-quiet config.blocks c t.verdict_is t.message fit)
+        (ap (λ (s : Step w). accesses_answered s.handed) t.step_is ∙ fit-quiet config.blocks c t.verdict_is t.message
+        fit)
 
     -- the manager takes it
-    up : (at : Channel) (terms : EndConfig) (x : Beat w) (queue : List (Beat w)) → is_to_client at ≡ false → terms_at config c ≡ Some terms
+    up : (at : Channel) (terms : EndConfig) (x : Beat w) (queue : List (Beat w)) → is_to_client at ≡ false
+        → terms_at config c ≡ Some terms
         → sys.channels c at ≡ x ∷ queue → is_moving (stepped config (Deliver link at) sys).outcome ≡ true
         → IsOnce (accesses_answered (reaction config link x sys.manager).handed) h m → Then at
     up at terms x queue theirs known beats moving once =
         let t = manager-moves config link at sys terms x queue known beats theirs moving in
-        let same : accesses_answered (stepped config (Deliver link at) sys).handed ≡ accesses_answered (reaction config link x sys.manager).handed =
+        let same : accesses_answered (stepped config (Deliver link at) sys).handed ≡ accesses_answered
+        (reaction config link x sys.manager).handed =
         ap (λ (s : Step w). accesses_answered s.handed) t.step_is in
-        let still : moved (Deliver link at) (stepped config (Deliver link at) sys).outcome m ≡ m = ap (λ (s : Step w). moved (Deliver link at) s.outcome m) t.step_is in
-        subst (λ (l : List (ℕ × ℕ)). Performs l (moved (Deliver link at) (stepped config (Deliver link at) sys).outcome m)
+        let still : moved (Deliver link at) (stepped config (Deliver link at) sys).outcome m ≡ m =
+        ap (λ (s : Step w). moved (Deliver link at) s.outcome m) t.step_is in
+        subst (λ (l : List (ℕ × ℕ)). Performs l (moved (Deliver link at) (stepped config (Deliver link at) sys).outcome
+        m)
         (performing l (moved (Deliver link at) (stepped config (Deliver link at) sys).outcome m))) (sym same)
         (subst (λ (i : Machine w). Performs (accesses_answered (reaction config link x sys.manager).handed) i
         (performing (accesses_answered (reaction config link x sys.manager).handed) i)) (sym still)
         (once-performs (accesses_answered (reaction config link x sys.manager).handed) h m once))
 
-    moves : (at : Channel) (terms : EndConfig) (beats : List (Beat w)) → terms_at config c ≡ Some terms → sys.channels c at ≡ beats
+    moves : (at : Channel) (terms : EndConfig) (beats : List (Beat w)) → terms_at config c ≡ Some terms
+        → sys.channels c at ≡ beats
         → is_moving (stepped config (Deliver link at) sys).outcome ≡ true → Then at
-    moves at terms [] known none moving = absurd (not_moving _ _ (stepped-empty config link at sys terms known none) moving refl)
+    moves at terms [] known none moving =
+        absurd (not_moving _ _ (stepped-empty config link at sys terms known none) moving refl)
     moves channel.A terms (x ∷ queue) known beats moving =
         let t = manager-moves config link channel.A sys terms x queue known beats refl moving in
         up channel.A terms x queue refl known beats moving
-        (subst (λ (s : Step w). IsOnce (accesses_answered s.handed) h m) t.step_is (once-delivered_a config log h sys c terms m width is known is.beside))
+        (subst (λ (s : Step w). IsOnce (accesses_answered s.handed) h m) t.step_is
+        (once-delivered_a config log h sys c terms m width is known is.beside))
     moves channel.B terms (x ∷ queue) known beats moving = down channel.B terms x queue refl known beats moving
-    moves channel.C terms (x ∷ queue) known beats moving = up channel.C terms x queue refl known beats moving (once-followed_c config log h sys c x queue m width is beats is.beside)
+    moves channel.C terms (x ∷ queue) known beats moving = up channel.C terms x queue refl known beats moving
+        (once-followed_c config log h sys c x queue m width is beats is.beside)
     moves channel.D terms (x ∷ queue) known beats moving = down channel.D terms x queue refl known beats moving
-    moves channel.E terms (x ∷ queue) known beats moving = up channel.E terms x queue refl known beats moving (inl (acked x (first-of config log h c terms channel.E x queue width is known beats).on))
+    moves channel.E terms (x ∷ queue) known beats moving = up channel.E terms x queue refl known beats moving
+        (inl (acked x (first-of config log h c terms channel.E x queue width is known beats).on))
       where
-        acked : (y : Beat w) → channel_of y ≡ channel.E → accesses_answered (reaction config link y sys.manager).handed ≡ []
+        acked : (y : Beat w) → channel_of y ≡ channel.E → accesses_answered (reaction config link y sys.manager).handed
+            ≡ []
         acked (beat.E y) e = ack-none config link (beat.E y) sys y refl
         acked (beat.A y) e = absurd cc
         acked (beat.B y) e = absurd cc
         acked (beat.C y) e = absurd cc
         acked (beat.D y) e = absurd cc
 
-    found : (o : Option EndConfig) → terms_at config c ≡ o → is_moving (stepped config (Deliver link ch) sys).outcome ≡ true → Then ch
+    found : (o : Option EndConfig) → terms_at config c ≡ o
+        → is_moving (stepped config (Deliver link ch) sys).outcome ≡ true → Then ch
     found None none moving = absurd (not_moving _ _ (stepped-nobody config (Deliver link ch) sys none) moving refl)
     found (Some terms) known moving = moves ch terms (sys.channels c ch) known refl moving
 
     go : (b : Bool) → is_moving (stepped config (Deliver link ch) sys).outcome ≡ b → Then ch
     go true moving = found (terms_at config c) refl moving
-    go false still = performs-none (accesses_answered (stepped config (Deliver link ch) sys).handed) _ (still-none config link ch sys still)
+    go false still = performs-none (accesses_answered (stepped config (Deliver link ch) sys).handed) _
+        (still-none config link ch sys still)

@@ -1,30 +1,34 @@
 -- An Acquire that is alone: its client holds the block until it is granted what it asked for, and then that, whatever
 -- message is taken.
-use Rattle.std.proofs.Common.{◌≡◌, subst, ℕ, Bool, true, false, List, ◌∷◌, refl, sym, ◌∙◌, ap, ap₂, ◌⊎◌, inl, inr, length}
+use Rattle.tl_coherence.proofs.theorem.Imports.{Config, Grow, Perm, AbstractState, AcquirePhase, AcquireOpen}
+use Rattle.tl_coherence.proofs.theorem.Imports.{SourceState, packet, Kind, Request, Acquire, Probe, ProbeAck, Release}
+use Rattle.tl_coherence.proofs.theorem.Imports.{Answer, Grant, ReleaseAck, GrantAck}
+use Rattle.std.proofs.Common.{◌≡◌, subst, ℕ, Bool, true, false, List, ◌∷◌, refl, sym, ◌∙◌, ap, ap₂, ◌⊎◌, inl, inr}
+use Rattle.std.proofs.Common.{length}
 use Rattle.std.specs.Prelude.{if◌then◌else◌, not, ◌==◌, ◌&&◌, ◌||◌}
 use Rattle.std.proofs.lemmas.Bool.{cases_eq}
-use Rattle.tl_params.specs.declared.config.Config.{Config}
 use Rattle.tl_params.specs.declared.param.Cap.{Cap}
 use Rattle.tl_params.specs.declared.param.Cap.TheVariants as cap
-use Rattle.tl_params.specs.declared.param.Grow.{Grow}
 use Rattle.tl_params.specs.declared.param.Grow.TheVariants as grow
 use Rattle.tl_params.specs.declared.param.Report.{Report}
-use Rattle.tl_params.specs.declared.perm.Perm.{Perm}
 use Rattle.tl_params.specs.declared.perm.Perm.TheVariants as perm
 use Rattle.tl_params.specs.declared.profile.Profile.{Profile}
 use Rattle.tl_params.specs.declared.profile.Profile.TheVariants as profile
 use Rattle.tl_params.specs.statement.Param.{cap_right}
 use Rattle.tl_rules.specs.statement.Conformance.{same_perm}
 use Rattle.tl_coherence.specs.statement.Draining.{grown_to}
-use Rattle.tl_coherence.specs.refinement.AbstractStep.{AbstractState, acquire_taken, gift, granted_after, is_unheld, kind_taken, last_taken, some_below, taken_by_client, with_state}
+use Rattle.tl_coherence.specs.refinement.AbstractStep.{acquire_taken, gift, granted_after, is_unheld, kind_taken}
+use Rattle.tl_coherence.specs.refinement.AbstractStep.{last_taken, some_below, taken_by_client, with_state}
 use Rattle.tl_coherence.specs.protocol.Invariant.{IsInvariant, cap_asked, is_replied}
-use Rattle.tl_coherence.specs.protocol.Phase.{ClientBlock, Own, Other, AcquirePhase, NoAcquire, AcquireOpen, cap_fits, grant_fits}
+use Rattle.tl_coherence.specs.protocol.Phase.{ClientBlock, Own, Other, NoAcquire, cap_fits, grant_fits}
 use Rattle.tl_coherence.specs.protocol.PhaseSteps.{after_grant_sent, after_probe, after_report, is_granted_data}
-use Rattle.tl_coherence.specs.protocol.Protocol.{Service, Free, Waits, GrantSent, GrantTaken, Block, State, SourceState, SourceFree, Asked, InService, Replied, Acquires, view, packet}
-use Rattle.tl_coherence.specs.protocol.Protocol.{on, shown, is_probed, is_sent, acquire_granted, acquire_served, granted_at_once, granted_pair, probe_taken, report_taken}
-use Rattle.tl_coherence.specs.protocol.Protocol.{reported_block, served_block, served_pair}
+use Rattle.tl_coherence.specs.protocol.Protocol.{Service, Free, Waits, GrantSent, GrantTaken, Block, State, SourceFree}
+use Rattle.tl_coherence.specs.protocol.Protocol.{Asked, InService, Replied, Acquires, view, on, shown, is_probed}
+use Rattle.tl_coherence.specs.protocol.Protocol.{is_sent, acquire_granted, acquire_served, granted_at_once}
+use Rattle.tl_coherence.specs.protocol.Protocol.{granted_pair, probe_taken, report_taken, reported_block, served_block}
+use Rattle.tl_coherence.specs.protocol.Protocol.{served_pair}
 use Rattle.tl_coherence.specs.refinement.PacketMessages.{report_told}
-use Rattle.tl_coherence.specs.protocol.Packet.{Kind, Request, Acquire, Probe, ProbeAck, Release, Answer, Grant, ReleaseAck, GrantAck, Packet, set, set_at}
+use Rattle.tl_coherence.specs.protocol.Packet.{Packet, set, set_at}
 use Rattle.tl_coherence.specs.refinement.SimulationRelation.{IsGivenAsked, gives_asked}
 use Rattle.tl_coherence.proofs.memory.Beside.{IsElsewhere, place-cases}
 use Rattle.tl_coherence.proofs.protocol.Capacities.{source_of_acquire}
@@ -65,30 +69,38 @@ pub record IsLone (p : Profile) (c n source : ℕ) (a : AcquirePhase) (s : State
 abbrev IsSteady : ClientBlock → ClientBlock → Type 0
 IsSteady x y = (y.held ≡ x.held) × (y.acquiring ≡ x.acquiring)
 
-brings_steady : (p : Profile) (n : ℕ) (a : AcquirePhase) (u v : SourceState) (x y : ClientBlock) → v ≡ u → IsSteady x y → Brings p n a u x → Brings p n a v y
+brings_steady : (p : Profile) (n : ℕ) (a : AcquirePhase) (u v : SourceState) (x y : ClientBlock) → v ≡ u → IsSteady x y
+    → Brings p n a u x → Brings p n a v y
 brings_steady p n a SourceFree v x y e same is = rw e (ap (grown p a) same.0 ∙ is)
 brings_steady p n a (Acquires m) v x y e same is = rw e (is.0, same.1 ∙ is.1)
 brings_steady p n a Asked v x y e same is = absurd is
 brings_steady p n a (InService m) v x y e same is = absurd is
 brings_steady p n a Replied v x y e same is = absurd is
 
-steady_at : (m : ℕ) (b : Block (List ℕ)) (block : ℕ → Block (List ℕ)) (i d : ℕ) → (i ≡ m → IsSteady ((block m).pair d) (b.pair d)) → IsSteady ((block i).pair d) ((set m b block i).pair d)
+steady_at : (m : ℕ) (b : Block (List ℕ)) (block : ℕ → Block (List ℕ)) (i d : ℕ)
+    → (i ≡ m → IsSteady ((block m).pair d) (b.pair d)) → IsSteady ((block i).pair d) ((set m b block i).pair d)
 steady_at m b block i d same = elim (cases_eq i m) [
   | inl here ↦ rw (here, set-same m b block) (same here)
   | inr other ↦ rw (set-other m i b block other) (refl, refl)
 ]
 
-steady_pair : (d : ℕ) (x : ClientBlock) (pair : ℕ → ClientBlock) → IsSteady (pair d) x → (j : ℕ) → IsSteady (pair j) (set d x pair j)
+steady_pair : (d : ℕ) (x : ClientBlock) (pair : ℕ → ClientBlock) → IsSteady (pair d) x → (j : ℕ)
+    → IsSteady (pair j) (set d x pair j)
 steady_pair d x pair same j = set-each (λ i y. IsSteady (pair i) y) d x pair same (λ i ne. (refl, refl)) j
 
-steady_served : (r : ℕ) (own : Bool) (k : Cap) (pair : ℕ → ClientBlock) (d : ℕ) → IsSteady (pair d) (served_pair r own k pair d)
+steady_served : (r : ℕ) (own : Bool) (k : Cap) (pair : ℕ → ClientBlock) (d : ℕ)
+    → IsSteady (pair d) (served_pair r own k pair d)
 steady_served r own k pair d = go (own && (d == r))
   where
-    go : (b : Bool) → IsSteady (pair d) (if b then pair d else record (pair d) { probing = (served_pair r false k pair d).probing })
+    go : (b : Bool) → IsSteady (pair d) (if b then pair d else record (pair d) {
+      probing =
+          (served_pair r false k pair d).probing;
+    })
     go true = (refl, refl)
     go false = (refl, refl)
 
-steady_granted : (d q : ℕ) (r : Report) (k : Cap) (pair : ℕ → ClientBlock) (j : ℕ) → IsSteady (pair j) (granted_pair d q r k pair j)
+steady_granted : (d q : ℕ) (r : Report) (k : Cap) (pair : ℕ → ClientBlock) (j : ℕ)
+    → IsSteady (pair j) (granted_pair d q r k pair j)
 steady_granted d q r k pair j =
     let told : ℕ → ClientBlock = set d (after_report r (pair d)) pair in
     let first = steady_pair d (after_report r (pair d)) pair (refl, refl) q in
@@ -98,7 +110,8 @@ steady_granted d q r k pair j =
 
 -- ---- what a Grant brings
 
-grows : (p : Profile) (whole : Bool) (g : Grow) (k : Cap) → cap_fits whole g k ≡ true → gives_asked p (AcquireOpen whole g) k ≡ true → grown_to p g (cap_right k) ≡ true
+grows : (p : Profile) (whole : Bool) (g : Grow) (k : Cap) → cap_fits whole g k ≡ true
+    → gives_asked p (AcquireOpen whole g) k ≡ true → grown_to p g (cap_right k) ≡ true
 grows profile.One false grow.NtoB cap.ToB e f = refl
 grows profile.One false grow.NtoB cap.ToT e f = absurd cc
 grows profile.Two false grow.NtoB cap.ToB e f = refl
@@ -120,19 +133,24 @@ grows p true grow.BtoT cap.ToB e f = absurd cc
 grows p false grow.BtoT cap.ToN e f = absurd cc
 grows p true grow.BtoT cap.ToN e f = absurd cc
 
-fits_cap : (recorded held : Perm) (d : Bool) (k : Cap) (whole : Bool) (g : Grow) → grant_fits recorded held d k (AcquireOpen whole g) ≡ true → cap_fits whole g k ≡ true
+fits_cap : (recorded held : Perm) (d : Bool) (k : Cap) (whole : Bool) (g : Grow)
+    → grant_fits recorded held d k (AcquireOpen whole g) ≡ true → cap_fits whole g k ≡ true
 fits_cap recorded held d k whole g f =
     and_left (cap_fits whole g k) (not (whole && d) && (whole || (d || same_perm held perm.Branch)))
-    (and_right (same_perm recorded (cap_right k)) (cap_fits whole g k && (not (whole && d) && (whole || (d || same_perm held perm.Branch)))) f)
+    (and_right (same_perm recorded (cap_right k))
+    (cap_fits whole g k && (not (whole && d) && (whole || (d || same_perm held perm.Branch)))) f)
 
-brings_granted : (p : Profile) (n : ℕ) (a : AcquirePhase) (u : SourceState) (x : ClientBlock) (q : Perm) → u ≡ SourceFree → x.held ≡ q → grown p a q ≡ true → Brings p n a u x
+brings_granted : (p : Profile) (n : ℕ) (a : AcquirePhase) (u : SourceState) (x : ClientBlock) (q : Perm)
+    → u ≡ SourceFree → x.held ≡ q → grown p a q ≡ true → Brings p n a u x
 brings_granted p n a u x q e f is = rw e (ap (grown p a) f ∙ is)
 
 module _ (p : Profile) (c n source : ℕ) (a : AcquirePhase) where
-  lone_steady : (s s' : State (List ℕ)) → ((d i : ℕ) → s'.uses d i ≡ s.uses d i) → IsSteady ((s.block n).pair c) ((s'.block n).pair c) → IsLone p c n source a s → IsLone p c n source a s'
+  lone_steady : (s s' : State (List ℕ)) → ((d i : ℕ) → s'.uses d i ≡ s.uses d i)
+      → IsSteady ((s.block n).pair c) ((s'.block n).pair c) → IsLone p c n source a s → IsLone p c n source a s'
   lone_steady s s' uses same is = record {
     others = λ d i else_. uses d i ∙ is.others d i else_;
-    brings = brings_steady p n a (s.uses c source) (s'.uses c source) ((s.block n).pair c) ((s'.block n).pair c) (uses c source) same is.brings;
+    brings = brings_steady p n a (s.uses c source) (s'.uses c source) ((s.block n).pair c) ((s'.block n).pair c)
+        (uses c source) same is.brings;
   }
 
   -- ---- which sources are in use
@@ -146,20 +164,23 @@ module _ (p : Profile) (c n source : ℕ) (a : AcquirePhase) where
     | inr else_ ↦ inl (is.others d i else_)
   ]
     where
-      go : (u : SourceState) → s.uses c source ≡ u → Brings p n a u ((s.block n).pair c) → d ≡ c → i ≡ source → (s.uses d i ≡ SourceFree) ⊎ IsOwn s d i
+      go : (u : SourceState) → s.uses c source ≡ u → Brings p n a u ((s.block n).pair c) → d ≡ c → i ≡ source
+          → (s.uses d i ≡ SourceFree) ⊎ IsOwn s d i
       go SourceFree e b x y = inl (ap₂ s.uses x y ∙ e)
       go (Acquires m) e b x y = inr (x, y, ap₂ s.uses x y ∙ e ∙ ap Acquires b.0, b.1)
       go Asked e b x y = absurd b
       go (InService m) e b x y = absurd b
       go Replied e b x y = absurd b
 
-  no_access : (s : State (List ℕ)) (d i : ℕ) (u : SourceState) → IsLone p c n source a s → s.uses d i ≡ u → is_access u ≡ true → ⊥
+  no_access : (s : State (List ℕ)) (d i : ℕ) (u : SourceState) → IsLone p c n source a s → s.uses d i ≡ u
+      → is_access u ≡ true → ⊥
   no_access s d i u is e access = elim (lone_use s is d i) [
     | inl none ↦ let no : is_access SourceFree ≡ true = ap is_access (sym none ∙ e) ∙ access in cc
     | inr own ↦ let no : is_access (Acquires n) ≡ true = ap is_access (sym own.2 ∙ e) ∙ access in cc
   ]
 
-  own_acquire : (s : State (List ℕ)) (d i m : ℕ) → IsLone p c n source a s → s.uses d i ≡ Acquires m → IsOwn s d i × (m ≡ n)
+  own_acquire : (s : State (List ℕ)) (d i m : ℕ) → IsLone p c n source a s → s.uses d i ≡ Acquires m
+      → IsOwn s d i × (m ≡ n)
   own_acquire s d i m is e = elim (lone_use s is d i) [
     | inl none ↦ absurd (let no : SourceFree ≡ Acquires m = sym none ∙ e in cc)
     | inr own ↦ (own, same m (sym e ∙ own.2))
@@ -169,8 +190,11 @@ module _ (p : Profile) (c n source : ℕ) (a : AcquirePhase) where
       same k f = cc
 
   -- its client isn't probed
-  unprobed : (caching : ℕ → Bool) (s : State (List ℕ)) → IsInvariant caching s → IsLone p c n source a s → is_sent ((s.block n).pair c).probing ≡ true → ⊥
-  unprobed caching s inv is sent = go (s.block n).service refl (serves_another ((s.block n).pair c) (view (s.block n).service c) ((inv.blocks n).phases c) (not-sent ((s.block n).pair c).probing sent))
+  unprobed : (caching : ℕ → Bool) (s : State (List ℕ)) → IsInvariant caching s → IsLone p c n source a s
+      → is_sent ((s.block n).pair c).probing ≡ true → ⊥
+  unprobed caching s inv is sent =
+      go (s.block n).service refl (serves_another ((s.block n).pair c) (view (s.block n).service c)
+      ((inv.blocks n).phases c) (not-sent ((s.block n).pair c).probing sent))
     where
       go : (service : Service) → (s.block n).service ≡ service → is_other (view service c) ≡ true → ⊥
       go Free e other = absurd cc
@@ -179,7 +203,8 @@ module _ (p : Profile) (c n source : ℕ) (a : AcquirePhase) where
       go (Waits r false i k) e other = no_access s r i (InService n) is (serving-use caching s n r i k inv e) refl
       go (Waits r true i k) e other =
           let own : view (s.block n).service r ≡ Own = rw (e, same_number r) refl in
-          let wants = owns_ask ((s.block n).pair r) (view (s.block n).service r) ((inv.blocks n).phases r) (rw own refl) in
+          let wants = owns_ask ((s.block n).pair r) (view (s.block n).service r) ((inv.blocks n).phases r) (rw own refl)
+          in
           let mine = own_acquire s r ((s.block n).source r) n is (source_of_acquire caching s r n inv wants) in
           never (c == r) (ap (λ (j : ℕ). c == j) mine.0.0 ∙ same_number c) other
         where
@@ -189,20 +214,27 @@ module _ (p : Profile) (c n source : ℕ) (a : AcquirePhase) where
 
   -- ---- messages that are taken
 
-  lone_if : (x : Bool) (s t : State (List ℕ)) → IsLone p c n source a s → IsLone p c n source a t → IsLone p c n source a (if x then s else t)
+  lone_if : (x : Bool) (s t : State (List ℕ)) → IsLone p c n source a s → IsLone p c n source a t
+      → IsLone p c n source a (if x then s else t)
   lone_if true s t f h = f
   lone_if false s t f h = h
 
-  lone_served : (d m i tracker : ℕ) (k : Cap) (rest : List Packet) (s : State (List ℕ)) → IsLone p c n source a s → IsLone p c n source a (acquire_served d m i tracker k rest s)
+  lone_served : (d m i tracker : ℕ) (k : Cap) (rest : List Packet) (s : State (List ℕ)) → IsLone p c n source a s
+      → IsLone p c n source a (acquire_served d m i tracker k rest s)
   lone_served d m i tracker k rest s is =
-      lone_steady s (acquire_served d m i tracker k rest s) (λ e j. refl) (steady_at m (served_block d true i tracker k (s.block m)) s.block n c (λ here. steady_served d true k (s.block m).pair c)) is
+      lone_steady s (acquire_served d m i tracker k rest s) (λ e j. refl)
+      (steady_at m (served_block d true i tracker k (s.block m)) s.block n c
+      (λ here. steady_served d true k (s.block m).pair c)) is
 
-  lone_sent : (d m tracker : ℕ) (data_too : Bool) (k : Cap) (rest : List Packet) (s : State (List ℕ)) → IsLone p c n source a s → IsLone p c n source a (acquire_granted d m tracker data_too k rest s)
+  lone_sent : (d m tracker : ℕ) (data_too : Bool) (k : Cap) (rest : List Packet) (s : State (List ℕ))
+      → IsLone p c n source a s → IsLone p c n source a (acquire_granted d m tracker data_too k rest s)
   lone_sent d m tracker data_too k rest s is =
       lone_steady s (acquire_granted d m tracker data_too k rest s) (λ e j. refl)
-      (steady_at m (granted_at_once d tracker data_too k (s.block m)) s.block n c (λ here. steady_pair d (after_grant_sent k ((s.block m).pair d)) (s.block m).pair (refl, refl) c)) is
+      (steady_at m (granted_at_once d tracker data_too k (s.block m)) s.block n c
+      (λ here. steady_pair d (after_grant_sent k ((s.block m).pair d)) (s.block m).pair (refl, refl) c)) is
 
-  lone_acquire : {w : ℕ} (clients : ℕ) (profile : Profile) (d m : ℕ) (x : AcquirePhase) (tracker : ℕ) (rest : List Packet) (h : AbstractState w)
+  lone_acquire : {w : ℕ} (clients : ℕ) (profile : Profile) (d m : ℕ) (x : AcquirePhase) (tracker : ℕ)
+      (rest : List Packet) (h : AbstractState w)
       → IsLone p c n source a h.state → IsLone p c n source a (acquire_taken clients profile d m x tracker rest h).state
   lone_acquire clients profile d m NoAcquire tracker rest h is = is
   lone_acquire {w} clients profile d m (AcquireOpen whole j) tracker rest h is =
@@ -210,41 +242,59 @@ module _ (p : Profile) (c n source : ℕ) (a : AcquirePhase) where
       let k : Cap = cap_asked (AcquireOpen whole j) in
       let data_too : Bool = is_granted_data whole j (b.pair d).recorded in
       let given : Cap = gift profile whole j (is_unheld clients b.pair) in
-      lone_if (some_below clients (λ e. is_probed d true k (b.pair e).recorded e)) (acquire_served d m (b.source d) tracker k rest h.state) (acquire_granted d m tracker data_too given rest h.state)
+      lone_if (some_below clients (λ e. is_probed d true k (b.pair e).recorded e))
+      (acquire_served d m (b.source d) tracker k rest h.state)
+      (acquire_granted d m tracker data_too given rest h.state)
       (lone_served d m (b.source d) tracker k rest h.state is) (lone_sent d m tracker data_too given rest h.state is)
 
-  lone_probe : (caching : ℕ → Bool) (d m : ℕ) (k : Cap) (rest : List Packet) (s : State (List ℕ)) → IsInvariant caching s
-      → is_sent ((s.block m).pair d).probing ≡ true → IsLone p c n source a s → IsLone p c n source a (probe_taken d m k rest s)
+  lone_probe : (caching : ℕ → Bool) (d m : ℕ) (k : Cap) (rest : List Packet) (s : State (List ℕ))
+      → IsInvariant caching s
+      → is_sent ((s.block m).pair d).probing ≡ true → IsLone p c n source a s
+      → IsLone p c n source a (probe_taken d m k rest s)
   lone_probe caching d m k rest s inv sent is =
-      lone_steady s (probe_taken d m k rest s) (λ e i. refl) (steady_at m _ s.block n c (λ here. go here (cases_eq c d))) is
+      lone_steady s (probe_taken d m k rest s) (λ e i. refl)
+      (steady_at m _ s.block n c (λ here. go here (cases_eq c d))) is
     where
-      go : n ≡ m → (c ≡ d) ⊎ (c ≡ d → ⊥) → IsSteady ((s.block m).pair c) (set d (after_probe k ((s.block m).pair d)) (s.block m).pair c)
-      go here (inl same) = absurd (unprobed caching s inv is (ap₂ (λ (i j : ℕ). is_sent ((s.block i).pair j).probing) here same ∙ sent))
+      go : n ≡ m → (c ≡ d) ⊎ (c ≡ d → ⊥)
+          → IsSteady ((s.block m).pair c) (set d (after_probe k ((s.block m).pair d)) (s.block m).pair c)
+      go here (inl same) = absurd
+          (unprobed caching s inv is (ap₂ (λ (i j : ℕ). is_sent ((s.block i).pair j).probing) here same ∙ sent))
       go here (inr other) = rw (set-other d c (after_probe k ((s.block m).pair d)) (s.block m).pair other) (refl, refl)
 
-  lone_granted : {w : ℕ} (clients : ℕ) (profile : Profile) (d q m : ℕ) (r : Report) (x : AcquirePhase) (rest : List Packet) (h : AbstractState w)
+  lone_granted : {w : ℕ} (clients : ℕ) (profile : Profile) (d q m : ℕ) (r : Report) (x : AcquirePhase)
+      (rest : List Packet) (h : AbstractState w)
       → IsLone p c n source a h.state → IsLone p c n source a (granted_after clients profile d q m r x rest h).state
   lone_granted clients profile d q m r NoAcquire rest h is = is
-  lone_granted clients profile d q m r (AcquireOpen whole j) rest h is = lone_steady h.state _ (λ e i. refl) (steady_at m _ h.state.block n c (λ here. steady_granted d q r _ (h.state.block m).pair c)) is
+  lone_granted clients profile d q m r (AcquireOpen whole j) rest h is =
+      lone_steady h.state _ (λ e i. refl)
+      (steady_at m _ h.state.block n c (λ here. steady_granted d q r _ (h.state.block m).pair c)) is
 
-  lone_last : {w : ℕ} (clients : ℕ) (profile : Profile) (d m : ℕ) (r : Report) (v : Service) (rest : List Packet) (h : AbstractState w)
+  lone_last : {w : ℕ} (clients : ℕ) (profile : Profile) (d m : ℕ) (r : Report) (v : Service) (rest : List Packet)
+      (h : AbstractState w)
       → ((q i : ℕ) (k : Cap) → v ≡ Waits q false i k → h.state.uses q i ≡ InService m) → IsLone p c n source a h.state
       → IsLone p c n source a (last_taken clients profile d m r v rest h).state
   lone_last clients profile d m r Free rest h used is = is
-  lone_last clients profile d m r (Waits q true i k) rest h used is = lone_granted clients profile d q m r ((h.state.block m).pair q).acquiring rest h is
-  lone_last clients profile d m r (Waits q false i k) rest h used is = absurd (no_access h.state q i (InService m) is (used q i k refl) refl)
+  lone_last clients profile d m r (Waits q true i k) rest h used is =
+      lone_granted clients profile d q m r ((h.state.block m).pair q).acquiring rest h is
+  lone_last clients profile d m r (Waits q false i k) rest h used is =
+      absurd (no_access h.state q i (InService m) is (used q i k refl) refl)
   lone_last clients profile d m r (GrantSent q e k) rest h used is = is
   lone_last clients profile d m r (GrantTaken q) rest h used is = is
 
-  lone_grant : {w : ℕ} (config : Config) (tracker d m : ℕ) (rest : List Packet) (h : AbstractState w) → AreGiven p h.state → IsGrantDue d m h.state
+  lone_grant : {w : ℕ} (config : Config) (tracker d m : ℕ) (rest : List Packet) (h : AbstractState w)
+      → AreGiven p h.state → IsGrantDue d m h.state
       → IsLone p c n source a h.state → IsLone p c n source a (kind_taken config tracker d Grant m rest h).state
   lone_grant {w} config tracker d m rest h given due is = record {
-    others = λ e i else_. uses_are e i ∙ each-set_at (λ j k (v : SourceState). IsElsewhere c source j k → v ≡ SourceFree) d src SourceFree h.state.uses (λ any. refl) is.others e i else_;
+    others = λ e i else_. uses_are e i ∙ each-set_at (λ j k (v : SourceState). IsElsewhere c source j k
+        → v ≡ SourceFree) d src SourceFree h.state.uses (λ any. refl) is.others e i else_;
     brings = brings_granted p n a (after.uses c source) ((after.block n).pair c) (cap_right due.k)
-        (uses_are c source ∙ ap₂ (set_at d src SourceFree h.state.uses) (sym mine.0.0) (sym mine.0.1) ∙ set_at-same d src SourceFree h.state.uses)
-        (ap₂ (λ (i j : ℕ). ((after.block i).pair j).held) (sym mine.1) (sym mine.0.0) ∙ held_granted config tracker d m rest h due)
+        (uses_are c source ∙ ap₂ (set_at d src SourceFree h.state.uses) (sym mine.0.0) (sym mine.0.1) ∙ set_at-same d
+        src SourceFree h.state.uses)
+        (ap₂ (λ (i j : ℕ). ((after.block i).pair j).held) (sym mine.1) (sym mine.0.0) ∙ held_granted config tracker d m
+        rest h due)
         (subst (λ (x : AcquirePhase). grown p x (cap_right due.k) ≡ true) wants
-        (grows p due.whole due.g due.k (fits_cap ((h.state.block m).pair d).recorded ((h.state.block m).pair d).held due.data_too due.k due.whole due.g due.fits) gives));
+        (grows p due.whole due.g due.k (fits_cap ((h.state.block m).pair d).recorded ((h.state.block m).pair d).held
+        due.data_too due.k due.whole due.g due.fits) gives));
   }
     where
       src : ℕ
@@ -269,17 +319,23 @@ module _ (p : Profile) (c n source : ℕ) (a : AcquirePhase) where
       gives = ap (λ (x : AcquirePhase). gives_asked p x due.k) (sym due.wants) ∙ given_as
 
   -- It stays alone, and keeps what it has brought, whatever message is taken.
-  pub lone-kind_taken : {w : ℕ} (caching : ℕ → Bool) (config : Config) (tracker d : ℕ) (k : Kind) (i : ℕ) (rest : List Packet) (h : AbstractState w)
+  pub lone-kind_taken : {w : ℕ} (caching : ℕ → Bool) (config : Config) (tracker d : ℕ) (k : Kind) (i : ℕ)
+      (rest : List Packet) (h : AbstractState w)
       → IsInvariant caching h.state → AreGiven p h.state → on k (h.state.link d) ≡ packet k i ∷ rest
       → IsLone p c n source a h.state → IsLone p c n source a (kind_taken config tracker d k i rest h).state
-  lone-kind_taken caching config tracker d Request i rest h inv given first is = absurd (no_access h.state d i Asked is (first-asked caching d i rest h inv first) refl)
+  lone-kind_taken caching config tracker d Request i rest h inv given first is =
+      absurd (no_access h.state d i Asked is (first-asked caching d i rest h inv first) refl)
   lone-kind_taken caching config tracker d Answer i rest h inv given first is =
       absurd (no_access h.state d i Replied is (is_replied-is (h.state.uses d i)
-      (holds-first Answer (h.state.link d).d rest (packet Answer i) (λ j. is_replied (h.state.uses d j)) first refl (inv.answers d))) refl)
-  lone-kind_taken caching config tracker d Acquire i rest h inv given first is = lone_acquire _ config.profile d i ((h.state.block i).pair d).acquiring tracker rest h is
+      (holds-first Answer (h.state.link d).d rest (packet Answer i) (λ j. is_replied (h.state.uses d j)) first refl
+      (inv.answers d))) refl)
+  lone-kind_taken caching config tracker d Acquire i rest h inv given first is =
+      lone_acquire _ config.profile d i ((h.state.block i).pair d).acquiring tracker rest h is
   lone-kind_taken caching config tracker d Probe i rest h inv given first is =
-      lone_probe caching d i _ rest h.state inv (holds-first Probe (h.state.link d).b rest (packet Probe i) (λ j. shown Probe d (h.state.block j)) first refl (inv.transfers d Probe refl)) is
-  lone-kind_taken {w} caching config tracker d ProbeAck i rest h inv given first is = either (some_below (length config.clients.items) (others_probed d (h.state.block i).pair))
+      lone_probe caching d i _ rest h.state inv (holds-first Probe (h.state.link d).b rest (packet Probe i)
+      (λ j. shown Probe d (h.state.block j)) first refl (inv.transfers d Probe refl)) is
+  lone-kind_taken {w} caching config tracker d ProbeAck i rest h inv given first is =
+      either (some_below (length config.clients.items) (others_probed d (h.state.block i).pair))
     where
       r : Report
       r = report_told ((h.state.block i).pair d).probing
@@ -294,10 +350,15 @@ module _ (p : Profile) (c n source : ℕ) (a : AcquirePhase) where
       either true = lone_steady h.state told (λ e j. refl)
           (steady_at i (reported_block d r (h.state.block i)) h.state.block n c
           (λ here. steady_pair d (after_report r ((h.state.block i).pair d)) (h.state.block i).pair (refl, refl) c)) is
-      either false = lone_last (length config.clients.items) config.profile d i r (h.state.block i).service rest h (λ q j k e. serving-use caching h.state i q j k inv e) is
+      either false = lone_last (length config.clients.items) config.profile d i r (h.state.block i).service rest h
+          (λ q j k e. serving-use caching h.state i q j k inv e) is
   lone-kind_taken caching config tracker d Release i rest h inv given first is =
-      lone_steady h.state _ (λ e j. refl) (steady_at i _ h.state.block n c (λ here. steady_pair d _ (h.state.block i).pair (refl, refl) c)) is
-  lone-kind_taken caching config tracker d Grant i rest h inv given first is = lone_grant config tracker d i rest h given (grant-due caching d i rest h.state inv first) is
+      lone_steady h.state _ (λ e j. refl)
+      (steady_at i _ h.state.block n c (λ here. steady_pair d _ (h.state.block i).pair (refl, refl) c)) is
+  lone-kind_taken caching config tracker d Grant i rest h inv given first is =
+      lone_grant config tracker d i rest h given (grant-due caching d i rest h.state inv first) is
   lone-kind_taken caching config tracker d ReleaseAck i rest h inv given first is =
-      lone_steady h.state _ (λ e j. refl) (steady_at i _ h.state.block n c (λ here. steady_pair d _ (h.state.block i).pair (refl, refl) c)) is
-  lone-kind_taken caching config tracker d GrantAck i rest h inv given first is = lone_steady h.state _ (λ e j. refl) (steady_at i _ h.state.block n c (λ here. (refl, refl))) is
+      lone_steady h.state _ (λ e j. refl)
+      (steady_at i _ h.state.block n c (λ here. steady_pair d _ (h.state.block i).pair (refl, refl) c)) is
+  lone-kind_taken caching config tracker d GrantAck i rest h inv given first is =
+      lone_steady h.state _ (λ e j. refl) (steady_at i _ h.state.block n c (λ here. (refl, refl))) is

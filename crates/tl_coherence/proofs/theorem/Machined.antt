@@ -1,15 +1,12 @@
 -- Each event is a step of the one-memory machine, and performs what it answers: the outcomes are a run of it.
+use Rattle.tl_coherence.proofs.theorem.Imports.{IsWidth, Beat, Link, Channel, Message, Config, Finish, Deliver}
+use Rattle.tl_coherence.proofs.theorem.Imports.{AbstractState, Log, system_after, Ends, Machine, pool_of}
+use Rattle.tl_coherence.proofs.theorem.Imports.{one_memory_after, System, Kind, Request, Acquire, Probe, ProbeAck}
+use Rattle.tl_coherence.proofs.theorem.Imports.{Release, Answer, Grant, ReleaseAck, GrantAck, SimulationRelation}
 use Rattle.std.proofs.Common.{◌≡◌, ℕ, Bool, true, false, List, [], ◌∷◌, Option, Some, None, refl, sym, ◌∙◌, ap, subst}
 use Rattle.std.specs.Prelude.{if◌then◌else◌, Result, Ok, Err, is_some}
-use Rattle.tl_beat.specs.statement.Width.{IsWidth}
-use Rattle.tl_beat.specs.declared.beat.Beat.{Beat}
-use Rattle.tl_beat.specs.declared.beat.Link.{Link}
-use Rattle.tl_beat.specs.declared.channel.Channel.{Channel}
 use Rattle.tl_beat.specs.declared.channel.Channel.TheVariants as channel
-use Rattle.tl_burst.specs.declared.message.Message.{Message}
-use Rattle.tl_params.specs.declared.config.Config.{Config}
 use Rattle.tl_params.specs.declared.rule.Rule.{Rule}
-use Rattle.tl_client.specs.declared.verdict.Finish.{Finish}
 use Rattle.tl_client.specs.declared.verdict.Verdict.{Verdict}
 use Rattle.tl_client.specs.declared.verdict.Verdict.TheVariants as verdict
 use Rattle.tl_client.specs.statement.Endpoint.{Endpoint, EndConfig}
@@ -17,19 +14,16 @@ use Rattle.tl_client.specs.statement.Offer.{offered}
 use Rattle.tl_manager.specs.statement.End as manager_end
 use Rattle.tl_manager.specs.statement.Offer as manager
 use Rattle.tl_coherence.specs.declared.event.Event.{Event}
-use Rattle.tl_coherence.specs.declared.event.Event.TheVariants.{Ask, Deliver}
+use Rattle.tl_coherence.specs.declared.event.Event.TheVariants.{Ask}
 use Rattle.tl_coherence.specs.declared.event.Outcome.{Outcome}
 use Rattle.tl_coherence.specs.declared.event.Outcome.TheVariants as outcome
-use Rattle.tl_coherence.specs.refinement.AbstractStep.{AbstractState}
 use Rattle.tl_coherence.specs.statement.Headline.{AreTyped, Continues}
-use Rattle.tl_coherence.specs.statement.Log.{Log, IsLog, system_after}
-use Rattle.tl_coherence.specs.statement.Machine.{Ends, IsStep, Machine, Performs, Run, is_client, moved, pool_of}
-use Rattle.tl_coherence.specs.statement.OneMemory.{one_memory_after, accesses_answered, performing}
+use Rattle.tl_coherence.specs.statement.Log.{IsLog}
+use Rattle.tl_coherence.specs.statement.Machine.{IsStep, Performs, Run, is_client, moved}
+use Rattle.tl_coherence.specs.statement.OneMemory.{accesses_answered, performing}
 use Rattle.tl_coherence.specs.statement.Step.{Step, stepped, judged, manager_took, is_to_client}
 use Rattle.tl_coherence.specs.statement.Step as step
-use Rattle.tl_coherence.specs.statement.System.{System, terms_at}
-use Rattle.tl_coherence.specs.protocol.Packet.{Kind, Request, Acquire, Probe, ProbeAck, Release, Answer, Grant, ReleaseAck, GrantAck}
-use Rattle.tl_coherence.specs.refinement.SimulationRelation.{SimulationRelation}
+use Rattle.tl_coherence.specs.statement.System.{terms_at}
 use Rattle.tl_coherence.proofs.theorem.Allowing.{ends-transfer}
 use Rattle.tl_coherence.proofs.theorem.AccessEnds.{ends-answer}
 use Rattle.tl_coherence.proofs.deliveries.AskedAfter.{continues-ask}
@@ -49,35 +43,42 @@ is_delivered (outcome.Done x source f) = true
 is_delivered (outcome.Replied r) = false
 is_delivered outcome.NoSuchClient = false
 
-delivered-so : {w : ℕ} (config : Config) (terms : EndConfig) (c : ℕ) (ch : Channel) (beats : List (Beat w)) (s : System w) → is_delivered (step.delivered config terms c ch beats s).outcome ≡ true
+delivered-so : {w : ℕ} (config : Config) (terms : EndConfig) (c : ℕ) (ch : Channel) (beats : List (Beat w))
+    (s : System w) → is_delivered (step.delivered config terms c ch beats s).outcome ≡ true
 unfolding is_delivered
 delivered-so config terms c ch [] s = refl
 delivered-so {w} config terms c ch (x ∷ rest) s = go (is_to_client ch)
   where
-    of_client : (r : Result (Verdict × Option (Message w)) Rule) (e : Endpoint w) → is_delivered (judged r c ch x rest e s).outcome ≡ true
+    of_client : (r : Result (Verdict × Option (Message w)) Rule) (e : Endpoint w)
+        → is_delivered (judged r c ch x rest e s).outcome ≡ true
     of_client (Err rule) e = refl
     of_client (Ok (verdict.Stalled, m)) e = refl
     of_client (Ok (verdict.Taken, m)) e = refl
     of_client (Ok (verdict.Done source f, m)) e = refl
 
-    of_manager : (a : manager.Reception w × manager_end.End w) → is_delivered (manager_took c ch x rest a s).outcome ≡ true
+    of_manager : (a : manager.Reception w × manager_end.End w)
+        → is_delivered (manager_took c ch x rest a s).outcome ≡ true
     of_manager (manager.Refused rule, e) = refl
     of_manager (manager.Stalled, e) = refl
     of_manager (manager.Sent handed, e) = refl
 
     go : (b : Bool) → is_delivered (if b then judged (offered terms ch x (s.clients c)).answer c ch x rest
-        (offered terms ch x (s.clients c)).after s else manager_took c ch x rest (manager.offered config (record { 0 = c }) ch x s.manager) s).outcome
+        (offered terms ch x (s.clients c)).after s else manager_took c ch x rest
+        (manager.offered config (record { 0 = c }) ch x s.manager) s).outcome
         ≡ true
     go true = of_client (offered terms ch x (s.clients c)).answer _
     go false = of_manager _
 
-stepped-so : {w : ℕ} (config : Config) (link : Link) (ch : Channel) (terms : EndConfig) (s : System w) → terms_at config link.0 ≡ Some terms
+stepped-so : {w : ℕ} (config : Config) (link : Link) (ch : Channel) (terms : EndConfig) (s : System w)
+    → terms_at config link.0 ≡ Some terms
     → is_delivered (stepped config (Deliver link ch) s).outcome ≡ true
 unfolding stepped
 stepped-so config link ch terms s known = rw known (delivered-so config terms link.0 ch (s.channels link.0 ch) s)
 
-step_allowed : {w : ℕ} (config : Config) (link : Link) (ch : Channel) (o : Outcome w) (m : Machine w) → is_delivered o ≡ true → is_client config link.0 ≡ true
-    → ((x : Beat w) (source : ℕ) (f : Finish) → o ≡ outcome.Done x source f → (ch ≡ channel.D) × Ends (m.opened link.0 (pool_of f) source) x f)
+step_allowed : {w : ℕ} (config : Config) (link : Link) (ch : Channel) (o : Outcome w) (m : Machine w)
+    → is_delivered o ≡ true → is_client config link.0 ≡ true
+    → ((x : Beat w) (source : ℕ) (f : Finish) → o ≡ outcome.Done x source f
+    → (ch ≡ channel.D) × Ends (m.opened link.0 (pool_of f) source) x f)
     → IsStep config (Deliver link ch) o m (moved (Deliver link ch) o m)
 unfolding is_delivered
 step_allowed config link channel.A outcome.Empty m so known done = (known, tt, refl)
@@ -96,39 +97,49 @@ step_allowed config link channel.C (outcome.Moved x) m so known done = (known, t
 step_allowed config link channel.D (outcome.Moved x) m so known done = (known, tt, refl)
 step_allowed config link channel.E (outcome.Moved x) m so known done = (known, tt, refl)
 step_allowed config link channel.D (outcome.Done x source f) m so known done = (known, (done x source f refl).1, refl)
-step_allowed config link channel.A (outcome.Done x source f) m so known done = absurd (let e = (done x source f refl).0 in cc)
-step_allowed config link channel.B (outcome.Done x source f) m so known done = absurd (let e = (done x source f refl).0 in cc)
-step_allowed config link channel.C (outcome.Done x source f) m so known done = absurd (let e = (done x source f refl).0 in cc)
-step_allowed config link channel.E (outcome.Done x source f) m so known done = absurd (let e = (done x source f refl).0 in cc)
+step_allowed config link channel.A (outcome.Done x source f) m so known done =
+    absurd (let e = (done x source f refl).0 in cc)
+step_allowed config link channel.B (outcome.Done x source f) m so known done =
+    absurd (let e = (done x source f refl).0 in cc)
+step_allowed config link channel.C (outcome.Done x source f) m so known done =
+    absurd (let e = (done x source f refl).0 in cc)
+step_allowed config link channel.E (outcome.Done x source f) m so known done =
+    absurd (let e = (done x source f refl).0 in cc)
 step_allowed config link ch (outcome.Replied r) m so known done = absurd cc
 step_allowed config link ch outcome.NoSuchClient m so known done = absurd cc
 
 -- ---- events
 
-nobody-continues : {w : ℕ} (config : Config) (log : Log w) (event : Event w) → terms_at config (step.client_of event) ≡ None
+nobody-continues : {w : ℕ} (config : Config) (log : Log w) (event : Event w)
+    → terms_at config (step.client_of event) ≡ None
     → Continues config (event, (stepped config event (system_after config log)).outcome) log
 unfolding one_memory_after performing Performs accesses_answered
 nobody-continues {w} config log event none =
-    rw (stepped-nobody config event (system_after config log) none) (one_memory_after config log, [], (rw none refl, refl), same event)
+    rw (stepped-nobody config event (system_after config log) none)
+    (one_memory_after config log, [], (rw none refl, refl), same event)
   where
     same : (e : Event w) → moved e outcome.NoSuchClient (one_memory_after config log) ≡ one_memory_after config log
     same (Ask c o) = refl
     same (Deliver link ch) = refl
 
-continues-delivered : {w : ℕ} (config : Config) (log : Log w) (link : Link) (ch : Channel) (h : AbstractState w) (terms : EndConfig) → IsWidth w
-    → SimulationRelation config log h.mail h.request h.state (system_after config log) → terms_at config link.0 ≡ Some terms
+continues-delivered : {w : ℕ} (config : Config) (log : Log w) (link : Link) (ch : Channel) (h : AbstractState w)
+    (terms : EndConfig) → IsWidth w
+    → SimulationRelation config log h.mail h.request h.state (system_after config log)
+    → terms_at config link.0 ≡ Some terms
     → Continues config (Deliver link ch, (stepped config (Deliver link ch) (system_after config log)).outcome) log
 continues-delivered {w} config log link ch h terms width is known = (
   moved (Deliver link ch) (stepped config (Deliver link ch) (system_after config log)).outcome m,
   accesses_answered (stepped config (Deliver link ch) (system_after config log)).handed,
-  step_allowed config link ch (stepped config (Deliver link ch) (system_after config log)).outcome m (stepped-so config link ch terms (system_after config log) known) (ap is_some known) done,
+  step_allowed config link ch (stepped config (Deliver link ch) (system_after config log)).outcome m
+      (stepped-so config link ch terms (system_after config log) known) (ap is_some known) done,
   performs-delivered config log link ch h width is,
 )
   where
     m : Machine w
     m = one_memory_after config log
 
-    done : (x : Beat w) (source : ℕ) (f : Finish) → (stepped config (Deliver link ch) (system_after config log)).outcome ≡ outcome.Done x source f → (ch ≡ channel.D)
+    done : (x : Beat w) (source : ℕ) (f : Finish) → (stepped config (Deliver link ch) (system_after config log)).outcome
+        ≡ outcome.Done x source f → (ch ≡ channel.D)
         × Ends (m.opened link.0 (pool_of f) source) x f
     done x source f e = (end.on_d, go end.first.kind refl)
       where
@@ -137,20 +148,30 @@ continues-delivered {w} config log link ch h terms width is known = (
 
         go : (k : Kind) → end.first.kind ≡ k → Ends (m.opened link.0 (pool_of f) source) x f
         go Answer g = ends-answer config log link ch h x source f width is end g
-        go Request g = ends-transfer config log link ch h x source f is end (λ i. let no_one : Request ≡ Answer = sym g ∙ i in cc)
-        go Acquire g = ends-transfer config log link ch h x source f is end (λ i. let no_one : Acquire ≡ Answer = sym g ∙ i in cc)
-        go Probe g = ends-transfer config log link ch h x source f is end (λ i. let no_one : Probe ≡ Answer = sym g ∙ i in cc)
-        go ProbeAck g = ends-transfer config log link ch h x source f is end (λ i. let no_one : ProbeAck ≡ Answer = sym g ∙ i in cc)
-        go Release g = ends-transfer config log link ch h x source f is end (λ i. let no_one : Release ≡ Answer = sym g ∙ i in cc)
-        go Grant g = ends-transfer config log link ch h x source f is end (λ i. let no_one : Grant ≡ Answer = sym g ∙ i in cc)
-        go ReleaseAck g = ends-transfer config log link ch h x source f is end (λ i. let no_one : ReleaseAck ≡ Answer = sym g ∙ i in cc)
-        go GrantAck g = ends-transfer config log link ch h x source f is end (λ i. let no_one : GrantAck ≡ Answer = sym g ∙ i in cc)
+        go Request g = ends-transfer config log link ch h x source f is end (λ i. let no_one : Request ≡ Answer =
+            sym g ∙ i in cc)
+        go Acquire g = ends-transfer config log link ch h x source f is end (λ i. let no_one : Acquire ≡ Answer =
+            sym g ∙ i in cc)
+        go Probe g = ends-transfer config log link ch h x source f is end (λ i. let no_one : Probe ≡ Answer =
+            sym g ∙ i in cc)
+        go ProbeAck g = ends-transfer config log link ch h x source f is end (λ i. let no_one : ProbeAck ≡ Answer =
+            sym g ∙ i in cc)
+        go Release g = ends-transfer config log link ch h x source f is end (λ i. let no_one : Release ≡ Answer =
+            sym g ∙ i in cc)
+        go Grant g = ends-transfer config log link ch h x source f is end (λ i. let no_one : Grant ≡ Answer =
+            sym g ∙ i in cc)
+        go ReleaseAck g = ends-transfer config log link ch h x source f is end (λ i. let no_one : ReleaseAck ≡ Answer =
+            sym g ∙ i in cc)
+        go GrantAck g = ends-transfer config log link ch h x source f is end (λ i. let no_one : GrantAck ≡ Answer =
+            sym g ∙ i in cc)
 
 continues_event : {w : ℕ} (config : Config) (log : Log w) (event : Event w) (h : AbstractState w) → IsWidth w
-    → SimulationRelation config log h.mail h.request h.state (system_after config log) → Continues config (event, (stepped config event (system_after config log)).outcome) log
+    → SimulationRelation config log h.mail h.request h.state (system_after config log)
+    → Continues config (event, (stepped config event (system_after config log)).outcome) log
 continues_event {w} config log event h width is = go event (terms_at config (step.client_of event)) refl
   where
-    go : (e : Event w) (o : Option EndConfig) → terms_at config (step.client_of e) ≡ o → Continues config (e, (stepped config e (system_after config log)).outcome) log
+    go : (e : Event w) (o : Option EndConfig) → terms_at config (step.client_of e) ≡ o
+        → Continues config (e, (stepped config e (system_after config log)).outcome) log
     go e None none = nobody-continues config log e none
     go (Deliver link ch) (Some terms) known = continues-delivered config log link ch h terms width is known
     go (Ask c o) (Some terms) known =
@@ -159,22 +180,31 @@ continues_event {w} config log event h width is = go event (terms_at config (ste
         (continues-ask config log h c terms o width is known)
 
 -- Each event goes on from the machine before it.
-pub continues : {w : ℕ} (config : Config) (log : Log w) (x : Event w × Outcome w) → IsWidth w → AreTyped log → IsLog config (x ∷ log) → Continues config x log
+pub continues : {w : ℕ} (config : Config) (log : Log w) (x : Event w × Outcome w) → IsWidth w → AreTyped log
+    → IsLog config (x ∷ log) → Continues config x log
 unfolding IsLog
 continues {w} config log x width typed logged =
-    subst (λ (o : Outcome w). Continues config (x.0, o) log) (sym logged.0) (continues_event config log x.0 (shadow config log) width (matched config log width typed logged.1))
+    subst (λ (o : Outcome w). Continues config (x.0, o) log) (sym logged.0)
+    (continues_event config log x.0 (shadow config log) width (matched config log width typed logged.1))
 
 -- ---- runs
 
-logged_before : {w : ℕ} (config : Config) (x : Event w × Outcome w) (log : Log w) → IsLog config (x ∷ log) → IsLog config log
+logged_before : {w : ℕ} (config : Config) (x : Event w × Outcome w) (log : Log w) → IsLog config (x ∷ log)
+    → IsLog config log
 unfolding IsLog
 logged_before config x log logged = logged.1
 
-all_continue : {w : ℕ} (config : Config) (log : Log w) → IsWidth w → AreTyped log → IsLog config log → AllContinue config log
+all_continue : {w : ℕ} (config : Config) (log : Log w) → IsWidth w → AreTyped log → IsLog config log
+    → AllContinue config log
 unfolding AllContinue AreTyped
 all_continue config [] width typed logged = tt
-all_continue config (x ∷ log) width typed logged = (continues config log x width typed.1 logged, all_continue config log width typed.1 (logged_before config x log logged))
+all_continue config (x ∷ log) width typed logged = (
+  continues config log x width typed.1 logged,
+  all_continue config log width typed.1
+      (logged_before config x log logged),
+)
 
 -- The outcomes are a run of the one-memory machine.
-pub run : {w : ℕ} (config : Config) (log : Log w) → IsWidth w → AreTyped log → IsLog config log → Run config log (one_memory_after config log)
+pub run : {w : ℕ} (config : Config) (log : Log w) → IsWidth w → AreTyped log → IsLog config log
+    → Run config log (one_memory_after config log)
 run config log width typed logged = run-continued config log (all_continue config log width typed logged)

@@ -6,7 +6,11 @@ use Rattle.tl_coherence.proofs.theorem.Machined.{continues, run}
 use Rattle.tl_coherence.proofs.outstanding.Progress.{counted, moving}
 
 pub one_memory : {w : ℕ} → OneMemory w
-one_memory = λ config log given. (run config log given.width given.typed given.is_log, λ x typed logged. continues config log x given.width given.typed logged)
+one_memory = λ config log given. (
+  run config log given.width given.typed given.is_log,
+  λ x typed logged. continues
+      config log x given.width given.typed logged,
+)
 
 pub headline : {w : ℕ} → Headline w
 headline = λ config log given.

@@ -5,8 +5,10 @@ use Rattle.tl_params.specs.declared.perm.Perm.{Perm}
 use Rattle.tl_params.specs.declared.perm.Perm.TheVariants as perm
 use Rattle.tl_rules.specs.statement.Conformance.{same_perm}
 use Rattle.tl_coherence.specs.statement.Delivery.{sources_of}
-use Rattle.tl_coherence.specs.protocol.Phase.{ClientBlock, View, Own, Granting, ProbePhase, NoProbe, ProbeSent, ProbeAnswered, ReleasePhase, NoRelease, ReleaseSent, ReleaseAcked}
-use Rattle.tl_coherence.specs.protocol.Protocol.{Block, State, SourceState, SourceFree, Asked, InService, Replied, Acquires, view}
+use Rattle.tl_coherence.specs.protocol.Phase.{ClientBlock, View, Own, Granting, ProbePhase, NoProbe, ProbeSent}
+use Rattle.tl_coherence.specs.protocol.Phase.{ProbeAnswered, ReleasePhase, NoRelease, ReleaseSent, ReleaseAcked}
+use Rattle.tl_coherence.specs.protocol.Protocol.{Block, State, SourceState, SourceFree, Asked, InService, Replied}
+use Rattle.tl_coherence.specs.protocol.Protocol.{Acquires, view}
 use Rattle.tl_coherence.specs.statement.System.{terms_at}
 use Rattle.tl_coherence.specs.protocol.Packet.{Kind, Request, Acquire, ProbeAck, Release, Answer, Grant, one_if}
 
@@ -34,7 +36,8 @@ pair_weight n left block d p = probing_weight n (left d ProbeAck block) p.record
 abbrev pub probes_weight : {X : Type 0} → ℕ → ℕ → Left → ℕ → Block X → ℕ
 probes_weight clients n left block b = total clients (λ d. pair_weight n left block d (b.pair d))
 
--- an Acquire that is on A: its beat, the block and the GrantAck, and fifteen Probes and reports; in service: what is left
+-- an Acquire that is on A: its beat, the block and the GrantAck, and fifteen Probes and reports; in service: what is
+-- left
 -- of these; granted: its Grant and the GrantAck
 abbrev pub acquire_weight : ℕ → ℕ → ℕ → ℕ → View → ℕ
 acquire_weight n asked granted probes Own = n + 1 + probes
@@ -49,7 +52,8 @@ use_weight clients n left answer s c source Asked = left c Request source + answ
 use_weight clients n left answer s c source (InService m) = answer c source + probes_weight clients n left m (s.block m)
 use_weight clients n left answer s c source Replied = left c Answer source
 use_weight clients n left answer s c source (Acquires m) =
-    acquire_weight n (left c Acquire m) (left c Grant m) (probes_weight clients n left m (s.block m)) (view (s.block m).service c)
+    acquire_weight n (left c Acquire m) (left c Grant m) (probes_weight clients n left m (s.block m))
+    (view (s.block m).service c)
 
 -- a Release: its beats and its ReleaseAck
 abbrev pub letting_weight : ℕ → ReleasePhase → ℕ
@@ -65,11 +69,13 @@ let_weight left s c (Some m) = letting_weight (left c Release m) ((s.block m).pa
 
 abbrev pub client_weight : {X : Type 0} → ℕ → ℕ → Left → (ℕ → ℕ → ℕ) → State X → ℕ → ℕ → ℕ
 client_weight clients n left answer s sources c =
-    total sources (λ i. use_weight clients n left answer s c i (s.uses c i)) + total sources (λ i. let_weight left s c (s.lets c i)) + length (s.link c).e
+    total sources (λ i. use_weight clients n left answer s c i (s.uses c i)) + total sources
+    (λ i. let_weight left s c (s.lets c i)) + length (s.link c).e
 
 abbrev pub rank : {X : Type 0} → Config → ℕ → Left → (ℕ → ℕ → ℕ) → State X → ℕ
 rank config n left answer s =
-    total (length config.clients.items) (λ c. client_weight (length config.clients.items) n left answer s (sources_of (terms_at config c)) c)
+    total (length config.clients.items) (λ c. client_weight (length config.clients.items) n left answer s
+    (sources_of (terms_at config c)) c)
 
 -- ---- how much is open
 
@@ -83,7 +89,11 @@ is_let (Some n) = true
 
 -- requests that are open and GrantAcks on their way, and Releases that are open
 abbrev pub open_requests : {X : Type 0} → Config → State X → ℕ
-open_requests config s = total (length config.clients.items) (λ c. total (sources_of (terms_at config c)) (λ i. one_if (is_used (s.uses c i))) + length (s.link c).e)
+open_requests config s =
+    total (length config.clients.items)
+    (λ c. total (sources_of (terms_at config c)) (λ i. one_if (is_used (s.uses c i))) + length (s.link c).e)
 
 abbrev pub open_releases : {X : Type 0} → Config → State X → ℕ
-open_releases config s = total (length config.clients.items) (λ c. total (sources_of (terms_at config c)) (λ i. one_if (is_let (s.lets c i))))
+open_releases config s =
+    total (length config.clients.items)
+    (λ c. total (sources_of (terms_at config c)) (λ i. one_if (is_let (s.lets c i))))

@@ -6,13 +6,23 @@ use Rattle.tl_params.specs.declared.param.Cap.TheVariants as cap
 use Rattle.tl_params.specs.declared.param.Grow.TheVariants as grow
 use Rattle.tl_params.specs.declared.perm.Perm.TheVariants as perm
 use Rattle.tl_rules.specs.statement.Conformance.{same_perm}
-use Rattle.tl_coherence.specs.protocol.Phase.{AcquirePhase, AcquireOpen, same_cap, ClientBlock, View, NoProbe, NoRelease, NoAcquire, ok, is_unprobed, is_unreleased}
+use Rattle.tl_coherence.specs.protocol.Phase.{AcquirePhase, AcquireOpen, same_cap, ClientBlock, View, NoProbe}
+use Rattle.tl_coherence.specs.protocol.Phase.{NoRelease, NoAcquire, ok, is_unprobed, is_unreleased}
 use Rattle.tl_coherence.specs.protocol.Packet.{Kind, Request, Answer, Holds, IsOrdered, count}
-use Rattle.tl_coherence.specs.protocol.Protocol.{Service, Free, Waits, Block, State, SourceState, Asked, InService, Replied, Acquires, view, is_wanting, is_granting, is_transfer, is_on, on, shown, packets_on}
+use Rattle.tl_coherence.specs.protocol.Protocol.{Service, Free, Waits, Block, State, SourceState, Asked, InService}
+use Rattle.tl_coherence.specs.protocol.Protocol.{Replied, Acquires, view, is_wanting, is_granting, is_transfer, is_on}
+use Rattle.tl_coherence.specs.protocol.Protocol.{on, shown, packets_on}
 
 -- one with nothing in flight and nothing held
 abbrev pub resting : ClientBlock
-resting = record { recorded = perm.None; probing = NoProbe; letting = NoRelease; held = perm.None; acquiring = NoAcquire }
+resting = record {
+  recorded = perm.None;
+  probing = NoProbe;
+  letting = NoRelease;
+  held = perm.None;
+  acquiring =
+      NoAcquire;
+}
 
 -- what the client was given to write hasn't come back: Trunk is recorded, and its Grant was taken
 abbrev pub is_out : ClientBlock → View → Bool
@@ -41,11 +51,13 @@ IsOwnSource _ source = ⊤
 -- a Trunk that is probed is probed alone
 abbrev pub IsAlone : (ℕ → ClientBlock) → Type 0
 IsAlone pair =
-    (c d : ℕ) → same_perm (pair c).recorded perm.Trunk ≡ true → is_unprobed (pair c).probing ≡ false → (d ≡ c → ⊥) → is_unprobed (pair d).probing ≡ true
+    (c d : ℕ) → same_perm (pair c).recorded perm.Trunk ≡ true → is_unprobed (pair c).probing ≡ false → (d ≡ c → ⊥)
+    → is_unprobed (pair d).probing ≡ true
 
 -- beside a Trunk nobody is recorded
 abbrev pub IsOwned : (ℕ → ClientBlock) → Type 0
-IsOwned pair = (c d : ℕ) → same_perm (pair c).recorded perm.Trunk ≡ true → (d ≡ c → ⊥) → same_perm (pair d).recorded perm.None ≡ true
+IsOwned pair = (c d : ℕ) → same_perm (pair c).recorded perm.Trunk ≡ true → (d ≡ c → ⊥)
+    → same_perm (pair d).recorded perm.None ≡ true
 
 -- only caching clients have to do with blocks
 abbrev pub AreOutside : (ℕ → Bool) → (ℕ → ClientBlock) → Type 0
@@ -131,7 +143,8 @@ pub record IsInvariant {X : Type 0} (caching : ℕ → Bool) (s : State X) : Typ
   pub requests : (c : ℕ) → Holds Request (s.link c).a (λ n. is_asked (s.uses c n))
   pub answers : (c : ℕ) → Holds Answer (s.link c).d (λ n. is_replied (s.uses c n))
   -- a channel has tokens of its own kinds alone
-  pub own_kinds : (c : ℕ) (ch : Channel) (k : Kind) (n : ℕ) → is_on ch k ≡ false → count k n (packets_on ch (s.link c)) ≡ 0
+  pub own_kinds : (c : ℕ) (ch : Channel) (k : Kind) (n : ℕ) → is_on ch k ≡ false
+      → count k n (packets_on ch (s.link c)) ≡ 0
   -- a ProbeAck of a block stands before a Release of it
   pub ordered : (c n : ℕ) → IsOrdered n (s.link c).c
   pub named : AreNamed s

@@ -10,7 +10,8 @@ use Rattle.tl_params.specs.declared.perm.Perm.{Perm}
 use Rattle.tl_params.specs.declared.perm.Perm.TheVariants as perm
 use Rattle.tl_params.specs.statement.Param.{cap_right, prune_right, report_right, report_at}
 use Rattle.tl_rules.specs.statement.Conformance.{same_perm}
-use Rattle.tl_coherence.specs.protocol.Phase.{ClientBlock, NoProbe, ProbeSent, ProbeAnswered, NoRelease, ReleaseSent, ReleaseAcked, NoAcquire, AcquireOpen}
+use Rattle.tl_coherence.specs.protocol.Phase.{ClientBlock, NoProbe, ProbeSent, ProbeAnswered, NoRelease, ReleaseSent}
+use Rattle.tl_coherence.specs.protocol.Phase.{ReleaseAcked, NoAcquire, AcquireOpen}
 
 -- ---- a client's operations
 

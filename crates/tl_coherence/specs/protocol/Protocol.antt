@@ -1,6 +1,7 @@
 -- The protocol of blocks: what each block and each link has, and what events do to them. X is what the 64
 -- bytes of a block are.
-use Rattle.std.specs.Prelude.{ℕ, Bool, true, false, not, List, [], ◌∷◌, ◌++◌, ◌==◌, ◌&&◌, if◌then◌else◌, Option, Some, None}
+use Rattle.std.specs.Prelude.{ℕ, Bool, true, false, not, List, [], ◌∷◌, ◌++◌, ◌==◌, ◌&&◌, if◌then◌else◌, Option, Some}
+use Rattle.std.specs.Prelude.{None}
 use Rattle.tl_beat.specs.declared.channel.Channel.{Channel}
 use Rattle.tl_beat.specs.declared.channel.Channel.TheVariants as channel
 use Rattle.tl_params.specs.declared.param.Cap.{Cap}
@@ -11,9 +12,14 @@ use Rattle.tl_params.specs.declared.perm.Perm.{Perm}
 use Rattle.tl_params.specs.declared.perm.Perm.TheVariants as perm
 use Rattle.tl_params.specs.statement.Param.{prune_left, report_left}
 use Rattle.tl_rules.specs.statement.Conformance.{same_perm}
-use Rattle.tl_coherence.specs.protocol.Phase.{ClientBlock, View, Idle, Own, Other, Granting, Acknowledging, GrantedOther, ProbePhase, ProbeSent, ProbeAnswered, ReleasePhase, ReleaseSent, ReleaseAcked, AcquirePhase, NoAcquire, AcquireOpen}
-use Rattle.tl_coherence.specs.protocol.PhaseSteps.{is_above, after_acquire, after_release, after_served, after_grant_sent, after_probe, after_report, after_release_taken, after_release_ack, after_grant}
-use Rattle.tl_coherence.specs.protocol.Packet.{Kind, Request, Acquire, Probe, ProbeAck, Release, Answer, Grant, ReleaseAck, GrantAck, Packet, set, set_at}
+use Rattle.tl_coherence.specs.protocol.Phase.{ClientBlock, View, Idle, Own, Other, Granting, Acknowledging}
+use Rattle.tl_coherence.specs.protocol.Phase.{GrantedOther, ProbePhase, ProbeSent, ProbeAnswered, ReleasePhase}
+use Rattle.tl_coherence.specs.protocol.Phase.{ReleaseSent, ReleaseAcked, AcquirePhase, NoAcquire, AcquireOpen}
+use Rattle.tl_coherence.specs.protocol.PhaseSteps.{is_above, after_acquire, after_release, after_served}
+use Rattle.tl_coherence.specs.protocol.PhaseSteps.{after_grant_sent, after_probe, after_report, after_release_taken}
+use Rattle.tl_coherence.specs.protocol.PhaseSteps.{after_release_ack, after_grant}
+use Rattle.tl_coherence.specs.protocol.Packet.{Kind, Request, Acquire, Probe, ProbeAck, Release, Answer, Grant}
+use Rattle.tl_coherence.specs.protocol.Packet.{ReleaseAck, GrantAck, Packet, set, set_at}
 
 -- how a block is in service: not at all; for a client's Acquire (`own`) or access with this source,
 -- waiting for ProbeAcks with this cap; a Grant on channel D, with data or without; its GrantAck on E
@@ -174,7 +180,12 @@ access_asked c source s =
 -- the bytes wait for the Grant where the whole block is to be stored
 abbrev pub acquiring_block : {X : Type 0} → ℕ → ℕ → Bool → Grow → X → Block X → Block X
 acquiring_block c source whole g bytes b =
-    record b { pair = set c (after_acquire whole g (b.pair c)) b.pair; source = set c source b.source; waiting = set c bytes b.waiting }
+    record b {
+      pair = set c (after_acquire whole g (b.pair c)) b.pair;
+      source = set c source b.source;
+      waiting =
+          set c bytes b.waiting;
+    }
 
 abbrev pub acquire_asked : {X : Type 0} → ℕ → ℕ → ℕ → Bool → Grow → X → State X → State X
 acquire_asked c n source whole g bytes s = record s {
@@ -184,7 +195,11 @@ acquire_asked c n source whole g bytes s = record s {
 }
 
 abbrev pub releasing_block : {X : Type 0} → ℕ → ℕ → Prune → Block X → Block X
-releasing_block c source r b = record b { pair = set c (after_release r (b.pair c)) b.pair; release_source = set c source b.release_source }
+releasing_block c source r b = record b {
+  pair = set c (after_release r (b.pair c)) b.pair;
+  release_source =
+      set c source b.release_source;
+}
 
 abbrev pub release_asked : {X : Type 0} → ℕ → ℕ → ℕ → Prune → State X → State X
 release_asked c n source r s = record s {
@@ -217,7 +232,12 @@ access_answered c n source f rest s = record s {
 }
 
 abbrev pub granted_at_once : {X : Type 0} → ℕ → ℕ → Bool → Cap → Block X → Block X
-granted_at_once r tracker d k b = record b { service = GrantSent r d k; tracker = tracker; pair = set r (after_grant_sent k (b.pair r)) b.pair }
+granted_at_once r tracker d k b = record b {
+  service = GrantSent r d k;
+  tracker = tracker;
+  pair =
+      set r (after_grant_sent k (b.pair r)) b.pair;
+}
 
 abbrev pub acquire_granted : {X : Type 0} → ℕ → ℕ → ℕ → Bool → Cap → List Packet → State X → State X
 acquire_granted r n tracker d k rest s = record s {
@@ -232,7 +252,12 @@ abbrev pub served_pair : ℕ → Bool → Cap → (ℕ → ClientBlock) → ℕ 
 served_pair r own k pair d = if own && (d == r) then pair d else after_served k (pair d)
 
 abbrev pub served_block : {X : Type 0} → ℕ → Bool → ℕ → ℕ → Cap → Block X → Block X
-served_block r own source tracker k b = record b { service = Waits r own source k; tracker = tracker; pair = served_pair r own k b.pair }
+served_block r own source tracker k b = record b {
+  service = Waits r own source k;
+  tracker = tracker;
+  pair =
+      served_pair r own k b.pair;
+}
 
 abbrev pub with_probe : ℕ → Bool → Link → Link
 with_probe n true l = record l { b = l.b ++ packet Probe n ∷ [] }
@@ -270,7 +295,11 @@ probed_link n rest l = record l { b = rest; c = l.c ++ packet ProbeAck n ∷ [] 
 
 abbrev pub probe_taken : {X : Type 0} → ℕ → ℕ → Cap → List Packet → State X → State X
 probe_taken c n k rest s =
-    record s { block = set n (probed_block c k (s.block n)) s.block; link = set c (probed_link n rest (s.link c)) s.link }
+    record s {
+      block = set n (probed_block c k (s.block n)) s.block;
+      link =
+          set c (probed_link n rest (s.link c)) s.link;
+    }
 
 -- ---- a ProbeAck is taken
 
@@ -287,7 +316,11 @@ reported_block c r b = record b { pair = set c (after_report r (b.pair c)) b.pai
 
 abbrev pub report_taken : {X : Type 0} → ℕ → ℕ → Report → List Packet → State X → State X
 report_taken c n r rest s =
-    record s { block = set n (reported_block c r (s.block n)) s.block; link = set c (record (s.link c) { c = rest }) s.link }
+    record s {
+      block = set n (reported_block c r (s.block n)) s.block;
+      link =
+          set c (record (s.link c) { c = rest }) s.link;
+    }
 
 -- it is the last one, and the access that waited for it is answered
 abbrev pub ended_block : {X : Type 0} → ℕ → Report → (X → X) → Block X → Block X
@@ -332,7 +365,11 @@ report_grants c q n r d k rest s =
 -- ---- a Release is taken, and acknowledged in the same call
 
 abbrev pub let_block : {X : Type 0} → ℕ → Prune → Block X → Block X
-let_block c r b = record b { pair = set c (after_release_taken r (b.pair c)) b.pair; memory = written_from (prune_left r) b.truth b.memory }
+let_block c r b = record b {
+  pair = set c (after_release_taken r (b.pair c)) b.pair;
+  memory =
+      written_from (prune_left r) b.truth b.memory;
+}
 
 abbrev pub let_link : ℕ → List Packet → Link → Link
 let_link n rest l = record l { c = rest; d = l.d ++ packet ReleaseAck n ∷ [] }

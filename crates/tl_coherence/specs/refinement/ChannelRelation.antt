@@ -16,4 +16,5 @@ receiver channel.D link s = (s.clients link).past
 receiver _ link s = on_link link s.manager.trace
 
 abbrev pub ChannelRelation : {w : ℕ} → AccessMessages w → State (List ℕ) → System w → Type 0
-ChannelRelation mail s sys = (c : ℕ) (ch : Channel) → IsCarried (unfinished ch (receiver ch c sys)) (messages_on ch mail s c) (sys.channels c ch)
+ChannelRelation mail s sys = (c : ℕ) (ch : Channel)
+    → IsCarried (unfinished ch (receiver ch c sys)) (messages_on ch mail s c) (sys.channels c ch)

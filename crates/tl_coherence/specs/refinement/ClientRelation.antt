@@ -19,7 +19,8 @@ comes_granting n asked _ = false
 
 -- The end of client c with this history: `asked` is the first beat of the open request of each source,
 -- and `rest` what it took of the message that is first on channel D.
-pub record ClientRelation {w : ℕ} {X : Type 0} (asked : ℕ → Option (BeatA w)) (rest : List (Beat w)) (c : ℕ) (s : State X) (t : History w) : Type 0 where
+pub record ClientRelation {w : ℕ} {X : Type 0} (asked : ℕ → Option (BeatA w)) (rest : List (Beat w)) (c : ℕ)
+    (s : State X) (t : History w) : Type 0 where
   pub held_is : (n : ℕ) → held n t ≡ ((s.block n).pair c).held
   pub acquires : (n : ℕ) → pending (AcquireOf n) t ≡ is_wanting ((s.block n).pair c).acquiring
   pub releases : (n : ℕ) → pending (ReleaseOf n) t ≡ not (is_unreleased ((s.block n).pair c).letting)

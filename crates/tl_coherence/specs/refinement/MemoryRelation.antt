@@ -25,7 +25,8 @@ op_of _ n bytes = op.AcquireWhole n bytes
 -- the access was asked with this message, whose source the client chose, and has this answer
 abbrev pub IsAccess : {w : ℕ} → ℕ → Message w → Option memory.AccessResult → Option (Open w) → Type 0
 IsAccess {w} source request reply opened =
-    (m : MessageA w) × (request ≡ message.A (sourced source m)) × (opened ≡ Some (record { asked = op.Access (message.A m); answer = reply }))
+    (m : MessageA w) × (request ≡ message.A (sourced source m))
+    × (opened ≡ Some (record { asked = op.Access (message.A m); answer = reply }))
 
 -- the bytes of a reply are as many as the access reaches
 abbrev pub IsReach : {w : ℕ} → MessageA w → memory.AccessResult → Type 0
@@ -43,8 +44,10 @@ IsOpened c source mail s SourceFree opened = opened ≡ None
 IsOpened c source mail s Asked opened = IsAccess source (mail.request c source) None opened
 IsOpened c source mail s (InService n) opened = IsAccess source (mail.request c source) None opened
 IsOpened c source mail s Replied opened =
-    (r : memory.AccessResult) × IsAccess source (mail.request c source) (Some r) opened × Answers (mail.request c source) r (mail.answer c source)
-IsOpened c source mail s (Acquires n) opened = opened ≡ Some (record { asked = op_of ((s.block n).pair c).acquiring n ((s.block n).waiting c); answer = None })
+    (r : memory.AccessResult) × IsAccess source (mail.request c source) (Some r) opened
+    × Answers (mail.request c source) r (mail.answer c source)
+IsOpened c source mail s (Acquires n) opened =
+    opened ≡ Some (record { asked = op_of ((s.block n).pair c).acquiring n ((s.block n).waiting c); answer = None })
 
 -- and with a C source that is of this block, or of none
 abbrev pub IsLet : {w : ℕ} → Option ℕ → Option (Open w) → Type 0

@@ -19,8 +19,10 @@ use Rattle.tl_params.specs.declared.param.Report.TheVariants as report
 use Rattle.tl_params.specs.statement.Param.{cap_code, report_left}
 use Rattle.tl_client.specs.statement.Send.{acquire, release, probe_ack, grant_ack}
 use Rattle.tl_manager.specs.statement.Handing.{probe_of_block, release_ack, grant_opcode, no_payload}
-use Rattle.tl_coherence.specs.protocol.Phase.{ProbePhase, ProbeSent, ProbeAnswered, ReleasePhase, ReleaseSent, AcquirePhase, AcquireOpen}
-use Rattle.tl_coherence.specs.protocol.Packet.{Kind, Request, Acquire, Probe, ProbeAck, Release, Answer, Grant, ReleaseAck, GrantAck, Packet}
+use Rattle.tl_coherence.specs.protocol.Phase.{ProbePhase, ProbeSent, ProbeAnswered, ReleasePhase, ReleaseSent}
+use Rattle.tl_coherence.specs.protocol.Phase.{AcquirePhase, AcquireOpen}
+use Rattle.tl_coherence.specs.protocol.Packet.{Kind, Request, Acquire, Probe, ProbeAck, Release, Answer, Grant}
+use Rattle.tl_coherence.specs.protocol.Packet.{ReleaseAck, GrantAck, Packet}
 use Rattle.tl_coherence.specs.protocol.Protocol.{Service, GrantSent, Block, State, packets_on}
 
 -- ---- parts, with a default where there is none
@@ -62,7 +64,8 @@ grant_of _ source sink payload = release_ack source
 unfoldable pub block_message : {w : ℕ} → Kind → ℕ → ℕ → Block (List ℕ) → Message w
 block_message Acquire c n b = acquire_of (b.pair c).acquiring (b.source c) n
 block_message Probe c n b = probe_of_block n (cap_sent (b.pair c).probing)
-block_message ProbeAck c n b = probe_ack opb.ProbeBlock (report_left (report_told (b.pair c).probing)) (report_told (b.pair c).probing) n b.truth
+block_message ProbeAck c n b = probe_ack opb.ProbeBlock (report_left (report_told (b.pair c).probing))
+    (report_told (b.pair c).probing) n b.truth
 block_message Release c n b = release (prune_told (b.pair c).letting) (b.release_source c) n b.truth
 block_message Grant c n b = grant_of b.service (b.source c) b.tracker b.truth
 block_message ReleaseAck c n b = release_ack (b.release_source c)
@@ -74,7 +77,18 @@ abbrev pub probe_beat : {w : ℕ} → ℕ → Cap → BeatB w
 probe_beat {w} n k = b_beat_of (probe_message n k) 0
   where
     probe_message : ℕ → Cap → MessageB w
-    probe_message i j = record { opcode = opb.ProbeBlock; param = cap_code j; size = 6; source = 0; address = 64 * i; payload = no_payload; mask = 2 ^ w - 1; corrupt = 0; small = lit≤ tt }
+    probe_message i j = record {
+      opcode = opb.ProbeBlock;
+      param = cap_code j;
+      size = 6;
+      source = 0;
+      address =
+          64 * i;
+      payload = no_payload;
+      mask = 2 ^ w - 1;
+      corrupt = 0;
+      small = lit≤ tt;
+    }
 
 -- the accesses and their answers, by client and source
 pub record AccessMessages (w : ℕ) : Type 0 where

@@ -1,5 +1,6 @@
 -- What is kept of the whole: the protocol's invariant, and that ends, channels and memories are those of it.
-use Rattle.std.specs.Prelude.{ℕ, Bool, true, false, List, [], ◌≡◌, ◌*◌, ◌^◌, ◌<◌, All, Option, Some, None, IfSome, length, ⊤}
+use Rattle.std.specs.Prelude.{ℕ, Bool, true, false, List, [], ◌≡◌, ◌*◌, ◌^◌, ◌<◌, All, Option, Some, None, IfSome}
+use Rattle.std.specs.Prelude.{length, ⊤}
 use Rattle.tl_beat.specs.declared.beat.Beat.{Beat}
 use Rattle.tl_beat.specs.declared.beat.Beat.TheVariants as beat
 use Rattle.tl_beat.specs.declared.beat.BeatA.{BeatA}
@@ -29,7 +30,8 @@ use Rattle.tl_manager.specs.statement.Service.{is_access_answer}
 use Rattle.tl_manager.specs.statement.Offer.{level_of}
 use Rattle.tl_coherence.specs.protocol.Phase.{ClientBlock, AcquirePhase, NoAcquire, AcquireOpen}
 use Rattle.tl_coherence.specs.protocol.Packet.{Acquire}
-use Rattle.tl_coherence.specs.protocol.Protocol.{Service, Waits, GrantSent, Block, State, SourceState, SourceFree, Asked, InService, Replied, Acquires}
+use Rattle.tl_coherence.specs.protocol.Protocol.{Service, Waits, GrantSent, Block, State, SourceState, SourceFree}
+use Rattle.tl_coherence.specs.protocol.Protocol.{Asked, InService, Replied, Acquires}
 use Rattle.tl_coherence.specs.protocol.Invariant.{IsInvariant}
 use Rattle.tl_coherence.specs.refinement.PacketMessages.{AccessMessages, block_message}
 use Rattle.tl_coherence.specs.refinement.ClientRelation.{ClientRelation}
@@ -66,7 +68,8 @@ block_used (Acquires n) = n
 block_used _ = 0
 
 abbrev pub asked_by : {w : ℕ} → AccessMessages w → State (List ℕ) → ℕ → ℕ → Option (BeatA w)
-asked_by mail s c source = asked_for (s.uses c source) (mail.request c source) (block_message Acquire c (block_used (s.uses c source)) (s.block (block_used (s.uses c source))))
+asked_by mail s c source = asked_for (s.uses c source) (mail.request c source)
+    (block_message Acquire c (block_used (s.uses c source)) (s.block (block_used (s.uses c source))))
 
 abbrev pub request_source : {w : ℕ} → Message w → Option ℕ
 request_source (message.A m) = Some m.source
@@ -85,9 +88,11 @@ AreLanes {w} (beat.C x) = IfSome x.lanes (λ lanes. length lanes ≡ w)
 AreLanes {w} (beat.D x) = IfSome x.lanes (λ lanes. length lanes ≡ w)
 AreLanes {w} (beat.E x) = ⊤
 
--- an access that is under way, in service or answered is on channel A, has its source, and is zero where no beat carries anything
+-- an access that is under way, in service or answered is on channel A, has its source, and is zero where no beat
+-- carries anything
 abbrev pub IsRequest : {w : ℕ} → Config → ℕ → ℕ → Message w → Type 0
-IsRequest config c source m = (request_source m ≡ Some source) × (illegal_message_at (level_of config c) m ≡ None) × IsBlankAfter (beats_of m) m
+IsRequest config c source m = (request_source m ≡ Some source) × (illegal_message_at (level_of config c) m ≡ None)
+    × IsBlankAfter (beats_of m) m
 
 abbrev pub IsSourced : {w : ℕ} → Config → ℕ → ℕ → Message w → SourceState → Type 0
 IsSourced config c source m Asked = IsRequest config c source m
@@ -109,7 +114,8 @@ IsServedWith mail _ m = ⊤
 
 -- the answer is one to this access, whose source it has
 abbrev pub IsAnswer : {w : ℕ} → ℕ → Message w → Message w → Type 0
-IsAnswer source (message.A m) (message.D x) = (is_access_answer x.opcode ≡ true) × (answers x.opcode m.opcode ≡ true) × (x.source ≡ source) × (x.size ≡ m.size)
+IsAnswer source (message.A m) (message.D x) = (is_access_answer x.opcode ≡ true) × (answers x.opcode m.opcode ≡ true)
+    × (x.source ≡ source) × (x.size ≡ m.size)
 IsAnswer source _ _ = ⊥
 
 abbrev pub IsAnswered : {w : ℕ} → ℕ → Message w → Message w → SourceState → Type 0
@@ -132,7 +138,8 @@ pub record AreSized (b : Block (List ℕ)) : Type 0 where
 
 -- What is kept of the whole after this log: `s` is the state of the protocol, `mail` the accesses and their answers,
 -- and `request` the request that has each block in service.
-pub record SimulationRelation {w : ℕ} (config : Config) (log : Log w) (mail : AccessMessages w) (request : ℕ → MessageA w) (s : State (List ℕ)) (sys : System w) : Type 0 where
+pub record SimulationRelation {w : ℕ} (config : Config) (log : Log w) (mail : AccessMessages w) (request : ℕ
+    → MessageA w) (s : State (List ℕ)) (sys : System w) : Type 0 where
   pub invariant : IsInvariant (is_caching config) s
   pub sized : (n : ℕ) → AreSized (s.block n)
   -- who isn't a client has nothing open
@@ -145,12 +152,15 @@ pub record SimulationRelation {w : ℕ} (config : Config) (log : Log w) (mail : 
   pub answered : (c source : ℕ) → IsAnswered source (mail.request c source) (mail.answer c source) (s.uses c source)
   pub given : (n : ℕ) → IsGivenAsked config.profile (s.block n).service (s.block n).pair
   -- clients
-  pub known : (c : ℕ) → ClientRelation (asked_by mail s c) (unfinished channel.D (sys.clients c).past) c s (sys.clients c).past
+  pub known : (c : ℕ) → ClientRelation (asked_by mail s c) (unfinished channel.D (sys.clients c).past) c s
+      (sys.clients c).past
   pub opened : (c : ℕ) → OpenSourceRelation (asked_by mail s c) c s (sys.clients c).past
   pub kept : (c : ℕ) → client.IsEndpointInvariant (sys.clients c)
   pub accounted : (c : ℕ) → IsAccounted (sys.clients c).past
-  pub copies : (c n : ℕ) → same_perm ((s.block n).pair c).held perm.None ≡ false → (sys.clients c).copies n ≡ Some ((s.block n).copy c)
-  pub waiting : (c n : ℕ) → is_storing ((s.block n).pair c).acquiring ≡ true → (sys.clients c).waiting n ≡ Some ((s.block n).waiting c)
+  pub copies : (c n : ℕ) → same_perm ((s.block n).pair c).held perm.None ≡ false
+      → (sys.clients c).copies n ≡ Some ((s.block n).copy c)
+  pub waiting : (c n : ℕ) → is_storing ((s.block n).pair c).acquiring ≡ true
+      → (sys.clients c).waiting n ≡ Some ((s.block n).waiting c)
   pub live : (c : ℕ) → (sys.clients c).closed ≡ false
   -- the manager
   pub managed : ManagerRelation request s sys.manager.trace
@@ -165,4 +175,5 @@ pub record SimulationRelation {w : ℕ} (config : Config) (log : Log w) (mail : 
 
 -- and what was delivered
 abbrev pub MonitorRelations : {w : ℕ} → Log w → AccessMessages w → State (List ℕ) → System w → Type 0
-MonitorRelations log mail s sys = (c : ℕ) → MonitorRelation (asked_by mail s c) (λ ch. unfinished ch (receiver ch c sys)) c s (flow c log)
+MonitorRelations log mail s sys = (c : ℕ)
+    → MonitorRelation (asked_by mail s c) (λ ch. unfinished ch (receiver ch c sys)) c s (flow c log)

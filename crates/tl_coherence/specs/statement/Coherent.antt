@@ -1,5 +1,6 @@
 -- What holds of the clients' copies beside one memory.
-use Rattle.std.specs.Prelude.{ℕ, [], ◌∷◌, ◌≡◌, ◌≢◌, ◌==◌, ◌&&◌, if◌then◌else◌, List, Option, Some, None, is_some, option_map}
+use Rattle.std.specs.Prelude.{ℕ, [], ◌∷◌, ◌≡◌, ◌≢◌, ◌==◌, ◌&&◌, if◌then◌else◌, List, Option, Some, None, is_some}
+use Rattle.std.specs.Prelude.{option_map}
 use Rattle.tl_params.specs.declared.perm.Perm.TheVariants as perm
 use Rattle.tl_rules.specs.statement.Effect.{IsBlock}
 use Rattle.tl_client.specs.declared.operation.Op.{Op}
@@ -31,10 +32,12 @@ started c pool source (x ∷ log) = started_at x.0 x.1 c pool source (started c 
 -- copies are coherent with one memory, and what is open is what the log started and didn't end
 pub record IsCoherent {w : ℕ} (s : System w) (log : Log w) (m : Machine w) : Type 0 where
   -- where one client may write a block, no other has a copy
-  pub one_writer : (c d block : ℕ) → c ≢ d → held_at (s.clients c) block ≡ perm.Trunk → held_at (s.clients d) block ≡ perm.None
+  pub one_writer : (c d block : ℕ) → c ≢ d → held_at (s.clients c) block ≡ perm.Trunk
+      → held_at (s.clients d) block ≡ perm.None
   -- a copy has the block's bytes in the one memory
   pub copies : (c block : ℕ) (bytes : List ℕ) → (s.clients c).copies block ≡ Some bytes → IsBlock m.memory block bytes
   -- there is a copy exactly where something is held
   pub kept : (c block : ℕ) → is_some ((s.clients c).copies block) ≡ holds (held_at (s.clients c) block)
   -- the open operations are those that were started and aren't done
-  pub opened : (c : ℕ) (pool : Pool) (source : ℕ) → option_map (λ o. o.asked) (m.opened c pool source) ≡ started c pool source log
+  pub opened : (c : ℕ) (pool : Pool) (source : ℕ) → option_map (λ o. o.asked) (m.opened c pool source) ≡ started c pool
+      source log

@@ -1,5 +1,6 @@
 -- What holds of every delivery.
-use Rattle.std.specs.Prelude.{ℕ, Bool, true, false, not, List, ◌∷◌, ◌++◌, ◌≡◌, ◌≤◌, ◌&&◌, ◌↔◌, ◌+◌, ◌*◌, ◌/◌, if◌then◌else◌, length, map, reverse, Option, Some, None}
+use Rattle.std.specs.Prelude.{ℕ, Bool, true, false, not, List, ◌∷◌, ◌++◌, ◌≡◌, ◌≤◌, ◌&&◌, ◌↔◌, ◌+◌, ◌*◌, ◌/◌}
+use Rattle.std.specs.Prelude.{if◌then◌else◌, length, map, reverse, Option, Some, None}
 use Rattle.tl_beat.specs.declared.beat.Beat.{Beat}
 use Rattle.tl_beat.specs.declared.beat.Beat.TheVariants as beat
 use Rattle.tl_beat.specs.declared.channel.Channel.{Channel}
@@ -44,11 +45,13 @@ pub record IsFifo {w : ℕ} (s : System w) (log : Log w) (link : ℕ) (ch : Chan
 
 -- each channel of each link loses nothing and keeps order
 abbrev pub Fifo : ℕ → Type 0
-Fifo w = (config : Config) (log : Log w) → IsGiven config log → (link : ℕ) (ch : Channel) → IsFifo (system_after config log) log link ch
+Fifo w = (config : Config) (log : Log w) → IsGiven config log → (link : ℕ) (ch : Channel)
+    → IsFifo (system_after config log) log link ch
 
 -- what is delivered on each link breaks no rule
 abbrev pub Flows : ℕ → Type 0
-Flows w = (config : Config) (log : Log w) → IsGiven config log → (link : ℕ) (l : Level) → level_of config link ≡ Some l →
+Flows w = (config : Config) (log : Log w) → IsGiven config log → (link : ℕ) (l : Level) → level_of config link ≡ Some l
+    →
     is_legal l config.profile (flow link log) ≡ true
 
 -- the levels of the links
@@ -57,7 +60,8 @@ levels_of config = map (λ client. client.level) config.clients.items
 
 -- what is delivered, on all links at once and the oldest first, has no first fault
 abbrev pub Faultless : ℕ → Type 0
-Faultless w = (config : Config) (log : Log w) → IsGiven config log → first_fault (levels_of config) config.profile (reverse (trace_of log)) ≡ None
+Faultless w = (config : Config) (log : Log w) → IsGiven config log
+    → first_fault (levels_of config) config.profile (reverse (trace_of log)) ≡ None
 
 -- how many beats a channel is made for, with n beats a block, by sources and trackers
 abbrev pub capacity : ℕ → ℕ → ℕ → Channel → ℕ
@@ -75,13 +79,15 @@ sources_of (Some terms) = terms.sources
 -- no channel ever holds more
 abbrev pub CapacityBound : ℕ → Type 0
 CapacityBound w = (config : Config) (log : Log w) → IsGiven config log → (link : ℕ) (ch : Channel) →
-    length ((system_after config log).channels link ch) ≤ capacity (64 / w) (sources_of (terms_at config link)) config.trackers ch
+    length ((system_after config log).channels link ch) ≤ capacity (64 / w) (sources_of (terms_at config link))
+    config.trackers ch
 
 -- ---- stalls
 
 -- what a delivery is answered
 abbrev pub outcome_of_delivery : {w : ℕ} → Config → Log w → ℕ → Channel → Outcome w
-outcome_of_delivery config log link ch = (stepped config (Deliver (record { 0 = link }) ch) (system_after config log)).outcome
+outcome_of_delivery config log link ch =
+    (stepped config (Deliver (record { 0 = link }) ch) (system_after config log)).outcome
 
 -- there was no beat to deliver
 abbrev pub is_emptiness : {w : ℕ} → Outcome w → Bool
@@ -99,16 +105,23 @@ IsReleasing k block log = (source : ℕ) × (prune : Prune) × (started k Releas
 
 -- when a delivery moves the first beat of a channel of a client's link
 abbrev pub Moves : {w : ℕ} → Config → Log w → ℕ → Beat w → Type 0
-Moves config log link (beat.A x) = is_movable config link channel.A (system_after config log) ≡ not (must_wait config (record { 0 = link }) (beat.A x) (system_after config log).manager.trace)
-Moves config log link (beat.B x) = (is_movable config link channel.B (system_after config log) ≡ false) ↔ IsReleasing link (block_at x.address) log
+Moves config log link (beat.A x) = is_movable config link channel.A (system_after config log) ≡ not
+    (must_wait config (record { 0 = link }) (beat.A x) (system_after config log).manager.trace)
+Moves config log link (beat.B x) = (is_movable config link channel.B (system_after config log) ≡ false) ↔ IsReleasing
+    link (block_at x.address) log
 Moves config log link x = is_movable config link (channel_of x) (system_after config log) ≡ true
 
 -- a delivery on a client's link
 pub record IsExact {w : ℕ} (config : Config) (log : Log w) (link : ℕ) (ch : Channel) : Type 0 where
-  pub empty : is_emptiness (outcome_of_delivery config log link ch) ≡ is_empty ((system_after config log).channels link ch)
-  pub stalled : is_stall (outcome_of_delivery config log link ch) ≡ not (is_empty ((system_after config log).channels link ch)) && not (is_movable config link ch (system_after config log))
-  pub moves : (x : Beat w) (rest : List (Beat w)) → (system_after config log).channels link ch ≡ x ∷ rest → Moves config log link x
+  pub empty : is_emptiness (outcome_of_delivery config log link ch) ≡ is_empty
+      ((system_after config log).channels link ch)
+  pub stalled : is_stall (outcome_of_delivery config log link ch) ≡ not
+      (is_empty ((system_after config log).channels link ch)) && not
+      (is_movable config link ch (system_after config log))
+  pub moves : (x : Beat w) (rest : List (Beat w)) → (system_after config log).channels link ch ≡ x ∷ rest
+      → Moves config log link x
 
 -- a delivery finds a channel empty or stalls exactly where the definitions say so
 abbrev pub Stalls : ℕ → Type 0
-Stalls w = (config : Config) (log : Log w) → IsGiven config log → (link : ℕ) (ch : Channel) → is_client config link ≡ true → IsExact config log link ch
+Stalls w = (config : Config) (log : Log w) → IsGiven config log → (link : ℕ) (ch : Channel)
+    → is_client config link ≡ true → IsExact config log link ch

@@ -48,7 +48,8 @@ beats_moved log = length (filter (λ x. is_moving x.1) log)
 
 -- deliveries move no more beats than the load before them
 abbrev pub DeliveryBound : ℕ → Type 0
-DeliveryBound w = (config : Config) (more log : Log w) → IsGiven config (more ++ log) → All (λ x. is_delivery x.0 ≡ true) more → beats_moved more ≤ load log
+DeliveryBound w = (config : Config) (more log : Log w) → IsGiven config (more ++ log)
+    → All (λ x. is_delivery x.0 ≡ true) more → beats_moved more ≤ load log
 
 -- n deliveries, each the next one, end what is outstanding
 pub record IsDrained {w : ℕ} (config : Config) (log : Log w) (n : ℕ) : Type 0 where
@@ -66,9 +67,12 @@ DrainsWithinLoad w = (config : Config) (log : Log w) → IsGiven config log → 
 
 -- at a Grant the client holds what it is granted
 abbrev pub GrantedIsHeld : ℕ → Type 0
-GrantedIsHeld w = (config : Config) (log : Log w) (link : Link) (ch : Channel) (x : Beat w) (source : ℕ) (p : Perm) (op : Op w) →
-    IsGiven config ((Deliver link ch, outcome.Done x source (Granted p)) ∷ log) → started link.0 Requests source log ≡ Some op →
-    held_at ((system_after config ((Deliver link ch, outcome.Done x source (Granted p)) ∷ log)).clients link.0) (op_block op) ≡ p
+GrantedIsHeld w = (config : Config) (log : Log w) (link : Link) (ch : Channel) (x : Beat w) (source : ℕ) (p : Perm)
+    (op : Op w) →
+    IsGiven config ((Deliver link ch, outcome.Done x source (Granted p)) ∷ log)
+    → started link.0 Requests source log ≡ Some op →
+    held_at ((system_after config ((Deliver link ch, outcome.Done x source (Granted p)) ∷ log)).clients link.0)
+    (op_block op) ≡ p
 
 -- what the client may hold that asked so, and of whom nothing else was asked
 abbrev pub grown_to : Profile → Grow → Perm → Bool
@@ -80,11 +84,17 @@ abbrev pub LoneAcquire : ℕ → Type 0
 LoneAcquire w = (config : Config) (log : Log w) (client block source n : ℕ) (grow : Grow) → outstanding log ≡ 0 →
     IsGiven config ((Ask client (Acquire block grow), outcome.Replied (Started source)) ∷ log) →
     IsDrained config ((Ask client (Acquire block grow), outcome.Replied (Started source)) ∷ log) n →
-    grown_to config.profile grow (held_at ((system_after config (drained config n ((Ask client (Acquire block grow), outcome.Replied (Started source)) ∷ log))).clients client) block) ≡ true
+    grown_to config.profile grow
+    (held_at ((system_after config
+    (drained config n ((Ask client (Acquire block grow), outcome.Replied (Started source)) ∷ log))).clients client)
+    block) ≡ true
 
 -- and an AcquireWhole that is started alone brings Trunk
 abbrev pub LoneAcquireWhole : ℕ → Type 0
-LoneAcquireWhole w = (config : Config) (log : Log w) (client block source n : ℕ) (bytes : List ℕ) → outstanding log ≡ 0 →
+LoneAcquireWhole w = (config : Config) (log : Log w) (client block source n : ℕ) (bytes : List ℕ) → outstanding log ≡ 0
+    →
     IsGiven config ((Ask client (AcquireWhole block bytes), outcome.Replied (Started source)) ∷ log) →
     IsDrained config ((Ask client (AcquireWhole block bytes), outcome.Replied (Started source)) ∷ log) n →
-    held_at ((system_after config (drained config n ((Ask client (AcquireWhole block bytes), outcome.Replied (Started source)) ∷ log))).clients client) block ≡ perm.Trunk
+    held_at ((system_after config
+    (drained config n ((Ask client (AcquireWhole block bytes), outcome.Replied (Started source)) ∷ log))).clients
+    client) block ≡ perm.Trunk

@@ -53,7 +53,8 @@ pub record IsUnrefused {w : ℕ} (s : System w) : Type 0 where
 abbrev pub Continues : {w : ℕ} → Config → Event w × Outcome w → Log w → Type 0
 Continues {w} config x log =
     (next : Machine w) × (accesses : List (ℕ × ℕ))
-    × IsStep config x.0 x.1 (one_memory_after config log) next × Performs accesses next (one_memory_after config (x ∷ log))
+    × IsStep config x.0 x.1 (one_memory_after config log) next
+    × Performs accesses next (one_memory_after config (x ∷ log))
 
 -- what holds of each log: it is a run on one memory, and copies are coherent with that
 pub record IsSound {w : ℕ} (config : Config) (log : Log w) : Type 0 where
@@ -77,7 +78,8 @@ Headline w = (config : Config) (log : Log w) → IsGiven config log → IsSound 
 -- The outcomes are a run of the one-memory machine, with which each event that comes next goes on.
 abbrev pub OneMemory : ℕ → Type 0
 OneMemory w = (config : Config) (log : Log w) → IsGiven config log →
-    Run config log (one_memory_after config log) × ((x : Event w × Outcome w) → IsTyped x.0 → IsLog config (x ∷ log) → Continues config x log)
+    Run config log (one_memory_after config log) × ((x : Event w × Outcome w) → IsTyped x.0 → IsLog config (x ∷ log)
+    → Continues config x log)
 
 -- No beat between a manager and its clients is refused.
 abbrev pub Unrefused : ℕ → Type 0
@@ -85,8 +87,10 @@ Unrefused w = (config : Config) (log : Log w) → IsGiven config log → IsUnref
 
 -- Copies are coherent with the one memory.
 abbrev pub Coherent : ℕ → Type 0
-Coherent w = (config : Config) (log : Log w) → IsGiven config log → IsCoherent (system_after config log) log (one_memory_after config log)
+Coherent w = (config : Config) (log : Log w) → IsGiven config log
+    → IsCoherent (system_after config log) log (one_memory_after config log)
 
 -- A delivery is next exactly while something is outstanding.
 abbrev pub NoDeadlock : ℕ → Type 0
-NoDeadlock w = (config : Config) (log : Log w) → IsGiven config log → is_none (next_delivery config (system_after config log)) ≡ (outstanding log == 0)
+NoDeadlock w = (config : Config) (log : Log w) → IsGiven config log
+    → is_none (next_delivery config (system_after config log)) ≡ (outstanding log == 0)

@@ -1,5 +1,6 @@
 -- The one-memory machine: one map of bytes, and the operations that are open.
-use Rattle.std.specs.Prelude.{ℕ, Bool, true, false, List, [], ◌∷◌, ◌≡◌, ◌==◌, ◌&&◌, ◌-◌, ◌^◌, if◌then◌else◌, Option, Some, None, is_some, ⊤}
+use Rattle.std.specs.Prelude.{ℕ, Bool, true, false, List, [], ◌∷◌, ◌≡◌, ◌==◌, ◌&&◌, ◌-◌, ◌^◌, if◌then◌else◌, Option}
+use Rattle.std.specs.Prelude.{Some, None, is_some, ⊤}
 use Rattle.tl_beat.specs.declared.beat.Beat.{Beat}
 use Rattle.tl_beat.specs.declared.beat.Beat.TheVariants as beat
 use Rattle.tl_beat.specs.declared.channel.Channel.TheVariants as channel
@@ -66,7 +67,8 @@ with_memory memory m = record m { memory = memory }
 
 -- the memory with the low 2 ^ size bytes of a number at an address
 abbrev pub with_number : ℕ → ℕ → ℕ → Memory → Memory
-with_number base size value memory address = if reaches base size address then byte_of value (address - base) else memory address
+with_number base size value memory address = if reaches base size address then byte_of value (address - base) else
+    memory address
 
 -- ---- a client is asked and replies
 
@@ -93,7 +95,8 @@ Replies client _ _ m = ⊥
 -- and is so afterwards
 abbrev pub after_reply : {w : ℕ} → ℕ → Op w → Reply → Machine w → Machine w
 after_reply client (Store address size value) Stored m = with_memory (with_number address size value m.memory) m
-after_reply client op (Started source) m = with_open client (pool_of_op op) source (Some (record { asked = op; answer = None })) m
+after_reply client op (Started source) m =
+    with_open client (pool_of_op op) source (Some (record { asked = op; answer = None })) m
 after_reply client op r m = m
 
 -- ---- a response ends an operation
@@ -142,7 +145,8 @@ memory_after _ memory = memory
 -- memory
 abbrev pub after_end : {w : ℕ} → ℕ → Pool → ℕ → Option (Open w) → Machine w → Machine w
 after_end client pool source None m = m
-after_end client pool source (Some o) m = with_open client pool source None (with_memory (memory_after o.asked m.memory) m)
+after_end client pool source (Some o) m =
+    with_open client pool source None (with_memory (memory_after o.asked m.memory) m)
 
 -- ---- steps
 
@@ -158,7 +162,8 @@ Allows _ _ m = ⊥
 -- and is so afterwards
 abbrev pub moved : {w : ℕ} → Event w → Outcome w → Machine w → Machine w
 moved (Ask client op) (outcome.Replied r) m = after_reply client op r m
-moved (Deliver link ch) (outcome.Done x source f) m = after_end link.0 (pool_of f) source (m.opened link.0 (pool_of f) source) m
+moved (Deliver link ch) (outcome.Done x source f) m =
+    after_end link.0 (pool_of f) source (m.opened link.0 (pool_of f) source) m
 moved _ _ m = m
 
 -- there is a client of this number
@@ -175,7 +180,8 @@ IsStep config e o m n = (is_client config (client_of e) ≡ true) × Allows e o 
 -- the machine after an open access is performed, once; other operations perform nothing
 abbrev pub performed_op : {w : ℕ} → ℕ → ℕ → Op w → Option memory.AccessResult → Machine w → Option (Machine w)
 performed_op client source (Access a) None m =
-    Some (with_open client Requests source (Some (record { asked = Access a; answer = Some (effect a m.memory).1 })) (with_memory (effect a m.memory).0 m))
+    Some (with_open client Requests source (Some (record { asked = Access a; answer = Some (effect a m.memory).1 }))
+    (with_memory (effect a m.memory).0 m))
 performed_op client source op answer m = None
 
 -- the machine after the open operation is performed, where there is one

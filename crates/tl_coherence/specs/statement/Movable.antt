@@ -58,9 +58,11 @@ next_delivery config s =
 -- the log with this delivery, where there is one
 abbrev pub with_delivery : {w : ℕ} → Config → Option (Link × Channel) → Log w → Log w
 with_delivery config None log = log
-with_delivery config (Some d) log = (Deliver d.0 d.1, (stepped config (Deliver d.0 d.1) (system_after config log)).outcome) ∷ log
+with_delivery config (Some d) log =
+    (Deliver d.0 d.1, (stepped config (Deliver d.0 d.1) (system_after config log)).outcome) ∷ log
 
 -- the log after n more deliveries at most, each the next one
 unfoldable pub drained : {w : ℕ} → Config → ℕ → Log w → Log w
 drained config zero log = log
-drained config (suc n) log = drained config n (with_delivery config (next_delivery config (system_after config log)) log)
+drained config (suc n) log =
+    drained config n (with_delivery config (next_delivery config (system_after config log)) log)

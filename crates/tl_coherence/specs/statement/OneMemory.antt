@@ -29,4 +29,5 @@ performing (x ∷ accesses) m = performing accesses (unwrap_or (performed x.0 x.
 unfoldable pub one_memory_after : {w : ℕ} → Config → Log w → Machine w
 one_memory_after config [] = first
 one_memory_after config (x ∷ log) =
-    performing (accesses_answered (stepped config x.0 (system_after config log)).handed) (moved x.0 x.1 (one_memory_after config log))
+    performing (accesses_answered (stepped config x.0 (system_after config log)).handed)
+    (moved x.0 x.1 (one_memory_after config log))

@@ -37,4 +37,5 @@ HaveRoom w = (config : Config) (log : Log w) → IsGiven config log → (link : 
 
 -- and is within its types, where clients are given bytes to store
 abbrev pub AreInRange : ℕ → Type 0
-AreInRange w = (config : Config) (log : Log w) → IsGiven config log → AreRanged log → (link : ℕ) → All IsInRange (flow link log)
+AreInRange w = (config : Config) (log : Log w) → IsGiven config log → AreRanged log → (link : ℕ)
+    → All IsInRange (flow link log)

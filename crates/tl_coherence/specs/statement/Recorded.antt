@@ -10,4 +10,5 @@ use Rattle.tl_coherence.specs.statement.Permissions.{perm_le}
 -- what the client of a link holds is at most what the manager has recorded for it
 abbrev pub Recorded : ℕ → Type 0
 Recorded w = (config : Config) (log : Log w) → IsGiven config log → (link block : ℕ) →
-    perm_le (held_at ((system_after config log).clients link) block) (recorded link block (system_after config log).manager.trace) ≡ true
+    perm_le (held_at ((system_after config log).clients link) block)
+    (recorded link block (system_after config log).manager.trace) ≡ true

@@ -18,7 +18,8 @@ use Rattle.tl_coherence.specs.declared.event.Event.{Event}
 use Rattle.tl_coherence.specs.declared.event.Event.TheVariants.{Ask, Deliver}
 use Rattle.tl_coherence.specs.declared.event.Outcome.{Outcome}
 use Rattle.tl_coherence.specs.declared.event.Outcome.TheVariants as outcome
-use Rattle.tl_coherence.specs.statement.System.{System, terms_at, with_client, with_manager, with_channel, with_messages}
+use Rattle.tl_coherence.specs.statement.System.{System, terms_at, with_client, with_manager, with_channel}
+use Rattle.tl_coherence.specs.statement.System.{with_messages}
 
 -- what comes of an event: its outcome, the messages that are handed out, and the whole afterwards
 pub record Step (w : ℕ) : Type 0 where
@@ -54,20 +55,24 @@ outcome_of x verdict.Taken = outcome.Moved x
 outcome_of x (verdict.Done source finish) = outcome.Done x source finish
 
 -- A stall leaves all as it was. A beat that is refused stays where it is: but that never happens.
-abbrev pub judged : {w : ℕ} → Result (Verdict × Option (Message w)) Rule → ℕ → Channel → Beat w → List (Beat w) → client.Endpoint w → System w → Step w
+abbrev pub judged : {w : ℕ} → Result (Verdict × Option (Message w)) Rule → ℕ → Channel → Beat w → List (Beat w)
+    → client.Endpoint w → System w → Step w
 judged (Err rule) link ch x rest e s = only outcome.Stalled (with_client link e s)
 judged (Ok (verdict.Stalled, m)) link ch x rest e s = only outcome.Stalled s
-judged (Ok (v, m)) link ch x rest e s = handing (outcome_of x v) (handed_by link m) (with_client link e (with_channel link ch rest s))
+judged (Ok (v, m)) link ch x rest e s =
+    handing (outcome_of x v) (handed_by link m) (with_client link e (with_channel link ch rest s))
 
 -- a client was offered the first beat of a channel
 abbrev pub client_took : {w : ℕ} → ℕ → Channel → Beat w → List (Beat w) → Offered w → System w → Step w
 client_took link ch x rest o s = judged o.answer link ch x rest o.after s
 
 -- to the manager
-abbrev pub manager_took : {w : ℕ} → ℕ → Channel → Beat w → List (Beat w) → manager.Reception w × manager_end.End w → System w → Step w
+abbrev pub manager_took : {w : ℕ} → ℕ → Channel → Beat w → List (Beat w) → manager.Reception w × manager_end.End w
+    → System w → Step w
 manager_took link ch x rest (manager.Refused rule, e) s = only outcome.Stalled (with_manager e s)
 manager_took link ch x rest (manager.Stalled, e) s = only outcome.Stalled s
-manager_took link ch x rest (manager.Sent handed, e) s = handing (outcome.Moved x) handed (with_manager e (with_channel link ch rest s))
+manager_took link ch x rest (manager.Sent handed, e) s =
+    handing (outcome.Moved x) handed (with_manager e (with_channel link ch rest s))
 
 -- the client takes the beats of these channels, and the manager those of the others
 abbrev pub is_to_client : Channel → Bool

@@ -1,7 +1,8 @@
 -- All that holds of a manager and its clients with beats of w bytes.
 use Rattle.std.specs.Prelude.{ℕ}
 use Rattle.tl_coherence.specs.statement.Delivery.{Fifo, Flows, Faultless, CapacityBound, Stalls}
-use Rattle.tl_coherence.specs.statement.Draining.{DeliveryBound, DrainsWithinLoad, GrantedIsHeld, LoneAcquire, LoneAcquireWhole}
+use Rattle.tl_coherence.specs.statement.Draining.{DeliveryBound, DrainsWithinLoad, GrantedIsHeld, LoneAcquire}
+use Rattle.tl_coherence.specs.statement.Draining.{LoneAcquireWhole}
 use Rattle.tl_coherence.specs.statement.Headline.{Headline}
 use Rattle.tl_coherence.specs.statement.Recorded.{Recorded}
 

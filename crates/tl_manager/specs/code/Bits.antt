@@ -6,4 +6,5 @@ use Rattle.tl_params.specs.declared.perm.Perm.TheVariants.{None, Branch, Trunk}
 
 -- what two words say of a client
 abbrev pub perm_in : ℕ → ℕ → ℕ → Perm
-perm_in owners sharers client = if bit_at owners client == 1 then Trunk else if bit_at sharers client == 1 then Branch else None
+perm_in owners sharers client = if bit_at owners client == 1 then Trunk else if bit_at sharers client == 1 then Branch
+    else None

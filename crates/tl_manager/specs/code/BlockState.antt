@@ -30,22 +30,28 @@ use Rattle.tl_manager.specs.declared.manager.tracker.Tracker.{Tracker}
 use Rattle.tl_manager.specs.declared.manager.tracker.Tracker.TheVariants.{Free, Probing, Granted}
 
 -- the directory and the bytes are those after this trace, and all trackers but this one, if any
-pub record IsBlockStateBut {w : ℕ} {D : Type 0} (other : ℕ → Type 0) (perm_of : D → ℕ → ℕ → Perm) (config : Config) (block_state : BlockState w D) (t : Trace w) (memory : Memory) : Type 0 where
+pub record IsBlockStateBut {w : ℕ} {D : Type 0} (other : ℕ → Type 0) (perm_of : D → ℕ → ℕ → Perm) (config : Config)
+    (block_state : BlockState w D) (t : Trace w) (memory : Memory) : Type 0 where
   pub profile : block_state.profile ≡ config.profile
   pub count : block_state.trackers.count ≡ config.trackers
   pub tracked : (n : ℕ) → other n → IsTracked n (tracker_at block_state.trackers n) t
   pub records : (block client : ℕ) → perm_of block_state.directory block client ≡ recorded client block t
   pub bytes : AreBlocks block_state.blocks.bytes.items memory
 
-abbrev pub IsBlockState : {w : ℕ} {D : Type 0} → (D → ℕ → ℕ → Perm) → Config → BlockState w D → Trace w → Memory → Type 0
+abbrev pub IsBlockState : {w : ℕ} {D : Type 0} → (D → ℕ → ℕ → Perm) → Config → BlockState w D → Trace w → Memory
+    → Type 0
 IsBlockState perm_of config block_state t memory = IsBlockStateBut (λ n. ⊤) perm_of config block_state t memory
 
-abbrev pub IsBlockStateWithout : {w : ℕ} {D : Type 0} → ℕ → (D → ℕ → ℕ → Perm) → Config → BlockState w D → Trace w → Memory → Type 0
-IsBlockStateWithout number perm_of config block_state t memory = IsBlockStateBut (λ n. n ≢ number) perm_of config block_state t memory
+abbrev pub IsBlockStateWithout : {w : ℕ} {D : Type 0} → ℕ → (D → ℕ → ℕ → Perm) → Config → BlockState w D → Trace w
+    → Memory → Type 0
+IsBlockStateWithout number perm_of config block_state t memory =
+    IsBlockStateBut (λ n. n ≢ number) perm_of config block_state t memory
 
 -- this was done after the trace
-abbrev pub IsDone : {w : ℕ} {D : Type 0} → (D → ℕ → ℕ → Perm) → Config → BlockState w D → Handed w → Trace w → Reaction w → Type 0
-IsDone perm_of config block_state handed t reaction = (handed ≡ reaction.handed) × IsBlockState perm_of config block_state (with_handed reaction.handed t) reaction.memory
+abbrev pub IsDone : {w : ℕ} {D : Type 0} → (D → ℕ → ℕ → Perm) → Config → BlockState w D → Handed w → Trace w
+    → Reaction w → Type 0
+IsDone perm_of config block_state handed t reaction = (handed ≡ reaction.handed)
+    × IsBlockState perm_of config block_state (with_handed reaction.handed t) reaction.memory
 
 -- a request that can be performed, and answered, where there are this many blocks and clients
 pub record IsPlaced {w : ℕ} (blocks clients : ℕ) (link : Link) (request : MessageA w) : Type 0 where
@@ -61,9 +67,10 @@ IsPlacedIn blocks clients (Probing link request missing) = IsPlaced blocks clien
 IsPlacedIn blocks clients (Granted link block) = ⊤
 
 -- after this trace the request of the tracker may be performed
-pub record IsReadyAt {w : ℕ} (config : Config) (number : ℕ) (link : Link) (request : MessageA w) (t : Trace w) : Type 0 where
-  pub ready : IsReady config (block_at request.address) (service_with number link request) t
-  pub sound : Each (IsSound config) t
+pub record IsReadyAt {w : ℕ} (config : Config) (number : ℕ) (link : Link) (request : MessageA w) (t : Trace w) : Type 0
+  where
+    pub ready : IsReady config (block_at request.address) (service_with number link request) t
+    pub sound : Each (IsSound config) t
 
 -- a ProbeAck of the block, whose last beat is taken
 pub record IsReport {w : ℕ} (config : Config) (link : Link) (block : ℕ) (x : BeatC w) (e : End w) : Type 0 where
@@ -73,7 +80,8 @@ pub record IsReport {w : ℕ} (config : Config) (link : Link) (block : ℕ) (x :
   pub of_block : block_at x.address ≡ block
 
 -- all but the trackers is as after the report, and these are as before
-pub record IsReportedBlockState {w : ℕ} {D : Type 0} (perm_of : D → ℕ → ℕ → Perm) (config : Config) (block_state : BlockState w D) (before after : Trace w) (memory : Memory) : Type 0 where
+pub record IsReportedBlockState {w : ℕ} {D : Type 0} (perm_of : D → ℕ → ℕ → Perm) (config : Config)
+    (block_state : BlockState w D) (before after : Trace w) (memory : Memory) : Type 0 where
   pub profile : block_state.profile ≡ config.profile
   pub count : block_state.trackers.count ≡ config.trackers
   pub tracked : (n : ℕ) → IsTracked n (tracker_at block_state.trackers n) before
@@ -81,11 +89,12 @@ pub record IsReportedBlockState {w : ℕ} {D : Type 0} (perm_of : D → ℕ → 
   pub bytes : AreBlocks block_state.blocks.bytes.items memory
 
 -- the message of channel C that is complete with this beat
-pub record IsMessage {w : ℕ} (config : Config) (link : Link) (x : BeatC w) (message : MessageC w) (e : End w) : Type 0 where
-  pub taken : IsTaken config link (beat.C x) e
-  pub last : ends (beat.C x) (on_link link.0 e.trace) ≡ true
-  pub opcode : message.opcode ≡ x.opcode
-  pub param : message.param ≡ x.param
-  pub source : message.source ≡ x.source
-  pub address : message.address ≡ x.address
-  pub payload : message.payload ≡ payload_of (beat.C x ∷ unfinished channel.C (on_link link.0 e.trace))
+pub record IsMessage {w : ℕ} (config : Config) (link : Link) (x : BeatC w) (message : MessageC w) (e : End w) : Type 0
+  where
+    pub taken : IsTaken config link (beat.C x) e
+    pub last : ends (beat.C x) (on_link link.0 e.trace) ≡ true
+    pub opcode : message.opcode ≡ x.opcode
+    pub param : message.param ≡ x.param
+    pub source : message.source ≡ x.source
+    pub address : message.address ≡ x.address
+    pub payload : message.payload ≡ payload_of (beat.C x ∷ unfinished channel.C (on_link link.0 e.trace))

@@ -15,11 +15,12 @@ use Rattle.tl_manager.specs.code.Ready.{IsTaken}
 use Rattle.tl_manager.specs.statement.End.{End}
 
 -- the beat passes, and the message is that of its burst, with a payload of 64 bytes
-pub record IsComplete {w : ℕ} (config : Config) (link : Link) (x : Beat w) (message : Message w) (e : End w) : Type 0 where
-  pub taken : IsTaken config link x e
-  pub last : ends x (on_link link.0 e.trace) ≡ true
-  pub burst : IsBurst message (x ∷ unfinished (channel_of x) (on_link link.0 e.trace))
-  pub filled : IsFilled message
+pub record IsComplete {w : ℕ} (config : Config) (link : Link) (x : Beat w) (message : Message w) (e : End w) : Type 0
+  where
+    pub taken : IsTaken config link x e
+    pub last : ends x (on_link link.0 e.trace) ≡ true
+    pub burst : IsBurst message (x ∷ unfinished (channel_of x) (on_link link.0 e.trace))
+    pub filled : IsFilled message
 
 -- where there are this many blocks and clients, what is due for it can be done
 abbrev pub IsDue : {w : ℕ} → ℕ → ℕ → Link → Message w → Type 0

@@ -17,4 +17,5 @@ fresh_link_state level = record { level = level; requests = []; reports = []; cl
 -- what is made of a configuration, or why nothing was made
 abbrev pub IsNew : {w : ℕ} {M : Type 0} → (M → ℕ → ℕ → Perm) → Config → Result (ManagerState w M) NewFault → Type 0
 IsNew perm_of config (Ok state) = Knows perm_of state config fresh
-IsNew perm_of config (Err fault) = (config_fault config ≡ Some fault) ⊎ ((config_fault config ≡ None) × (fault ≡ Memory))
+IsNew perm_of config (Err fault) = (config_fault config ≡ Some fault)
+    ⊎ ((config_fault config ≡ None) × (fault ≡ Memory))

@@ -1,7 +1,8 @@
 -- What holds of the manager's end after any beats that it is offered, from a fresh one on.
 use Rattle.tl_beat.specs.declared.beat.Beat.TheVariants as beat
 use Rattle.tl_beat.specs.declared.beat.BeatA.{BeatA}
-use Rattle.std.specs.Prelude.{◌==◌, ◌&&◌, ◌||◌, nat_le, IfSome, length, ◌^◌, ℕ, Bool, true, false, List, [], ◌∷◌, ◌≡◌, ◌<◌, ◌≤◌, map, Option, Some, None, ⊤}
+use Rattle.std.specs.Prelude.{◌==◌, ◌&&◌, ◌||◌, nat_le, IfSome, length, ◌^◌, ℕ, Bool, true, false, List, [], ◌∷◌, ◌≡◌}
+use Rattle.std.specs.Prelude.{◌<◌, ◌≤◌, map, Option, Some, None, ⊤}
 use Rattle.tl_beat.specs.declared.beat.Beat.{Beat}
 use Rattle.tl_beat.specs.declared.beat.Link.{Link}
 use Rattle.tl_burst.specs.declared.message.Message.{Message}
@@ -79,7 +80,8 @@ IsFilled (message.E m) = ⊤
 -- messages that break no L rule at their links and are clean, with 64 bytes that are zero where no beat carries them
 abbrev pub AreLawful : {w : ℕ} → Config → Handed w → Type 0
 AreLawful config handed =
-    Each (λ x. (illegal_message_at (level_of config x.0.0) x.1 ≡ None) × IsClean x.1 × IsFilled x.1 × IsBlankAfter (beats_of x.1) x.1) handed
+    Each (λ x. (illegal_message_at (level_of config x.0.0) x.1 ≡ None) × IsClean x.1 × IsFilled x.1
+    × IsBlankAfter (beats_of x.1) x.1) handed
 
 -- what the manager hands out in this answer is so
 abbrev pub IsAnswerLawful : {w : ℕ} → Config → Reception w → Type 0
@@ -117,13 +119,15 @@ blocks_of services = map (λ s. block_at s.request.address) services
 -- an Acquire of this client that has this tracker is in service
 abbrev pub is_granting : {w : ℕ} → ℕ → ℕ → List (Service w) → Bool
 is_granting client sink [] = false
-is_granting client sink (s ∷ services) = (is_acquire s.request.opcode && ((s.link.0 == client) && (s.tracker == sink))) || is_granting client sink services
+is_granting client sink (s ∷ services) = (is_acquire s.request.opcode && ((s.link.0 == client) && (s.tracker == sink)))
+    || is_granting client sink services
 
 pub record IsKept {w : ℕ} (config : Config) (e : End w) : Type 0 where
   -- each beat that was taken or handed out
   pub sound : Each (IsSound config) e.trace
   -- no message that was handed out is unfinished
-  pub whole : (client : ℕ) → (unfinished channel.B (on_link client e.trace) ≡ []) × (unfinished channel.D (on_link client e.trace) ≡ [])
+  pub whole : (client : ℕ) → (unfinished channel.B (on_link client e.trace) ≡ [])
+      × (unfinished channel.D (on_link client e.trace) ≡ [])
   -- the beats of a request that isn't complete
   pub bursts : (client : ℕ) → AreOfOne (unfinished channel.A (on_link client e.trace))
   -- the requests in service, their trackers and their blocks
@@ -132,7 +136,8 @@ pub record IsKept {w : ℕ} (config : Config) (e : End w) : Type 0 where
   pub trackers_apart : AreApart (trackers_of (services e.trace))
   pub blocks_apart : AreApart (blocks_of (services e.trace))
   -- a Grant whose GrantAck is missing is one of an Acquire in service
-  pub sinks : (client sink : ℕ) → pending (GrantSink sink) (on_link client e.trace) ≡ true → is_granting client sink (services e.trace) ≡ true
+  pub sinks : (client sink : ℕ) → pending (GrantSink sink) (on_link client e.trace) ≡ true
+      → is_granting client sink (services e.trace) ≡ true
   -- a Release is pending only while its burst is unfinished
   pub releases : (client : ℕ) → IsAnswered (on_link client e.trace)
   -- there is a tracker for each request in service

@@ -26,7 +26,8 @@ pub record IsLinkState {w : ℕ} (config : Config) (link_state : LinkState w) (c
   pub carried : IsCarried link_state client e.trace
 
 -- the link and the blocks are those of an end with this history of the link
-pub record IsLinkPast {w : ℕ} {D : Type 0} (perm_of : D → ℕ → ℕ → Perm) (link : Link) (link_state : LinkState w) (block_state : BlockState w D) (t : History w) : Type 0 where
+pub record IsLinkPast {w : ℕ} {D : Type 0} (perm_of : D → ℕ → ℕ → Perm) (link : Link) (link_state : LinkState w)
+    (block_state : BlockState w D) (t : History w) : Type 0 where
   pub config : Config
   pub end : End w
   pub kept : IsKept config end

@@ -18,7 +18,8 @@ comes_of k _ = false
 
 -- the Release that began last with the source of the unfinished one is that one
 abbrev pub IsNamed : {w : ℕ} → History w → List (Beat w) → Type 0
-IsNamed t (beat.C x ∷ burst) = (k : ℕ) → is_release x.opcode ≡ true → releases k (release_of x.source t) ≡ (block_at x.address == k)
+IsNamed t (beat.C x ∷ burst) = (k : ℕ) → is_release x.opcode ≡ true
+    → releases k (release_of x.source t) ≡ (block_at x.address == k)
 IsNamed t _ = ⊤
 
 -- a history in which each Release is answered but for one that is unfinished

@@ -19,5 +19,6 @@ IsOfBlock trackers block tracker =
 -- the request that a client asks with this source, or there is none
 abbrev pub IsAsked : {w : ℕ} → Trackers w → ℕ → ℕ → Option (MessageA w) → Type 0
 IsAsked trackers client source (Some request) =
-    (n : ℕ) × (is_asking client source (tracker_at trackers n) ≡ true) × (request_in (tracker_at trackers n) ≡ Some request)
+    (n : ℕ) × (is_asking client source (tracker_at trackers n) ≡ true)
+    × (request_in (tracker_at trackers n) ≡ Some request)
 IsAsked trackers client source None = (i : ℕ) → is_asking client source (tracker_at trackers i) ≡ false

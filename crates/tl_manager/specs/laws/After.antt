@@ -63,21 +63,25 @@ is_of_clients channel.E = true
 
 -- the message is a Probe of the block to the client
 abbrev pub is_probe_to : {w : ℕ} → ℕ → ℕ → Link × Message w → Bool
-is_probe_to client block (link, message.B m) = (link.0 == client) && (is_probe m.opcode && (block_at m.address == block))
+is_probe_to client block (link, message.B m) =
+    (link.0 == client) && (is_probe m.opcode && (block_at m.address == block))
 is_probe_to client block x = false
 
 abbrev pub missing_with : {w : ℕ} → ℕ → ℕ → Handed w → Bool → Bool
 missing_with client block [] missing = missing
-missing_with client block (x ∷ handed) missing = missing_with client block handed (if is_probe_to client block x then true else missing)
+missing_with client block (x ∷ handed) missing =
+    missing_with client block handed (if is_probe_to client block x then true else missing)
 
 -- the beat completes the client's ProbeAck of the block
 abbrev pub is_report_of : {w : ℕ} → ℕ → ℕ → Link × Beat w → Trace w → Bool
 is_report_of client block (link, beat.C x) t =
-    (link.0 == client) && (ends (beat.C x) (on_link client t) && (is_probe_ack x.opcode && (block_at x.address == block)))
+    (link.0 == client) && (ends (beat.C x)
+    (on_link client t) && (is_probe_ack x.opcode && (block_at x.address == block)))
 is_report_of client block x t = false
 
 -- whether the client's ProbeAck is missing after a beat that was answered so
 abbrev pub missing_after : {w : ℕ} → Reception w → Link × Beat w → Trace w → ℕ → ℕ → Bool
 missing_after (Refused rule) x t client block = is_missing client block t
 missing_after Stalled x t client block = is_missing client block t
-missing_after (Sent handed) x t client block = missing_with client block handed (if is_report_of client block x t then false else is_missing client block t)
+missing_after (Sent handed) x t client block =
+    missing_with client block handed (if is_report_of client block x t then false else is_missing client block t)

@@ -1,6 +1,7 @@
 -- What is pending at the manager's end of each link: it follows from the requests in service and the
 -- bursts that are unfinished.
-use Rattle.std.specs.Prelude.{ℕ, Bool, true, false, not, List, [], ◌∷◌, ◌==◌, ◌&&◌, ◌||◌, ◌+◌, ◌≡◌, Option, Some, None, ⊤}
+use Rattle.std.specs.Prelude.{ℕ, Bool, true, false, not, List, [], ◌∷◌, ◌==◌, ◌&&◌, ◌||◌, ◌+◌, ◌≡◌, Option, Some, None}
+use Rattle.std.specs.Prelude.{⊤}
 use Rattle.tl_beat.specs.declared.beat.Beat.{Beat}
 use Rattle.tl_beat.specs.declared.beat.Beat.TheVariants as beat
 use Rattle.tl_beat.specs.declared.beat.BeatA.{BeatA}
@@ -11,7 +12,8 @@ use Rattle.tl_params.specs.declared.config.Config.{Config}
 use Rattle.tl_params.specs.declared.key.Key.TheVariants.{RequestSource, AcquireOf, GrantSink, GrantAckOf, ProbeOf}
 use Rattle.tl_params.specs.declared.param.Cap.{Cap}
 use Rattle.tl_rules.specs.statement.Conformance.{Trace, on_link, comes_in_request}
-use Rattle.tl_rules.specs.statement.History.{block_at, is_acquire, is_probe_ack, pending, request_of, probe_of, grant_sink}
+use Rattle.tl_rules.specs.statement.History.{block_at, is_acquire, is_probe_ack, pending, request_of, probe_of}
+use Rattle.tl_rules.specs.statement.History.{grant_sink}
 use Rattle.tl_manager.specs.statement.Handing.{probe_beat}
 use Rattle.tl_manager.specs.statement.Holders.{cap_probed, is_settled, is_spared}
 use Rattle.tl_manager.specs.statement.Service.{Service, services, service_of_block}
@@ -64,12 +66,14 @@ is_awaited config block t (Some s) = is_granted t s || not (is_settled config bl
 -- the beat has these control fields
 abbrev pub HasFields : {w : ℕ} → OpA → ℕ → ℕ → ℕ → ℕ → Option (BeatA w) → Type 0
 HasFields opcode param size source address None = ⊥
-HasFields opcode param size source address (Some x) = (x.opcode ≡ opcode) × (x.param ≡ param) × (x.size ≡ size) × (x.source ≡ source) × (x.address ≡ address)
+HasFields opcode param size source address (Some x) = (x.opcode ≡ opcode) × (x.param ≡ param) × (x.size ≡ size)
+    × (x.source ≡ source) × (x.address ≡ address)
 
 -- the request that began last with the source of the unfinished one is that one, which is no Acquire
 abbrev pub IsBegun : {w : ℕ} → History w → List (Beat w) → Type 0
 IsBegun t [] = ⊤
-IsBegun t (beat.A x ∷ burst) = (is_acquire x.opcode ≡ false) × HasFields x.opcode x.param x.size x.source x.address (request_of x.source t)
+IsBegun t (beat.A x ∷ burst) = (is_acquire x.opcode ≡ false) × HasFields x.opcode x.param x.size x.source x.address
+    (request_of x.source t)
 IsBegun t (_ ∷ burst) = ⊥
 
 -- the ProbeAck that the unfinished report is of is missing
@@ -82,7 +86,8 @@ IsReporting t _ = ⊤
 abbrev pub IsNamed : {w : ℕ} → ℕ → Trace w → Option (Service w) → Type 0
 IsNamed block t None = ⊤
 IsNamed block t (Some s) =
-    (is_granted t s ≡ false → HasFields s.request.opcode s.request.param s.request.size s.request.source s.request.address (request_of s.request.source (on_link s.link.0 t)))
+    (is_granted t s ≡ false → HasFields s.request.opcode s.request.param s.request.size s.request.source
+    s.request.address (request_of s.request.source (on_link s.link.0 t)))
     × (is_granted t s ≡ true → grant_sink block (on_link s.link.0 t) ≡ Some s.tracker)
 
 -- the block is in service for a request that isn't answered and that probes this client; the Probe is
@@ -101,8 +106,10 @@ pub record IsProbed {w : ℕ} (client block : ℕ) (t : Trace w) : Type 0 where
 -- of a block, on each link: its Acquire until the Grant, its GrantAck from then on, and its ProbeAck
 -- only for the request in service
 pub record IsHandled {w : ℕ} (block : ℕ) (t : Trace w) : Type 0 where
-  pub acquires : (client : ℕ) → pending (AcquireOf block) (on_link client t) ≡ is_acquiring client t (service_of_block block (services t))
-  pub grants : (client : ℕ) → pending (GrantAckOf block) (on_link client t) ≡ is_granted_to client t (service_of_block block (services t))
+  pub acquires : (client : ℕ) → pending (AcquireOf block) (on_link client t) ≡ is_acquiring client t
+      (service_of_block block (services t))
+  pub grants : (client : ℕ) → pending (GrantAckOf block) (on_link client t) ≡ is_granted_to client t
+      (service_of_block block (services t))
   pub named : IsNamed block t (service_of_block block (services t))
   pub probes : (client : ℕ) → pending (ProbeOf block) (on_link client t) ≡ true → IsProbed client block t
 
@@ -110,7 +117,8 @@ pub record IsHandled {w : ℕ} (block : ℕ) (t : Trace w) : Type 0 where
 -- it, and no two do.
 pub record IsAccounted {w : ℕ} (t : Trace w) : Type 0 where
   pub sources : (client source : ℕ)
-      → one_if (comes_in_request source (unfinished channel.A (on_link client t))) + count_where (is_asking client source t) (services t) ≡ one_if (pending (RequestSource source) (on_link client t))
+      → one_if (comes_in_request source (unfinished channel.A (on_link client t))) + count_where
+      (is_asking client source t) (services t) ≡ one_if (pending (RequestSource source) (on_link client t))
   pub begun : (client : ℕ) → IsBegun (on_link client t) (unfinished channel.A (on_link client t))
   pub reports : (client : ℕ) → IsReporting (on_link client t) (unfinished channel.C (on_link client t))
   pub blocks : (block : ℕ) → IsHandled block t

@@ -7,7 +7,8 @@ use Rattle.tl_burst.specs.declared.message.Message.{Message}
 use Rattle.tl_burst.specs.declared.message.Message.TheVariants as message
 use Rattle.tl_params.specs.declared.perm.Perm.{Perm}
 use Rattle.tl_rules.specs.statement.Conformance.{Trace, on_link}
-use Rattle.tl_rules.specs.statement.History.{ends, block_at, is_probe_ack, is_release, is_grant, asks_for, request_of, reported, capped}
+use Rattle.tl_rules.specs.statement.History.{ends, block_at, is_probe_ack, is_release, is_grant, asks_for, request_of}
+use Rattle.tl_rules.specs.statement.History.{reported, capped}
 use Rattle.tl_manager.specs.statement.Handing.{Handed}
 use Rattle.tl_manager.specs.statement.Holders.{recorded}
 use Rattle.tl_manager.specs.statement.Offer.{Reception, Refused, Stalled, Sent}
@@ -15,7 +16,8 @@ use Rattle.tl_manager.specs.statement.Offer.{Reception, Refused, Stalled, Sent}
 -- what a beat says that is taken: the last one of a ProbeAck or Release, what that leaves
 abbrev pub reported_by : {w : ℕ} → Link × Beat w → Trace w → ℕ → ℕ → Option Perm
 reported_by (link, beat.C x) t client block =
-    if (link.0 == client) && (ends (beat.C x) (on_link client t) && ((is_probe_ack x.opcode || is_release x.opcode) && (block_at x.address == block)))
+    if (link.0 == client) && (ends (beat.C x)
+    (on_link client t) && ((is_probe_ack x.opcode || is_release x.opcode) && (block_at x.address == block)))
     then Some (reported x.param) else None
 reported_by _ t client block = None
 
@@ -28,7 +30,8 @@ granted_by _ t client block = None
 
 abbrev pub granted_by_all : {w : ℕ} → Handed w → Trace w → ℕ → ℕ → Perm → Perm
 granted_by_all [] t client block held = held
-granted_by_all (x ∷ handed) t client block held = granted_by_all handed t client block (unwrap_or (granted_by x t client block) held)
+granted_by_all (x ∷ handed) t client block held =
+    granted_by_all handed t client block (unwrap_or (granted_by x t client block) held)
 
 -- what is recorded after a beat that was answered so, where the trace before it was t
 abbrev pub recorded_after : {w : ℕ} → Reception w → Link × Beat w → Trace w → ℕ → ℕ → Perm

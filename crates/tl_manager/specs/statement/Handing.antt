@@ -1,5 +1,6 @@
 -- The messages that a manager hands out.
-use Rattle.std.specs.Prelude.{ℕ, Bool, true, false, not, List, [], ◌∷◌, ◌++◌, ◌==◌, ◌&&◌, ◌-◌, ◌*◌, ◌^◌, if◌then◌else◌, map, replicate}
+use Rattle.std.specs.Prelude.{ℕ, Bool, true, false, not, List, [], ◌∷◌, ◌++◌, ◌==◌, ◌&&◌, ◌-◌, ◌*◌, ◌^◌, if◌then◌else◌}
+use Rattle.std.specs.Prelude.{map, replicate}
 use Rattle.std.proofs.Common.{lit≤}
 use Rattle.tl_beat.specs.declared.beat.BeatB.{BeatB}
 use Rattle.tl_beat.specs.declared.beat.Link.{Link}
@@ -113,7 +114,8 @@ release_ack source = message.D (record {
 -- a copy: toB for NtoB, otherwise toT; under the second profile an AcquireBlock NtoB of a block that
 -- nobody has is granted toT
 abbrev pub cap_granted : Profile → OpA → ℕ → Bool → Cap
-cap_granted profile.Two a.AcquireBlock param unheld = if (param == grow_code grow.NtoB) && not unheld then cap.ToB else cap.ToT
+cap_granted profile.Two a.AcquireBlock param unheld = if (param == grow_code grow.NtoB) && not unheld then cap.ToB else
+    cap.ToT
 cap_granted _ opcode param unheld = if param == grow_code grow.NtoB then cap.ToB else cap.ToT
 
 -- the Grant carries the block: not for an AcquirePerm, nor for an AcquireBlock BtoT whose sender is
@@ -171,6 +173,10 @@ performed config s t memory =
     if is_acquire s.request.opcode
     then record { handed = (s.link, grant config s t memory) ∷ []; memory = memory }
     else record {
-      handed = (s.link, access_answer s.request (answer_of (message.A s.request) (effect (message.A s.request) memory).1)) ∷ [];
+      handed = (
+        s.link,
+        access_answer s.request
+            (answer_of (message.A s.request) (effect (message.A s.request) memory).1),
+      ) ∷ [];
       memory = (effect (message.A s.request) memory).0;
     }

@@ -1,5 +1,6 @@
 -- Who is recorded to hold a block, and whom a request probes.
-use Rattle.std.specs.Prelude.{ℕ, zero, suc, Bool, true, false, not, List, [], ◌∷◌, ◌==◌, ◌&&◌, ◌+◌, if◌then◌else◌, length, Option, Some, None}
+use Rattle.std.specs.Prelude.{ℕ, zero, suc, Bool, true, false, not, List, [], ◌∷◌, ◌==◌, ◌&&◌, ◌+◌, if◌then◌else◌}
+use Rattle.std.specs.Prelude.{length, Option, Some, None}
 use Rattle.tl_beat.specs.declared.opcode.OpA.{OpA}
 use Rattle.tl_beat.specs.declared.opcode.OpA.TheVariants as a
 use Rattle.tl_params.specs.declared.config.Config.{Config}
@@ -25,7 +26,8 @@ is_missing client block t = pending (ProbeOf block) (on_link client t)
 -- of this many clients, from this one on, those that pass the test, in rising order
 unfoldable pub clients_from : ℕ → ℕ → (ℕ → Bool) → List ℕ
 clients_from first zero test = []
-clients_from first (suc n) test = if test first then first ∷ clients_from (first + 1) n test else clients_from (first + 1) n test
+clients_from first (suc n) test = if test first then first ∷ clients_from (first + 1) n test else clients_from
+    (first + 1) n test
 
 -- the clients that pass the test, in rising order
 abbrev pub clients_where : Config → (ℕ → Bool) → List ℕ
@@ -71,4 +73,5 @@ is_spared s client = is_acquire s.request.opcode && (s.link.0 == client)
 -- whom the request probes with this cap, in rising order of their links
 abbrev pub probed : {w : ℕ} → Config → Service w → Cap → Trace w → List ℕ
 probed config s cap t =
-    clients_where config (λ client. is_above cap (recorded client (block_at s.request.address) t) && not (is_spared s client))
+    clients_where config (λ client. is_above cap (recorded client (block_at s.request.address) t) && not
+    (is_spared s client))

@@ -1,5 +1,6 @@
 -- What a manager does at each beat that it is offered: the standard's rules for slaves.
-use Rattle.std.specs.Prelude.{ℕ, Bool, true, false, ◌∷◌, ◌&&◌, ◌||◌, if◌then◌else◌, length, nat_le, slice_get, Option, Some, None, option_map}
+use Rattle.std.specs.Prelude.{ℕ, Bool, true, false, ◌∷◌, ◌&&◌, ◌||◌, if◌then◌else◌, length, nat_le, slice_get, Option}
+use Rattle.std.specs.Prelude.{Some, None, option_map}
 use Rattle.tl_beat.specs.declared.beat.Beat.{Beat}
 use Rattle.tl_beat.specs.declared.beat.Beat.TheVariants as beat
 use Rattle.tl_beat.specs.declared.beat.Link.{Link}
@@ -49,7 +50,8 @@ before_stall _ = None
 -- the beat is the last of a request whose block is in service, or for which there is no tracker
 abbrev pub must_wait : {w : ℕ} → Config → Link → Beat w → Trace w → Bool
 must_wait config link (beat.A x) t =
-    ends (beat.A x) (on_link link.0 t) && (is_in_service (block_at x.address) (services t) || nat_le config.trackers (length (services t)))
+    ends (beat.A x) (on_link link.0 t) && (is_in_service (block_at x.address) (services t) || nat_le config.trackers
+    (length (services t)))
 must_wait config link _ t = false
 
 -- what becomes of a beat
@@ -100,7 +102,12 @@ refused link e = record { trace = e.trace; closed = link.0 ∷ e.closed; memory 
 
 -- the manager after a beat was taken, with what it did
 abbrev pub taken : {w : ℕ} → Link → Beat w → Reaction w → End w → End w
-taken link x reaction e = record { trace = with_handed reaction.handed ((link, x) ∷ e.trace); closed = e.closed; memory = reaction.memory }
+taken link x reaction e = record {
+  trace = with_handed reaction.handed ((link, x) ∷ e.trace);
+  closed =
+      e.closed;
+  memory = reaction.memory;
+}
 
 -- what comes of a beat that was judged so: a refusal closes the link, a stall changes nothing
 abbrev pub offered_as : {w : ℕ} → Judgement → Config → Link → Beat w → End w → Reception w × End w

@@ -20,7 +20,8 @@ use Rattle.tl_manager.specs.statement.End.{End}
 -- The request of a service probes those that hold too much, or is performed and answered at once.
 abbrev pub probing_or : {w : ℕ} → Reaction w → ℕ → Cap → List ℕ → Memory → Reaction w
 probing_or reaction block cap [] memory = reaction
-probing_or reaction block cap (client ∷ clients) memory = record { handed = probes block cap (client ∷ clients); memory = memory }
+probing_or reaction block cap (client ∷ clients) memory =
+    record { handed = probes block cap (client ∷ clients); memory = memory }
 
 -- a request is taken into service: it probes those that hold more than the cap leaves, or is
 -- performed at once
@@ -42,15 +43,18 @@ performed_if_any config (Some s) t memory = performed config s t memory
 -- with the last ProbeAck of a block that was missing, the request for it is performed and answered
 abbrev pub finish : {w : ℕ} → Config → ℕ → Trace w → Memory → Reaction w
 finish config block t memory =
-    if is_settled config block t then performed_if_any config (service_of_block block (services t)) t memory else nothing memory
+    if is_settled config block t then performed_if_any config (service_of_block block (services t)) t memory else
+    nothing memory
 
 -- the memory with these bytes as a block
 abbrev pub with_block : ℕ → List ℕ → Memory → Memory
-with_block block bytes memory address = if block_at address == block then slice_index bytes (address % 64) else memory address
+with_block block bytes memory address = if block_at address == block then slice_index bytes (address % 64) else memory
+    address
 
 -- the memory after the message of channel C that has these beats: its data replace its block
 abbrev pub written : {w : ℕ} → BeatC w → List (Beat w) → Memory → Memory
-written x beats memory = if c_carries_data x.opcode then with_block (block_at x.address) (payload_of beats) memory else memory
+written x beats memory = if c_carries_data x.opcode then with_block (block_at x.address) (payload_of beats) memory else
+    memory
 
 -- a Release is answered whatever is in service; a ProbeAck may have been the last one missing
 abbrev pub completed_c : {w : ℕ} → Config → Link → BeatC w → Trace w → Memory → Reaction w
@@ -61,8 +65,10 @@ completed_c config link x t memory =
 -- What is done as a message is complete with this beat, whose burst had these before it; `t` is the
 -- trace before the beat.
 abbrev pub completed : {w : ℕ} → Config → Link → Beat w → List (Beat w) → Trace w → Memory → Reaction w
-completed config link (beat.A x) burst t memory = begun_if_any config (service_of link (beat.A x ∷ burst) (services t)) ((link, beat.A x) ∷ t) memory
-completed config link (beat.C x) burst t memory = completed_c config link x ((link, beat.C x) ∷ t) (written x (beat.C x ∷ burst) memory)
+completed config link (beat.A x) burst t memory = begun_if_any config (service_of link (beat.A x ∷ burst) (services t))
+    ((link, beat.A x) ∷ t) memory
+completed config link (beat.C x) burst t memory =
+    completed_c config link x ((link, beat.C x) ∷ t) (written x (beat.C x ∷ burst) memory)
 completed config link x burst t memory = nothing memory
 
 -- what a manager does at a beat that it takes: something only where the beat completes a message

@@ -1,5 +1,6 @@
 -- The request of channel A that its beats make up.
-use Rattle.std.specs.Prelude.{ℕ, Bool, true, false, List, [], ◌∷◌, ◌+◌, ◌*◌, ◌^◌, ◌≡◌, refl, if◌then◌else◌, length, nat_le, Option, Some, None}
+use Rattle.std.specs.Prelude.{ℕ, Bool, true, false, List, [], ◌∷◌, ◌+◌, ◌*◌, ◌^◌, ◌≡◌, refl, if◌then◌else◌, length}
+use Rattle.std.specs.Prelude.{nat_le, Option, Some, None}
 use Rattle.std.proofs.lemmas.Bool.{leb-true}
 use Rattle.tl_beat.specs.declared.beat.Beat.{Beat}
 use Rattle.tl_beat.specs.declared.beat.Beat.TheVariants as beat
@@ -28,7 +29,8 @@ corrupt_carried [] = 0
 corrupt_carried (x ∷ beats) = corrupt_carried beats + corrupt_of x * 2 ^ length beats
 
 -- the request that these beats make up, where its size is at most a block
-abbrev pub request_if : {w : ℕ} (x : BeatA w) → List (Beat w) → (fits : Bool) → nat_le x.size 6 ≡ fits → Option (MessageA w)
+abbrev pub request_if : {w : ℕ} (x : BeatA w) → List (Beat w) → (fits : Bool) → nat_le x.size 6 ≡ fits
+    → Option (MessageA w)
 request_if x beats false fits = None
 request_if x beats true fits = Some (record {
   opcode = x.opcode;

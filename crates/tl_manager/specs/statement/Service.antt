@@ -1,5 +1,6 @@
 -- Which requests are in service, as a function of what the manager took and handed out.
-use Rattle.std.specs.Prelude.{ℕ, zero, suc, Bool, true, false, not, List, [], ◌∷◌, ◌==◌, ◌&&◌, ◌+◌, if◌then◌else◌, length, map, filter, find, Option, Some, None, is_some, option_map}
+use Rattle.std.specs.Prelude.{ℕ, zero, suc, Bool, true, false, not, List, [], ◌∷◌, ◌==◌, ◌&&◌, ◌+◌, if◌then◌else◌}
+use Rattle.std.specs.Prelude.{length, map, filter, find, Option, Some, None, is_some, option_map}
 use Rattle.tl_beat.specs.declared.beat.Beat.{Beat}
 use Rattle.tl_beat.specs.declared.beat.Beat.TheVariants as beat
 use Rattle.tl_beat.specs.declared.beat.BeatD.{BeatD}
@@ -36,7 +37,8 @@ trackers_of services = map (λ s. s.tracker) services
 -- the service of the request that has these beats, the newest of which is first
 abbrev pub service_of : {w : ℕ} → Link → List (Beat w) → List (Service w) → Option (Service w)
 service_of link beats services =
-    option_map (λ m. record { tracker = least_untaken (trackers_of services); link = link; request = m }) (request_carried beats)
+    option_map (λ m. record { tracker = least_untaken (trackers_of services); link = link; request = m })
+    (request_carried beats)
 
 -- an answer to an access, which ends its service
 abbrev pub is_access_answer : OpD → Bool

@@ -18,6 +18,8 @@ returns g c = record {
   bound = λ config more log given deliveries. bound config more log given deliveries;
   drain = λ config log given. drain config log given;
   grants = λ config log link ch x source p op given asked. grants config log link ch x source p op given asked;
-  alone = λ config log client block source n grow none given drains. alone config log client block source n grow none given drains;
-  alone_whole = λ config log client block source n bytes none given drains. alone_whole config log client block source n bytes none given drains;
+  alone = λ config log client block source n grow none given drains. alone config log client block source n grow none
+      given drains;
+  alone_whole = λ config log client block source n bytes none given drains. alone_whole config log client block source n
+      bytes none given drains;
 }

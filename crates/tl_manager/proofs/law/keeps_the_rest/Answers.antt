@@ -2,7 +2,8 @@ use Rattle.tl_manager.proofs.Memories.{memory-elsewhere, refusal-closes, stall-k
 use Rattle.tl_manager.proofs.law.keeps_the_rest.Goals as goal
 
 pub returns-clause-memory : goal.returns-clause-memory
-returns-clause-memory g c = λ config link ch x e address typed ok other. memory-elsewhere config link ch x e address c.requires typed ok other
+returns-clause-memory g c = λ config link ch x e address typed ok other. memory-elsewhere config link ch x e address
+    c.requires typed ok other
 
 pub returns-clause-refusal : goal.returns-clause-refusal
 returns-clause-refusal g c = λ config link ch x e rule is. refusal-closes config link ch x e rule is

@@ -2,4 +2,5 @@ use Rattle.tl_manager.proofs.Keeping.{recorded-offered}
 use Rattle.tl_manager.proofs.law.records_reports.Goals as goal
 
 pub returns : goal.returns
-returns g c = λ config link ch x e client block typed ok. recorded-offered config link ch x e client block c.requires typed ok
+returns g c = λ config link ch x e client block typed ok. recorded-offered config link ch x e client block c.requires
+    typed ok

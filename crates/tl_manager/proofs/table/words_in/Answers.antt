@@ -14,10 +14,13 @@ pub loop-client-preserved : goal.loop-client-preserved
 loop-client-preserved c = record {
   apart = c.with-words.result.apart;
   says = λ i. elim (cases_eq i c.loop-client.client) [
-    | inl same ↦ rw (same, add-one) (c.with-words.ensures.here ∙ sym (entry-take_same c.args.row.now c.loop-client.client (omega arith)))
-    | inr other ↦ rw add-one (c.with-words.ensures.others i other ∙ c.loop-client.invariant.says i ∙ sym (entry-take_other c.args.row.now c.loop-client.client i other))
+    | inl same ↦ rw (same, add-one)
+        (c.with-words.ensures.here ∙ sym (entry-take_same c.args.row.now c.loop-client.client (omega arith)))
+    | inr other ↦ rw add-one (c.with-words.ensures.others i other ∙ c.loop-client.invariant.says i ∙ sym
+        (entry-take_other c.args.row.now c.loop-client.client i other))
   ];
 }
 
 pub returns : goal.returns
-returns c = λ i. c.loop-client.invariant.says i ∙ ap (λ (row : List Perm). entry row i) (take_all c.loop-client.client c.args.row.now (omega arith))
+returns c = λ i. c.loop-client.invariant.says i ∙ ap (λ (row : List Perm). entry row i)
+    (take_all c.loop-client.client c.args.row.now (omega arith))

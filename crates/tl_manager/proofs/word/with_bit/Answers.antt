@@ -13,4 +13,5 @@ pub returns-else-is_set-clause-here : goal.returns-else-is_set-clause-here
 returns-else-is_set-clause-here c = rw c.if-is_set.false (bit_at_clear_same w16 c.args.word c.args.place c.requires)
 
 pub returns-else-is_set-clause-others : goal.returns-else-is_set-clause-others
-returns-else-is_set-clause-others c = λ i other. clear_other c.args.word c.args.place i c.ranges.word.fits c.requires other
+returns-else-is_set-clause-others c = λ i other. clear_other c.args.word c.args.place i c.ranges.word.fits c.requires
+    other

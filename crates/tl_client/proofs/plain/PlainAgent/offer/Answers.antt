@@ -3,14 +3,20 @@ use Rattle.tl_client.proofs.PlainOffers.{offered-refused, offered-taken, knows-r
 use Rattle.tl_client.proofs.plain.PlainAgent.offer.Goals as goal
 
 pub returns-in-Err-clause-answer : goal.returns-in-Err-clause-answer
-returns-in-Err-clause-answer g c = λ e k. rw (offered-refused c.args.self.now e c.args.channel c.args.beat.now c.in-Err.rule k (c.in-Err.ensures.rule e k)) refl
+returns-in-Err-clause-answer g c =
+    λ e k. rw (offered-refused c.args.self.now e c.args.channel c.args.beat.now c.in-Err.rule k
+    (c.in-Err.ensures.rule e k)) refl
 
 pub returns-in-Err-clause-after : goal.returns-in-Err-clause-after
-returns-in-Err-clause-after g c = λ e k. knows-refused c.args.self.now _ e c.args.channel c.args.beat.now c.in-Err.rule k (c.in-Err.ensures.rule e k) refl refl refl
+returns-in-Err-clause-after g c = λ e k. knows-refused c.args.self.now _ e c.args.channel c.args.beat.now c.in-Err.rule
+    k (c.in-Err.ensures.rule e k) refl refl refl
 
 pub returns-in-Ok-clause-answer : goal.returns-in-Ok-clause-answer
-returns-in-Ok-clause-answer g c = λ e k. rw (offered-taken c.args.self.now e c.args.channel c.args.beat.now k (c.in-Ok.ensures.rule e k)) (search rules)
+returns-in-Ok-clause-answer g c =
+    λ e k. rw (offered-taken c.args.self.now e c.args.channel c.args.beat.now k (c.in-Ok.ensures.rule e k))
+    (search rules)
 
 pub returns-in-Ok-clause-after : goal.returns-in-Ok-clause-after
 returns-in-Ok-clause-after g c =
-    λ e k. knows-taken c.args.self.now _ e c.args.channel c.args.beat.now k (c.in-Ok.ensures.rule e k) c.take.ensures.closed c.take.ensures.responses c.take.ensures.requests
+    λ e k. knows-taken c.args.self.now _ e c.args.channel c.args.beat.now k (c.in-Ok.ensures.rule e k)
+    c.take.ensures.closed c.take.ensures.responses c.take.ensures.requests

@@ -4,4 +4,5 @@ use Rattle.tl_client.proofs.PlainOffers.{stalls-plain}
 use Rattle.tl_client.proofs.plain.PlainAgent.stalls.Goals as goal
 
 pub returns : goal.returns
-returns g c = λ e k. sym (stalls-plain (terms_of c.args.self.now) c.args._channel c.args._beat.now e c.args.self.now.accesses)
+returns g c = λ e k. sym (stalls-plain (terms_of c.args.self.now) c.args._channel c.args._beat.now e
+    c.args.self.now.accesses)

@@ -5,8 +5,10 @@ use Rattle.tl_manager.proofs.manager.Manager.answer.Goals as goal
 
 pub invariant_of-self-in-Ok-Passes : goal.invariant_of-self-in-Ok-Passes
 invariant_of-self-in-Ok-Passes g c =
-    manager-after g.D.Directory.perm_of g.D.Directory.blocks g.D.Directory.clients c.self.inside.state c.take.new.self _ c.self.invariant
-    (c.take.ensures.knows c.self.invariant.config c.self.invariant.end c.self.invariant.knows) c.take.ensures.blocks c.take.ensures.clients
+    manager-after g.D.Directory.perm_of g.D.Directory.blocks g.D.Directory.clients c.self.inside.state c.take.new.self _
+    c.self.invariant
+    (c.take.ensures.knows c.self.invariant.config c.self.invariant.end c.self.invariant.knows) c.take.ensures.blocks
+    c.take.ensures.clients
 
 pub returns-in-Err-clause-answer : goal.returns-in-Err-clause-answer
 returns-in-Err-clause-answer g c = λ config e k. let inside =
@@ -31,11 +33,14 @@ returns-in-Ok-Waits-clause-after g c = λ config e k. let inside =
 pub returns-in-Ok-Passes-clause-answer : goal.returns-in-Ok-Passes-clause-answer
 returns-in-Ok-Passes-clause-answer g c = λ config e k.
     let inside = rw (← c.self.view_is) at k in
-    rw (offered-passes config c.args.link c.args.channel c.args.beat.now e c.in-Ok-Passes.field-0 c.in-Ok-Passes.field-0-is
-    (c.in-Ok-Passes.ensures.judged config e inside)) (ap (λ handed. Offer.Sent handed) (c.take.ensures.handed config e inside))
+    rw (offered-passes config c.args.link c.args.channel c.args.beat.now e c.in-Ok-Passes.field-0
+    c.in-Ok-Passes.field-0-is
+    (c.in-Ok-Passes.ensures.judged config e inside))
+    (ap (λ handed. Offer.Sent handed) (c.take.ensures.handed config e inside))
 
 pub returns-in-Ok-Passes-clause-after : goal.returns-in-Ok-Passes-clause-after
 returns-in-Ok-Passes-clause-after g c = λ config e k.
     let inside = rw (← c.self.view_is) at k in
-    rw (offered-passes config c.args.link c.args.channel c.args.beat.now e c.in-Ok-Passes.field-0 c.in-Ok-Passes.field-0-is
+    rw (offered-passes config c.args.link c.args.channel c.args.beat.now e c.in-Ok-Passes.field-0
+    c.in-Ok-Passes.field-0-is
     (c.in-Ok-Passes.ensures.judged config e inside)) (c.take.ensures.knows config e inside)

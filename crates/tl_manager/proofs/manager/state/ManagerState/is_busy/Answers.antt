@@ -9,5 +9,6 @@ returns-in-None g c =
 
 pub returns-in-Some : goal.returns-in-Some
 returns-in-Some g c =
-    λ config e k. busy-free g.D.Directory.perm_of c.args.self.now config e c.args.block c.serving.result (Some c.in-Some.field-0) k
+    λ config e k. busy-free g.D.Directory.perm_of c.args.self.now config e c.args.block c.serving.result
+    (Some c.in-Some.field-0) k
     (sym c.is_some.ensures ∙ c.if-is_some.false) c.serving.ensures.none c.in-Some.ensures.free c.in-Some.ensures.none

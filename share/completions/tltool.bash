@@ -1,0 +1,27 @@
+# Completion of tltool for bash. docs/commands.py compares its words with the program's help.
+_tltool() {
+    local current=${COMP_WORDS[COMP_CWORD]} previous=${COMP_WORDS[COMP_CWORD-1]} options=
+    COMPREPLY=()
+    if ((COMP_CWORD == 1)); then
+        COMPREPLY=($(compgen -W 'decode monitor explain run help --help --version -h -V' -- "$current"))
+        return
+    fi
+    if [[ $previous == --width ]]; then
+        COMPREPLY=($(compgen -W '4 8 16' -- "$current"))
+        return
+    fi
+    case ${COMP_WORDS[1]} in
+    decode) options='--width --help -h' ;;
+    monitor) options='--help -h' ;;
+    explain) options='--help -h' ;;
+    run) options='--trace --help -h' ;;
+    help) COMPREPLY=($(compgen -W 'decode monitor explain run' -- "$current")); return ;;
+    esac
+    if [[ $current == -* ]]; then
+        COMPREPLY=($(compgen -W "$options" -- "$current"))
+    else
+        compopt -o filenames 2>/dev/null
+        COMPREPLY=($(compgen -f -- "$current"))
+    fi
+}
+complete -F _tltool tltool

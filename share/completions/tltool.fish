@@ -1,0 +1,10 @@
+# Completion of tltool for fish. docs/commands.py compares its words with the program's help.
+complete -c tltool -n __fish_use_subcommand -f -a decode -d 'write a readable line for each beat line'
+complete -c tltool -n __fish_use_subcommand -f -a monitor -d 'judge a recorded trace'
+complete -c tltool -n __fish_use_subcommand -f -a explain -d 'say why a trace is at fault, or what a rule says'
+complete -c tltool -n __fish_use_subcommand -f -a run -d 'play a schedule'
+complete -c tltool -n __fish_use_subcommand -f -a help -d 'show the help of a command'
+complete -c tltool -s h -l help -d 'show help'
+complete -c tltool -n __fish_use_subcommand -s V -l version -d 'show the version'
+complete -c tltool -n '__fish_seen_subcommand_from decode' -l width -x -a '4 8 16' -d 'bytes of data that a beat carries'
+complete -c tltool -n '__fish_seen_subcommand_from run' -l trace -d 'write the trace of the beats that move'

@@ -2,7 +2,7 @@
 #![tactic(auto)]
 
 pub use tl_engine::{
-    command, decoder, engine, explain, fault, header, law, line_handler, lines, monitor_lines,
-    named, output, play, run_lines, status, tool, trace_header,
+    command, decoder, engine, explain, fault, header, law, line_handler, lines, monitor_lines, named,
+    output, play, run_lines, status, tool, trace_header,
 };
 pub use tl_words::words;

@@ -1,4 +1,5 @@
 //! The words of the command line.
 #![tactic(auto)]
 
+pub mod command;
 pub mod words;

@@ -8,7 +8,7 @@ ghost use Rattle.clap.specs.declared.builder.command.Command.TheViews.{out-Comma
 ghost use Rattle.tl_words.specs.Refused.{IsRefusal, usage_status, words_fault};
 ghost use Rattle.tl_words.specs.Tool.{command_in, command_named, decode_of, explain_of, explaining_of, file_in, flag_named, monitor_of, reading_of, run_of, tool_of, width_named};
 
-use tl_command::command::{Command, Width};
+use crate::command::{Command, Width};
 use clap::error::ErrorKind;
 use clap::{Arg, ArgAction};
 use std::alloc::{AllocError, Global};

@@ -2,7 +2,7 @@
 
 use tl_params::level::Level;
 use tl_params::width::Width;
-use tl_engine::command::Command;
+use tl_tool::command::Command;
 
 /// How a line by itself is read.
 #[derive(Clone, Copy)]

@@ -17,7 +17,7 @@ use tl_params::width::Width;
 use tl_rules::legality::beat::check_beat;
 use tl_schedule::header::read_schedule;
 use tl_schedule::line::{EventFault, Line, read_event};
-use tl_engine::header::{Header, read_header};
+use tl_tool::header::{Header, read_header};
 
 /// The beat that is read from a line, written again, or the line's fault.
 fn tell_beat<const W: usize>(line: &[u8], out: &mut Vec<u8>) -> io::Result<()>

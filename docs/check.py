@@ -85,7 +85,7 @@ def check_lists():
     theorem, monitor = believed.split("For the verdict of `tltool monitor`")
     for title, text, root in (
         ("theorem", theorem, "tl_coherence.specs.statement.Theorem"),
-        ("monitor", monitor, "tl_tool.specs.statement.Judged"),
+        ("monitor", monitor, "tl_engine.specs.statement.Judged"),
     ):
         real = closure(root)
         check(listed(text) == set(real), f"what must be believed of the {title}: differs in {sorted(listed(text) ^ set(real))}")

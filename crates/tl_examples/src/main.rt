@@ -9,12 +9,12 @@ use std::alloc::Global;
 use std::io::{Read, Write};
 use std::process::ExitCode;
 use std::{fs, io};
-use tl_tool::command::Command;
-use tl_tool::explain::{ExplainFault, explain_input};
-use tl_tool::named::tell_named;
-use tl_tool::output::write_all;
-use tl_tool::status::{Status, ToolFault};
-use tl_tool::tool::run_tool;
+use tl_engine::command::Command;
+use tl_engine::explain::{ExplainFault, explain_input};
+use tl_engine::named::tell_named;
+use tl_engine::output::write_all;
+use tl_engine::status::{Status, ToolFault};
+use tl_engine::tool::run_tool;
 
 /// The traces, by their names in data/.
 const TRACES: [&str; 44] = [

@@ -1,23 +1,8 @@
-//! The command's engine: reads lines of text, line by line, and writes what a command says of them.
+//! The command as a library: the words that ask for it, and the engine that does it.
 #![tactic(auto)]
 
-pub mod decoder;
-pub mod engine;
-pub mod examiner;
-pub mod explain;
-pub mod fault;
-pub mod header;
-pub mod law;
-pub mod line_handler;
-pub mod lines;
-pub mod monitor_lines;
-pub mod output;
-pub mod play;
-mod replay;
-pub mod run_lines;
-pub mod status;
-pub mod tool;
-pub mod trace_header;
-
-pub use tl_explain::named;
-pub use tl_words::{command, words};
+pub use tl_engine::{
+    command, decoder, engine, explain, fault, header, law, line_handler, lines, monitor_lines,
+    named, output, play, run_lines, status, tool, trace_header,
+};
+pub use tl_words::words;

@@ -10,9 +10,9 @@ use crate::text::kind::{Kind, kind_of};
 use std::alloc::Global;
 use std::io::{ErrorKind, Write};
 use std::{fs, io};
-use tl_tool::command::Command;
-use tl_tool::status::exit_of;
-use tl_tool::tool::run_tool;
+use tl_engine::command::Command;
+use tl_engine::status::exit_of;
+use tl_engine::tool::run_tool;
 
 /// The files, by their names in data/.
 const FILES: [&str; 13] = [

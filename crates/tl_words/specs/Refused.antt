@@ -4,7 +4,7 @@ use Rattle.clap.specs.Words.{Row, Text, kind_of, subcommand_of, takes}
 use Rattle.clap.specs.declared.error.Error.{Error}
 use Rattle.clap.specs.declared.error.ErrorKind.{ErrorKind}
 use Rattle.clap.specs.declared.error.ErrorKind.TheVariants as kind
-use Rattle.tl_words.specs.declared.command.Command.{Command}
+use Rattle.tl_command.specs.declared.command.Command.{Command}
 use Rattle.tl_words.specs.declared.words.WordsFault.{WordsFault}
 use Rattle.tl_words.specs.declared.words.WordsFault.TheVariants.{Usage, Memory}
 use Rattle.tl_words.specs.Tool.{command_in, tool_of}

@@ -1,5 +1,4 @@
 //! The words of the command line.
 #![tactic(auto)]
 
-pub mod command;
 pub mod words;

@@ -8,10 +8,10 @@ ghost use Rattle.clap.specs.declared.builder.command.Command.TheViews.{out-Comma
 ghost use Rattle.tl_words.specs.Refused.{IsRefusal, usage_status, words_fault};
 ghost use Rattle.tl_words.specs.Tool.{command_in, command_named, decode_of, explain_of, explaining_of, file_in, flag_named, monitor_of, reading_of, run_of, tool_of, width_named};
 
-use crate::command::{Command, Width};
 use clap::error::ErrorKind;
 use clap::{Arg, ArgAction};
 use std::alloc::{AllocError, Global};
+use tl_command::command::{Command, Width};
 
 /// Why the words give no command: they aren't of its form, or ask for help, or there is no memory.
 #[derive(Debug, Drop)]

@@ -1,15 +1,15 @@
 -- How the program ends, by its exit status.
 use Rattle.std.specs.Prelude.{◌≡◌, ◌⊎◌, ℕ, List, Option, Result, Err, IfOk, OnErr}
-use Rattle.tl_words.specs.declared.command.Command.{Command}
+use Rattle.tl_command.specs.declared.command.Command.{Command}
 use Rattle.tl_words.specs.declared.words.WordsFault.{WordsFault}
 use Rattle.tl_words.specs.declared.words.WordsFault.TheVariants as words
 use Rattle.tl_words.specs.Refused.{status_of_usage}
-use Rattle.tl_tool.specs.declared.status.Status.{Status}
-use Rattle.tl_tool.specs.declared.status.ToolFault.{ToolFault}
-use Rattle.tl_tool.specs.declared.status.ToolFault.TheVariants.{Memory, Write}
-use Rattle.tl_tool.specs.code.Run.{FailsAt, RunsTo}
-use Rattle.tl_tool.specs.statement.Exit.{exit_status}
-use Rattle.tl_tool.specs.statement.Told.{text_told}
+use Rattle.tl_engine.specs.declared.status.Status.{Status}
+use Rattle.tl_engine.specs.declared.status.ToolFault.{ToolFault}
+use Rattle.tl_engine.specs.declared.status.ToolFault.TheVariants.{Memory, Write}
+use Rattle.tl_engine.specs.code.Run.{FailsAt, RunsTo}
+use Rattle.tl_engine.specs.statement.Exit.{exit_status}
+use Rattle.tl_engine.specs.statement.Told.{text_told}
 
 -- The status is that of an outcome which the command has over what was read and written.
 abbrev pub EndsAs : Command → Option (List ℕ) → Option (List ℕ) → Option (List ℕ) → Option (List ℕ) → ℕ → Type 0

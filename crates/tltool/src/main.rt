@@ -2,7 +2,7 @@
 #![tactic(auto)]
 
 ghost use Rattle.std.specs.Prelude.{◌≡◌, IfOk, OnOk, OnErr, Err};
-ghost use Rattle.tl_tool.specs.statement.Exit.{exit_status};
+ghost use Rattle.tl_engine.specs.statement.Exit.{exit_status};
 ghost use Rattle.tltool.specs.Ended.{EndsAs, EndsOver, IsRefused};
 
 use std::io::{Read, Write};

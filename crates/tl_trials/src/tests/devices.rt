@@ -3,10 +3,10 @@
 use crate::text::device::{Narrow, Slow};
 use std::fmt::Write as _;
 use std::test::Fail;
-use tl_tool::command::{Command, Width};
-use tl_tool::output::write_open_fault;
-use tl_tool::status::{Status, ToolFault, exit_of};
-use tl_tool::tool::run_tool;
+use tl_engine::command::{Command, Width};
+use tl_engine::output::write_open_fault;
+use tl_engine::status::{Status, ToolFault, exit_of};
+use tl_engine::tool::run_tool;
 
 /// The command that reads beats of eight bytes.
 pub const DECODE: Command = Command::Decode {

@@ -8,9 +8,9 @@ use std::alloc::{AllocError, Global};
 use std::cell::Cell;
 use std::io::{self, Read, Write};
 use std::test::Fail;
-use tl_tool::command::Command;
-use tl_tool::status::Status;
-use tl_tool::tool::run_tool;
+use tl_engine::command::Command;
+use tl_engine::status::Status;
+use tl_engine::tool::run_tool;
 
 const COUNT: usize = 5000;
 

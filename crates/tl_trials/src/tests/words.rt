@@ -3,7 +3,7 @@
 use clap::error::ErrorKind;
 use std::alloc::{AllocError, Global};
 use std::test::Fail;
-use tl_words::command::{Command, Width};
+use tl_command::command::{Command, Width};
 use tl_words::words::{WordsFault, invocation, usage_status};
 
 fn given(alloc: Global, words: &[&str]) -> Result<Vec<String>, AllocError> {

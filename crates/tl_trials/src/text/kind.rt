@@ -1,8 +1,8 @@
 //! What is told of a section, by the name in its first line.
 
+use tl_engine::command::Command;
 use tl_params::level::Level;
 use tl_params::width::Width;
-use tl_tool::command::Command;
 
 /// How a line by itself is read.
 #[derive(Clone, Copy)]

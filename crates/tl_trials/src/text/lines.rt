@@ -10,6 +10,7 @@ use tl_beat::channel::Channel;
 use tl_beat::fault::LineFault;
 use tl_beat::read::read_line;
 use tl_beat::write::write_line;
+use tl_engine::header::{Header, read_header};
 use tl_monitor::fault::TraceFault;
 use tl_monitor::trace::check_trace;
 use tl_params::level::Level;
@@ -17,7 +18,6 @@ use tl_params::width::Width;
 use tl_rules::legality::beat::check_beat;
 use tl_schedule::header::read_schedule;
 use tl_schedule::line::{EventFault, Line, read_event};
-use tl_tool::header::{Header, read_header};
 
 /// The beat that is read from a line, written again, or the line's fault.
 fn tell_beat<const W: usize>(line: &[u8], out: &mut Vec<u8>) -> io::Result<()>

@@ -1,0 +1,19 @@
+-- Bytes that were written in part.
+use Rattle.std.proofs.Common.{◌≡◌, ℕ, List, ◌++◌, take, drop, append_assoc, sym}
+use Rattle.std.proofs.lemmas.List.{take-append-drop}
+use Rattle.std.proofs.KnownBytes.{Appends-trans}
+use Rattle.std.specs.Io.KnownBytes.{Appends}
+use Rattle.std.specs.Prelude.{Option}
+use Rattle.tl_engine.specs.code.Parts.{AppendsPart}
+
+pub part_of : (a b : Option (List ℕ)) (n : ℕ) (bytes : List ℕ) → Appends a b (take n bytes) → AppendsPart a b bytes
+part_of a b n bytes p = (take n bytes, drop n bytes, take-append-drop n bytes, p)
+
+-- bytes that were written, and then a part of those that follow
+pub part_more : (a b c : Option (List ℕ)) (done next rest whole : List ℕ) → Appends a b done → AppendsPart b c next → done ++ (next ++ rest) ≡ whole → AppendsPart a c whole
+part_more a b c done next rest whole p (front, left, cut, q) e =
+    (done ++ front, left ++ rest, rw (← e, ← cut) (simp append_assoc), Appends-trans a b c done front p q)
+
+-- a part, where more was to be written
+pub longer : (a b : Option (List ℕ)) (out rest : List ℕ) → AppendsPart a b out → AppendsPart a b (out ++ rest)
+longer a b out rest (front, left, cut, p) = (front, left ++ rest, rw (← cut) (sym (append_assoc front left rest)), p)

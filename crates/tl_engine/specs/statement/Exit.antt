@@ -1,0 +1,11 @@
+-- The exit status of the program.
+use Rattle.std.specs.Prelude.{ℕ, Result, Ok, Err}
+use Rattle.tl_engine.specs.declared.status.Status.{Status}
+use Rattle.tl_engine.specs.declared.status.Status.TheVariants.{Clean, Broken}
+use Rattle.tl_engine.specs.declared.status.ToolFault.{ToolFault}
+
+-- the status that a command exits with
+abbrev pub exit_status : Result Status ToolFault → ℕ
+exit_status (Ok Clean) = 0
+exit_status (Ok Broken) = 1
+exit_status (Err fault) = 3

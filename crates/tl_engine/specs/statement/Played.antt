@@ -1,0 +1,93 @@
+-- What a schedule is played as.
+use Rattle.std.specs.Prelude.{◌≡◌, ◌⊎◌, ℕ, zero, suc, ◌+◌, Bool, true, false, List, [], ◌∷◌, ◌++◌, map, Option, Some, None}
+use Rattle.tl_beat.specs.declared.beat.Link.{Link}
+use Rattle.tl_beat.specs.declared.channel.Channel.{Channel}
+use Rattle.tl_params.specs.declared.config.ClientConfig.{ClientConfig}
+use Rattle.tl_params.specs.declared.config.Config.{Config}
+use Rattle.tl_params.specs.declared.header.Version.{Version}
+use Rattle.tl_params.specs.statement.Header.{profile_of, width_of}
+use Rattle.tl_schedule.specs.declared.line.Line.{Line}
+use Rattle.tl_schedule.specs.declared.line.Line.TheVariants as line_of
+use Rattle.tl_schedule.specs.statement.EventLine.{SpellsLine, event_fault}
+use Rattle.tl_schedule.specs.statement.OutcomeLine.{drained_line, outcome_line, trace_text}
+use Rattle.tl_schedule.specs.statement.Schedule.{SpellsSchedule}
+use Rattle.tl_coherence.specs.declared.event.Event.{Event}
+use Rattle.tl_coherence.specs.declared.event.Event.TheVariants.{Deliver}
+use Rattle.tl_coherence.specs.declared.event.Outcome.{Outcome}
+use Rattle.tl_coherence.specs.statement.Draining.{IsDrained}
+use Rattle.tl_coherence.specs.statement.Log.{Log, system_after}
+use Rattle.tl_coherence.specs.statement.Movable.{drained, next_delivery, with_delivery}
+use Rattle.tl_coherence.specs.statement.Step.{stepped}
+use Rattle.tl_engine.specs.declared.fault.Fault.TheVariants.{Header, Event as NoEvent}
+use Rattle.tl_engine.specs.declared.status.Status.{Status}
+use Rattle.tl_engine.specs.declared.status.Status.TheVariants.{Clean, Broken}
+use Rattle.tl_engine.specs.statement.Fault.{fault_text}
+use Rattle.tl_engine.specs.statement.Trace.{header_line}
+use Rattle.tl_engine.specs.statement.Width.{bytes_of}
+
+-- ---- what is written, without a trace or as one
+
+-- what comes of an event after what has happened
+abbrev pub outcome_after : {w : ℕ} → Config → Log w → Event w → Outcome w
+outcome_after config log event = (stepped config event (system_after config log)).outcome
+
+-- the line of what comes of an event, or what a trace shows of it
+abbrev pub event_text : {w : ℕ} → Bool → Event w → Outcome w → List ℕ
+event_text false event outcome = outcome_line event outcome
+event_text true event outcome = trace_text event outcome
+
+-- that of a delivery, if one is made
+abbrev pub delivery_text : {w : ℕ} → Bool → Config → Log w → Option (Link × Channel) → List ℕ
+delivery_text trace config log None = []
+delivery_text trace config log (Some d) = event_text trace (Deliver d.0 d.1) (outcome_after config log (Deliver d.0 d.1))
+
+-- that of n deliveries at most, each the next one
+unfoldable pub deliveries_text : {w : ℕ} → Bool → Config → ℕ → Log w → List ℕ
+deliveries_text trace config zero log = []
+deliveries_text trace config (suc n) log =
+    delivery_text trace config log (next_delivery config (system_after config log))
+    ++ deliveries_text trace config n (with_delivery config (next_delivery config (system_after config log)) log)
+
+-- behind the deliveries their number, which a trace doesn't show
+abbrev pub number_text : Bool → ℕ → List ℕ
+number_text false n = drained_line n
+number_text true n = []
+
+-- ---- the header of the trace
+
+-- it has the version of the schedule's
+abbrev pub header_text : Bool → Version → List ClientConfig → List ℕ
+header_text false version clients = []
+header_text true version clients = header_line version (map (λ client. client.level) clients)
+
+-- ---- the lines
+
+-- After what has happened, a line that says this is played so: the text is written, and the log has grown.
+abbrev pub Plays : {w : ℕ} → Bool → Config → Log w → Line w → List ℕ → Log w → Type 0
+Plays trace config log (line_of.Event event) text grown =
+    (text ≡ event_text trace event (outcome_after config log event)) × (grown ≡ (event, outcome_after config log event) ∷ log)
+Plays trace config log line_of.Drain text grown =
+    (n : ℕ) × IsDrained config log n × (text ≡ deliveries_text trace config n log ++ number_text trace n) × (grown ≡ drained config n log)
+
+-- These lines, of which the first has the number n, are played so after what has happened, up to the first
+-- that says nothing: `line N X` ends the text, whatever follows it.
+unfoldable pub PlayedAfter : {w : ℕ} → Bool → Config → ℕ → Log w → List (List ℕ) → List ℕ → Status → Type 0
+PlayedAfter trace config n log [] text status = (text ≡ []) × (status ≡ Clean)
+PlayedAfter {w} trace config n log (line ∷ lines) text status =
+    ((said : Line w) × (first rest : List ℕ) × (grown : Log w) × SpellsLine line said × Plays trace config log said first grown
+    × (text ≡ first ++ rest) × PlayedAfter trace config (n + 1) grown lines rest status)
+    ⊎ (((said : Line w) → ¬ SpellsLine line said) × (text ≡ fault_text n (NoEvent (event_fault line))) × (status ≡ Broken))
+
+-- the line is that of a header of this version, which names this configuration
+pub record HeadsSchedule (line : List ℕ) (version : Version) (config : Config) : Type 0 where
+  pub spelled : SpellsSchedule line version config.blocks config.trackers config.clients.items
+  pub of_profile : config.profile ≡ profile_of version
+
+-- A whole schedule is played so, without a trace or as one. Where its first line isn't there or spells no
+-- header, that is its fault.
+unfoldable pub Played : Bool → List (List ℕ) → List ℕ → Status → Type 0
+Played trace [] text status = (text ≡ fault_text 1 Header) × (status ≡ Broken)
+Played trace (line ∷ lines) text status =
+    ((version : Version) × (config : Config) × (rest : List ℕ) × HeadsSchedule line version config × (text ≡ header_text trace version config.clients.items ++ rest)
+    × PlayedAfter {w = bytes_of (width_of version)} trace config 2 [] lines rest status)
+    ⊎ (((version : Version) (config : Config) → ¬ HeadsSchedule line version config) × (text ≡ fault_text 1 Header) × (status ≡ Broken))

@@ -1,0 +1,42 @@
+//! Says in words what each beat line spells.
+
+ghost use Rattle.std.specs.Prelude.{IsTrue};
+ghost use Rattle.tl_engine.specs.statement.Decoded.{DecodesBefore, DecodesTo, is_width};
+
+use crate::fault::Fault;
+use crate::line_handler::LineHandler;
+use std::alloc::AllocError;
+use tl_beat::fault::LineFault;
+use tl_beat::read::read_line;
+use tl_explain::text::append_text;
+
+/// Judges lines of beats of `W` bytes (4, 8 or 16), each for itself: a line that spells a beat has a
+/// readable line.
+#[derive(Clone, Copy)]
+pub struct Decoder<const W: usize> {
+    pub ghost width: { IsTrue (is_width W) },
+}
+
+impl<const W: usize> LineHandler for Decoder<W> {
+    ghost knows = { λ _ lines text. DecodesBefore W lines text };
+
+    ghost tells = { DecodesTo W };
+
+    fn handle_line(&mut self, line: &[u8], out: &mut Vec<u8>) -> Result<Option<Fault>, AllocError> {
+        match read_line::<W>(line) {
+            Ok((_, beat)) => {
+                append_text(line, &beat, out)?;
+                Ok(None)
+            }
+            Err(fault) => Ok(Some(Fault::Line(fault))),
+        }
+    }
+
+    fn open_fault(&self) -> Fault {
+        Fault::Line(LineFault::F1)
+    }
+
+    fn finish(&mut self, _count: u64, _out: &mut Vec<u8>) -> Result<Option<Fault>, AllocError> {
+        Ok(None)
+    }
+}

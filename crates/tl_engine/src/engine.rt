@@ -1,0 +1,113 @@
+//! Reads an input to its end, and writes what a handler says of its lines.
+
+ghost use Rattle.std.specs.Prelude.{◌≡◌, ◌⊎◌, ◌+◌, ◌++◌, [], ◌≤◌, ◌<◌, ℕ, List, IfOk, OnOk, OnErr, IfErr, length, take, vec_len};
+ghost use Rattle.std.specs.Io.KnownBytes.{Appends, Consumes, IsAtEnd, Keeps};
+ghost use Rattle.tl_engine.specs.code.Judging.{IsTotal};
+ghost use Rattle.tl_engine.specs.code.Lines.{lines_of};
+ghost use Rattle.tl_engine.specs.code.Parts.{AppendsPart};
+ghost use Rattle.tl_engine.specs.code.Progress.{FinishesInput, GivesUp, Progress, lines_judged};
+ghost use Rattle.tl_engine.specs.code.Run.{FailsAfter, FailsAt, Passes, RunsTo};
+ghost use Rattle.tl_engine.specs.declared.status.Status.{Status};
+
+use crate::line_handler::LineHandler;
+use crate::lines::Lines;
+use crate::output::write_all;
+use crate::status::{Status, ToolFault};
+use std::alloc::{AllocError, Global};
+use std::io::{Read, Write};
+
+/// How many bytes are asked of the reader at once.
+const CHUNK: usize = 65536;
+
+/// Room for a piece of the input.
+pub fn new_chunk(alloc: Global) -> Result<Vec<u8>, AllocError>
+    ensures { IfOk result (λ chunk. 0 < vec_len chunk) }
+{
+    let mut chunk = Vec::new(alloc);
+    chunk.resize(CHUNK, 0)?;
+    Ok(chunk)
+}
+
+/// The next piece of the input; it is empty at the end alone.
+pub fn next_piece<R: Read>(reader: &mut R, chunk: &mut Vec<u8>) -> Result<usize, ToolFault>
+    requires { 0 < vec_len chunk.old }
+    ensures some { IfOk result (λ count. count ≤ vec_len chunk.new) }
+    ensures room { vec_len chunk.new ≡ vec_len chunk.old }
+    ensures ok { IfOk result (λ count. Consumes (R.remaining reader.old) (R.remaining reader.new) (take count chunk.new.items)) }
+    ensures end { result ≡ Ok 0 → IsAtEnd (R.remaining reader.new) }
+    ensures err { OnErr result (Keeps (R.remaining reader.old) (R.remaining reader.new)) }
+    ensures fault { IfErr result (λ fault. fault ≡ ToolFault.Read) }
+{
+    reader
+        .read(chunk.as_mut_slice())
+        .map_err(|_| ToolFault::Read)
+}
+
+/// Judges a piece of the input, and writes what is said of it.
+fn pass<H: LineHandler, W: Write>(
+    lines: &mut Lines<H>,
+    piece: &[u8],
+    out: &mut Vec<u8>,
+    writer: &mut W,
+) -> Result<Status, ToolFault>
+    requires empty { out.old.items ≡ [] }
+    requires total { IsTotal H.knows H.tells }
+    ensures empty { OnOk result (out.new.items ≡ []) }
+    ensures ok { IfOk result (λ status. (said : List ℕ) × Appends (W.contents writer.old) (W.contents writer.new) said
+        × Passes H.knows H.tells lines.old lines.new piece.now said status) }
+    ensures err { OnErr result (FailsAfter H.knows H.tells lines.old piece.now (W.contents writer.old) (W.contents writer.new)) }
+    ensures fault { IfErr result (λ fault. GivesUp (lines_judged lines.new) fault ⊎ (fault ≡ ToolFault.Write)) }
+{
+    let status = lines.feed(piece, out)?;
+    write_all(writer, out)?;
+    out.clear();
+    Ok(status)
+}
+
+/// Judges the end of the input, and writes what is said of it.
+fn close<H: LineHandler, W: Write>(
+    lines: &mut Lines<H>,
+    out: &mut Vec<u8>,
+    writer: &mut W,
+) -> Result<Status, ToolFault>
+    requires empty { out.old.items ≡ [] }
+    requires total { IsTotal H.knows H.tells }
+    ensures ok { IfOk result (λ status. (said : List ℕ) × Appends (W.contents writer.old) (W.contents writer.new) said
+        × FinishesInput H.knows H.tells lines.old [] said status) }
+    ensures err { OnErr result (FailsAfter H.knows H.tells lines.old [] (W.contents writer.old) (W.contents writer.new)) }
+    ensures fault { IfErr result (λ fault. GivesUp (lines_judged lines.new) fault ⊎ (fault ≡ ToolFault.Write)) }
+{
+    let status = lines.finish(out)?;
+    write_all(writer, out)?;
+    Ok(status)
+}
+
+/// Judges the lines of an input in turn, up to the first at fault, and writes what is said of each
+/// before more of the input is read. Apart from the handler's own, the memory that it takes doesn't grow
+/// with the input.
+pub fn handle_input<H: LineHandler, R: Read, W: Write>(
+    alloc: Global,
+    handler: H,
+    reader: &mut R,
+    writer: &mut W,
+) -> Result<Status, ToolFault>
+    requires begins { H.knows handler [] [] }
+    requires total { IsTotal H.knows H.tells }
+    ensures ok { IfOk result (RunsTo H.tells (R.remaining reader.old) (R.remaining reader.new) (W.contents writer.old) (W.contents writer.new)) }
+    ensures err { OnErr result (FailsAt H.tells (R.remaining reader.old) (R.remaining reader.new) (W.contents writer.old) (W.contents writer.new)) }
+{
+    let mut chunk = new_chunk(alloc)?;
+    let mut out = Vec::new(alloc);
+    let mut lines = Lines::new(handler);
+    for _ in 0..u64::MAX {
+        let count = next_piece(reader, &mut chunk)?;
+        if count == 0 {
+            return close(&mut lines, &mut out, writer);
+        }
+        match pass(&mut lines, &chunk[..count], &mut out, writer)? {
+            Status::Clean => {}
+            Status::Broken => return Ok(Status::Broken),
+        }
+    }
+    Err(ToolFault::Read)
+}

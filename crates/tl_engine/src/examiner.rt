@@ -1,0 +1,106 @@
+//! Judges a recorded trace, and notes what an explanation of its first fault starts from.
+
+ghost use Rattle.tl_beat.specs.statement.Width.{IsWidth};
+ghost use Rattle.tl_engine.specs.statement.Judged.{Judged};
+ghost use Rattle.tl_engine.specs.code.Watching.{KnowsLines};
+
+use crate::fault::Fault;
+use crate::header::{Header, read_header};
+use crate::line_handler::LineHandler;
+use crate::monitor_lines::MonitorLines;
+use std::alloc::AllocError;
+use tl_beat::beat::Beat;
+use tl_beat::read::read_line;
+use tl_explain::told::Spelling;
+use tl_monitor::monitor::Monitor;
+use tl_rules::rule::Rule;
+
+/// What was found in a trace.
+#[derive(Drop)]
+pub struct Found {
+    /// How many lines are without a fault, the header among them.
+    pub good: u64,
+    pub header: Option<Header>,
+    /// The line at fault, where it has an LF and at most 256 bytes, and what it is at fault for.
+    pub fault: Option<(Fault, Spelling)>,
+    /// The block of the request that a Grant at fault answers.
+    pub block: Option<u32>,
+}
+
+/// The block of the request that a line's beat answers, where it is a beat of channel D.
+fn block_asked<const W: usize>(monitor: &Monitor<W>, line: &[u8]) -> Option<u32>
+    requires { IsWidth W }
+{
+    match read_line::<W>(line) {
+        Ok((link, Beat::D(x))) => Some(monitor.request(link, x.source)?.block),
+        _ => None,
+    }
+}
+
+/// The block of the request that the next line's beat answers.
+fn block_granted(monitor_lines: &MonitorLines, line: &[u8]) -> Option<u32> {
+    match monitor_lines {
+        MonitorLines::Waiting(_) => None,
+        MonitorLines::Four(monitor) => block_asked(monitor, line),
+        MonitorLines::Eight(monitor) => block_asked(monitor, line),
+        MonitorLines::Sixteen(monitor) => block_asked(monitor, line),
+    }
+}
+
+impl Found {
+    /// Nothing yet.
+    pub fn new() -> Self {
+        Found {
+            good: 0,
+            header: None,
+            fault: None,
+            block: None,
+        }
+    }
+
+    /// Notes a line without a fault.
+    fn note_good(&mut self, line: &[u8]) {
+        if self.good == 0 {
+            self.header = read_header(line);
+        }
+        self.good = self.good.saturating_add(1);
+    }
+
+    /// Notes the line at fault.
+    fn note_fault(&mut self, line: &[u8], fault: Fault, monitor_lines: &MonitorLines) {
+        self.fault = Some((fault, Spelling::of(line)));
+        if fault == Fault::Rule(Rule::H6) {
+            self.block = block_granted(monitor_lines, line);
+        }
+    }
+}
+
+/// Judges the lines of a trace as a watcher does, and notes what it finds.
+#[derive(Drop)]
+pub struct Examiner<'a> {
+    pub monitor_lines: MonitorLines,
+    pub found: &'a mut Found,
+}
+
+impl LineHandler for Examiner<'_> {
+    ghost knows = { λ e lines text. KnowsLines e.monitor_lines lines text };
+
+    ghost tells = { Judged };
+
+    fn handle_line(&mut self, line: &[u8], out: &mut Vec<u8>) -> Result<Option<Fault>, AllocError> {
+        let fault = self.monitor_lines.handle_line(line, out)?;
+        match fault {
+            None => self.found.note_good(line),
+            Some(fault) => self.found.note_fault(line, fault, &self.monitor_lines),
+        }
+        Ok(fault)
+    }
+
+    fn open_fault(&self) -> Fault {
+        self.monitor_lines.open_fault()
+    }
+
+    fn finish(&mut self, count: u64, out: &mut Vec<u8>) -> Result<Option<Fault>, AllocError> {
+        self.monitor_lines.finish(count, out)
+    }
+}

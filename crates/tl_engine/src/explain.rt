@@ -1,0 +1,363 @@
+//! Explains what a recorded trace is judged, by reading it twice.
+
+ghost use Rattle.std.specs.Prelude.{◌≡◌, ◌++◌, ℕ, List, IfOk};
+ghost use Rattle.std.specs.Io.KnownBytes.{Appends, Consumes};
+ghost use Rattle.tl_beat.specs.statement.Width.{IsWidth};
+ghost use Rattle.tl_engine.specs.code.Lines.{lines_of};
+ghost use Rattle.tl_engine.specs.statement.Judged.{Judged};
+ghost use Rattle.tl_engine.specs.declared.status.Status.{Status};
+
+use crate::engine::{handle_input, new_chunk, next_piece};
+use crate::examiner::{Examiner, Found};
+use crate::fault::Fault;
+use crate::header::{Header, read_header};
+use crate::monitor_lines::MonitorLines;
+use crate::output::write_all;
+use crate::replay::{Listing, Replay};
+use crate::status::{Status, ToolFault};
+use std::alloc::{AllocError, Global};
+use std::io;
+use std::io::{Read, Write};
+use tl_beat::beat::{Beat, Link};
+use tl_beat::fault::LineFault;
+use tl_beat::read::read_line;
+use tl_explain::bursts::channel_of;
+use tl_explain::ledger::Ledger;
+use tl_explain::named::append_sentence;
+use tl_explain::reason::find_reason;
+use tl_explain::recorder::Recorder;
+use tl_explain::told::Spelling;
+use tl_explain::turns::Subject;
+use tl_explain::words::append_beat_line;
+use tl_explain::{heading, legal, spelling, tell};
+use tl_params::key::block_at;
+use tl_params::width::Width;
+use tl_rules::legality::beat::check_beat;
+use tl_rules::level::Level;
+use tl_rules::rule::Rule;
+
+/// How many bytes of a line are looked at.
+const LOOKED_AT: usize = 257;
+
+/// Why nothing is explained.
+#[derive(Clone, Copy, Debug, PartialEq, Eq)]
+pub enum ExplainFault {
+    Tool(ToolFault),
+    /// The two readings of the file differ.
+    Changed,
+}
+
+impl From<ToolFault> for ExplainFault {
+    fn from(fault: ToolFault) -> ExplainFault {
+        ExplainFault::Tool(fault)
+    }
+}
+
+impl From<AllocError> for ExplainFault {
+    fn from(_error: AllocError) -> ExplainFault {
+        ExplainFault::Tool(ToolFault::Memory)
+    }
+}
+
+impl From<io::Error> for ExplainFault {
+    fn from(_error: io::Error) -> ExplainFault {
+        ExplainFault::Tool(ToolFault::Memory)
+    }
+}
+
+/// The beginning of the line of this number, from 1 on, with its LF if it stands there.
+fn fetch<R: Read>(alloc: Global, reader: &mut R, number: u64) -> Result<Vec<u8>, ExplainFault> {
+    let mut chunk = new_chunk(alloc)?;
+    let mut line = Vec::new(alloc);
+    let mut at = 1u64;
+    for _ in 0..u64::MAX {
+        let count = next_piece(reader, &mut chunk)?;
+        if count == 0 {
+            return Ok(line);
+        }
+        for byte in &chunk[..count] {
+            if at == number && line.len() < LOOKED_AT {
+                line.extend_from_slice(&[*byte])?;
+            }
+            if *byte == b'\n' {
+                at = at.saturating_add(1);
+            }
+        }
+        if at > number || line.len() >= LOOKED_AT {
+            return Ok(line);
+        }
+    }
+    Ok(line)
+}
+
+/// Explains a first line that is no header.
+fn explain_header<R: Read>(
+    alloc: Global,
+    reader: &mut R,
+    out: &mut Vec<u8>,
+) -> Result<(), ExplainFault> {
+    let line = fetch(alloc, reader, 1)?;
+    if line.len() <= 256 && read_header(&line).is_some() {
+        return Err(ExplainFault::Changed);
+    }
+    heading::tell(&line, out)?;
+    Ok(())
+}
+
+/// Explains a line that spells no beat.
+fn explain_spelling<const W: usize, R: Read>(
+    alloc: Global,
+    reader: &mut R,
+    number: u64,
+    fault: LineFault,
+    out: &mut Vec<u8>,
+) -> Result<(), ExplainFault>
+    requires { IsWidth W }
+{
+    let line = fetch(alloc, reader, number)?;
+    match read_line::<W>(&line) {
+        Err(again) if again == fault => {
+            spelling::tell(&line, fault, W, out)?;
+            Ok(())
+        }
+        _ => Err(ExplainFault::Changed),
+    }
+}
+
+/// Whether a rule judges a beat by itself.
+fn is_legality(rule: Rule) -> bool {
+    matches!(
+        rule,
+        Rule::L1 | Rule::L2 | Rule::L3 | Rule::L4 | Rule::L5 | Rule::L6 | Rule::L7
+    )
+}
+
+/// The level of a link.
+fn level_of(header: &Header, link: Link) -> Option<Level> {
+    header.levels.as_slice().get(usize::from(link.0)).copied()
+}
+
+/// Whether a beat breaks the rule by itself.
+fn is_illegal<const W: usize>(level: Option<Level>, rule: Rule, beat: &Beat<W>) -> bool
+    requires { IsWidth W }
+{
+    match level {
+        None => rule == Rule::L1,
+        Some(level) => match check_beat(level, channel_of(beat), beat) {
+            Ok(()) => false,
+            Err(broken) => broken == rule,
+        },
+    }
+}
+
+/// Appends what a rule says, and the beat that breaks it.
+fn append_front<const W: usize>(
+    rule: Rule,
+    number: u64,
+    line: &[u8],
+    out: &mut Vec<u8>,
+) -> io::Result<()>
+    requires { IsWidth W }
+{
+    io::Write::write_all(out, b"  ")?;
+    append_sentence(rule, out)?;
+    append_beat_line::<W>(number, line, out)
+}
+
+/// Explains a beat that breaks a rule by itself.
+fn explain_legality<const W: usize, R: Read>(
+    alloc: Global,
+    reader: &mut R,
+    header: &Header,
+    number: u64,
+    rule: Rule,
+    out: &mut Vec<u8>,
+) -> Result<(), ExplainFault>
+    requires { IsWidth W }
+{
+    let line = fetch(alloc, reader, number)?;
+    let Ok((link, beat)) = read_line::<W>(&line) else {
+        return Err(ExplainFault::Changed);
+    };
+    let level = level_of(header, link);
+    if !is_illegal(level, rule, &beat) {
+        return Err(ExplainFault::Changed);
+    }
+    append_front::<W>(rule, number, &line, out)?;
+    legal::tell(level, rule, &beat, out)?;
+    Ok(())
+}
+
+/// What a verdict on a beat speaks of; the block is that of the request that a Grant answers.
+fn subject_of<const W: usize>(link: Link, beat: &Beat<W>, block: Option<u32>) -> Subject {
+    let (block, source, sink) = match beat {
+        Beat::A(x) => (block_at(x.address), x.source, 0),
+        Beat::B(x) => (block_at(x.address), x.source, 0),
+        Beat::C(x) => (block_at(x.address), x.source, 0),
+        Beat::D(x) => (block.unwrap_or(0), x.source, x.sink),
+        Beat::E(x) => (0, 0, x.sink),
+    };
+    Subject {
+        link,
+        block,
+        source,
+        sink,
+    }
+}
+
+/// Records the beats before the line at fault.
+fn record<const W: usize, R: Read>(
+    alloc: Global,
+    reader: &mut R,
+    good: u64,
+    line: &Spelling,
+    subject: Subject,
+) -> Result<Recorder, ExplainFault>
+    requires { IsWidth W }
+{
+    let mut recorder = Recorder::new(subject);
+    let mut reached = false;
+    let mut unread = Vec::new(alloc);
+    let replay = Replay::<W> {
+        recorder: &mut recorder,
+        good,
+        line,
+        count: 0,
+        reached: &mut reached,
+    };
+    let _status = handle_input(alloc, replay, reader, &mut unread)?;
+    if reached {
+        Ok(recorder)
+    } else {
+        Err(ExplainFault::Changed)
+    }
+}
+
+/// Explains a beat that breaks a rule of bursts or of the order of messages.
+fn explain_order<const W: usize, R: Read>(
+    alloc: Global,
+    reader: &mut R,
+    header: &Header,
+    found: &Found,
+    rule: Rule,
+    line: &Spelling,
+    out: &mut Vec<u8>,
+) -> Result<(), ExplainFault>
+    requires { IsWidth W }
+{
+    let Ok((link, beat)) = read_line::<W>(line.line()) else {
+        return Err(ExplainFault::Changed);
+    };
+    let subject = subject_of(link, &beat, found.block);
+    let record = record::<W, R>(alloc, reader, found.good, line, subject)?;
+    let Some(reason) = find_reason(header.profile, rule, &beat, &record) else {
+        return Err(ExplainFault::Changed);
+    };
+    append_front::<W>(rule, found.good.saturating_add(1), line.line(), out)?;
+    tell::tell(header.profile, &beat, &reason, &record, out)?;
+    Ok(())
+}
+
+/// What `clean` doesn't say.
+const UNSAID: &str =
+    "  clean says that no beat breaks a rule of its own link; it says nothing of two links together, nor of the data\n";
+
+/// Tells what is pending at the end of a trace without a fault.
+fn explain_clean<const W: usize, R: Read>(
+    alloc: Global,
+    reader: &mut R,
+    header: &Header,
+    good: u64,
+    out: &mut Vec<u8>,
+) -> Result<(), ExplainFault>
+    requires { IsWidth W }
+{
+    let mut ledger = Ledger::new(alloc, header.levels.len())?;
+    let mut count = 0u64;
+    let mut unread = Vec::new(alloc);
+    let listing = Listing::<W> {
+        ledger: &mut ledger,
+        count: &mut count,
+    };
+    let status = handle_input(alloc, listing, reader, &mut unread)?;
+    if status != Status::Clean || count != good {
+        return Err(ExplainFault::Changed);
+    }
+    ledger.tell::<W>(out)?;
+    io::Write::write_all(out, UNSAID.as_bytes())?;
+    Ok(())
+}
+
+/// Explains what was found behind a header.
+fn explain_found<const W: usize, R: Read>(
+    alloc: Global,
+    reader: &mut R,
+    header: &Header,
+    found: &Found,
+    status: Status,
+    out: &mut Vec<u8>,
+) -> Result<(), ExplainFault>
+    requires { IsWidth W }
+{
+    let number = found.good.saturating_add(1);
+    match (status, &found.fault) {
+        (Status::Clean, _) => explain_clean::<W, R>(alloc, reader, header, found.good, out),
+        (Status::Broken, None) => {
+            explain_spelling::<W, R>(alloc, reader, number, LineFault::F1, out)
+        }
+        (Status::Broken, Some((Fault::Line(fault), _))) => {
+            explain_spelling::<W, R>(alloc, reader, number, *fault, out)
+        }
+        (Status::Broken, Some((Fault::Rule(rule), line))) => {
+            if is_legality(*rule) {
+                explain_legality::<W, R>(alloc, reader, header, number, *rule, out)
+            } else {
+                explain_order::<W, R>(alloc, reader, header, found, *rule, line, out)
+            }
+        }
+        (Status::Broken, Some(_)) => Err(ExplainFault::Changed),
+    }
+}
+
+/// Reads a trace again, and appends why it is judged so.
+fn reasons<R: Read>(
+    alloc: Global,
+    reader: &mut R,
+    found: &Found,
+    status: Status,
+    out: &mut Vec<u8>,
+) -> Result<(), ExplainFault> {
+    match &found.header {
+        None => explain_header(alloc, reader, out),
+        Some(header) => match header.width {
+            Width::Four => explain_found::<4, R>(alloc, reader, header, found, status, out),
+            Width::Eight => explain_found::<8, R>(alloc, reader, header, found, status, out),
+            Width::Sixteen => explain_found::<16, R>(alloc, reader, header, found, status, out),
+        },
+    }
+}
+
+/// Writes what `monitor` says of a trace, and behind it why. The two readers are of the same file, each
+/// at its front; the second is read up to the line at fault. Where they differ nothing is written.
+pub fn explain_input<R: Read, S: Read, W: Write>(
+    alloc: Global,
+    first: &mut R,
+    second: &mut S,
+    writer: &mut W,
+) -> Result<Status, ExplainFault>
+    ensures { IfOk result (λ status. (read verdict reasons : List ℕ) × Consumes (R.remaining first.old) (R.remaining first.new) read
+        × Judged (lines_of read) verdict status × Appends (W.contents writer.old) (W.contents writer.new) (verdict ++ reasons)) }
+{
+    let mut found = Found::new();
+    let mut verdict = Vec::new(alloc);
+    let examiner = Examiner {
+        monitor_lines: MonitorLines::Waiting(alloc),
+        found: &mut found,
+    };
+    let status = handle_input(alloc, examiner, first, &mut verdict)?;
+    let mut why = Vec::new(alloc);
+    reasons(alloc, second, &found, status, &mut why)?;
+    write_all(writer, &verdict)?;
+    write_all(writer, &why)?;
+    Ok(status)
+}

@@ -1,0 +1,52 @@
+//! What a line can be at fault for.
+
+ghost use Rattle.std.specs.Prelude.{◌≡◌, ◌++◌, OnOk};
+ghost use Rattle.tl_engine.specs.statement.Fault.{fault_name, fault_text};
+
+use itoa::Buffer;
+use std::alloc::AllocError;
+use tl_beat::fault::LineFault;
+use tl_rules::rule::Rule;
+use tl_schedule::line::EventFault;
+
+/// What a line is at fault for.
+#[derive(Clone, Copy, Debug, PartialEq, Eq)]
+pub enum Fault {
+    /// The header of a trace or of a schedule was expected.
+    Header,
+    /// The line spells no beat.
+    Line(LineFault),
+    /// The beat breaks a rule.
+    Rule(Rule),
+    /// The line says no event.
+    Event(EventFault),
+}
+
+impl Fault {
+    /// The name that the text of a fault shows.
+    pub fn name(self) -> &'static str
+        ensures { result.now ≡ fault_name self }
+    {
+        match self {
+            Fault::Line(fault) => fault.name(),
+            Fault::Header => "F7",
+            Fault::Event(EventFault::F1) => "F1",
+            Fault::Event(EventFault::F8) => "F8",
+            Fault::Rule(rule) => rule.name(),
+        }
+    }
+}
+
+#[tactic(auto, unfolding(crate::specs::statement::Fault::fault_text))]
+/// Appends `line N X`, where line N is at fault for X.
+pub fn append_fault(number: u64, fault: Fault, out: &mut Vec<u8>) -> Result<(), AllocError>
+    ensures { OnOk result (out.new.items ≡ out.old.items ++ fault_text number fault) }
+{
+    let mut digits = Buffer::new();
+    out.extend_from_slice(b"line ")?;
+    out.extend_from_slice(digits.format(number).as_bytes())?;
+    out.push(b' ')?;
+    out.extend_from_slice(fault.name().as_bytes())?;
+    out.push(b'\n')?;
+    Ok(())
+}

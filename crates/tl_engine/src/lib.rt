@@ -1,0 +1,23 @@
+//! The command's engine: reads lines of text, line by line, and writes what a command says of them.
+#![tactic(auto)]
+
+pub mod decoder;
+pub mod engine;
+pub mod examiner;
+pub mod explain;
+pub mod fault;
+pub mod header;
+pub mod law;
+pub mod line_handler;
+pub mod lines;
+pub mod monitor_lines;
+pub mod output;
+pub mod play;
+mod replay;
+pub mod run_lines;
+pub mod status;
+pub mod tool;
+pub mod trace_header;
+
+pub use tl_command::command;
+pub use tl_explain::named;

@@ -1,0 +1,162 @@
+//! Cuts an input that comes in pieces into its lines.
+
+ghost use Rattle.std.specs.Prelude.{◌≡◌, ◌+◌, ◌++◌, [], ◌≤◌, ◌<◌, ◌^◌, ◌-◌, ℕ, List, IfOk, IfErr, MatchOption, length};
+ghost use Rattle.tl_engine.specs.statement.Fault.{fault_text};
+ghost use Rattle.tl_engine.specs.code.Lines.{IsLine, IsOpen, LacksLf};
+ghost use Rattle.tl_engine.specs.code.Progress.{CountsLine, Feeds, FinishesInput, GivesUp, Progress, StopsAt, lines_judged};
+
+use crate::fault::{Fault, append_fault};
+use crate::line_handler::LineHandler;
+use crate::status::{Status, ToolFault};
+use arrayvec::ArrayVec;
+use memchr::memchr;
+use std::alloc::AllocError;
+
+/// A handler, with the number of lines that it has judged, and the beginning of a line whose end
+/// hasn't come.
+#[derive(Drop)]
+pub struct Lines<H> {
+    handler: H,
+    count: u64,
+    begun: ArrayVec<u8, 256>,
+}
+
+impl From<AllocError> for ToolFault {
+    ghost use Rattle.tl_engine.specs.declared.status.ToolFault.{ToolFault};
+
+    ghost from_gives = { λ _ fault. fault ≡ ToolFault.Memory };
+
+    fn from(_error: AllocError) -> ToolFault {
+        ToolFault::Memory
+    }
+}
+
+/// The first line of these bytes with its LF, and what follows it.
+fn first_line(bytes: &[u8]) -> Option<(&[u8], &[u8])>
+    ensures { MatchOption result (LacksLf bytes.now) (λ parts. IsLine parts.0.now × (parts.0.now ++ parts.1.now ≡ bytes.now)) }
+{
+    let end = memchr(b'\n', bytes)?;
+    Some(bytes.split_at(end + 1))
+}
+
+/// The number of the line after these. There is none after line 2^64 - 1.
+fn number_after(count: u64) -> Result<u64, ToolFault>
+    ensures next { IfOk result (λ number. number ≡ count + 1) }
+    ensures fault { IfErr result (λ fault. (fault ≡ ToolFault.Read) × (count ≡ 2 ^ 64 - 1)) }
+{
+    count.checked_add(1).ok_or(ToolFault::Read)
+}
+
+/// Judges the line after these many, and appends its text or its fault.
+fn handle_counted_line<H: LineHandler>(
+    handler: &mut H,
+    count: &mut u64,
+    line: &[u8],
+    out: &mut Vec<u8>,
+) -> Result<Status, ToolFault>
+    ensures counts { IfOk result (CountsLine H.knows H.tells handler.old handler.new count.old count.new line.now out.old.items out.new.items) }
+    ensures fault { IfErr result (GivesUp count.new) }
+{
+    let number = number_after(*count)?;
+    match handler.handle_line(line, out)? {
+        None => {
+            *count = number;
+            Ok(Status::Clean)
+        }
+        Some(fault) => {
+            append_fault(number, fault, out)?;
+            Ok(Status::Broken)
+        }
+    }
+}
+
+impl<H: LineHandler> Lines<H> {
+    /// No line has been judged yet.
+    pub fn new(handler: H) -> Lines<H>
+        ensures { H.knows handler [] [] → Progress H.knows result [] [] }
+    {
+        Lines {
+            handler,
+            count: 0,
+            begun: ArrayVec::new(),
+        }
+    }
+
+    /// Appends the fault of a line that has no LF or more than 256 bytes.
+    fn stop(&self, out: &mut Vec<u8>) -> Result<Status, ToolFault>
+        ensures broken { IfOk result (λ status. status ≡ Status.Broken) }
+        ensures stops { IfOk result (λ _. (line : List ℕ) → IsOpen line → StopsAt H.knows H.tells self.now.handler self.now.count line out.old.items out.new.items) }
+        ensures says { IfOk result (λ _. (fault : Fault) × (out.new.items ≡ out.old.items ++ fault_text (self.now.count + 1) fault)) }
+        ensures fault { IfErr result (GivesUp (lines_judged self.now)) }
+    {
+        let number = number_after(self.count)?;
+        append_fault(number, self.handler.open_fault(), out)?;
+        Ok(Status::Broken)
+    }
+
+    /// Judges a line, of which a beginning may have come with earlier pieces.
+    fn take_line(&mut self, line: &[u8], out: &mut Vec<u8>) -> Result<Status, ToolFault>
+        requires { IsLine line.now }
+        ensures feeds { IfOk result (Feeds H.knows H.tells self.old self.new line.now out.old.items out.new.items) }
+        ensures fault { IfErr result (GivesUp (lines_judged self.new)) }
+    {
+        if self.begun.is_empty() && line.len() <= 256 {
+            return handle_counted_line(&mut self.handler, &mut self.count, line, out);
+        }
+        if self.begun.try_extend_from_slice(line).is_err() {
+            return self.stop(out);
+        }
+        let status = handle_counted_line(
+            &mut self.handler,
+            &mut self.count,
+            self.begun.as_slice(),
+            out,
+        )?;
+        self.begun.clear();
+        Ok(status)
+    }
+
+    /// Keeps the beginning of a line. A line that has 256 bytes and no LF is at fault at once.
+    fn keep(&mut self, rest: &[u8], out: &mut Vec<u8>) -> Result<Status, ToolFault>
+        requires { LacksLf rest.now }
+        ensures feeds { IfOk result (Feeds H.knows H.tells self.old self.new rest.now out.old.items out.new.items) }
+        ensures fault { IfErr result (GivesUp (lines_judged self.new)) }
+    {
+        if self.begun.try_extend_from_slice(rest).is_err() || self.begun.is_full() {
+            return self.stop(out);
+        }
+        Ok(Status::Clean)
+    }
+
+    /// Judges the lines that end in a piece of the input, and keeps the beginning of the next.
+    pub fn feed(&mut self, piece: &[u8], out: &mut Vec<u8>) -> Result<Status, ToolFault>
+        ensures feeds { IfOk result (Feeds H.knows H.tells self.old self.new piece.now out.old.items out.new.items) }
+        ensures fault { IfErr result (GivesUp (lines_judged self.new)) }
+    {
+        let mut rest = piece;
+        while let Some((line, after)) = first_line(rest) {
+            match self.take_line(line, out)? {
+                Status::Clean => rest = after,
+                Status::Broken => return Ok(Status::Broken),
+            }
+        }
+        self.keep(rest, out)
+    }
+
+    /// Judges the end of the input. A rest without LF is a line too.
+    pub fn finish(&mut self, out: &mut Vec<u8>) -> Result<Status, ToolFault>
+        ensures finishes { IfOk result (FinishesInput H.knows H.tells self.old out.old.items out.new.items) }
+        ensures fault { IfErr result (GivesUp (lines_judged self.new)) }
+    {
+        if !self.begun.is_empty() {
+            return self.stop(out);
+        }
+        match self.handler.finish(self.count, out)? {
+            None => Ok(Status::Clean),
+            Some(fault) => {
+                append_fault(number_after(self.count)?, fault, out)?;
+                Ok(Status::Broken)
+            }
+        }
+    }
+}

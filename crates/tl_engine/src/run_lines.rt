@@ -1,0 +1,80 @@
+//! Judges the lines of a schedule by playing them.
+
+ghost use Rattle.std.specs.Prelude.{◌≡◌, IfOk};
+ghost use Rattle.tl_engine.specs.statement.Played.{Played};
+ghost use Rattle.tl_engine.specs.code.Playing.{KnowsSchedule, Opens, is_trace};
+
+use crate::fault::Fault;
+use crate::line_handler::LineHandler;
+use crate::play::PlayableWorld;
+use crate::trace_header::append_header;
+use std::alloc::{AllocError, Global};
+use tl_params::width::Width;
+use tl_schedule::header::read_schedule;
+use tl_schedule::line::EventFault;
+
+/// Plays the lines of a schedule: the header, and then what happens to a world of the clients that it
+/// names. What comes of it is written, or the trace of it where `TRACES` is 1.
+#[derive(Drop)]
+pub enum RunLines<const TRACES: usize> {
+    /// The header hasn't been read.
+    Waiting(Global),
+    Four(PlayableWorld<4>),
+    Eight(PlayableWorld<8>),
+    Sixteen(PlayableWorld<16>),
+}
+
+/// A world of the clients that a header names. A line of another form names none.
+fn open<const TRACES: usize>(
+    alloc: Global,
+    line: &[u8],
+    out: &mut Vec<u8>,
+) -> Result<Option<RunLines<TRACES>>, AllocError>
+    ensures { IfOk result (Opens line.now out.old.items out.new.items) }
+{
+    let Some(schedule) = read_schedule(line) else {
+        return Ok(None);
+    };
+    append_header(TRACES == 1, schedule.version, &schedule.config, out)?;
+    let run_lines = match schedule.version.width() {
+        Width::Four => RunLines::Four(PlayableWorld::new(alloc, schedule.config)?),
+        Width::Eight => RunLines::Eight(PlayableWorld::new(alloc, schedule.config)?),
+        Width::Sixteen => RunLines::Sixteen(PlayableWorld::new(alloc, schedule.config)?),
+    };
+    Ok(Some(run_lines))
+}
+
+impl<const TRACES: usize> LineHandler for RunLines<TRACES> {
+    ghost knows = { KnowsSchedule };
+
+    ghost tells = { Played (is_trace TRACES) };
+
+    fn handle_line(&mut self, line: &[u8], out: &mut Vec<u8>) -> Result<Option<Fault>, AllocError> {
+        match self {
+            RunLines::Waiting(alloc) => match open(*alloc, line, out)? {
+                None => Ok(Some(Fault::Header)),
+                Some(run_lines) => {
+                    *self = run_lines;
+                    Ok(None)
+                }
+            },
+            RunLines::Four(world) => world.play(TRACES == 1, line, out),
+            RunLines::Eight(world) => world.play(TRACES == 1, line, out),
+            RunLines::Sixteen(world) => world.play(TRACES == 1, line, out),
+        }
+    }
+
+    fn open_fault(&self) -> Fault {
+        match self {
+            RunLines::Waiting(_) => Fault::Header,
+            _ => Fault::Event(EventFault::F1),
+        }
+    }
+
+    fn finish(&mut self, _count: u64, _out: &mut Vec<u8>) -> Result<Option<Fault>, AllocError> {
+        match self {
+            RunLines::Waiting(_) => Ok(Some(Fault::Header)),
+            _ => Ok(None),
+        }
+    }
+}

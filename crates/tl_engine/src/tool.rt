@@ -1,0 +1,49 @@
+//! Runs a command over an input.
+
+ghost use Rattle.std.specs.Prelude.{◌≡◌, ℕ, List, IfOk, OnErr};
+ghost use Rattle.tl_engine.specs.code.Run.{FailsAt, RunsTo};
+ghost use Rattle.tl_engine.specs.statement.Told.{text_told};
+
+use crate::decoder::Decoder;
+use crate::engine::handle_input;
+use crate::monitor_lines::MonitorLines;
+use crate::run_lines::RunLines;
+use crate::status::{Status, ToolFault};
+use std::alloc::Global;
+use std::io::{Read, Write};
+use tl_command::command::{Command, Width};
+
+/// Runs a command: reads the input to its end or to the first line at fault, and writes the command's
+/// text of it; of `explain` the first line, since its reasons take a second reading. `decode` takes memory that doesn't grow with the input; `monitor` keeps what is unfinished,
+/// pending and held on each link besides, and `run` the world that the schedule's header names.
+///
+/// `Broken` says that a `line N X` was written, and that it stands whatever follows the input, unless
+/// line N is what stands behind the last LF at the end of the input: fewer than 256 bytes, or nothing.
+/// `Clean` comes at the end of the input alone. At a fault of memory or of a device a beginning of the
+/// text of what was read has been written. Any error of the reader is a `Read` fault, and so is a line
+/// after line 2^64 - 1; a writer that fails or takes none of the bytes is a `Write` fault.
+pub fn run_tool<R: Read, W: Write>(
+    alloc: Global,
+    command: Command,
+    reader: &mut R,
+    writer: &mut W,
+) -> Result<Status, ToolFault>
+    ensures ok { IfOk result (RunsTo (text_told command) (R.remaining reader.old) (R.remaining reader.new) (W.contents writer.old) (W.contents writer.new)) }
+    ensures err { OnErr result (FailsAt (text_told command) (R.remaining reader.old) (R.remaining reader.new) (W.contents writer.old) (W.contents writer.new)) }
+{
+    match command {
+        Command::Decode { width } => match width {
+            Width::Four => handle_input(alloc, Decoder::<4> {}, reader, writer),
+            Width::Eight => handle_input(alloc, Decoder::<8> {}, reader, writer),
+            Width::Sixteen => handle_input(alloc, Decoder::<16> {}, reader, writer),
+        },
+        Command::Monitor => handle_input(alloc, MonitorLines::Waiting(alloc), reader, writer),
+        Command::Explain => handle_input(alloc, MonitorLines::Waiting(alloc), reader, writer),
+        Command::Run { trace: false } => {
+            handle_input(alloc, RunLines::<0>::Waiting(alloc), reader, writer)
+        }
+        Command::Run { trace: true } => {
+            handle_input(alloc, RunLines::<1>::Waiting(alloc), reader, writer)
+        }
+    }
+}

@@ -1,0 +1,127 @@
+//! Begins to play a schedule: its header.
+
+ghost use Rattle.std.specs.Prelude.{◌≡◌, ◌++◌, [], map, IfOk, OnOk, None};
+ghost use Rattle.tl_beat.specs.statement.Width.{IsWidth};
+ghost use Rattle.tl_params.specs.statement.Config.{config_fault};
+ghost use Rattle.tl_params.specs.statement.Header.{level_text, profile_text, version_text, width_text};
+ghost use Rattle.tl_engine.specs.statement.Played.{header_text};
+ghost use Rattle.tl_engine.specs.code.PlayableWorld.{Reaches};
+ghost use Rattle.tl_engine.specs.statement.Trace.{header_line, levels_text};
+
+use std::alloc::{AllocError, Global};
+use tl_client::any::AnyClient;
+use tl_manager::bits::BitDirectory;
+use tl_params::header::Version;
+use tl_params::width::Width;
+use tl_rules::config::{ClientConfig, Config};
+use tl_rules::level::Level;
+use tl_rules::profile::Profile;
+use tl_world::agents::agents_of;
+use tl_world::world::World;
+
+fn width_word(width: Width) -> &'static str
+    ensures { result.now ≡ width_text width }
+{
+    match width {
+        Width::Four => "4",
+        Width::Eight => "8",
+        Width::Sixteen => "16",
+    }
+}
+
+fn profile_word(profile: Profile) -> &'static str
+    ensures { result.now ≡ profile_text profile }
+{
+    match profile {
+        Profile::One => "1",
+        Profile::Two => "2",
+    }
+}
+
+/// Appends the version of a trace's header.
+fn append_version(version: Version, out: &mut Vec<u8>) -> Result<(), AllocError>
+    ensures { OnOk result (out.new.items ≡ out.old.items ++ version_text version) }
+{
+    match version {
+        Version::First => out.extend_from_slice(b"1"),
+        Version::Second(width) => {
+            out.extend_from_slice(b"2 ")?;
+            out.extend_from_slice(width_word(width).as_bytes())
+        }
+        Version::Third(width, profile) => {
+            out.extend_from_slice(b"3 ")?;
+            out.extend_from_slice(width_word(width).as_bytes())?;
+            out.extend_from_slice(b" ")?;
+            out.extend_from_slice(profile_word(profile).as_bytes())
+        }
+    }
+}
+
+fn level_word(level: Level) -> &'static str
+    ensures { result.now ≡ level_text level }
+{
+    match level {
+        Level::UL => "UL",
+        Level::UH => "UH",
+        Level::C => "C",
+    }
+}
+
+/// Appends the levels of clients, each behind a space.
+fn append_levels(clients: &[ClientConfig], out: &mut Vec<u8>) -> Result<(), AllocError>
+    ensures { OnOk result (out.new.items ≡ out.old.items ++ levels_text (map (λ client. client.level) clients.now)) }
+{
+    for client in clients {
+        out.push(b' ')?;
+        out.extend_from_slice(level_word(client.level).as_bytes())?;
+    }
+    Ok(())
+}
+
+/// Appends the header of a trace of these clients.
+fn append_trace_header(
+    version: Version,
+    clients: &[ClientConfig],
+    out: &mut Vec<u8>,
+) -> Result<(), AllocError>
+    ensures { OnOk result (out.new.items ≡ out.old.items ++ header_line version (map (λ client. client.level) clients.now)) }
+{
+    out.extend_from_slice(b"tltrace ")?;
+    append_version(version, out)?;
+    append_levels(clients, out)?;
+    out.push(b'\n')?;
+    Ok(())
+}
+
+/// Appends the header of the trace, where one is to be written.
+pub fn append_header(
+    trace: bool,
+    version: Version,
+    config: &Config,
+    out: &mut Vec<u8>,
+) -> Result<(), AllocError>
+    ensures { OnOk result (out.new.items ≡ out.old.items ++ header_text trace version config.now.clients.items) }
+{
+    if trace {
+        append_trace_header(version, config.clients.as_slice(), out)
+    } else {
+        Ok(())
+    }
+}
+
+/// A world of the clients of a configuration, to which nothing has happened.
+pub fn world_of<const W: usize>(
+    alloc: Global,
+    config: Config,
+) -> Result<World<W, AnyClient<W>, BitDirectory>, AllocError>
+    requires width { IsWidth W }
+    requires fits { config_fault config ≡ None }
+    ensures { IfOk result (λ world. Reaches config world []) }
+{
+    let clients = agents_of(alloc, &config).map_err(|_| AllocError)?;
+    let directory = BitDirectory::new(alloc, config.blocks, config.clients.len() as u8)?;
+    match World::new(alloc, config, clients, directory) {
+        Ok(world) => Ok(world),
+        Err(_) => Err(AllocError),
+    }
+}

@@ -1,5 +1,0 @@
-use Rattle.tl_tool.proofs.Decoded.{before-end}
-use Rattle.tl_tool.proofs.decoder.DecoderLineHandler.finish.Goals as goal
-
-pub returns : goal.returns
-returns g c = λ lines before known counted. before-end g.row.W lines _ known

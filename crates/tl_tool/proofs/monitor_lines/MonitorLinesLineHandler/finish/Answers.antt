@@ -1,9 +1,0 @@
-use Rattle.std.proofs.Common.{rules}
-use Rattle.tl_tool.proofs.Judged.{header_missing, all_clean}
-use Rattle.tl_tool.proofs.monitor_lines.MonitorLinesLineHandler.finish.Goals as goal
-
-pub returns-in-Waiting : goal.returns-in-Waiting
-returns-in-Waiting c = rw c.in-Waiting.is (header_missing _ _ _)
-
-pub returns-in_ok-append_clean-in_default : goal.returns-in_ok-append_clean-in_default
-returns-in_ok-append_clean-in_default c = all_clean _ c.in_default.not-Waiting _ _ _ (search rules)

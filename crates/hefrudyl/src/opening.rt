@@ -7,6 +7,7 @@ ghost use Rattle.hefrudyl.specs.statement.Opened.{level_at, profile_at, are_leve
 use crate::answer::Answer;
 use std::alloc::{AllocError, Global};
 use tl_monitor::monitor::Monitor;
+use tl_rules::config::MOST_CLIENTS;
 use tl_rules::level::Level;
 use tl_rules::profile::Profile;
 
@@ -40,7 +41,7 @@ pub fn may_open(codes: &[u8], width: u8, profile: u8) -> bool
     ensures { result ≡ may_open codes.now width profile }
 {
     1 <= codes.len()
-        && codes.len() <= 16
+        && codes.len() <= MOST_CLIENTS
         && are_levels(codes)
         && (width == 4 || width == 8 || width == 16)
         && (profile == 1 || profile == 2)

@@ -185,37 +185,5 @@ pub fn blank_for<const W: usize>(beat: &Beat<W>) -> Message<W>
 pub fn continues<const W: usize>(message: &Message<W>, beat: &Beat<W>) -> bool
     ensures { result ≡ same_control beat.now (beat_of message.now 0) }
 {
-    match (beat, message) {
-        (Beat::A(x), Message::A(m)) => {
-            x.opcode == m.opcode
-                && x.param == m.param
-                && x.size == m.size
-                && x.source == m.source
-                && x.address == m.address
-        }
-        (Beat::B(x), Message::B(m)) => {
-            x.opcode == m.opcode
-                && x.param == m.param
-                && x.size == m.size
-                && x.source == m.source
-                && x.address == m.address
-        }
-        (Beat::C(x), Message::C(m)) => {
-            x.opcode == m.opcode
-                && x.param == m.param
-                && x.size == m.size
-                && x.source == m.source
-                && x.address == m.address
-        }
-        (Beat::D(x), Message::D(m)) => {
-            x.opcode == m.opcode
-                && x.param == m.param
-                && x.size == m.size
-                && x.source == m.source
-                && x.sink == m.sink
-                && x.denied == m.denied
-        }
-        (Beat::E(x), Message::E(m)) => x.sink == m.sink,
-        _ => false,
-    }
+    beat.has_control(&message.control())
 }

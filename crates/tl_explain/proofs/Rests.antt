@@ -9,7 +9,7 @@ use Rattle.tl_params.specs.declared.key.Key.{Key}
 use Rattle.tl_params.specs.declared.perm.Perm.{Perm}
 use Rattle.tl_rules.specs.statement.Conformance.{Trace, on_link}
 use Rattle.tl_rules.specs.statement.History.{begins, ends, opens, closes, pending, held, says_held, grants, is_probe_ack, is_release, block_at, reported, capped}
-use Rattle.tl_monitor.specs.code.Control.{control_of}
+use Rattle.tl_beat.specs.statement.Control.{control_of}
 use Rattle.tl_explain.specs.declared.told.Mention.{Mention}
 use Rattle.tl_explain.specs.statement.Evidence.{is_open, is_opening, is_closing, is_saying, last_opening, last_closing, last_saying, left_by, left_of, next_line, told}
 

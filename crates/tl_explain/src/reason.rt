@@ -1,13 +1,13 @@
 //! What makes a rule of bursts or of the order of messages broken.
 
-use crate::bursts::{Begun, channel_of};
+use crate::bursts::Begun;
 use crate::recorder::Recorder;
 use crate::told::Told;
 use crate::turn::Turn;
 use tl_beat::beat::{Beat, BeatA, BeatB, BeatC, BeatD, BeatE};
 use tl_beat::channel::Channel;
+use tl_beat::control::Control;
 use tl_beat::opcode::{OpA, OpB, OpD};
-use tl_monitor::control::{Control, has_control};
 use tl_params::key::Key;
 use tl_params::param::{Cap, Grow, Prune};
 use tl_params::profile::Profile;
@@ -312,8 +312,8 @@ fn for_acknowledgement(rule: Rule, x: &BeatE, record: &Recorder) -> Option<Reaso
 
 /// Where a beat doesn't continue the burst that is unfinished on its channel.
 fn where_differs<const W: usize>(beat: &Beat<W>, record: &Recorder) -> Option<Reason> {
-    let begun = record.bursts.on(channel_of(beat))?;
-    if has_control(beat, &begun.newest) {
+    let begun = record.bursts.on(beat.channel())?;
+    if beat.has_control(&begun.newest) {
         return None;
     }
     Some(Reason::Differs(begun))

@@ -12,6 +12,7 @@ use crate::judge::broken_after;
 use crate::link_state::LinkState;
 use std::alloc::{AllocError, Global};
 use tl_beat::beat::{Beat, Link};
+use tl_rules::config::MOST_CLIENTS;
 use tl_rules::level::Level;
 use tl_rules::past::{Past, Request};
 use tl_rules::profile::Profile;
@@ -48,7 +49,7 @@ impl<const W: usize> Monitor<W> {
         requires { IsWidth W }
         ensures { IsNew levels.now profile result }
     {
-        if levels.is_empty() || levels.len() > 16 {
+        if levels.is_empty() || levels.len() > MOST_CLIENTS {
             return Err(MonitorFault::Levels);
         }
         let Ok(links) = Self::empty_links(alloc, levels.len()) else {

@@ -22,8 +22,10 @@ use Rattle.hefrudyl.specs.statement.Picture.{shown}
 pub record Judged {w : ℕ} (old new : Monitor w) (x : Link × Beat w) (answer : Answer) : Type 0 where
   pub judged : Result ⊤ MonitorFault
   pub told : answer ≡ answer_of judged
-  pub lawful : (levels : List Level) (p : Profile) (t : Trace w) (closed : Bool) → Knows old levels p t closed → Answers (fault_of levels p t closed x) judged
-  pub knows : (levels : List Level) (p : Profile) (t : Trace w) (closed : Bool) → Knows old levels p t closed → Knows new levels p (recorded_after judged x t) (closed_after judged)
+  pub lawful : (levels : List Level) (p : Profile) (t : Trace w) (closed : Bool) → Knows old levels p t closed
+      → Answers (fault_of levels p t closed x) judged
+  pub knows : (levels : List Level) (p : Profile) (t : Trace w) (closed : Bool) → Knows old levels p t closed
+      → Knows new levels p (recorded_after judged x t) (closed_after judged)
 
 -- bad input changes nothing
 abbrev pub Refused : {A : Type 0} → A → A → Answer → Type 0

@@ -24,8 +24,8 @@ use Rattle.tl_rules.specs.statement.Admission.{payload_of}
 use Rattle.tl_rules.proofs.Payload.{payload-d}
 use Rattle.tl_client.specs.statement.Offer.{granted}
 use Rattle.tl_client.specs.declared.verdict.Verdict.TheVariants as verdict
-use Rattle.tl_client.proofs.Accounted.{accounted-offered}
-use Rattle.tl_client.proofs.KeptOffered.{kept-offered}
+use Rattle.tl_client.proofs.pending.Accounted.{accounted-offered}
+use Rattle.tl_client.proofs.pending.KeptOffered.{kept-offered}
 use Rattle.tl_coherence.specs.refinement.PacketMessages.{message_of, message_of_kind}
 use Rattle.tl_coherence.specs.refinement.SimulationRelation.{IsGivenAsked}
 use Rattle.tl_coherence.proofs.queues.Carried.{IsNext}

@@ -18,8 +18,8 @@ use Rattle.tl_coherence.specs.protocol.Invariant.{AreNamed}
 use Rattle.tl_coherence.proofs.flow.FlowAside.{IsComing, requested-blocks, let_by-same}
 use Rattle.tl_coherence.proofs.flow.FlowStep.{flowed-next, held_by, acquired_by, let_of, granted_by, step}
 use Rattle.tl_coherence.proofs.queues.Tokens.{same_number, set-same, set-other, set-each, set-part}
-use Rattle.tl_manager.proofs.Acked.{probe_of-e, request_of-e, grant_sink-e}
-use Rattle.tl_client.proofs.AccountedResponse.{is_own_sink}
+use Rattle.tl_manager.proofs.pending.Acked.{probe_of-e, request_of-e, grant_sink-e}
+use Rattle.tl_client.proofs.pending.AccountedResponse.{is_own_sink}
 
 -- what of each channel's first message was delivered, with one more beat
 abbrev pub AreRests : {w : ℕ} → Beat w → (Channel → List (Beat w)) → (Channel → List (Beat w)) → Type 0

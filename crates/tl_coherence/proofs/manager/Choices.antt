@@ -9,7 +9,7 @@ use Rattle.std.proofs.lemmas.Bool.{lt-ltb}
 use Rattle.std.proofs.lemmas.Option.{slice_get_past}
 use Rattle.tl_rules.specs.statement.Legality.{is_one_of}
 use Rattle.tl_manager.specs.statement.Holders.{clients_where}
-use Rattle.tl_manager.proofs.Clients.{among-where, nobody-is, nobody-where, where-same}
+use Rattle.tl_manager.proofs.words_of_clients.Clients.{among-where, nobody-is, nobody-where, where-same}
 use Rattle.tl_coherence.specs.protocol.Invariant.{IsOwnSource}
 use Rattle.tl_coherence.proofs.queues.Facts.{own_wants}
 use Rattle.tl_coherence.proofs.protocol.FollowKept.{some-none}

@@ -16,7 +16,7 @@ use Rattle.tl_client.specs.declared.operation.Op.TheVariants as op
 use Rattle.tl_client.specs.declared.reply.Reply.TheVariants as reply
 use Rattle.tl_client.specs.statement.Ask.{copy_stored, is_word, whole_grow}
 use Rattle.tl_client.specs.statement.Send.{access}
-use Rattle.tl_client.proofs.Stores.{word_room}
+use Rattle.tl_client.proofs.caching_client.Stores.{word_room}
 use Rattle.tl_coherence.specs.refinement.MemoryRelation.{op_of}
 use Rattle.tl_coherence.specs.refinement.AbstractStep.{asked}
 use Rattle.tl_coherence.specs.protocol.Invariant.{acquires_of, IsInvariant}

@@ -24,7 +24,7 @@ use Rattle.tl_client.specs.declared.operation.Op.TheVariants as op
 use Rattle.tl_client.specs.statement.Send.{sourced}
 use Rattle.tl_manager.specs.statement.Handing.{access_answer}
 use Rattle.tl_manager.specs.statement.Offer.{level_of}
-use Rattle.tl_manager.proofs.Filled.{length-bytes}
+use Rattle.tl_manager.proofs.messages.Filled.{length-bytes}
 use Rattle.tl_coherence.specs.refinement.MemoryRelation.{IsReach, Answers}
 use Rattle.tl_coherence.specs.refinement.AbstractStep.{answers}
 use Rattle.tl_coherence.specs.protocol.Invariant.{IsWell}

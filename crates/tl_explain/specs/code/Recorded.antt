@@ -15,9 +15,9 @@ use Rattle.tl_rules.specs.statement.History.{begins, ends, block_at, is_acquire,
 use Rattle.tl_monitor.specs.code.Count.{at}
 use Rattle.tl_explain.specs.declared.told.Mention.{Mention}
 use Rattle.tl_explain.specs.declared.told.Told.{Told}
-use Rattle.tl_monitor.specs.code.Control.{control_of}
-use Rattle.tl_monitor.specs.declared.control.Control.{Control}
-use Rattle.tl_monitor.specs.declared.control.Control.TheVariants as control
+use Rattle.tl_beat.specs.statement.Control.{control_of}
+use Rattle.tl_beat.specs.declared.control.Control.{Control}
+use Rattle.tl_beat.specs.declared.control.Control.TheVariants as control
 use Rattle.tl_explain.specs.declared.turn.Turn.{Turn}
 use Rattle.tl_explain.specs.declared.bursts.Begun.{Begun}
 use Rattle.tl_explain.specs.declared.bursts.Bursts.{Bursts}

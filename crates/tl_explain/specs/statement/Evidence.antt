@@ -10,9 +10,9 @@ use Rattle.tl_params.specs.declared.perm.Perm.{Perm}
 use Rattle.tl_params.specs.declared.perm.Perm.TheVariants as perm
 use Rattle.tl_rules.specs.statement.Conformance.{Trace, on_link}
 use Rattle.tl_rules.specs.statement.History.{begins, ends, opens, closes, says_held, reported, capped}
-use Rattle.tl_monitor.specs.code.Control.{control_of}
-use Rattle.tl_monitor.specs.declared.control.Control.{Control}
-use Rattle.tl_monitor.specs.declared.control.Control.TheVariants as control
+use Rattle.tl_beat.specs.statement.Control.{control_of}
+use Rattle.tl_beat.specs.declared.control.Control.{Control}
+use Rattle.tl_beat.specs.declared.control.Control.TheVariants as control
 use Rattle.tl_explain.specs.declared.told.Mention.{Mention}
 
 -- A beat by its control fields, with the number of its line. Lines count from 1, the header's, so that the line behind the beats of t, the

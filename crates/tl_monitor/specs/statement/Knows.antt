@@ -1,5 +1,6 @@
 -- What a monitor knows of the trace that it was given.
-use Rattle.std.specs.Prelude.{ℕ, Bool, true, false, List, [], ◌∷◌, ◌≡◌, ◌<◌, ◌≤◌, if◌then◌else◌, length, nat_lt, slice_index_or, Option, Some, None, Result, Ok, Err, ⊤}
+use Rattle.std.specs.Prelude.{ℕ, Bool, true, false, List, [], ◌∷◌, ◌≡◌, ◌<◌, ◌≤◌, if◌then◌else◌, length, nat_lt}
+use Rattle.std.specs.Prelude.{slice_index_or, Option, Some, None, Result, Ok, Err, ⊤}
 use Rattle.tl_beat.specs.declared.beat.Beat.{Beat}
 use Rattle.tl_beat.specs.declared.beat.Link.{Link}
 use Rattle.tl_params.specs.declared.level.Level.{Level}
@@ -20,11 +21,12 @@ use Rattle.tl_monitor.specs.declared.fault.TraceFault.TheVariants as trace
 
 -- The monitor has these levels and this profile, and keeps of each link what was recorded there, the
 -- newest first. It is closed where a beat was refused by a rule.
-pub record Knows {w : ℕ} (m : Monitor w) (levels : List Level) (p : Profile) (t : Trace w) (closed : Bool) : Type 0 where
-  pub levels_are : m.levels.items ≡ levels
-  pub profile_is : m.profile ≡ p
-  pub closed_is : m.closed ≡ closed
-  pub links_are : (n : ℕ) (d : LinkState) → n < length levels → Keeps (slice_index_or m.links.items n d) (on_link n t)
+pub record Knows {w : ℕ} (m : Monitor w) (levels : List Level) (p : Profile) (t : Trace w) (closed : Bool) : Type 0
+  where
+    pub levels_are : m.levels.items ≡ levels
+    pub profile_is : m.profile ≡ p
+    pub closed_is : m.closed ≡ closed
+    pub links_are : (n : ℕ) (d : LinkState) → n < length levels → Keeps (slice_index_or m.links.items n d) (on_link n t)
 
 -- the request with this source that is pending and complete on a link; none on a link without a level
 abbrev pub request_on : {w : ℕ} → List Level → Link → ℕ → Trace w → Option Request
@@ -74,7 +76,8 @@ closed_after (Err e) = true
 -- the answer to a trace: its first fault, want of memory aside
 abbrev pub AnswersTrace : {w : ℕ} → List Level → Profile → Trace w → Result ⊤ TraceFault → Type 0
 AnswersTrace levels p beats (Ok u) = IsCount (length levels) × (first_fault levels p beats ≡ None)
-AnswersTrace levels p beats (Err (trace.At i rule)) = IsCount (length levels) × (first_fault levels p beats ≡ Some (i, rule))
+AnswersTrace levels p beats (Err (trace.At i rule)) = IsCount (length levels)
+    × (first_fault levels p beats ≡ Some (i, rule))
 AnswersTrace levels p beats (Err trace.Levels) = ¬ IsCount (length levels)
 AnswersTrace levels p beats (Err trace.Memory) = IsCount (length levels)
 

@@ -1,4 +1,5 @@
 pub mod Cuts
 pub mod BeatTexts
 pub mod Follows
+pub mod Places
 pub mod Rests

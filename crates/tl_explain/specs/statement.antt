@@ -1,3 +1,4 @@
 pub mod Evidence
 pub mod ParamNames
+pub mod Since
 pub mod Text

@@ -328,7 +328,7 @@ on_is channel.E (beat.C x) = refl
 on_is channel.E (beat.D x) = refl
 on_is channel.E (beat.E x) = refl
 
-on_own : {w : ℕ} (ch : Channel) (x : Beat w) → on ch x ≡ true → ch ≡ channel_of x
+pub on_own : {w : ℕ} (ch : Channel) (x : Beat w) → on ch x ≡ true → ch ≡ channel_of x
 on_own channel.A (beat.A x) e = refl
 on_own channel.A (beat.B x) e = absurd cc
 on_own channel.A (beat.C x) e = absurd cc

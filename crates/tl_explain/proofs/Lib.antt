@@ -3,3 +3,4 @@ pub mod BeatTexts
 pub mod Follows
 pub mod Places
 pub mod Rests
+pub mod Sound

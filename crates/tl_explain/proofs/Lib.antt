@@ -1,4 +1,6 @@
 pub mod Cuts
 pub mod BeatTexts
 pub mod Follows
+pub mod Places
 pub mod Rests
+pub mod Sound

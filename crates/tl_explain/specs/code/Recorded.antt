@@ -26,7 +26,7 @@ use Rattle.tl_explain.specs.declared.turns.Moment.{Moment}
 use Rattle.tl_explain.specs.declared.turns.Subject.{Subject}
 use Rattle.tl_explain.specs.declared.turns.Turns.{Turns}
 use Rattle.tl_explain.specs.declared.recorder.Recorder.{Recorder}
-use Rattle.tl_explain.specs.statement.Evidence.{told, is_open, last_opening, last_closing, last_saying, burst_opening}
+use Rattle.tl_explain.specs.statement.Evidence.{told, is_open, last_opening, last_closing, last_saying, burst_opening, mention_of}
 
 -- ---- bursts
 
@@ -146,10 +146,6 @@ sink_in None = None
 sink_in (Some m) = sink_by m.mention.control
 
 -- the message that opened the key, where none has closed it
-abbrev pub mention_of : Option Told → Option Mention
-mention_of None = None
-mention_of (Some m) = Some m.mention
-
 abbrev pub open_message : Turn → Option Told
 open_message turn = if is_open (mention_of turn.opening) (mention_of turn.closing) then turn.opening else None
 

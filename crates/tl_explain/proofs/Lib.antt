@@ -1,5 +1,6 @@
 pub mod Cuts
 pub mod BeatTexts
+pub mod Convicts
 pub mod Follows
 pub mod Places
 pub mod Rests

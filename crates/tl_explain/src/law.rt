@@ -1,12 +1,17 @@
 //! What is told of a trace, as laws.
 
 ghost use Rattle.std.specs.Prelude.{◌≡◌, ℕ, Some, true};
+ghost use Rattle.tl_beat.specs.declared.beat.Beat.{Beat};
 ghost use Rattle.tl_params.specs.declared.key.Key.{Key};
+ghost use Rattle.tl_params.specs.declared.profile.Profile.{Profile};
+ghost use Rattle.tl_params.specs.declared.rule.Rule.{Rule};
 ghost use Rattle.tl_rules.specs.statement.Conformance.{Trace, on_link};
 ghost use Rattle.tl_rules.specs.statement.History.{held, pending};
 ghost use Rattle.tl_explain.specs.declared.told.Mention.{Mention};
 ghost use Rattle.tl_explain.specs.statement.Evidence.{is_open, last_closing, last_opening, last_saying, left_of};
 ghost use Rattle.tl_explain.specs.statement.Evidence.{is_opening, is_closing, is_saying};
+ghost use Rattle.tl_explain.specs.declared.reason.Reason.{Reason};
+ghost use Rattle.tl_explain.specs.statement.Reasons.{Breaks, IsEvidence, convicted};
 ghost use Rattle.tl_explain.specs.statement.Since.{IsHeldSince, IsLast, IsLastIfAny, IsPendingSince};
 
 /// A key is pending where its last opening isn't followed by a closing.
@@ -45,4 +50,11 @@ pub fn pending_since_opening()
 /// What is held of a block is so since the last message that says so; no later one changes it.
 pub fn held_since_saying()
     ensures { (w n k : ℕ) (t : Trace w) → IsHeldSince n k (left_of (last_saying n k t)) (last_saying n k t) t }
+{}
+
+/// What is told for a verdict makes the rule broken: where what a reason tells of a trace is so, the
+/// beat breaks the rule that follows from the reason and the beat alone.
+pub fn evidence_convicts()
+    ensures { (w n : ℕ) (p : Profile) (rule : Rule) (x : Beat w) (reason : Reason) (t : Trace w) → IsEvidence n x reason t →
+        convicted p x reason ≡ Some rule → Breaks p rule x (on_link n t) }
 {}

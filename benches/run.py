@@ -261,6 +261,16 @@ def the_library_from_c_under_the_sanitizers():
 
 
 @test
+def a_client_from_c():
+    want("0 failures" in run([compiled("test_client", "gcc", "tests/test_client.c", "-std=c11")]), "test_client.c")
+
+
+@test
+def a_client_from_c_under_the_sanitizers():
+    want("0 failures" in run([compiled("test_client_san", "gcc", "tests/test_client.c", "-std=c11", *SANITIZERS)]), "test_client.c")
+
+
+@test
 def the_library_from_cpp_under_the_sanitizers():
     want("0 failures" in run([compiled("test_cpp_san", "g++", "tests/test_monitor.cpp", "-std=c++17", *SANITIZERS)]), "test_monitor.cpp")
 

@@ -24,6 +24,7 @@ class Code(enum.IntEnum):
     BAD_ARGUMENT = 2
     NO_MEMORY = 3
     CLOSED = 4
+    NOTHING = 5
 
 
 class Level(enum.IntEnum):

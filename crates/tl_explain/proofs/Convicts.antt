@@ -27,12 +27,12 @@ use Rattle.tl_params.specs.statement.Param.{cap_of, prune_of}
 use Rattle.tl_rules.specs.statement.Conformance.{Trace, on_link, answers, fits_grow, grows_from, is_acquire_block, is_grant_without_data, is_probe_block, is_report_at, prunes_from, same_perm}
 use Rattle.tl_rules.specs.statement.Conformance.{comes_in_grant, comes_in_release, comes_in_request, has_request, misgrants, misreports, answers_wrong_probe, size_asked}
 use Rattle.tl_rules.specs.statement.History.{begins, block_at, held, opens, pending, probe_of, release_of, request_of, is_acquire, is_grant, is_probe, is_probe_ack, is_release, is_release_ack}
-use Rattle.tl_monitor.specs.code.Control.{control_of, has_control}
-use Rattle.tl_monitor.specs.declared.control.Control.{Control}
-use Rattle.tl_monitor.specs.declared.control.ControlA.{ControlA}
-use Rattle.tl_monitor.specs.declared.control.ControlB.{ControlB}
-use Rattle.tl_monitor.specs.declared.control.ControlC.{ControlC}
-use Rattle.tl_monitor.specs.declared.control.Control.TheVariants as control
+use Rattle.tl_beat.specs.statement.Control.{control_of, has_control}
+use Rattle.tl_beat.specs.declared.control.Control.{Control}
+use Rattle.tl_beat.specs.declared.control.ControlA.{ControlA}
+use Rattle.tl_beat.specs.declared.control.ControlB.{ControlB}
+use Rattle.tl_beat.specs.declared.control.ControlC.{ControlC}
+use Rattle.tl_beat.specs.declared.control.Control.TheVariants as control
 use Rattle.tl_explain.specs.declared.reason.Held.{Held}
 use Rattle.tl_explain.specs.declared.reason.Reason.{Reason}
 use Rattle.tl_explain.specs.declared.reason.Reason.TheVariants.{Pending, Never, Closed, Unfinished, OtherKind, OtherSize, WrongCap, WithoutData, Probed, Holds, WrongProbe, Misreport, Differs}

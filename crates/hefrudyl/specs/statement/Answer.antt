@@ -53,6 +53,10 @@ no_memory = answer 3
 abbrev pub closed : Answer
 closed = answer 4
 
+-- there is nothing of what was asked for
+abbrev pub nothing : Answer
+nothing = answer 5
+
 -- the answer to a beat that a monitor judged
 abbrev pub answer_of : Result ⊤ MonitorFault → Answer
 answer_of (Ok u) = ok

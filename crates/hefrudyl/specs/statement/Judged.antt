@@ -52,5 +52,6 @@ ToldOfAny _ _ link x answer = ⊥
 -- what is told of a handle that holds this, or nothing
 abbrev pub MonitorTold : Option Session → Option Session → ℕ → Picture → Answer → Type 0
 MonitorTold (Some (session.Monitor old)) (Some (session.Monitor new)) link x answer = ToldOfAny old new link x answer
+MonitorTold (Some (session.Client port)) new link x answer = Refused (Some (session.Client port)) new answer
 MonitorTold None new link x answer = Refused None new answer
 MonitorTold _ _ link x answer = ⊥

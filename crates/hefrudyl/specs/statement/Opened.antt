@@ -45,6 +45,7 @@ abbrev pub IsOpened : List ℕ → ℕ → ℕ → Session → Type 0
 IsOpened codes width profile (session.Monitor (any.Four m)) = (width ≡ 4) × IsFresh codes profile m
 IsOpened codes width profile (session.Monitor (any.Eight m)) = (width ≡ 8) × IsFresh codes profile m
 IsOpened codes width profile (session.Monitor (any.Sixteen m)) = (width ≡ 16) × IsFresh codes profile m
+IsOpened codes width profile (session.Client port) = ⊥
 
 -- what is told of a handle that held nothing
 abbrev pub OpensTo : List ℕ → ℕ → ℕ → Option Session → Answer → Type 0

@@ -1,6 +1,6 @@
 //! Beats written into the message that they carry.
 
-ghost use Rattle.std.specs.Prelude.{ℕ, Bool, IsTrue, ◌≡◌, ◌<◌, ◌≤◌, ◌+◌, ◌*◌, ◌^◌, is_some, if◌then◌else◌};
+ghost use Rattle.std.specs.Prelude.{ℕ, Bool, IsTrue, ◌≡◌, ◌<◌, ◌≤◌, ◌+◌, ◌*◌, ◌^◌, is_some, if◌then◌else◌, length};
 ghost use Rattle.tl_beat.specs.statement.Width.{IsWidth};
 ghost use Rattle.tl_beat.specs.declared.beat.Beat.TheVariants as beat;
 ghost use Rattle.tl_burst.specs.declared.message.Message.TheVariants as message;
@@ -9,7 +9,16 @@ ghost use Rattle.tl_burst.specs.statement.Messages.{same_control};
 ghost use Rattle.tl_burst.specs.statement.Part.{IsTakeable};
 
 use crate::message::{Message, MessageA, MessageB, MessageC, MessageD, MessageE};
+use std::simd::Simd;
 use tl_beat::beat::{Beat, BeatA, BeatB, BeatC, BeatD};
+
+/// Copies the lanes of a beat, all at once.
+fn copy_lanes<const W: usize>(lanes: &[u8; W], place: &mut [u8])
+    requires { length place.old ≡ W }
+    ensures { place.new ≡ lanes.now }
+{
+    Simd::from_array(*lanes).copy_to_slice(place);
+}
 
 /// Writes the lanes of beat `i` into a payload.
 fn write_lanes<const W: usize>(payload: &mut [u8; 64], i: u8, lanes: &Option<[u8; W]>)
@@ -22,7 +31,7 @@ fn write_lanes<const W: usize>(payload: &mut [u8; 64], i: u8, lanes: &Option<[u8
 {
     if let Some(lanes) = lanes {
         let from = W * i as usize;
-        payload[from..from + W].copy_from_slice(lanes);
+        copy_lanes(lanes, &mut payload[from..from + W]);
     }
 }
 

@@ -1,11 +1,11 @@
 //! What makes a rule of bursts or of the order of messages broken.
 
-ghost use Rattle.std.specs.Prelude.{◌≡◌, Some, IfSome};
+ghost use Rattle.std.specs.Prelude.{◌≡◌, true, Some, IfSome, is_some};
 ghost use Rattle.tl_beat.specs.declared.beat.Link.{Link};
 ghost use Rattle.tl_explain.specs.code.Chosen;
 ghost use Rattle.tl_explain.specs.code.Recorded.{IsRecord};
-ghost use Rattle.tl_explain.specs.statement.Reasons.{IsEvidence, IsSubject, convicted};
-ghost use Rattle.tl_rules.specs.statement.Conformance.{Trace};
+ghost use Rattle.tl_explain.specs.statement.Reasons.{HasBlockAsked, IsEvidence, IsSubject, convicted, is_always_told};
+ghost use Rattle.tl_rules.specs.statement.Conformance.{Trace, on_link};
 ghost use Rattle.tl_explain.specs.statement.Evidence;
 ghost use Rattle.tl_params.specs.statement.Param.{cap_of, prune_of};
 ghost use Rattle.tl_rules.specs.statement.Conformance;
@@ -317,15 +317,22 @@ fn chosen_reason<const W: usize>(
 
 /// Why the beat breaks the rule, by what is recorded of the beats before it; nothing where it doesn't.
 /// What is told is so, of the beats that were recorded, and from it and the beat alone the rule is
-/// broken.
+/// broken. Of H3, H6 and H12 a reason is told wherever they are the first rule that the beat breaks.
 pub fn find_reason<const W: usize>(
     profile: Profile,
     rule: Rule,
     beat: &Beat<W>,
     recorder: &Recorder,
 ) -> Option<Reason>
-    ensures told { (t : Trace W) (link : Link) → IsRecord recorder.now t → IsSubject recorder.now.subject link beat.now →
-        IfSome result (λ reason. IsEvidence recorder.now.subject.link.0 beat.now reason t × (convicted profile beat.now reason ≡ Some rule)) }
+    ensures told { (t : Trace W) (link : Link) → IsRecord recorder.now t →
+        IsSubject recorder.now.subject link beat.now →
+        IfSome result (λ reason. IsEvidence recorder.now.subject.link.0 beat.now reason t
+        × (convicted profile beat.now reason ≡ Some rule)) }
+    ensures first { (t : Trace W) (link : Link) → IsRecord recorder.now t →
+        IsSubject recorder.now.subject link beat.now → HasBlockAsked recorder.now.subject beat.now t →
+        is_always_told rule ≡ true →
+        Conformance.broken_in_order profile beat.now (on_link recorder.now.subject.link.0 t) ≡ Some rule →
+        is_some result ≡ true }
 {
     chosen_reason(profile, rule, beat, recorder)
 }

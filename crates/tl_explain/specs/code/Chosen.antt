@@ -11,22 +11,28 @@ use Rattle.tl_beat.specs.statement.Opcode.{c_carries_data}
 use Rattle.tl_beat.specs.declared.channel.Channel.TheVariants as channel
 use Rattle.tl_burst.specs.statement.Messages.{channel_of}
 use Rattle.tl_params.specs.declared.key.Key.{Key}
-use Rattle.tl_params.specs.declared.key.Key.TheVariants.{RequestSource, ReleaseSource, AcquireOf, ReleaseOf, GrantSink, GrantAckOf, ProbeOf}
+use Rattle.tl_params.specs.declared.key.Key.TheVariants.{RequestSource, ReleaseSource, AcquireOf, ReleaseOf, GrantSink}
+use Rattle.tl_params.specs.declared.key.Key.TheVariants.{GrantAckOf, ProbeOf}
 use Rattle.tl_params.specs.declared.perm.Perm.{Perm}
 use Rattle.tl_params.specs.declared.perm.Perm.TheVariants as perm
 use Rattle.tl_params.specs.declared.profile.Profile.{Profile}
 use Rattle.tl_params.specs.statement.Param.{cap_of, prune_of}
-use Rattle.tl_rules.specs.statement.Conformance.{answers, fits_grow, grows_from, is_acquire_block, is_grant_without_data, is_probe_block, is_report_at, prunes_from, same_perm}
+use Rattle.tl_rules.specs.statement.Conformance.{answers, fits_grow, grows_from, is_acquire_block}
+use Rattle.tl_rules.specs.statement.Conformance.{is_grant_without_data, is_probe_block, is_report_at, prunes_from}
+use Rattle.tl_rules.specs.statement.Conformance.{same_perm}
 use Rattle.tl_params.specs.declared.rule.Rule.{Rule}
 use Rattle.tl_params.specs.declared.rule.Rule.TheVariants.{S1, H1, H2, H3, H4, H5, H6, H7, H8, H9, H10, H11, H12, H13}
-use Rattle.tl_rules.specs.statement.History.{block_at, is_acquire, is_grant, is_probe, is_probe_ack, is_release, is_release_ack}
+use Rattle.tl_rules.specs.statement.History.{block_at, is_acquire, is_grant, is_probe, is_probe_ack, is_release}
+use Rattle.tl_rules.specs.statement.History.{is_release_ack}
 use Rattle.tl_beat.specs.statement.Control.{has_control}
 use Rattle.tl_beat.specs.declared.control.Control.{Control}
 use Rattle.tl_beat.specs.declared.control.Control.TheVariants as control
 use Rattle.tl_explain.specs.declared.bursts.Begun.{Begun}
 use Rattle.tl_explain.specs.declared.reason.Held.{Held}
 use Rattle.tl_explain.specs.declared.reason.Reason.{Reason}
-use Rattle.tl_explain.specs.declared.reason.Reason.TheVariants.{Pending, Never, Closed, Unfinished, OtherKind, OtherSize, WrongCap, WithoutData, Probed, Holds, WrongProbe, Misreport, Differs}
+use Rattle.tl_explain.specs.declared.reason.Reason.TheVariants.{Pending, Never, Closed, Unfinished, OtherKind}
+use Rattle.tl_explain.specs.declared.reason.Reason.TheVariants.{OtherSize, WrongCap, WithoutData, Probed, Holds}
+use Rattle.tl_explain.specs.declared.reason.Reason.TheVariants.{WrongProbe, Misreport, Differs}
 use Rattle.tl_explain.specs.declared.recorder.Recorder.{Recorder}
 use Rattle.tl_explain.specs.declared.told.Told.{Told}
 use Rattle.tl_explain.specs.declared.turn.Turn.{Turn}
@@ -53,7 +59,8 @@ closed_by k opening (Some closing) = Some (Closed k opening closing)
 abbrev pub unfinished_by : Key → Told → Option Begun → Option Reason
 unfinished_by k opening None = None
 unfinished_by k opening (Some b) =
-    if (b.first.mention.line == opening.mention.line) && opens_by k b.newest None then Some (Unfinished k opening b.came) else None
+    if (b.first.mention.line == opening.mention.line) && opens_by k b.newest None then Some
+    (Unfinished k opening b.came) else None
 
 abbrev pub opened_by : Key → Told → Option Told → Option Told → Option Begun → Option Reason
 opened_by k opening closing None b = closed_by k opening closing
@@ -96,7 +103,8 @@ size_by x (Some m) = size_in x m m.mention.control
 
 -- where a Grant isn't one for the request that is pending
 abbrev pub lacks_data : {w : ℕ} → BeatD w → Control → Perm → Bool
-lacks_data x (control.A r) p = is_grant_without_data x.opcode && (is_acquire_block r.opcode && not (same_perm p perm.Branch))
+lacks_data x (control.A r) p =
+    is_grant_without_data x.opcode && (is_acquire_block r.opcode && not (same_perm p perm.Branch))
 lacks_data x _ p = false
 
 abbrev pub probed_by : Told → Option Told → Option Reason
@@ -107,7 +115,8 @@ abbrev pub grant_in : {w : ℕ} → Profile → BeatD w → Told → Control →
 grant_in p x m (control.A a) r =
     if not (fits_grow p a.opcode a.param x.param) then Some (WrongCap m) else
     if not (block_at a.address == r.subject.block) then None else
-    if is_grant_without_data x.opcode && (is_acquire_block a.opcode && not (same_perm (held_by r.turns.said).perm perm.Branch))
+    if is_grant_without_data
+    x.opcode && (is_acquire_block a.opcode && not (same_perm (held_by r.turns.said).perm perm.Branch))
     then Some (WithoutData m (held_by r.turns.said))
     else probed_by m (open_message r.turns.probe)
 grant_in p x m _ r = None
@@ -118,7 +127,8 @@ grant_by p x (Some m) r = grant_in p x m m.mention.control r
 
 -- where the Probe that is pending asks for no data, and is answered with some
 abbrev pub probe_in : {w : ℕ} → BeatC w → Told → Control → Option Reason
-probe_in x m (control.B y) = if c_carries_data x.opcode && not (is_probe_block y.opcode) then Some (WrongProbe m) else None
+probe_in x m (control.B y) = if c_carries_data x.opcode && not (is_probe_block y.opcode) then Some (WrongProbe m) else
+    None
 probe_in x m _ = None
 
 abbrev pub probe_by : {w : ℕ} → BeatC w → Turn → Option Told → Option Reason
@@ -140,22 +150,26 @@ abbrev pub for_request : {w : ℕ} → Rule → BeatA w → Recorder → Option 
 for_request H1 x r = where_pending (RequestSource x.source) r.turns.request
 for_request H4 x r =
     if is_acquire x.opcode
-    then first_reason (where_pending (AcquireOf (block_at x.address)) r.turns.acquire) (where_pending (ReleaseOf (block_at x.address)) r.turns.release)
+    then first_reason (where_pending (AcquireOf (block_at x.address)) r.turns.acquire)
+    (where_pending (ReleaseOf (block_at x.address)) r.turns.release)
     else None
-for_request H5 x r = if is_acquire x.opcode then unless_held (grows_from x.param (held_by r.turns.said).perm) (held_by r.turns.said) else None
+for_request H5 x r = if is_acquire x.opcode then unless_held (grows_from x.param (held_by r.turns.said).perm)
+    (held_by r.turns.said) else None
 for_request _ x r = None
 
 abbrev pub for_probe : {w : ℕ} → Rule → BeatB w → Recorder → Option Reason
 for_probe H9 x r =
     if is_probe x.opcode
-    then first_reason (where_pending (ProbeOf (block_at x.address)) r.turns.probe) (where_pending (GrantAckOf (block_at x.address)) r.turns.grant_ack)
+    then first_reason (where_pending (ProbeOf (block_at x.address)) r.turns.probe)
+    (where_pending (GrantAckOf (block_at x.address)) r.turns.grant_ack)
     else None
 for_probe _ x r = None
 
 abbrev pub for_release : {w : ℕ} → Rule → BeatC w → Recorder → Option Reason
 for_release H1 x r = where_pending (ReleaseSource x.source) r.turns.release_with_source
 for_release H13 x r =
-    first_reason (first_reason (where_pending (AcquireOf (block_at x.address)) r.turns.acquire) (where_pending (ReleaseOf (block_at x.address)) r.turns.release))
+    first_reason (first_reason (where_pending (AcquireOf (block_at x.address)) r.turns.acquire)
+    (where_pending (ReleaseOf (block_at x.address)) r.turns.release))
     (unless_held (prunes_from (prune_of x.param) (held_by r.turns.said).perm) (held_by r.turns.said))
 for_release _ x r = None
 
@@ -166,16 +180,19 @@ for_probe_ack H12 x r = report_by x (open_message r.turns.probe) (held_by r.turn
 for_probe_ack _ x r = None
 
 abbrev pub for_message_c : {w : ℕ} → Rule → BeatC w → Recorder → Option Reason
-for_message_c rule x r = if is_release x.opcode then for_release rule x r else if is_probe_ack x.opcode then for_probe_ack rule x r else None
+for_message_c rule x r = if is_release x.opcode then for_release rule x r else if is_probe_ack x.opcode then
+    for_probe_ack rule x r else None
 
 abbrev pub where_unasked : {w : ℕ} → BeatD w → Recorder → Option Reason
 where_unasked x r =
     if is_release_ack x.opcode
     then where_missing (ReleaseSource x.source) r.turns.release_with_source r.bursts.c
-    else first_reason (where_missing (RequestSource x.source) r.turns.request r.bursts.a) (kind_by x (open_message r.turns.request))
+    else first_reason (where_missing (RequestSource x.source) r.turns.request r.bursts.a)
+    (kind_by x (open_message r.turns.request))
 
 abbrev pub asked_by : {w : ℕ} → BeatD w → Recorder → Option Told
-asked_by x r = if is_release_ack x.opcode then open_message r.turns.release_with_source else open_message r.turns.request
+asked_by x r = if is_release_ack x.opcode then open_message r.turns.release_with_source else open_message
+    r.turns.request
 
 abbrev pub for_answer : {w : ℕ} → Profile → Rule → BeatD w → Recorder → Option Reason
 for_answer p H2 x r = where_unasked x r

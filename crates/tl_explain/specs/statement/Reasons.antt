@@ -1,5 +1,6 @@
 -- What a reason tells of a trace, and which rule a beat breaks by what is told.
-use Rattle.std.specs.Prelude.{ℕ, Bool, true, false, not, List, [], ◌∷◌, ◌≡◌, ◌==◌, ◌&&◌, ◌||◌, ⊤, if◌then◌else◌, length, Option, Some, None, IfSome}
+use Rattle.std.specs.Prelude.{ℕ, Bool, true, false, not, List, [], ◌∷◌, ◌≡◌, ◌==◌, ◌&&◌, ◌||◌, ⊤, if◌then◌else◌, length}
+use Rattle.std.specs.Prelude.{Option, Some, None, IfSome}
 use Rattle.tl_beat.specs.declared.beat.Beat.{Beat}
 use Rattle.tl_beat.specs.declared.beat.Beat.TheVariants as beat
 use Rattle.tl_beat.specs.declared.beat.Link.{Link}
@@ -9,24 +10,30 @@ use Rattle.tl_beat.specs.statement.First.{first_if}
 use Rattle.tl_beat.specs.statement.Opcode.{c_carries_data}
 use Rattle.tl_burst.specs.statement.Messages.{History, breaks_burst, channel_of, unfinished}
 use Rattle.tl_params.specs.declared.key.Key.{Key}
-use Rattle.tl_params.specs.declared.key.Key.TheVariants.{RequestSource, ReleaseSource, AcquireOf, ReleaseOf, GrantSink, GrantAckOf, ProbeOf}
+use Rattle.tl_params.specs.declared.key.Key.TheVariants.{RequestSource, ReleaseSource, AcquireOf, ReleaseOf, GrantSink}
+use Rattle.tl_params.specs.declared.key.Key.TheVariants.{GrantAckOf, ProbeOf}
 use Rattle.tl_params.specs.declared.perm.Perm.{Perm}
 use Rattle.tl_params.specs.declared.perm.Perm.TheVariants as perm
 use Rattle.tl_params.specs.declared.profile.Profile.{Profile}
 use Rattle.tl_params.specs.declared.rule.Rule.{Rule}
 use Rattle.tl_params.specs.declared.rule.Rule.TheVariants.{S1, H1, H2, H3, H4, H5, H6, H7, H8, H9, H10, H11, H12, H13}
 use Rattle.tl_params.specs.statement.Param.{cap_of, prune_of}
-use Rattle.tl_rules.specs.statement.Conformance.{Trace, on_link, answers, answers_wrong_probe, comes_in_grant, comes_in_release, comes_in_request, fits_grow, grows_from, has_request}
-use Rattle.tl_rules.specs.statement.Conformance.{is_acquire_block, is_grant_without_data, is_probe_block, is_report_at, misgrants, misreports}
+use Rattle.tl_rules.specs.statement.Conformance.{Trace, on_link, answers, answers_wrong_probe, comes_in_grant}
+use Rattle.tl_rules.specs.statement.Conformance.{comes_in_release, comes_in_request, fits_grow, grows_from, has_request}
+use Rattle.tl_rules.specs.statement.Conformance.{is_acquire_block, is_grant_without_data, is_probe_block, is_report_at}
+use Rattle.tl_rules.specs.statement.Conformance.{misgrants, misreports}
 use Rattle.tl_rules.specs.statement.Conformance.{prunes_from, same_perm, size_asked}
-use Rattle.tl_rules.specs.statement.History.{begins, block_at, held, is_acquire, is_grant, is_probe, is_probe_ack, is_release, is_release_ack}
+use Rattle.tl_rules.specs.statement.History.{begins, block_at, held, is_acquire, is_grant, is_probe, is_probe_ack}
+use Rattle.tl_rules.specs.statement.History.{is_release, is_release_ack}
 use Rattle.tl_rules.specs.statement.History.{pending, probe_of, request_of}
 use Rattle.tl_beat.specs.statement.Control.{control_of, has_control}
 use Rattle.tl_beat.specs.declared.control.Control.{Control}
 use Rattle.tl_beat.specs.declared.control.Control.TheVariants as control
 use Rattle.tl_explain.specs.declared.reason.Held.{Held}
 use Rattle.tl_explain.specs.declared.reason.Reason.{Reason}
-use Rattle.tl_explain.specs.declared.reason.Reason.TheVariants.{Pending, Never, Closed, Unfinished, OtherKind, OtherSize, WrongCap, WithoutData, Probed, Holds, WrongProbe, Misreport, Differs}
+use Rattle.tl_explain.specs.declared.reason.Reason.TheVariants.{Pending, Never, Closed, Unfinished, OtherKind}
+use Rattle.tl_explain.specs.declared.reason.Reason.TheVariants.{OtherSize, WrongCap, WithoutData, Probed, Holds}
+use Rattle.tl_explain.specs.declared.reason.Reason.TheVariants.{WrongProbe, Misreport, Differs}
 use Rattle.tl_explain.specs.declared.told.Mention.{Mention}
 use Rattle.tl_explain.specs.declared.told.Told.{Told}
 use Rattle.tl_explain.specs.declared.turns.Subject.{Subject}
@@ -47,14 +54,18 @@ breaks_at_first p H5 (beat.A x) t = is_acquire x.opcode && not (grows_from x.par
 breaks_at_first p H6 (beat.D x) t = is_grant x.opcode && misgrants p x (request_of x.source t) t
 breaks_at_first p H7 (beat.D x) t = is_grant x.opcode && pending (GrantSink x.sink) t
 breaks_at_first p H8 (beat.E x) t = not (pending (GrantSink x.sink) t) || comes_in_grant x.sink (unfinished channel.D t)
-breaks_at_first p H9 (beat.B x) t = is_probe x.opcode && (pending (ProbeOf (block_at x.address)) t || pending (GrantAckOf (block_at x.address)) t)
+breaks_at_first p H9 (beat.B x) t =
+    is_probe x.opcode && (pending (ProbeOf (block_at x.address)) t || pending (GrantAckOf (block_at x.address)) t)
 breaks_at_first p H10 (beat.C x) t =
-    is_probe_ack x.opcode && (not (pending (ProbeOf (block_at x.address)) t) || answers_wrong_probe x (probe_of (block_at x.address) t))
+    is_probe_ack x.opcode && (not (pending (ProbeOf (block_at x.address)) t) || answers_wrong_probe x
+    (probe_of (block_at x.address) t))
 breaks_at_first p H11 (beat.C x) t = is_probe_ack x.opcode && pending (ReleaseOf (block_at x.address)) t
-breaks_at_first p H12 (beat.C x) t = is_probe_ack x.opcode && misreports x (probe_of (block_at x.address) t) (held (block_at x.address) t)
+breaks_at_first p H12 (beat.C x) t = is_probe_ack x.opcode && misreports x (probe_of (block_at x.address) t)
+    (held (block_at x.address) t)
 breaks_at_first p H13 (beat.C x) t =
     is_release x.opcode && (pending (AcquireOf (block_at x.address)) t
-    || (pending (ReleaseOf (block_at x.address)) t || not (prunes_from (prune_of x.param) (held (block_at x.address) t))))
+    || (pending (ReleaseOf (block_at x.address)) t || not
+    (prunes_from (prune_of x.param) (held (block_at x.address) t))))
 breaks_at_first _ _ _ _ = false
 
 -- the H rules in their order
@@ -109,17 +120,21 @@ comes_in (ReleaseSource s) burst = comes_in_release s burst
 comes_in (GrantSink s) burst = comes_in_grant s burst
 comes_in _ burst = false
 
--- of the message that opened the key, which is told of, so many beats have come, and not all: a burst is unfinished that
+-- of the message that opened the key, which is told of, so many beats have come, and not all: a burst is unfinished
+-- that
 -- began in its line, the newest beat of which opens the key as well
 abbrev pub IsUnfinished : {w : ℕ} → ℕ → Key → Mention → ℕ → Trace w → Type 0
 IsUnfinished {w} n k m came t =
-    (burst : List (Beat w)) × (first : Mention) × IsBurstSince n (opening_channel k) burst first t × (first.line ≡ m.line)
+    (burst : List (Beat w)) × (first : Mention) × IsBurstSince n (opening_channel k) burst first t
+    × (first.line ≡ m.line)
     × (came ≡ length burst) × (comes_in k burst ≡ true)
 
--- of the burst on a channel, the first beat of which is told of, so many beats have come, the newest of which is this one
+-- of the burst on a channel, the first beat of which is told of, so many beats have come, the newest of which is this
+-- one
 abbrev pub IsGoingOn : {w : ℕ} → ℕ → Channel → Mention → Control → ℕ → Trace w → Type 0
 IsGoingOn {w} n ch m c came t =
-    (newest : Beat w) × (others : List (Beat w)) × IsBurstSince n ch (newest ∷ others) m t × (came ≡ length (newest ∷ others)) × (c ≡ control_of newest)
+    (newest : Beat w) × (others : List (Beat w)) × IsBurstSince n ch (newest ∷ others) m t
+    × (came ≡ length (newest ∷ others)) × (c ≡ control_of newest)
 
 -- what a reason tells is so, of the beats t before the beat x of link n
 abbrev pub IsTold : {w : ℕ} → ℕ → Beat w → Reason → Trace w → Type 0
@@ -158,7 +173,8 @@ rule_of_pending (beat.B x) (GrantAckOf k) = first_if (is_probe x.opcode && (bloc
 rule_of_pending (beat.C x) (ReleaseSource s) = first_if (is_release x.opcode && (x.source == s)) H1 None
 rule_of_pending (beat.C x) (AcquireOf k) = first_if (is_release x.opcode && (block_at x.address == k)) H13 None
 rule_of_pending (beat.C x) (ReleaseOf k) =
-    first_if (is_release x.opcode && (block_at x.address == k)) H13 (first_if (is_probe_ack x.opcode && (block_at x.address == k)) H11 None)
+    first_if (is_release x.opcode && (block_at x.address == k)) H13
+    (first_if (is_probe_ack x.opcode && (block_at x.address == k)) H11 None)
 rule_of_pending (beat.D x) (GrantSink s) = first_if (is_grant x.opcode && (x.sink == s)) H7 None
 rule_of_pending _ _ = None
 
@@ -184,8 +200,10 @@ rule_of_kind _ _ = None
 
 -- the request, or for a ReleaseAck the Release, has another size
 abbrev pub rule_of_size : {w : ℕ} → Beat w → Control → Option Rule
-rule_of_size (beat.D x) (control.A r) = first_if (not (is_release_ack x.opcode) && ((x.source == r.source) && not (x.size == r.size))) H3 None
-rule_of_size (beat.D x) (control.C r) = first_if (is_release_ack x.opcode && ((x.source == r.source) && not (x.size == r.size))) H3 None
+rule_of_size (beat.D x) (control.A r) =
+    first_if (not (is_release_ack x.opcode) && ((x.source == r.source) && not (x.size == r.size))) H3 None
+rule_of_size (beat.D x) (control.C r) =
+    first_if (is_release_ack x.opcode && ((x.source == r.source) && not (x.size == r.size))) H3 None
 rule_of_size _ _ = None
 
 -- the request may not be given this cap
@@ -197,7 +215,8 @@ rule_of_cap p _ _ = None
 -- the request wants data, where this is held
 abbrev pub rule_of_data : {w : ℕ} → Beat w → Control → Perm → Option Rule
 rule_of_data (beat.D x) (control.A r) p =
-    first_if (is_grant_without_data x.opcode && (is_acquire_block r.opcode && ((x.source == r.source) && not (same_perm p perm.Branch)))) H6 None
+    first_if (is_grant_without_data
+    x.opcode && (is_acquire_block r.opcode && ((x.source == r.source) && not (same_perm p perm.Branch)))) H6 None
 rule_of_data _ _ p = None
 
 -- a Probe of the request's block is pending
@@ -215,16 +234,19 @@ rule_of_held _ p = None
 -- the Probe that is answered with data asks for none
 abbrev pub rule_of_probe : {w : ℕ} → Beat w → Control → Option Rule
 rule_of_probe (beat.C x) (control.B y) =
-    first_if (is_probe_ack x.opcode && ((block_at x.address == block_at y.address) && (c_carries_data x.opcode && not (is_probe_block y.opcode)))) H10 None
+    first_if (is_probe_ack x.opcode && ((block_at x.address == block_at y.address) && (c_carries_data x.opcode && not
+    (is_probe_block y.opcode)))) H10 None
 rule_of_probe _ _ = None
 
 -- the report to the Probe is another, where this is held
 abbrev pub rule_of_report : {w : ℕ} → Beat w → Control → Perm → Option Rule
 rule_of_report (beat.C x) (control.B y) p =
-    first_if (is_probe_ack x.opcode && ((block_at x.address == block_at y.address) && not (is_report_at x.param (cap_of y.param) p))) H12 None
+    first_if (is_probe_ack x.opcode && ((block_at x.address == block_at y.address) && not
+    (is_report_at x.param (cap_of y.param) p))) H12 None
 rule_of_report _ _ p = None
 
--- The rule that a beat breaks where what a reason tells is so: the beat and the reason alone say it. None where it says nothing.
+-- The rule that a beat breaks where what a reason tells is so: the beat and the reason alone say it. None where it says
+-- nothing.
 abbrev pub convicted : {w : ℕ} → Profile → Beat w → Reason → Option Rule
 convicted p x (Pending k m) = rule_of_pending x k
 convicted p x (Never k) = rule_of_missing x k
@@ -239,6 +261,13 @@ convicted p x (Holds h) = rule_of_held x h.perm
 convicted p x (WrongProbe probe) = rule_of_probe x probe.mention.control
 convicted p x (Misreport probe h) = rule_of_report x probe.mention.control h.perm
 convicted p x (Differs b) = first_if (not (has_control x b.newest)) S1 None
+
+-- the rules of which a reason is told wherever they are the first that a beat breaks
+abbrev pub is_always_told : Rule → Bool
+is_always_told H3 = true
+is_always_told H6 = true
+is_always_told H12 = true
+is_always_told _ = false
 
 -- ---- what is recorded for a verdict
 

@@ -116,7 +116,7 @@ static void what_is_refused(void) {
   tl_beat answer = {.channel = TL_CHANNEL_D, .opcode = TL_D_AccessAck, .size = 3, .source = 1};
   want(tl_client_stalls(&client, &answer, &told).code == TL_OK && told == 0, "a response never waits");
   tl_answer refused = tl_client_offer(&client, &answer, &reception);
-  want(refused.code == TL_BROKEN && refused.rule != TL_NO_RULE, "a response to nothing is refused");
+  want(refused.code == TL_BROKEN && refused.rule == TL_H2, "a response to nothing is refused");
   want(tl_client_closed(&client, &told).code == TL_OK && told == 1, "by which the link is closed");
   tl_client_free(&client);
   tl_client_free(&client);

@@ -19,12 +19,15 @@ turned false true e = refl
 turned false false e = e
 
 -- there is no reason where neither is one
-pub no_reason : (r : Option Busy) (x y : Bool) → r ≡ first_if x B4 (first_if y B5 None) → not (is_some r) ≡ (not x && not y)
+pub no_reason : (r : Option Busy) (x y : Bool) → r ≡ first_if x B4 (first_if y B5 None)
+    → not (is_some r) ≡ (not x && not y)
 no_reason r true y e = rw e refl
 no_reason r false true e = rw e refl
 no_reason r false false e = rw e refl
 
 -- that of the client's terms
-pub by_terms : {w : ℕ} (config : Config) (client : ℕ) (c : ClientConfig) (op : Op w) (b : Bool) → slice_get config.clients.items client ≡ Some c
-    → b ≡ (not (breaks_b4 c.level op) && not (nat_le config.blocks (op_block op) || not (is_formed c.level op))) → b ≡ has_operation (terms_at config client) op
+pub by_terms : {w : ℕ} (config : Config) (client : ℕ) (c : ClientConfig) (op : Op w) (b : Bool)
+    → slice_get config.clients.items client ≡ Some c
+    → b ≡ (not (breaks_b4 c.level op) && not (nat_le config.blocks (op_block op) || not (is_formed c.level op)))
+    → b ≡ has_operation (terms_at config client) op
 by_terms config client c op b is e = rw is e

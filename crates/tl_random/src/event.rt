@@ -17,7 +17,8 @@ use tl_schedule::line::{Line, read_event};
 /// Whether a level has an operation on a map of this many blocks, of the form of its kind.
 fn level_has<const W: usize>(level: Level, blocks: u16, operation: &Op<W>) -> bool
     requires { IsWidth W }
-    ensures { result ≡ (not (breaks_b4 level operation.now) && not (nat_le blocks (op_block operation.now) || not (is_formed level operation.now))) }
+    ensures { result ≡ (not (breaks_b4 level operation.now)
+        && not (nat_le blocks (op_block operation.now) || not (is_formed level operation.now))) }
 {
     check(level, blocks, operation).is_none()
 }

@@ -37,7 +37,8 @@ pub(crate) fn append_schedule_header(
     config: &Config,
     out: &mut Vec<u8>,
 ) -> Result<(), AllocError>
-    ensures { OnOk result (out.new.items ≡ out.old.items ++ schedule_line version config.now.blocks config.now.trackers config.now.clients.items) }
+    ensures { OnOk result (out.new.items ≡ out.old.items
+        ++ schedule_line version config.now.blocks config.now.trackers config.now.clients.items) }
 {
     out.extend_from_slice(b"tlsched ")?;
     append_version(version, out)?;

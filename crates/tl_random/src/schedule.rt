@@ -25,7 +25,8 @@ fn write_lines<const BYTES: usize, W: Write>(
     requires width { IsWidth BYTES }
     requires fits { config_fault options.now.config ≡ None }
     requires profile { options.now.config.profile ≡ profile_of options.now.version }
-    ensures { OnOk result (WritesSchedule BYTES options.now.version options.now.config options.now.events (W.contents writer.old) (W.contents writer.new)) }
+    ensures { OnOk result (WritesSchedule BYTES options.now.version options.now.config options.now.events
+        (W.contents writer.old) (W.contents writer.new)) }
 {
     let mut generator = Generator::<BYTES>::new(alloc, options.seed, &options.config)?;
     let mut out = Vec::new(alloc);
@@ -50,7 +51,9 @@ pub fn write_schedule<W: Write>(
 ) -> Result<(), ToolFault>
     requires fits { config_fault options.now.config ≡ None }
     requires profile { options.now.config.profile ≡ profile_of options.now.version }
-    ensures { OnOk result (WritesSchedule (bytes_of (width_of options.now.version)) options.now.version options.now.config options.now.events (W.contents writer.old) (W.contents writer.new)) }
+    ensures { OnOk result (WritesSchedule (bytes_of (width_of options.now.version))
+        options.now.version options.now.config options.now.events
+        (W.contents writer.old) (W.contents writer.new)) }
 {
     match options.version.width() {
         Width::Four => write_lines::<4, W>(alloc, options, writer),

@@ -1,6 +1,7 @@
 -- What a random schedule is.
 use Rattle.std.specs.Io.KnownBytes.{Appends}
-use Rattle.std.specs.Prelude.{◌≡◌, ℕ, zero, suc, Bool, false, not, ◌&&◌, List, [], ◌++◌, length, nat_lt, Option, Some, None, ⊤, IsTrue}
+use Rattle.std.specs.Prelude.{◌≡◌, ℕ, zero, suc, Bool, false, not, ◌&&◌, List, [], ◌++◌, length, nat_lt, Option, Some}
+use Rattle.std.specs.Prelude.{None, ⊤, IsTrue}
 use Rattle.tl_client.specs.statement.Ask.{breaks_b4, breaks_b5}
 use Rattle.tl_client.specs.statement.Endpoint.{EndConfig}
 use Rattle.tl_client.specs.declared.operation.Op.{Op}
@@ -64,4 +65,5 @@ pub record IsScheduleOf (w : ℕ) (version : Version) (config : Config) (n : ℕ
 
 -- the whole of such a schedule was written
 abbrev pub WritesSchedule : ℕ → Version → Config → ℕ → Option (List ℕ) → Option (List ℕ) → Type 0
-WritesSchedule w version config n old new = (text : List ℕ) × IsScheduleOf w version config n text × Appends old new text
+WritesSchedule w version config n old new = (text : List ℕ) × IsScheduleOf w version config n text
+    × Appends old new text

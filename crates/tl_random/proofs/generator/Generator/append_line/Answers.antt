@@ -10,4 +10,5 @@ returns g c = grows_drain g.row.W c.args.options.now.config _ _ _ _ c.loop.invar
 
 pub returns-then-takes : goal.returns-then-takes
 returns-then-takes g c =
-    grows_event c.args.options.now.config _ _ _ _ _ c.in-Some.event _ c.loop.invariant c.extend_from_slice.ensures.items c.in-Some.ensures.spelled c.in-Some.ensures.of_world (search rules)
+    grows_event c.args.options.now.config _ _ _ _ _ c.in-Some.event _ c.loop.invariant c.extend_from_slice.ensures.items
+    c.in-Some.ensures.spelled c.in-Some.ensures.of_world (search rules)

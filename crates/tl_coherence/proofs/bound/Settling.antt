@@ -1,5 +1,5 @@
--- Deliveries move no more beats than the load before them; and the next ones, one after another, end what is
--- outstanding.
+-- Deliveries move no more beats than the load before them; and the next ones, one after another, end
+-- what is outstanding.
 use Rattle.tl_coherence.proofs.bound.Imports.{Link, Channel, Config, Deliver, is_moving, Log, system_after, stepped}
 use Rattle.std.proofs.Common.{◌≡◌, ℕ, zero, suc, ◌+◌, ◌≤◌, Bool, true, false, [], ◌∷◌, ◌++◌, Option, Some, None, length}
 use Rattle.std.proofs.Common.{refl, sym, ◌∙◌, ap, subst, arith}

@@ -72,8 +72,8 @@ plain_end {w} y e last plain = last_end y e last ∙ ended_plain y.opcode y _ (r
 
 -- ---- the end afterwards
 
--- the beat is taken; the end is that of the protocol as it was, or after its event where the beat is the last of its
--- message
+-- the beat is taken; the end is that of the protocol as it was, or after its event where the beat is
+-- the last of its message
 pub record IsTakenBy {w : ℕ} (config : Config) (terms : EndConfig) (tracker c : ℕ) (h : AbstractState w) (x : Beat w)
     (e : Endpoint w) : Type 0 where
   pub takes : offered terms channel.D x e ≡ taken x e

@@ -1,5 +1,5 @@
--- A Probe that is delivered to a client waits for its Release, or is taken, and the client's end is then that of the
--- protocol.
+-- A Probe that is delivered to a client waits for its Release, or is taken, and the client's end is
+-- then that of the protocol.
 use Rattle.tl_coherence.proofs.client.Imports.{IsWidth, Beat, BeatA, OpD, Message, MessageA, MessageD, beat_of}
 use Rattle.tl_coherence.proofs.client.Imports.{unfinished, completes, Config, ReleaseOf, Level, Cap, Rule, is_outside}
 use Rattle.tl_coherence.proofs.client.Imports.{is_grant, pending, illegal, EndConfig, Endpoint, held_at, Offered}

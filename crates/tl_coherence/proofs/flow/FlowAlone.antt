@@ -1,5 +1,5 @@
--- What is delivered on a link, as a Probe or a GrantAck is: messages of one beat, which leave requests and Releases
--- alone.
+-- What is delivered on a link, as a Probe or a GrantAck is: messages of one beat, which leave requests
+-- and Releases alone.
 use Rattle.tl_coherence.proofs.flow.Imports.{Beat, BeatA, BeatE, Channel, History, on, grown, Cap, comes_in_grant}
 use Rattle.tl_coherence.proofs.flow.Imports.{begins, ends, block_at, release_of, probe_of, grant_sink, MonitorRelation}
 use Rattle.tl_coherence.proofs.flow.Imports.{is_requested, is_let_by, is_sunk, is_of, is_busy, comes_granting, View}

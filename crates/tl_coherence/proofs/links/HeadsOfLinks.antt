@@ -1,5 +1,5 @@
--- The first beat of each channel of a client's link: it is one of the channel, no rule refuses it, and on channel B it
--- is a Probe.
+-- The first beat of each channel of a client's link: it is one of the channel, no rule refuses it, and
+-- on channel B it is a Probe.
 use Rattle.tl_coherence.proofs.links.Imports.{IsWidth, Beat, Channel, Message, beat_of, channel_of, unfinished, Config}
 use Rattle.tl_coherence.proofs.links.Imports.{Verdict, EndConfig, AbstractState, Log, system_after, packet, is_on}
 use Rattle.tl_coherence.proofs.links.Imports.{message_of_kind, block_message, System, terms_at, Kind, Request, Acquire}

@@ -1,5 +1,5 @@
--- Clients that pass a test, as the manager finds them and as the protocol does; and which source a request that waits
--- has.
+-- Clients that pass a test, as the manager finds them and as the protocol does; and which source a
+-- request that waits has.
 use Rattle.tl_coherence.proofs.manager.Imports.{Config, Cap, is_nobody, some_below, IsInvariant, Own, Waits, State}
 use Rattle.tl_coherence.proofs.manager.Imports.{Acquires, InService, view, is_wanting, is_caching}
 use Rattle.std.proofs.Common.{◌≡◌, ℕ, zero, suc, ◌<◌, ◌≤◌, Bool, true, false, not, ◌||◌, List, [], ◌∷◌, length, refl}

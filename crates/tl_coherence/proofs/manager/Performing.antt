@@ -1,5 +1,5 @@
--- What the manager knows after a request that is performed at once: an access that is answered, an Acquire that is
--- granted.
+-- What the manager knows after a request that is performed at once: an access that is answered, an
+-- Acquire that is granted.
 use Rattle.tl_coherence.proofs.manager.Imports.{beats-positive, Message, A, D, MessageA, MessageD, a_beat_of, beats_of}
 use Rattle.tl_coherence.proofs.manager.Imports.{unfinished, Config, ProbeOf, Cap, cap_right, Trace, on_link, Memory}
 use Rattle.tl_coherence.proofs.manager.Imports.{effect, answer_of, pending, held, block_at, is_acquire, is_grant}

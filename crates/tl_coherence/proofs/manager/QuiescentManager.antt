@@ -1,5 +1,5 @@
--- Beats and answers after which the manager's end says the same of all but what is recorded and which ProbeAcks are
--- missing.
+-- Beats and answers after which the manager's end says the same of all but what is recorded and which
+-- ProbeAcks are missing.
 use Rattle.tl_coherence.proofs.manager.Imports.{IsWidth, BeatC, Link, D, MessageA, MessageD, unfinished, Perm, Trace}
 use Rattle.tl_coherence.proofs.manager.Imports.{on_link, ends, block_at, is_grant, is_probe_ack, is_release}
 use Rattle.tl_coherence.proofs.manager.Imports.{is_release_ack, pending, probe_of, reported, request_of, held}

@@ -1,5 +1,5 @@
--- The one-memory machine beside the protocol after a beat of a request is taken: an access that is answered is
--- performed.
+-- The one-memory machine beside the protocol after a beat of a request is taken: an access that is
+-- answered is performed.
 use Rattle.tl_coherence.proofs.memory.Imports.{Message, MessageA, Config, Cap, block_at, Memory, effect, cap_probed}
 use Rattle.tl_coherence.proofs.memory.Imports.{IsAccess, MemoryRelation, AbstractState, bytes_at, some_below, Log}
 use Rattle.tl_coherence.proofs.memory.Imports.{Machine, Requests, AcquireOpen, Block, is_probed, accesses_answered}

@@ -1,5 +1,5 @@
--- The one-memory machine beside the protocol, after a message that is taken: which accesses are performed, and which
--- operation ends.
+-- The one-memory machine beside the protocol, after a message that is taken: which accesses are
+-- performed, and which operation ends.
 use Rattle.tl_coherence.proofs.memory.Imports.{OpA, Message, MessageA, Config, Cap, Memory, IsBlock, effect, block_at}
 use Rattle.tl_coherence.proofs.memory.Imports.{same_perm, cap_probed, IsAccess, MemoryRelation, some_below, bytes_at}
 use Rattle.tl_coherence.proofs.memory.Imports.{performs, Machine, Open, Requests, with_memory, ClientBlock, Block}

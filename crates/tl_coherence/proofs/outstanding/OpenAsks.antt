@@ -1,5 +1,5 @@
--- What is open after a client is asked: an operation that starts opens a request or a Release, with a source that was
--- free.
+-- What is open after a client is asked: an operation that starts opens a request or a Release, with a
+-- source that was free.
 use Rattle.tl_coherence.proofs.outstanding.Imports.{Config, block_at, EndConfig, AbstractState, starts_request}
 use Rattle.tl_coherence.proofs.outstanding.Imports.{starts_release, Log, is_used, is_let, State, SourceState}
 use Rattle.tl_coherence.proofs.outstanding.Imports.{SourceFree, Asked, Acquires, packet, System, terms_at, Request}

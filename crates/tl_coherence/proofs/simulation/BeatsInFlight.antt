@@ -1,5 +1,5 @@
--- Each beat on a channel is sound, and has the lanes of its width: of those that stay, and of those that are handed
--- out.
+-- Each beat on a channel is sound, and has the lanes of its width: of those that stay, and of those
+-- that are handed out.
 use Rattle.tl_coherence.proofs.simulation.Imports.{IsWidth, Beat, Channel, Message, beats_of, Config, Report, Rule}
 use Rattle.tl_coherence.proofs.simulation.Imports.{unfinished, block_at, Op, Verdict, IsTypedOp, EndConfig, Offered}
 use Rattle.tl_coherence.proofs.simulation.Imports.{System, same_channel, channel_of_message, terms_at, with_channel}

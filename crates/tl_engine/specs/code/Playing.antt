@@ -66,8 +66,8 @@ KnowsSchedule {n} (Four world) lines text = KnowsPlay (is_trace n) world lines t
 KnowsSchedule {n} (Eight world) lines text = KnowsPlay (is_trace n) world lines text
 KnowsSchedule {n} (Sixteen world) lines text = KnowsPlay (is_trace n) world lines text
 
--- what the first line begins: a handler that knows the header, whose text was appended, or none where it spells
--- no header
+-- what the first line begins: a handler that knows the header, whose text was appended, or none where
+-- it spells no header
 abbrev pub Opens : {n : ℕ} → List ℕ → List ℕ → List ℕ → Option (RunLines n) → Type 0
 Opens line was is None = ((version : Version) (config : Config) → ¬ HeadsSchedule line version config) × (is ≡ was)
 Opens {n} line was is (Some run_lines) = (text : List ℕ) × (is ≡ was ++ text) × KnowsSchedule run_lines (line ∷ []) text

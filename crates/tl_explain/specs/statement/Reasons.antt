@@ -121,16 +121,14 @@ comes_in (GrantSink s) burst = comes_in_grant s burst
 comes_in _ burst = false
 
 -- of the message that opened the key, which is told of, so many beats have come, and not all: a burst is unfinished
--- that
--- began in its line, the newest beat of which opens the key as well
+-- that began in its line, the newest beat of which opens the key as well
 abbrev pub IsUnfinished : {w : ℕ} → ℕ → Key → Mention → ℕ → Trace w → Type 0
 IsUnfinished {w} n k m came t =
     (burst : List (Beat w)) × (first : Mention) × IsBurstSince n (opening_channel k) burst first t
     × (first.line ≡ m.line)
     × (came ≡ length burst) × (comes_in k burst ≡ true)
 
--- of the burst on a channel, the first beat of which is told of, so many beats have come, the newest of which is this
--- one
+-- of the burst on a channel, the first beat of which is told of, so many beats have come, this one the newest
 abbrev pub IsGoingOn : {w : ℕ} → ℕ → Channel → Mention → Control → ℕ → Trace w → Type 0
 IsGoingOn {w} n ch m c came t =
     (newest : Beat w) × (others : List (Beat w)) × IsBurstSince n ch (newest ∷ others) m t
@@ -245,8 +243,8 @@ rule_of_report (beat.C x) (control.B y) p =
     (is_report_at x.param (cap_of y.param) p))) H12 None
 rule_of_report _ _ p = None
 
--- The rule that a beat breaks where what a reason tells is so: the beat and the reason alone say it. None where it says
--- nothing.
+-- The rule that a beat breaks where what a reason tells is so: the beat and the reason alone say it.
+-- None where it says nothing.
 abbrev pub convicted : {w : ℕ} → Profile → Beat w → Reason → Option Rule
 convicted p x (Pending k m) = rule_of_pending x k
 convicted p x (Never k) = rule_of_missing x k

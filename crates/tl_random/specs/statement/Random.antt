@@ -18,8 +18,8 @@ use Rattle.tl_engine.specs.statement.Played.{HeadsSchedule}
 
 -- ---- an event of the world that a configuration names
 
--- a client of these terms, if there is one, has the operation at its level (B4), inside of the map and well
--- formed (B5)
+-- a client of these terms, if there is one, has the operation at its level (B4), inside of the map and
+-- well formed (B5)
 abbrev pub has_operation : {w : ℕ} → Option EndConfig → Op w → Bool
 has_operation None op = false
 has_operation (Some terms) op = not (breaks_b4 terms.level op) && not (breaks_b5 terms op)

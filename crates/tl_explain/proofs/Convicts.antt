@@ -1,6 +1,6 @@
 -- From the evidence of a reason and the beat alone, the rule is broken.
-use Rattle.std.proofs.Common.{◌≡◌, ℕ, ◌+◌, ◌<◌, ◌≤◌, ◌==◌, ◌&&◌, ◌||◌, ◌++◌, List, [], ◌∷◌, length, true, false, Bool}
-use Rattle.std.proofs.Common.{not, refl, sym, ap, ap₂, ◌∙◌, arith, subst, append-nil}
+use Rattle.std.proofs.Common.{◌≡◌, ℕ, ◌<◌, ◌==◌, ◌&&◌, ◌||◌, ◌++◌, List, [], ◌∷◌, true, false, Bool}
+use Rattle.std.proofs.Common.{not, refl, sym, ap, ◌∙◌, arith, subst, append-nil}
 use Rattle.std.specs.Prelude.{Option, Some, None, if◌then◌else◌, nat_le}
 use Rattle.std.proofs.lemmas.Bool.{eqb-true}
 use Rattle.tl_beat.specs.declared.beat.Beat.{Beat}
@@ -29,8 +29,8 @@ use Rattle.tl_params.specs.statement.Param.{cap_of, prune_of}
 use Rattle.tl_rules.specs.statement.Conformance.{Trace, on_link, answers, fits_grow, grows_from, is_acquire_block}
 use Rattle.tl_rules.specs.statement.Conformance.{is_grant_without_data, is_probe_block, is_report_at, prunes_from}
 use Rattle.tl_rules.specs.statement.Conformance.{same_perm}
-use Rattle.tl_rules.specs.statement.Conformance.{comes_in_grant, comes_in_release, comes_in_request, has_request}
-use Rattle.tl_rules.specs.statement.Conformance.{misgrants, misreports, answers_wrong_probe, size_asked}
+use Rattle.tl_rules.specs.statement.Conformance.{comes_in_grant, comes_in_release, comes_in_request}
+use Rattle.tl_rules.specs.statement.Conformance.{misgrants}
 use Rattle.tl_rules.specs.statement.History.{begins, block_at, held, opens, pending, probe_of, release_of, request_of}
 use Rattle.tl_rules.specs.statement.History.{is_acquire, is_grant, is_probe, is_probe_ack, is_release, is_release_ack}
 use Rattle.tl_beat.specs.statement.Control.{control_of, has_control}
@@ -45,10 +45,10 @@ use Rattle.tl_explain.specs.declared.reason.Reason.TheVariants.{Pending, Never, 
 use Rattle.tl_explain.specs.declared.reason.Reason.TheVariants.{OtherSize, WrongCap, WithoutData, Probed, Holds}
 use Rattle.tl_explain.specs.declared.reason.Reason.TheVariants.{WrongProbe, Misreport, Differs}
 use Rattle.tl_explain.specs.declared.told.Mention.{Mention}
-use Rattle.tl_explain.specs.statement.Evidence.{is_closing, is_open, is_opening, last_closing, last_opening, last_where}
-use Rattle.tl_explain.specs.statement.Evidence.{mention_of, told}
-use Rattle.tl_explain.specs.statement.Reasons.{Breaks, IsEvidence, IsHeldOf, IsTold, IsUnanswered, IsUnfinished}
-use Rattle.tl_explain.specs.statement.Reasons.{answer_key, block_named, breaks_at_first, comes_in, convicted}
+use Rattle.tl_explain.specs.statement.Evidence.{is_closing, is_opening, last_where}
+use Rattle.tl_explain.specs.statement.Evidence.{mention_of}
+use Rattle.tl_explain.specs.statement.Reasons.{Breaks, IsEvidence, IsHeldOf, IsUnanswered}
+use Rattle.tl_explain.specs.statement.Reasons.{answer_key, block_named, comes_in, convicted}
 use Rattle.tl_explain.specs.statement.Reasons.{opening_channel, rule_of_missing, rule_of_pending, rule_of_unfinished}
 use Rattle.tl_explain.specs.statement.Reasons.{rule_of_kind, rule_of_size, rule_of_cap, rule_of_data, rule_of_probed}
 use Rattle.tl_explain.specs.statement.Reasons.{rule_of_held, rule_of_probe, rule_of_report}

@@ -1,5 +1,5 @@
 -- A recorder follows a trace by one more beat.
-use Rattle.std.proofs.Common.{◌≡◌, ℕ, ◌+◌, ◌==◌, ◌&&◌, ◌||◌, List, [], ◌∷◌, length, true, false, Bool, refl, sym, ap, ap₂, ◌∙◌, arith}
+use Rattle.std.proofs.Common.{◌≡◌, ℕ, ◌+◌, ◌==◌, ◌&&◌, List, [], ◌∷◌, length, true, false, Bool, refl, sym, ap, ap₂, ◌∙◌, arith}
 use Rattle.std.specs.Prelude.{Option, Some, None, is_some, is_none, if◌then◌else◌}
 use Rattle.tl_beat.specs.declared.beat.Beat.{Beat}
 use Rattle.tl_beat.specs.declared.beat.Beat.TheVariants as beat
@@ -13,7 +13,7 @@ use Rattle.tl_burst.specs.statement.Part.{completes, is_empty}
 use Rattle.tl_params.specs.declared.key.Key.{Key}
 use Rattle.tl_params.specs.declared.key.Key.TheVariants.{RequestSource, ReleaseSource, AcquireOf, ReleaseOf, GrantSink, GrantAckOf, ProbeOf}
 use Rattle.tl_rules.specs.statement.Conformance.{Trace, on_link}
-use Rattle.tl_rules.specs.statement.History.{begins, block_at, ends, opens, closes, says_held, is_grant, is_release, is_probe_ack, is_release_ack, asks_for, releases, request_of, release_of, grant_sink, is_sink}
+use Rattle.tl_rules.specs.statement.History.{begins, block_at, ends, opens, closes, says_held, is_grant, is_release_ack, asks_for, releases, request_of, release_of, grant_sink, is_sink}
 use Rattle.tl_beat.specs.statement.Control.{control_of}
 use Rattle.tl_beat.specs.declared.control.Control.{Control}
 use Rattle.tl_explain.specs.declared.told.Mention.{Mention}
@@ -29,7 +29,7 @@ use Rattle.tl_explain.specs.declared.recorder.Recorder.{Recorder}
 use Rattle.tl_beat.specs.declared.channel.Channel.{Channel}
 use Rattle.tl_beat.specs.declared.channel.Channel.TheVariants as channel
 use Rattle.tl_monitor.specs.code.Count.{at}
-use Rattle.tl_explain.specs.statement.Evidence.{is_opening, is_closing, is_saying, last_opening, last_closing, last_saying, last_where, burst_opening, mention_of, told}
+use Rattle.tl_explain.specs.statement.Evidence.{last_opening, last_saying, last_where, burst_opening, mention_of, told}
 use Rattle.tl_explain.specs.code.Recorded.{AreBlocks, AreTurns, IsBegun, IsMoment, IsRecord, IsTurn, asked_next, burst_after, burst_on, burst_with, channel_in, completes_burst, released_next, same_channel, block_asked, block_of, block_released, closes_by, is_number, opens_by, says_by, sink_by, sink_in}
 
 -- ---- the block of an answer

@@ -1,11 +1,10 @@
 -- Where a rule is the first that a beat breaks, a reason is told.
-use Rattle.std.proofs.Common.{◌≡◌, ℕ, ◌==◌, ◌&&◌, ◌||◌, List, [], ◌∷◌, true, false, Bool, not, refl, sym, ap, ap₂, ◌∙◌}
+use Rattle.std.proofs.Common.{◌≡◌, ℕ, ◌==◌, ◌&&◌, ◌||◌, true, false, Bool, not, refl, sym, ap, ap₂, ◌∙◌}
 use Rattle.std.proofs.Common.{arith, subst, inl, inr, ◌⊎◌}
-use Rattle.std.specs.Prelude.{Option, Some, None, IfSome, is_none, is_some, if◌then◌else◌}
+use Rattle.std.specs.Prelude.{Option, Some, None, is_none, is_some, if◌then◌else◌}
 use Rattle.tl_beat.specs.declared.beat.Beat.{Beat}
 use Rattle.tl_beat.specs.declared.beat.Beat.TheVariants as beat
 use Rattle.tl_beat.specs.declared.beat.BeatA.{BeatA}
-use Rattle.tl_beat.specs.declared.beat.BeatB.{BeatB}
 use Rattle.tl_beat.specs.declared.beat.BeatC.{BeatC}
 use Rattle.tl_beat.specs.declared.beat.BeatD.{BeatD}
 use Rattle.tl_beat.specs.declared.beat.Link.{Link}
@@ -26,7 +25,7 @@ use Rattle.tl_params.specs.declared.rule.Rule.{Rule}
 use Rattle.tl_params.specs.declared.rule.Rule.TheVariants.{A1, A2, A3, L1, L2, L3, L4, L5, L6, L7, S1, H1, H2, H3, H4}
 use Rattle.tl_params.specs.declared.rule.Rule.TheVariants.{H5, H6, H7, H8, H9, H10, H11, H12, H13}
 use Rattle.tl_params.specs.statement.Param.{cap_of, prune_of}
-use Rattle.tl_rules.specs.statement.Conformance.{Trace, on_link, answers, admits, fits_grow, grows_from}
+use Rattle.tl_rules.specs.statement.Conformance.{Trace, on_link, admits, fits_grow, grows_from}
 use Rattle.tl_rules.specs.statement.Conformance.{is_acquire_block, is_grant_without_data, is_report_at, prunes_from}
 use Rattle.tl_rules.specs.statement.Conformance.{same_perm}
 use Rattle.tl_rules.specs.statement.Conformance.{comes_in_release, comes_in_request, comes_in_grant, has_request}
@@ -35,7 +34,6 @@ use Rattle.tl_rules.specs.statement.Conformance.{broken_in_order, broken_order}
 use Rattle.tl_rules.specs.statement.History.{begins, block_at, held, opens, pending, probe_of, release_of, request_of}
 use Rattle.tl_rules.specs.statement.History.{is_acquire, is_grant, is_probe, is_probe_ack, is_release, is_release_ack}
 use Rattle.tl_beat.specs.statement.Control.{control_of}
-use Rattle.tl_beat.specs.declared.control.Control.{Control}
 use Rattle.tl_beat.specs.declared.control.Control.TheVariants as control
 use Rattle.tl_beat.specs.declared.control.ControlA.{ControlA}
 use Rattle.tl_beat.specs.declared.control.ControlB.{ControlB}
@@ -45,11 +43,11 @@ use Rattle.tl_explain.specs.declared.recorder.Recorder.{Recorder}
 use Rattle.tl_explain.specs.declared.told.Mention.{Mention}
 use Rattle.tl_explain.specs.declared.told.Told.{Told}
 use Rattle.tl_explain.specs.declared.turn.Turn.{Turn}
-use Rattle.tl_explain.specs.code.Chosen.{asked_by, for_answer, for_message, for_message_c, for_probe_ack, for_release}
+use Rattle.tl_explain.specs.code.Chosen.{asked_by, for_answer, for_message, for_message_c, for_probe_ack}
 use Rattle.tl_explain.specs.code.Chosen.{grant_by, grant_in, held_by, is_of_bursts, probed_by, reason_by, report_by}
-use Rattle.tl_explain.specs.code.Chosen.{report_in, size_by, size_in}
+use Rattle.tl_explain.specs.code.Chosen.{size_by}
 use Rattle.tl_explain.specs.code.Recorded.{IsBegun, IsRecord, IsTurn, burst_on, open_message}
-use Rattle.tl_explain.specs.statement.Evidence.{is_open, is_opening, last_saying, left_of, mention_of, told}
+use Rattle.tl_explain.specs.statement.Evidence.{is_open, last_saying, left_of, mention_of}
 use Rattle.tl_explain.specs.statement.Reasons.{HasBlockAsked, IsSubject, is_always_told}
 use Rattle.tl_explain.specs.statement.Since.{IsPendingSince}
 use Rattle.tl_explain.proofs.Convicts.{AskedSo, ProbedSo, ReleasedSo, asked_by_beat, asked_so, held_is, named}

@@ -1,22 +1,18 @@
 -- The messages that are told of stand at their places, and none behind them says otherwise.
-use Rattle.std.proofs.Common.{◌≡◌, ℕ, ◌+◌, ◌<◌, ◌≤◌, ◌==◌, ◌&&◌, ◌||◌, ◌++◌, List, [], ◌∷◌, length, true, false, Bool}
-use Rattle.std.proofs.Common.{refl, sym, ap, ◌∙◌, arith, append-nil}
-use Rattle.std.specs.Prelude.{Option, Some, None, is_some, if◌then◌else◌, nat_le, ⊤}
+use Rattle.std.proofs.Common.{◌≡◌, ℕ, ◌==◌, ◌++◌, [], ◌∷◌, true, false, Bool}
+use Rattle.std.proofs.Common.{refl, sym, ap, ◌∙◌, append-nil}
+use Rattle.std.specs.Prelude.{Option, Some, None, if◌then◌else◌}
 use Rattle.tl_beat.specs.declared.beat.Beat.{Beat}
 use Rattle.tl_beat.specs.declared.beat.Link.{Link}
-use Rattle.tl_burst.specs.statement.Messages.{carried_on, grown, on, unfinished}
-use Rattle.tl_burst.specs.statement.Part.{is_empty}
-use Rattle.tl_beat.specs.declared.channel.Channel.{Channel}
 use Rattle.tl_params.specs.declared.key.Key.{Key}
-use Rattle.tl_params.specs.declared.perm.Perm.{Perm}
 use Rattle.tl_rules.specs.statement.Conformance.{Trace, on_link}
-use Rattle.tl_rules.specs.statement.History.{begins, ends, opens, closes, pending, held}
+use Rattle.tl_rules.specs.statement.History.{pending}
 use Rattle.tl_explain.specs.declared.told.Mention.{Mention}
-use Rattle.tl_explain.specs.statement.Evidence.{is_open, is_opening, is_closing, is_saying, last_opening, last_closing}
-use Rattle.tl_explain.specs.statement.Evidence.{last_saying, last_where, burst_opening, left_of, told}
-use Rattle.tl_explain.specs.statement.Since.{HasNone, IsLast, IsLastIfAny, IsPendingSince, IsNeverOpened, IsClosedBy}
-use Rattle.tl_explain.specs.statement.Since.{IsHeldSince, IsBurstSince}
-use Rattle.tl_explain.proofs.Rests.{held_left, pending_open}
+use Rattle.tl_explain.specs.statement.Evidence.{is_opening, is_closing, is_saying, last_opening}
+use Rattle.tl_explain.specs.statement.Evidence.{last_saying, last_where, left_of, told}
+use Rattle.tl_explain.specs.statement.Since.{HasNone, IsLast, IsLastIfAny, IsPendingSince}
+use Rattle.tl_explain.specs.statement.Since.{IsHeldSince}
+use Rattle.tl_explain.proofs.Rests.{held_left}
 
 some_same : {A : Type 0} {x y : A} → Some x ≡ Some y → x ≡ y
 some_same e = cc

@@ -1,6 +1,6 @@
 -- What is told of a trace is so.
-use Rattle.std.proofs.Common.{◌≡◌, ℕ, ◌+◌, ◌<◌, ◌≤◌, ◌==◌, ◌&&◌, ◌||◌, ◌++◌, List, [], ◌∷◌, length, true, false, Bool, refl, sym, ap, ◌∙◌, arith}
-use Rattle.std.specs.Prelude.{Option, Some, None, IfSome, is_some, if◌then◌else◌, nat_le, unwrap_or}
+use Rattle.std.proofs.Common.{◌≡◌, ℕ, ◌+◌, ◌<◌, ◌≤◌, ◌==◌, ◌&&◌, ◌||◌, [], ◌∷◌, true, false, Bool, refl, sym, arith}
+use Rattle.std.specs.Prelude.{Option, Some, None, is_some, if◌then◌else◌, nat_le, unwrap_or}
 use Rattle.tl_beat.specs.declared.beat.Beat.{Beat}
 use Rattle.tl_beat.specs.declared.beat.Beat.TheVariants as beat
 use Rattle.tl_beat.specs.declared.beat.Link.{Link}
@@ -8,10 +8,10 @@ use Rattle.tl_burst.specs.statement.Messages.{History}
 use Rattle.tl_params.specs.declared.key.Key.{Key}
 use Rattle.tl_params.specs.declared.perm.Perm.{Perm}
 use Rattle.tl_rules.specs.statement.Conformance.{Trace, on_link}
-use Rattle.tl_rules.specs.statement.History.{begins, ends, opens, closes, pending, held, says_held, grants, is_probe_ack, is_release, block_at, reported, capped}
+use Rattle.tl_rules.specs.statement.History.{pending, held, says_held, grants, is_probe_ack, is_release, block_at, reported, capped}
 use Rattle.tl_beat.specs.statement.Control.{control_of}
 use Rattle.tl_explain.specs.declared.told.Mention.{Mention}
-use Rattle.tl_explain.specs.statement.Evidence.{is_open, is_opening, is_closing, is_saying, last_opening, last_closing, last_saying, last_where, left_by, left_of, next_line, told}
+use Rattle.tl_explain.specs.statement.Evidence.{is_open, last_opening, last_closing, last_saying, last_where, left_by, left_of, next_line, told}
 
 -- ---- what is told stands before
 

@@ -1,7 +1,7 @@
 -- What is told for a rule is so, and makes it broken.
-use Rattle.std.proofs.Common.{◌≡◌, ℕ, ◌+◌, ◌<◌, ◌≤◌, ◌==◌, ◌&&◌, ◌||◌, ◌++◌, List, [], ◌∷◌, length, true, false, Bool}
+use Rattle.std.proofs.Common.{◌≡◌, ℕ, ◌+◌, ◌<◌, ◌==◌, ◌&&◌, ◌++◌, List, [], ◌∷◌, length, true, false, Bool}
 use Rattle.std.proofs.Common.{not, refl, sym, ap, ap₂, ◌∙◌, arith, subst}
-use Rattle.std.specs.Prelude.{Option, Some, None, IfSome, is_some, is_none, if◌then◌else◌, nat_le, ⊤}
+use Rattle.std.specs.Prelude.{Option, Some, None, IfSome, is_none, if◌then◌else◌, nat_le}
 use Rattle.std.proofs.lemmas.Bool.{eqb-true}
 use Rattle.tl_beat.specs.declared.beat.Beat.{Beat}
 use Rattle.tl_beat.specs.declared.beat.Beat.TheVariants as beat
@@ -27,8 +27,8 @@ use Rattle.tl_params.specs.declared.rule.Rule.TheVariants.{H5, H6, H7, H8, H9, H
 use Rattle.tl_params.specs.statement.Param.{cap_of, prune_of}
 use Rattle.tl_rules.specs.statement.Conformance.{Trace, on_link, answers, fits_grow, grows_from, is_acquire_block}
 use Rattle.tl_rules.specs.statement.Conformance.{is_grant_without_data, is_probe_block, is_report_at, prunes_from}
-use Rattle.tl_rules.specs.statement.Conformance.{same_perm, comes_in_grant, comes_in_release, comes_in_request}
-use Rattle.tl_rules.specs.statement.History.{begins, block_at, opens, pending, is_acquire, is_grant, is_probe}
+use Rattle.tl_rules.specs.statement.Conformance.{same_perm}
+use Rattle.tl_rules.specs.statement.History.{begins, block_at, opens, is_acquire, is_grant, is_probe}
 use Rattle.tl_rules.specs.statement.History.{is_probe_ack, is_release, is_release_ack}
 use Rattle.tl_beat.specs.statement.Control.{control_of, has_control}
 use Rattle.tl_beat.specs.declared.control.Control.{Control}
@@ -48,13 +48,13 @@ use Rattle.tl_explain.specs.code.Chosen.{first_reason, held_by, pending_by, clos
 use Rattle.tl_explain.specs.code.Chosen.{missing_by, where_pending, where_missing, unless_held, kind_in, kind_by}
 use Rattle.tl_explain.specs.code.Chosen.{size_in, size_by, probed_by, grant_in, grant_by, probe_in, probe_by, report_in}
 use Rattle.tl_explain.specs.code.Chosen.{report_by, for_request, for_probe, for_release, for_probe_ack, for_message_c}
-use Rattle.tl_explain.specs.code.Chosen.{where_unasked, asked_by, for_answer, for_acknowledgement, for_message}
+use Rattle.tl_explain.specs.code.Chosen.{for_answer, for_acknowledgement, for_message}
 use Rattle.tl_explain.specs.code.Chosen.{differs_by, is_of_bursts, reason_by}
 use Rattle.tl_explain.specs.code.Recorded.{IsBegun, IsRecord, IsTurn, burst_on, open_message, opens_by}
-use Rattle.tl_explain.specs.statement.Evidence.{burst_opening, is_closing, is_open, is_opening, last_closing}
-use Rattle.tl_explain.specs.statement.Evidence.{last_opening, last_saying, left_of, mention_of, told}
-use Rattle.tl_explain.specs.statement.Reasons.{IsEvidence, IsGoingOn, is_of_messages, IsHeldOf, IsSubject, IsTold}
-use Rattle.tl_explain.specs.statement.Reasons.{IsUnanswered, IsUnfinished, answer_key, block_named, comes_in, convicted}
+use Rattle.tl_explain.specs.statement.Evidence.{burst_opening, is_closing, is_open, is_opening}
+use Rattle.tl_explain.specs.statement.Evidence.{last_saying, left_of, mention_of, told}
+use Rattle.tl_explain.specs.statement.Reasons.{IsEvidence, is_of_messages, IsSubject, IsTold}
+use Rattle.tl_explain.specs.statement.Reasons.{IsUnanswered, answer_key, block_named, comes_in, convicted}
 use Rattle.tl_explain.specs.statement.Reasons.{opening_channel, rule_of_held, rule_of_missing, rule_of_pending}
 use Rattle.tl_explain.specs.statement.Reasons.{rule_of_unfinished}
 use Rattle.tl_explain.specs.statement.Since.{IsBurstSince, IsHeldSince, IsPendingSince}

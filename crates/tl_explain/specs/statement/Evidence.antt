@@ -1,5 +1,5 @@
 -- What a verdict rests on: the messages of a trace that opened and closed a key, and the one that left what is held.
-use Rattle.std.specs.Prelude.{ℕ, Bool, true, false, List, [], ◌∷◌, ◌==◌, ◌&&◌, ◌+◌, if◌then◌else◌, length, nat_le}
+use Rattle.std.specs.Prelude.{ℕ, Bool, true, false, [], ◌∷◌, ◌==◌, ◌&&◌, ◌+◌, if◌then◌else◌, length, nat_le}
 use Rattle.std.specs.Prelude.{Option, Some, None, is_some}
 use Rattle.tl_beat.specs.declared.beat.Beat.{Beat}
 use Rattle.tl_beat.specs.declared.beat.Link.{Link}

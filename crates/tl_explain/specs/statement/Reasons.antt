@@ -1,5 +1,5 @@
 -- What a reason tells of a trace, and which rule a beat breaks by what is told.
-use Rattle.std.specs.Prelude.{ℕ, Bool, true, false, not, List, [], ◌∷◌, ◌≡◌, ◌==◌, ◌&&◌, ◌||◌, ⊤, if◌then◌else◌, length}
+use Rattle.std.specs.Prelude.{ℕ, Bool, true, false, not, List, [], ◌∷◌, ◌≡◌, ◌==◌, ◌&&◌, ◌||◌, ⊤, length}
 use Rattle.std.specs.Prelude.{Option, Some, None, IfSome}
 use Rattle.tl_beat.specs.declared.beat.Beat.{Beat}
 use Rattle.tl_beat.specs.declared.beat.Beat.TheVariants as beat
@@ -35,7 +35,6 @@ use Rattle.tl_explain.specs.declared.reason.Reason.TheVariants.{Pending, Never, 
 use Rattle.tl_explain.specs.declared.reason.Reason.TheVariants.{OtherSize, WrongCap, WithoutData, Probed, Holds}
 use Rattle.tl_explain.specs.declared.reason.Reason.TheVariants.{WrongProbe, Misreport, Differs}
 use Rattle.tl_explain.specs.declared.told.Mention.{Mention}
-use Rattle.tl_explain.specs.declared.told.Told.{Told}
 use Rattle.tl_explain.specs.declared.turns.Subject.{Subject}
 use Rattle.tl_explain.specs.statement.Evidence.{mention_of}
 use Rattle.tl_explain.specs.statement.Since.{IsBurstSince, IsClosedBy, IsHeldSince, IsNeverOpened, IsPendingSince}

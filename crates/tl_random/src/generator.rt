@@ -24,7 +24,7 @@ use tl_world::world::World;
 /// A line in so many drains the world.
 const DRAIN: u64 = 64;
 /// An event that comes to nothing is taken once in so many times.
-const IDLE: u64 = 24;
+const IDLE: u64 = 72;
 /// How many events are tried for a line before the world is drained.
 const TRIES: u8 = 64;
 

@@ -3,7 +3,7 @@ use Rattle.std.proofs.Common.{◌≡◌, ◌+◌, ◌<◌, ◌++◌, ◌∷◌, 
 use Rattle.std.proofs.Common.{get_or, map, refl, sym, ap, ◌∙◌}
 use Rattle.std.specs.Prelude.{filter, ◌==◌, ◌&&◌, slice_get, Some, if◌then◌else◌}
 use Rattle.std.proofs.lemmas.Bool.{eqb-true}
-use Rattle.std.proofs.lemmas.List.{map-append}
+use Rattle.std.proofs.lemmas.List.{append_assoc, drop_more, map-append}
 use Rattle.std.proofs.lemmas.List.Elements.{filter-append}
 use Rattle.tl_beat.specs.declared.beat.Beat.{Beat}
 use Rattle.tl_beat.specs.declared.beat.Beat.TheVariants as beat
@@ -16,7 +16,7 @@ use Rattle.tl_burst.specs.statement.Burst.{beats_of, beat_of}
 use Rattle.tl_burst.specs.statement.Messages.{on, channel_of}
 use Rattle.tl_rules.specs.statement.Legality.{beats_from}
 use Rattle.tl_ports.specs.declared.outgoing.Outgoing.{Outgoing}
-use Rattle.tl_ports.specs.statement.Waiting.{is_on_link, same_channel, is_place, handed_on, waiting}
+use Rattle.tl_ports.specs.statement.Waiting.{is_on_link, same_channel, is_place, handed_all, handed_on, waiting}
 use Rattle.tl_ports.proofs.Firsts.{filter_first, filter_rest, filter_other}
 
 -- ---- channels
@@ -152,3 +152,15 @@ sent link m old new l ch is =
     ∙ map-append (λ x. x.1) (filter (λ x. is_on_link l ch x) old.beats.items)
     (filter (λ x. is_on_link l ch x) (map (λ b. (link, b)) (beats_from m 0 (beats_of m))))
     ∙ ap (λ xs. waiting l ch old ++ xs) (split_on l ch link m 0 (beats_of m))
+
+-- one message more of several was handed out
+pub next_message : {w : ℕ} (at : ℕ) (ch : Channel) (handed : List (Link × Message w)) (i : ℕ) (x : Link × Message w)
+    (before after old : List (Beat w)) → i < length handed → get_or handed i x ≡ x
+    → after ≡ before ++ handed_on at ch x.0 x.1 → before ++ handed_all at ch (drop i handed) ≡ old
+    → after ++ handed_all at ch (drop (i + 1) handed) ≡ old
+next_message at ch handed i x before after old lt is longer so_far =
+    ap (λ xs. xs ++ handed_all at ch (drop (i + 1) handed)) longer
+    ∙ append_assoc before (handed_on at ch x.0 x.1) (handed_all at ch (drop (i + 1) handed))
+    ∙ ap (λ xs. before ++ xs)
+    (sym (ap (handed_all at ch) (drop_more handed i x lt ∙ ap (λ y. y ∷ drop (i + 1) handed) is)))
+    ∙ so_far

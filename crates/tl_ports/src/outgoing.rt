@@ -1,10 +1,10 @@
 //! What an agent handed out and hasn't been sent: messages go out beat by beat, over many cycles.
 
-ghost use Rattle.std.specs.Prelude.{ℕ, ◌≡◌, ◌≤◌, ◌+◌, ◌++◌, [], drop, slice_get, OnOk, if◌then◌else◌};
+ghost use Rattle.std.specs.Prelude.{ℕ, ◌≡◌, ◌≤◌, ◌+◌, ◌++◌, [], length, drop, slice_get, OnOk, if◌then◌else◌};
 ghost use Rattle.tl_beat.specs.declared.channel.Channel.{Channel};
 ghost use Rattle.tl_beat.specs.statement.Width.{IsWidth};
 ghost use Rattle.tl_burst.specs.statement.Messages.{on};
-ghost use Rattle.tl_ports.specs.statement.Waiting.{is_on_link, waiting, handed_on, is_place};
+ghost use Rattle.tl_ports.specs.statement.Waiting.{is_on_link, waiting, handed_on, handed_all, is_place};
 ghost use Rattle.tl_ports.specs.code.Room.{HasRoom};
 ghost use Rattle.tl_ports.specs.code.First.{IsFirst};
 
@@ -65,6 +65,19 @@ impl<const W: usize> Outgoing<W> {
     {
         for i in 0..beats_of(message) {
             let _ = self.beats.push((link, beat_at(message, i)));
+        }
+    }
+
+    /// Puts the beats of messages, each with its link, behind those that wait, in order. There has to be
+    /// room for them.
+    pub fn send_all(&mut self, handed: &[(Link, Message<W>)])
+        requires width { IsWidth W }
+        requires room { HasRoom (length handed.now) self.old }
+        ensures { (l : ℕ) (ch : Channel) →
+            waiting l ch self.new ≡ waiting l ch self.old ++ handed_all l ch handed.now }
+    {
+        for message in handed {
+            self.send(message.0, &message.1);
         }
     }
 

@@ -1,5 +1,5 @@
 -- The beats that wait to be sent, on each channel of each link.
-use Rattle.std.specs.Prelude.{ℕ, Bool, true, false, List, [], ◌==◌, ◌&&◌, map, filter, if◌then◌else◌}
+use Rattle.std.specs.Prelude.{ℕ, Bool, true, false, List, [], ◌∷◌, ◌++◌, ◌==◌, ◌&&◌, map, filter, if◌then◌else◌}
 use Rattle.tl_beat.specs.declared.beat.Beat.{Beat}
 use Rattle.tl_beat.specs.declared.beat.Link.{Link}
 use Rattle.tl_beat.specs.declared.channel.Channel.{Channel}
@@ -25,6 +25,11 @@ waiting link ch outgoing = map (λ x. x.1) (filter (λ x. is_on_link link ch x) 
 -- what a message that is handed out on link `at` adds to a channel of a link: its beats to its own
 abbrev pub handed_on : {w : ℕ} → ℕ → Channel → Link → Message w → List (Beat w)
 handed_on link ch at m = if at.0 == link && on ch (beat_of m 0) then split m else []
+
+-- what several messages, each with its link, add to a channel of a link, in order
+abbrev pub handed_all : {w : ℕ} → ℕ → Channel → List (Link × Message w) → List (Beat w)
+handed_all link ch [] = []
+handed_all link ch (x ∷ handed) = handed_on link ch x.0 x.1 ++ handed_all link ch handed
 
 abbrev pub same_channel : Channel → Channel → Bool
 same_channel channel.A channel.A = true

@@ -1,1 +1,5 @@
+pub mod Answered
 pub mod Examples
+pub mod Judging
+pub mod Noted
+pub mod Windowed

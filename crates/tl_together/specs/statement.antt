@@ -1,1 +1,2 @@
 pub mod Coherence
+pub mod Knows

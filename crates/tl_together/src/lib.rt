@@ -1,4 +1,7 @@
-//! What all links of a manager carry together: the rules of memory.
+//! What all links of a manager carry together: the rules of memory, and a judge of recorded traces.
 #![tactic(auto)]
 
 pub mod breach;
+pub mod fault;
+pub mod judge;
+mod windows;

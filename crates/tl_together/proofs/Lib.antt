@@ -2,4 +2,5 @@ pub mod Answered
 pub mod Examples
 pub mod Judging
 pub mod Noted
+pub mod Tracing
 pub mod Windowed

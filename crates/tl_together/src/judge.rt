@@ -275,7 +275,13 @@ impl<const W: usize> Judge<W> {
             KnowsTrace self.now levels p t →
             result ≡ Coherence.broken_grant (length levels) link.0 x.now (Some asked) t }
     {
-        if is_free(&self.monitor, self.links, Some(link.0), capped(x.param), asked.block) {
+        if is_free(
+            &self.monitor,
+            self.links,
+            Some(link.0),
+            capped(x.param),
+            asked.block,
+        ) {
             None
         } else {
             Some(MemoryRule::M1)
@@ -351,7 +357,14 @@ impl<const W: usize> Judge<W> {
             return Err(JudgeFault::Memory);
         };
         let broken = self.broken_memory(link, beat);
-        let noted = note_window(&mut self.windows, &self.monitor, self.links, self.moment, link, beat);
+        let noted = note_window(
+            &mut self.windows,
+            &self.monitor,
+            self.links,
+            self.moment,
+            link,
+            beat,
+        );
         let Ok(()) = noted else {
             return Err(JudgeFault::Memory);
         };

@@ -4,4 +4,5 @@
 pub mod breach;
 pub mod fault;
 pub mod judge;
+pub mod trace;
 mod windows;

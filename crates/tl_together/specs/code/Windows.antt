@@ -1,5 +1,6 @@
 -- When blocks were last free, and requests complete, counted in beats, and the tables of it.
-use Rattle.std.specs.Prelude.{ℕ, zero, suc, Bool, true, false, [], ◌∷◌, ◌&&◌, ◌≡◌, ◌<◌, ◌==◌, if◌then◌else◌, List, length, Option, Some, None, is_some, is_none, slice_index_or}
+use Rattle.std.specs.Prelude.{ℕ, zero, suc, Bool, true, false, [], ◌∷◌, ◌&&◌, ◌≡◌, ◌<◌, ◌==◌, if◌then◌else◌, List}
+use Rattle.std.specs.Prelude.{length, Option, Some, None, is_some, is_none, slice_index_or}
 use Rattle.std.specs.BTreeMap.{is_at}
 use Rattle.std.specs.Map.{lookup}
 use Rattle.std.specs.Ordering.{nat_cmp}
@@ -26,12 +27,14 @@ use Rattle.tl_together.specs.statement.Coherence.{is_free}
 unfoldable pub asked_at : {w : ℕ} → ℕ → ℕ → Trace w → ℕ
 asked_at link source [] = 0
 asked_at link source (x ∷ t) =
-    if is_some (open_request source (on_link link (x ∷ t))) && is_none (open_request source (on_link link t)) then suc (length t) else asked_at link source t
+    if is_some (open_request source (on_link link (x ∷ t))) && is_none (open_request source (on_link link t)) then suc
+    (length t) else asked_at link source t
 
 -- how many beats had been taken when the block was last free for one who needs so much of it
 unfoldable pub last_free : {w : ℕ} → ℕ → Perm → ℕ → Trace w → ℕ
 last_free n given block [] = 0
-last_free n given block (x ∷ t) = if is_free n None given block (x ∷ t) then suc (length t) else last_free n given block t
+last_free n given block (x ∷ t) = if is_free n None given block (x ∷ t) then suc (length t) else last_free n given block
+    t
 
 -- ---- the tables
 
@@ -70,15 +73,19 @@ fault_of_monitor monitor.Closed = judge.Closed
 
 -- The table knows what it knew of the trace, where a beat was noted, and what there is to know of the
 -- trace with the beat, where that breaks no rule of its link.
-abbrev pub NotesRequest : {w : ℕ} → Monitor w → List (List (Option ℕ)) → List (List (Option ℕ)) → Link → Beat w → ℕ → Type 0
+abbrev pub NotesRequest : {w : ℕ} → Monitor w → List (List (Option ℕ)) → List (List (Option ℕ)) → Link → Beat w → ℕ
+    → Type 0
 NotesRequest {w} m old new link x next = (length new ≡ length old)
-    × ((levels : List Level) (p : Profile) (t : Trace w) → Knows m levels p t false → length old ≡ length levels → KnowsAsked old (length levels) t
+    × ((levels : List Level) (p : Profile) (t : Trace w) → Knows m levels p t false → length old ≡ length levels
+    → KnowsAsked old (length levels) t
     → KnowsAsked new (length levels) t
-    × (next ≡ suc (length t) → broken_on_link levels p (link, x) t ≡ None → KnowsAsked new (length levels) ((link, x) ∷ t)))
+    × (next ≡ suc (length t) → broken_on_link levels p (link, x) t ≡ None
+    → KnowsAsked new (length levels) ((link, x) ∷ t)))
 
 abbrev pub NotesWindow : {w : ℕ} → Monitor w → ℕ → ℕ → List (ℕ × Window) → List (ℕ × Window) → Link → Beat w → Type 0
 NotesWindow {w} m links moment old new link x =
-    (levels : List Level) (p : Profile) (t : Trace w) → Knows m levels p t false → links ≡ length levels → moment ≡ length t → KnowsWindows old (length levels) t
+    (levels : List Level) (p : Profile) (t : Trace w) → Knows m levels p t false → links ≡ length levels
+    → moment ≡ length t → KnowsWindows old (length levels) t
     → KnowsWindows new (length levels) t
     × (broken_on_link levels p (link, x) t ≡ None → KnowsWindows new (length levels) ((link, x) ∷ t))
 

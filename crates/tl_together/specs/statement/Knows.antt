@@ -67,7 +67,8 @@ closed_after closed (Err e) = true
 -- the answer to a trace: the first beat that breaks a rule, want of memory aside
 abbrev pub AnswersTrace : {w : ℕ} → List Level → Profile → Trace w → Result ⊤ TraceFault → Type 0
 AnswersTrace levels p beats (Ok u) = IsCount (length levels) × (first_breach levels p beats ≡ None)
-AnswersTrace levels p beats (Err (trace.At i breach)) = IsCount (length levels) × (first_breach levels p beats ≡ Some (i, breach))
+AnswersTrace levels p beats (Err (trace.At i breach)) = IsCount (length levels)
+    × (first_breach levels p beats ≡ Some (i, breach))
 AnswersTrace levels p beats (Err trace.Levels) = ¬ IsCount (length levels)
 AnswersTrace levels p beats (Err trace.Memory) = IsCount (length levels)
 

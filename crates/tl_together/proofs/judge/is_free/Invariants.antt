@@ -7,5 +7,6 @@ use Rattle.tl_together.specs.statement.Coherence as coherence
 use Rattle.tl_together.proofs.judge.is_free.Given as goal
 
 abbrev pub invariant-loop-n : goal.invariant-loop-n
-invariant-loop-n g l = (levels : List Level) (p : Profile) (t : Trace _) → Knows l.monitor levels p t false → l.links ≡ length levels
+invariant-loop-n g l = (levels : List Level) (p : Profile) (t : Trace _) → Knows l.monitor levels p t false
+    → l.links ≡ length levels
     → l.free ≡ coherence.is_free l.n l.spared l.given l.block t

@@ -5,9 +5,11 @@ use Rattle.tl_together.proofs.judge.note_request.Goals as goal
 
 pub returns-then-is_none : goal.returns-then-is_none
 returns-then-is_none g c =
-    notes_set c.args.monitor.now c.args.asked.now.items _ c.args.link c.in-A.x c.args.beat.now c.from.result c.args.next c.in-A.is c.from.ensures
+    notes_set c.args.monitor.now c.args.asked.now.items _ c.args.link c.in-A.x c.args.beat.now c.from.result c.args.next
+    c.in-A.is c.from.ensures
     c.note_asked.ensures.length c.note_asked.ensures.noted
-    (λ levels p t k. ap is_some (sym (c.request.ensures levels p t _ k)) ∙ (c.is_none.ensures ∙ ap not c.if-is_none.true))
+    (λ levels p t k. ap is_some (sym (c.request.ensures levels p t _ k))
+    ∙ (c.is_none.ensures ∙ ap not c.if-is_none.true))
 
 pub returns-else-is_none : goal.returns-else-is_none
 returns-else-is_none g c =

@@ -8,14 +8,18 @@ use Rattle.tl_together.proofs.judge.note_window.Goals as goal
 
 pub returns-in_default-clause-noted : goal.returns-in_default-clause-noted
 returns-in_default-clause-noted g c =
-    notes_no_window c.args.monitor.now c.args.links c.args.moment c.args.windows.now.moments.entries c.args.link c.args.beat.now
-    (λ levels p t k fine. subst (λ o. LeavesOthers o c.args.beat.now (on_link c.args.link.0 t)) c.in_default.is (c.block_of.ensures levels p t _ k fine))
+    notes_no_window c.args.monitor.now c.args.links c.args.moment c.args.windows.now.moments.entries c.args.link
+    c.args.beat.now
+    (λ levels p t k fine. subst (λ o. LeavesOthers o c.args.beat.now (on_link c.args.link.0 t)) c.in_default.is
+    (c.block_of.ensures levels p t _ k fine))
 
 pub returns-clause-noted : goal.returns-clause-noted
 returns-clause-noted g c =
     on_ok_weaker c.set.result
-    (λ h. notes_window c.args.monitor.now c.args.links c.args.moment c.in-Some.block c.latest.result c.latest-2.result c.args.windows.now.moments.entries _ c.args.link c.args.beat.now
-    (λ levels p t k fine. subst (λ o. LeavesOthers o c.args.beat.now (on_link c.args.link.0 t)) c.in-Some.is (c.block_of.ensures levels p t _ k fine))
+    (λ h. notes_window c.args.monitor.now c.args.links c.args.moment c.in-Some.block c.latest.result c.latest-2.result
+    c.args.windows.now.moments.entries _ c.args.link c.args.beat.now
+    (λ levels p t k fine. subst (λ o. LeavesOthers o c.args.beat.now (on_link c.args.link.0 t)) c.in-Some.is
+    (c.block_of.ensures levels p t _ k fine))
     c.is_free-reading.result c.is_free-writing.result
     c.is_free-reading.ensures c.is_free-writing.ensures
     (c.latest.ensures ∙ ap (λ v. if c.is_free-reading.result then c.args.moment else v.reading) c.get-old.ensures)

@@ -1,6 +1,7 @@
 //! A judge of the links of a manager: what it answers to each beat.
 
-ghost use Rattle.std.specs.Prelude.{ℕ, Bool, true, false, Some, List, OnOk, OnErr, IfOk, length, nat_lt, if◌then◌else◌, ◌&&◌, ◌||◌, ◌==◌, ◌≡◌, ◌<◌, is_some};
+ghost use Rattle.std.specs.Prelude.{ℕ, Bool, true, false, Some, List, OnOk, OnErr, IfOk};
+ghost use Rattle.std.specs.Prelude.{length, nat_lt, if◌then◌else◌, ◌&&◌, ◌||◌, ◌==◌, ◌≡◌, ◌<◌, is_some};
 ghost use Rattle.tl_beat.specs.declared.beat.Beat.{Beat};
 ghost use Rattle.tl_beat.specs.statement.Width.{IsWidth};
 ghost use Rattle.tl_params.specs.declared.level.Level.{Level};
@@ -9,7 +10,8 @@ ghost use Rattle.tl_rules.specs.code.Open.{open_request};
 ghost use Rattle.tl_rules.specs.statement.Conformance.{Trace, on_link};
 ghost use Rattle.tl_monitor.specs.statement.Knows as of_link;
 ghost use Rattle.tl_together.specs.statement.Coherence;
-ghost use Rattle.tl_together.specs.code.Windows.{asked_in, last_in, closes, fault_of_monitor, NotesRequest, NotesWindow};
+ghost use Rattle.tl_together.specs.code.Windows.{asked_in, last_in, closes};
+ghost use Rattle.tl_together.specs.code.Windows.{fault_of_monitor, NotesRequest, NotesWindow};
 
 use crate::breach::{Breach, MemoryRule};
 use crate::fault::JudgeFault;
@@ -179,7 +181,8 @@ fn note_window<const W: usize>(
     link: Link,
     beat: &Beat<W>,
 ) -> Result<(), AllocError>
-    ensures noted { OnOk result (NotesWindow monitor.now links moment windows.old.moments.entries windows.new.moments.entries link beat.now) }
+    ensures noted { OnOk result (NotesWindow monitor.now links moment
+        windows.old.moments.entries windows.new.moments.entries link beat.now) }
     ensures unchanged { OnErr result (windows.new.moments.entries ≡ windows.old.moments.entries) }
 {
     let Some(block) = monitor.block_of(link, beat) else {
@@ -226,7 +229,8 @@ fn closes(fault: MonitorFault) -> bool
 }
 
 impl<const W: usize> Judge<W> {
-    ghost use Rattle.tl_together.specs.statement.Knows.{KnowsTrace, Knows, IsNew, Answers, fault_of, recorded_after, closed_after};
+    ghost use Rattle.tl_together.specs.statement.Knows.{KnowsTrace, Knows, IsNew};
+    ghost use Rattle.tl_together.specs.statement.Knows.{Answers, fault_of, recorded_after, closed_after};
 
     /// A judge of links of these levels, which has seen no beat. There are to be 1 to 16 levels.
     pub fn new(alloc: Global, levels: &[Level], profile: Profile) -> Result<Self, JudgeFault>

@@ -13,6 +13,15 @@ import tempfile
 
 HEAD = "tail -n +2 two_caches.trace | head -1"
 F1, F2, F3, F7, F8 = ("line {} %s\n" % it for it in ("F1", "F2", "F3", "F7", "F8"))
+PROBED = (
+    "printf '%s\\n' 'tltrace 1 C' '00 A 7 1 6 00 00000000 ff - 0' '00 B 6 2 6 00 00000000 ff - 0' '00 D 4 0 6 00 00 0 - 0'"
+)
+PROBED_TOLD = """  4: 00 D Grant
+  the request, of line 2:
+  2: 00 A AcquirePerm
+  a Probe of block 00000000 is pending since line 3:
+  3: 00 B ProbeBlock
+"""
 ROWS = [
     # words
     ("tltool", 2, "", "error: .."),
@@ -51,6 +60,8 @@ ROWS = [
     ("tltool run schedules/nothing_happens.schedule", 0, "..", ""),
     ("tltool explain wrong_report.trace", 1, "line ..", ""),
     ("tltool explain H12", 0, "H12 (ProbeAck, ProbeAckData): ..", ""),
+    # a Grant of a block that is probed: the request and the Probe are told
+    (f"{PROBED} >probed.trace; tltool explain probed.trace | grep -o '^  [a-z].*line .*\\|^  [0-9]*: .. . [A-Za-z]*'", 0, PROBED_TOLD, ""),
     # files and devices
     ("tltool monitor nope.trace", 3, "", "tltool: cannot open nope.trace\n"),
     ("tltool decode nope.txt", 3, "", "tltool: cannot open nope.txt\n"),

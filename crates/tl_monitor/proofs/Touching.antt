@@ -42,7 +42,7 @@ touched_less f l (B x) k b e = both_less f (is_probe x.opcode) b (block_at x.add
 touched_less f l (C x) k b e = either_less f l b (Some (block_at x.address)) e
 touched_less f l (D x) k b e =
     either_less f l b (if is_release_ack x.opcode then block_of_release (at k.releases x.source) else if is_grant
-        x.opcode then block_of_request (at k.requests x.source) else None) e
+    x.opcode then block_of_request (at k.requests x.source) else None) e
 touched_less f l (E x) k b e = e
 
 left : (here : Bool) (c d : Block) → here ≡ false → (if here then c else d) ≡ d
@@ -55,7 +55,7 @@ pub unmoved_held : {w : ℕ} (l : Level) (p : Profile) (k : LinkState) (x : Beat
 unmoved_held l p k x t keeps legal b apart =
     ap (λ c. c.held) (block-next b x t ∙ same_touched l p k x t b (begins x t) (ends x t) keeps legal
     ∙ left (is_block b (touched (begins x t) (ends x t) x k)) (block_next (begins x t) (ends x t) x (kept_block b t))
-        (kept_block b t)
+    (kept_block b t)
     (touched_less (begins x t) (ends x t) x k b apart))
 
 none_beyond : {X : Type 0} (xs : List X) (i : ℕ) → length xs ≤ i → slice_get xs i ≡ None
@@ -84,9 +84,9 @@ pub left_on_link : {w : ℕ} (m : Monitor w) (levels : List Level) (p : Profile)
     → broken_on_link levels p (link, x) t ≡ None → LeavesOthers block x (on_link link.0 t)
 left_on_link m levels p t closed i link x link_state block k i_is lt is touched_is fine =
     let keeps : Keeps link_state (on_link link.0 t) =
-        rw (← i_is) (link_state-of m levels p t closed i link_state k lt is) in
+    rw (← i_is) (link_state-of m levels p t closed i link_state k lt is) in
     let below : link.0 < length levels = rw (i_is, k.levels_are) at lt in
     let level = some_within levels link.0 below in
     let legal : broken_after level.0 p x (on_link link.0 t) ≡ None =
-        sym (ap (λ o. broken_at_level o p x (on_link link.0 t)) level.1) ∙ fine in
+    sym (ap (λ o. broken_at_level o p x (on_link link.0 t)) level.1) ∙ fine in
     rw touched_is (unmoved_held level.0 p link_state x (on_link link.0 t) keeps legal)

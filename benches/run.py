@@ -9,6 +9,7 @@ benches/out. It fails where a tool is missing, and skips nothing.
 
 import argparse
 import ctypes
+import dataclasses
 import os
 import re
 import shutil
@@ -261,6 +262,16 @@ def the_library_from_c_under_the_sanitizers():
 
 
 @test
+def a_client_from_c():
+    want("0 failures" in run([compiled("test_client", "gcc", "tests/test_client.c", "-std=c11")]), "test_client.c")
+
+
+@test
+def a_client_from_c_under_the_sanitizers():
+    want("0 failures" in run([compiled("test_client_san", "gcc", "tests/test_client.c", "-std=c11", *SANITIZERS)]), "test_client.c")
+
+
+@test
 def the_library_from_cpp_under_the_sanitizers():
     want("0 failures" in run([compiled("test_cpp_san", "g++", "tests/test_monitor.cpp", "-std=c++17", *SANITIZERS)]), "test_monitor.cpp")
 
@@ -286,15 +297,45 @@ def the_headers_and_pythons_numbers_are_the_librarys():
         want(int(header[level.name]) == level, level.name)
     for channel in module.Channel:
         want(int(header["CHANNEL_" + channel.name]) == channel, channel.name)
+    for kinds in (module.Operation, module.Outcome, module.Reception, module.Perm):
+        for kind in kinds:
+            want(int(header[kind.name]) == kind, kind.name)
+
+
+@test
+def the_librarys_exports_are_the_headers():
+    with open(os.path.join(HERE, "include/hefrudyl.h")) as text:
+        declared = set(re.findall(r"\b(tl_[a-z_]+)\(", text.read()))
+    symbols = run(["nm", "--defined-only", "--extern-only", LIBRARY])
+    want(declared == set(re.findall(r" T (tl_[a-z_]+)$", symbols, re.MULTILINE)), "exports")
+
+
+@test
+def a_client_from_python():
+    module = python_module()
+    with module.Client(module.Level.C, 4) as client, module.Monitor([module.Level.C]) as monitor:
+        reply = client.ask(module.Operation.ACQUIRE, block=1, param=0)
+        want(reply.kind is module.Outcome.STARTED, reply)
+        acquire = client.pop(module.Channel.A)
+        want(acquire.address == 64 and client.pop(module.Channel.A) is None, acquire)
+        want(monitor.push(0, dataclasses.replace(acquire, data=b"")), acquire)
+        for place in range(8):
+            received = client.offer(module.Beat(module.Channel.D, opcode=5, param=1, size=6, data=bytes([place] * 8)))
+        want(received.kind is module.Reception.DONE_GRANTED and received.perm is module.Perm.BRANCH, received)
+        want(client.held(1) is module.Perm.BRANCH and client.copy(1)[8:16] == bytes([1] * 8), "the copy")
+        want(client.copy(2) is None and not client.closed(), "nothing else")
+        want(client.offer(module.Beat(module.Channel.D, opcode=5, size=6, data=bytes(8))).rule == "H2", "an answer to nothing")
 
 
 @test
 def the_headers_structs_are_pythons():
     module = python_module()
+    structs = [("tl_" + name.lower(), getattr(module, "_" + name))
+               for name in ("Beat", "Answer", "Monitor", "Client", "Operation", "Outcome", "Reception")]
     source = path("layout.c")
     with open(source, "w") as text:
         text.write('#include <hefrudyl.h>\n#include <stdio.h>\nint main(void) {\n')
-        for name, kind in (("tl_beat", module._Beat), ("tl_answer", module._Answer), ("tl_monitor", module._Monitor)):
+        for name, kind in structs:
             text.write(f'printf("{name} %zu\\n", sizeof({name}));\n')
             for field, _ in kind._fields_:
                 text.write(f'printf("{name}.{field} %zu\\n", offsetof({name}, {field}));\n')
@@ -302,7 +343,7 @@ def the_headers_structs_are_pythons():
     built = path("layout")
     run(["gcc", "-I" + os.path.join(HERE, "include"), "-o", built, source])
     told = dict(line.split() for line in run([built]).splitlines())
-    for name, kind in (("tl_beat", module._Beat), ("tl_answer", module._Answer), ("tl_monitor", module._Monitor)):
+    for name, kind in structs:
         want(int(told[name]) == ctypes.sizeof(kind), name)
         for field, _ in kind._fields_:
             want(int(told[f"{name}.{field}"]) == getattr(kind, field).offset, f"{name}.{field}")

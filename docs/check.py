@@ -75,9 +75,15 @@ def check_clauses():
 
 
 def check_folders():
-    named = {row[0].strip("`") for row in rows(section("Folders of the proof, lowest first"))}
-    real = {folder.name for folder in (COHERENCE / "proofs").iterdir() if folder.is_dir()}
-    check(named == real, f"folders of the proof: the page and the tree differ in {sorted(named ^ real)}")
+    for title, crate in (
+        ("Folders of the proof, lowest first", "tl_coherence"),
+        ("Folders of the proofs of `tl_client`", "tl_client"),
+        ("Folders of the proofs of `tl_manager`", "tl_manager"),
+    ):
+        named = {row[0].strip("`") for row in rows(section(title))}
+        folders = (ROOT / f"crates/{crate}/proofs").iterdir()
+        real = {it.name for it in folders if it.is_dir() and (it.name == "law" or it.with_suffix(".antt").is_file())}
+        check(named == real, f"folders of the proofs of {crate}: the page and the tree differ in {sorted(named ^ real)}")
 
 
 def check_lists():

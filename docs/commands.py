@@ -1,6 +1,7 @@
 #!/usr/bin/env python3
 """commands.py TOOL: that the man page and the completions in share/ have the commands and options that TOOL's help shows,
-no more and no less. Run at the top of the repository; it prints what differs, and its exit status is 1 then."""
+no more and no less; that each command's help lists its codes, each with what `explain CODE` says of it; and that
+`--version` names the toolchain that is here. Prints what differs, and its exit status is 1 then."""
 import pathlib
 import re
 import subprocess
@@ -9,6 +10,10 @@ import sys
 SHARE = pathlib.Path(__file__).resolve().parent.parent / "share"
 # The help's own command, which has no page of its own.
 HELP = "help"
+RULES = [*(f"L{it}" for it in range(1, 8)), "S1", *(f"H{it}" for it in range(1, 14))]
+TRACE = [*(f"F{it}" for it in range(1, 8)), *RULES]
+# The codes that each command can write.
+CODES = {"decode": [f"F{it}" for it in range(1, 7)], "monitor": TRACE, "explain": TRACE, "run": ["F1", "F7", "F8"]}
 
 
 def section(text, name):
@@ -17,13 +22,34 @@ def section(text, name):
     return found[1] if found else ""
 
 
+def said(*words):
+    """What a command writes."""
+    return subprocess.run(words, capture_output=True, text=True, check=True).stdout
+
+
+def wrong_codes(tool):
+    """The commands whose help lists other codes than theirs, or says something else of one than `explain` does."""
+    sentence = lambda code: re.match(r"\w+(?: \([^)]*\))?: (.*)", said(tool, "explain", code))[1]
+    for command, codes in CODES.items():
+        rows = re.findall(r"^  ([FLSH]\d+) +(\S.*\n(?:       .*\n)*)", said(tool, command, "--help"), re.M)
+        listed = {code: " ".join(text.split()) for code, text in rows}
+        if listed != {code: sentence(code) for code in codes}:
+            yield f"tltool {command} --help: its codes, or what is said of them"
+
+
+def wrong_version(tool):
+    """The second line of `--version`, where it isn't the toolchain's."""
+    proved = said(tool, "--version").splitlines()[1:]
+    if proved != ["proved with " + said("rt", "version").strip()]:
+        yield f"tltool --version: {proved}"
+
+
 def of_help(tool):
     """The options of each command by the program's help, those of the program itself under an empty name."""
-    said = lambda *words: subprocess.run([tool, *words, "--help"], capture_output=True, text=True, check=True).stdout
     options = lambda text: set(re.findall(r"^ +(?:-\w, )?--([a-z-]+)", section(text, "Options"), re.M))
-    whole = said()
+    whole = said(tool, "--help")
     commands = set(re.findall(r"^  ([a-z]+)(?: |$)", section(whole, "Commands"), re.M)) - {HELP}
-    return {"": options(whole), **{it: options(said(it)) for it in commands}}
+    return {"": options(whole), **{it: options(said(tool, it, "--help")) for it in commands}}
 
 
 def of_man(text):
@@ -63,7 +89,8 @@ def of_fish(text):
 
 
 def main():
-    wanted, wrong = of_help(sys.argv[1]), []
+    tool = sys.argv[1]
+    wanted, wrong = of_help(tool), [*wrong_codes(tool), *wrong_version(tool)]
     readers = {"tltool.1": of_man, "completions/tltool.bash": of_bash, "completions/_tltool": of_zsh, "completions/tltool.fish": of_fish}
     for name, reader in readers.items():
         has = reader((SHARE / name).read_text())

@@ -168,7 +168,7 @@ def evidence(rule, it, past):
             return [request]
         if it.opcode == 4 and request.opcode == 6 and held[0] != BRANCH:
             return [request, *since(held)]
-        return pending(past.probe(block))
+        return [request, *pending(past.probe(block))]
     if rule == "H7":
         return pending(past.sink(it.sink))
     if rule == "H8":

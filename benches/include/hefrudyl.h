@@ -1,4 +1,4 @@
-/* Hefrudyl for C and C++: the proved link monitor. docs/BENCHES.md says what is proved, and what a
+/* Hefrudyl for C and C++: the proved link monitor and the proved clients. docs/BENCHES.md says what is proved, and what a
    program that calls it must see to: a handle is used by one call at a time. */
 #ifndef HEFRUDYL_H
 #define HEFRUDYL_H
@@ -16,7 +16,8 @@ enum tl_code {
   TL_BROKEN = 1,       /* the beat breaks the rule that the answer names; the monitor is closed */
   TL_BAD_ARGUMENT = 2, /* something is out of range, or the handle isn't as wanted; nothing changed */
   TL_NO_MEMORY = 3,    /* there is no memory; nothing changed */
-  TL_CLOSED = 4        /* an earlier beat broke a rule */
+  TL_CLOSED = 4,       /* an earlier beat broke a rule */
+  TL_NOTHING = 5       /* there is nothing of what was asked for; nothing changed */
 };
 
 enum tl_rule {
@@ -80,6 +81,98 @@ tl_answer tl_monitor_push(tl_monitor *monitor, uint8_t link, const tl_beat *beat
 
 /* Frees what the handle holds. It holds nothing then. */
 void tl_monitor_free(tl_monitor *monitor);
+
+enum tl_operation_kind {
+  TL_LOAD = 0, TL_STORE = 1, TL_ACQUIRE = 2, TL_ACQUIRE_WHOLE = 3, TL_RELEASE = 4, TL_ACCESS = 5
+};
+
+enum tl_grow { TL_NtoB = 0, TL_NtoT = 1, TL_BtoT = 2 };
+
+enum tl_prune { TL_TtoB = 0, TL_TtoN = 1, TL_BtoN = 2 };
+
+enum tl_perm { TL_NONE = 0, TL_BRANCH = 1, TL_TRUNK = 2 };
+
+/* An operation that a client is asked for. What its kind lacks isn't read: a Load has address and size,
+   a Store value too; an Acquire has block and param (enum tl_grow), that of a whole block its bytes, a
+   Release block and param (enum tl_prune); an access has opcode, param, size (0 to 6), address, mask and
+   bytes, byte i of which is lane i modulo the width. Sizes are base-2 logarithms, blocks have 64 bytes. */
+typedef struct tl_operation {
+  uint8_t bytes[64];
+  uint64_t value;
+  uint64_t mask;
+  uint32_t address;
+  uint16_t block;
+  uint8_t kind; /* enum tl_operation_kind */
+  uint8_t opcode;
+  uint8_t param;
+  uint8_t size;
+} tl_operation;
+
+enum tl_outcome_kind { TL_VALUE = 0, TL_STORED = 1, TL_MISS = 2, TL_STARTED = 3, TL_BUSY = 4 };
+
+/* The answer to an operation: a value; a source where a message was handed out; where nothing was done
+   why, 1 to 5: no source is free, a transfer of the block is outstanding, it doesn't begin at what is
+   held, it isn't of the level, it is outside of the map or malformed. */
+typedef struct tl_outcome {
+  uint64_t value;
+  uint8_t kind; /* enum tl_outcome_kind */
+  uint8_t source;
+  uint8_t busy;
+} tl_outcome;
+
+enum tl_reception_kind {
+  TL_STALLED = 0, TL_TAKEN = 1, TL_DONE_ACK = 2, TL_DONE_HINT = 3, TL_DONE_DATA = 4, TL_DONE_GRANTED = 5,
+  TL_DONE_RELEASED = 6
+};
+
+/* The answer to a beat: it has to wait, it was taken, or it completes the response to the request or
+   Release with this source. */
+typedef struct tl_reception {
+  uint8_t bytes[64]; /* of TL_DONE_DATA, from the address on */
+  uint8_t kind;      /* enum tl_reception_kind */
+  uint8_t source;
+  uint8_t size; /* of TL_DONE_DATA */
+  uint8_t perm; /* enum tl_perm, of TL_DONE_GRANTED */
+} tl_reception;
+
+/* A handle, as that of a monitor. */
+typedef struct tl_client {
+  void *at;
+  uint8_t full;
+} tl_client;
+
+/* Makes a client of a level (enum tl_level) on 1 to 1,024 blocks, with 1 to 8 sources, of beats of 4, 8
+   or 16 bytes, under profile 1 or 2, behind a handle that holds nothing. */
+tl_answer tl_client_new(tl_client *client, uint8_t level, uint16_t blocks, uint8_t sources, uint8_t width,
+                        uint8_t profile);
+
+/* Asks for an operation. What the client hands out waits to be sent. */
+tl_answer tl_client_ask(tl_client *client, const tl_operation *operation, tl_outcome *outcome);
+
+/* Offers a beat of channel B or D. Where it breaks a rule the answer is TL_BROKEN with that rule, and
+   the link is closed. */
+tl_answer tl_client_offer(tl_client *client, const tl_beat *beat, tl_reception *reception);
+
+/* Tells by 1 that the beat would have to wait, else 0. */
+tl_answer tl_client_stalls(tl_client *client, const tl_beat *beat, uint8_t *stalled);
+
+/* Shows the next beat to send on a channel (enum tl_channel): TL_NOTHING where none waits. */
+tl_answer tl_client_next(tl_client *client, uint8_t channel, tl_beat *beat);
+
+/* The same, and the beat is sent now: the next call shows the one behind it. */
+tl_answer tl_client_pop(tl_client *client, uint8_t channel, tl_beat *beat);
+
+/* Tells what is held of a block (enum tl_perm). */
+tl_answer tl_client_held(tl_client *client, uint16_t block, uint8_t *perm);
+
+/* Shows the 64 bytes of the copy of a block: TL_NOTHING where nothing is held. */
+tl_answer tl_client_copy(tl_client *client, uint16_t block, uint8_t (*bytes)[64]);
+
+/* Tells by 1 that a beat was refused, else 0. */
+tl_answer tl_client_closed(tl_client *client, uint8_t *closed);
+
+/* Frees what the handle holds. It holds nothing then. */
+void tl_client_free(tl_client *client);
 
 /* Writes the name of a rule, and returns how many letters it has, at most 3. */
 size_t tl_rule_name(uint8_t rule, uint8_t *into, size_t room);

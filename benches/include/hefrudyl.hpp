@@ -46,5 +46,51 @@ private:
   tl_monitor handle = {};
 };
 
+/// A client of a link, with the beats that it has still to send. It may be moved, and not copied.
+class Client {
+public:
+  explicit Client(std::uint8_t level, std::uint16_t blocks, std::uint8_t sources = 1, std::uint8_t width = 8,
+                  std::uint8_t profile = 1) {
+    tl_answer answer = tl_client_new(&handle, level, blocks, sources, width, profile);
+    if (answer.code == TL_NO_MEMORY) throw std::bad_alloc();
+    if (answer.code != TL_OK) throw std::invalid_argument("hefrudyl: level, blocks, sources, width or profile");
+  }
+  Client(Client &&other) noexcept : handle(other.handle) { other.handle = {}; }
+  Client &operator=(Client &&other) noexcept {
+    std::swap(handle, other.handle);
+    return *this;
+  }
+  Client(const Client &) = delete;
+  Client &operator=(const Client &) = delete;
+  ~Client() { tl_client_free(&handle); }
+
+  /// Asks for an operation.
+  tl_answer ask(const tl_operation &operation, tl_outcome &outcome) {
+    return tl_client_ask(&handle, &operation, &outcome);
+  }
+
+  /// Offers a beat of channel B or D.
+  tl_answer offer(const tl_beat &beat, tl_reception &reception) {
+    return tl_client_offer(&handle, &beat, &reception);
+  }
+
+  /// Whether a beat would have to wait.
+  tl_answer stalls(const tl_beat &beat, std::uint8_t &stalled) { return tl_client_stalls(&handle, &beat, &stalled); }
+
+  /// The next beat to send on a channel; with `pop` it is sent now.
+  tl_answer next(std::uint8_t channel, tl_beat &beat) { return tl_client_next(&handle, channel, &beat); }
+  tl_answer pop(std::uint8_t channel, tl_beat &beat) { return tl_client_pop(&handle, channel, &beat); }
+
+  /// What is held of a block, and the bytes of its copy.
+  tl_answer held(std::uint16_t block, std::uint8_t &perm) { return tl_client_held(&handle, block, &perm); }
+  tl_answer copy(std::uint16_t block, std::uint8_t (&bytes)[64]) { return tl_client_copy(&handle, block, &bytes); }
+
+  /// Whether a beat was refused.
+  tl_answer closed(std::uint8_t &is_closed) { return tl_client_closed(&handle, &is_closed); }
+
+private:
+  tl_client handle = {};
+};
+
 }  // namespace hefrudyl
 #endif

@@ -1,4 +1,4 @@
-// The C++ header: a monitor is moved, freed once, and refuses what can't be made.
+// The C++ header: a monitor and a client are moved, freed once, and refuse what can't be made.
 #include <hefrudyl.hpp>
 
 #include <cstdio>
@@ -18,6 +18,17 @@ int main() {
     right = false;
   } catch (const std::invalid_argument &) {
   }
+  hefrudyl::Client made(TL_C, 4);
+  hefrudyl::Client client(std::move(made));
+  tl_operation acquire = {};
+  acquire.kind = TL_ACQUIRE;
+  acquire.param = TL_NtoB;
+  tl_outcome outcome = {};
+  right = right && made.ask(acquire, outcome).code == TL_BAD_ARGUMENT;
+  right = right && client.ask(acquire, outcome).code == TL_OK && outcome.kind == TL_STARTED;
+  tl_beat sent = {};
+  right = right && client.pop(TL_CHANNEL_A, sent).code == TL_OK && sent.opcode == TL_A_AcquireBlock;
+  right = right && client.next(TL_CHANNEL_A, sent).code == TL_NOTHING;
   std::printf("%d failures\n", right ? 0 : 1);
   return right ? 0 : 1;
 }

@@ -13,7 +13,12 @@ use Rattle.hefrudyl.specs.contracts.parts.Parts as parts
 use Rattle.hefrudyl.specs.contracts.handle.Place as place
 
 abbrev pub E : Bx
-E = record { row = session.the_row; laws = session-laws.the_row_laws; al = record { row = global.the_row; laws = global-laws.the_row_laws; g = ghosts; d = dict; drops = impl [] tnil dnil } }
+E = record {
+  row = session.the_row;
+  laws = session-laws.the_row_laws;
+  al =
+      record { row = global.the_row; laws = global-laws.the_row_laws; g = ghosts; d = dict; drops = impl [] tnil dnil };
+}
 
 abbrev pub Apart : RattleType
 Apart = parts.the_row session.the_row global.the_row ghosts

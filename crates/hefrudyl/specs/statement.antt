@@ -1,5 +1,12 @@
 pub mod Answer
+pub mod Client
+pub mod ClientOpened
+pub mod Depicted
+pub mod Handled
 pub mod Judged
 pub mod Named
 pub mod Opened
+pub mod Operation
+pub mod Outcome
 pub mod Picture
+pub mod Sessions

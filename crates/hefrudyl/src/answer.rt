@@ -55,6 +55,9 @@ impl Answer {
     /// There is no memory, and nothing changed.
     pub const NO_MEMORY: Answer = Answer { code: 3, rule: 0 };
 
+    /// There is nothing of what was asked for.
+    pub const NOTHING: Answer = Answer { code: 5, rule: 0 };
+
     /// The answer to a beat that a monitor judged.
     pub fn of(judged: Result<(), MonitorFault>) -> Answer
         ensures { result ≡ answer_of judged }

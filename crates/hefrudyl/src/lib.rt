@@ -1,11 +1,15 @@
-//! Hefrudyl for C: handles of monitors, and what C may do with them. C gives a handle to one call at
-//! a time.
+//! Hefrudyl for C: handles of monitors and of clients, and what C may do with them. C gives a handle to
+//! one call at a time.
 #![tactic(auto)]
 
 mod answer;
+mod client;
+mod depiction;
 mod handle;
 mod monitor;
 mod opening;
+mod operation;
+mod outcome;
 mod parts;
 mod picture;
 mod rule;
@@ -15,9 +19,13 @@ ghost use Rattle.std.specs.Prelude.{◌≡◌, None};
 ghost use Rattle.hefrudyl.specs.statement.Judged.{MonitorTold};
 ghost use Rattle.hefrudyl.specs.statement.Named.{IsNamed};
 ghost use Rattle.hefrudyl.specs.statement.Opened.{OpenTold};
+ghost use Rattle.hefrudyl.specs.statement.Handled.{ClientOpenTold, AskTold, OfferTold, StallsTold, NextTold, PopTold};
+ghost use Rattle.hefrudyl.specs.statement.Handled.{HeldTold, CopyTold, ClosedTold};
 
 use answer::Answer;
 use handle::Handle;
+use operation::Operation;
+use outcome::{Outcome, Reception};
 use picture::Picture;
 use rule::name_of;
 use session::Session;
@@ -70,6 +78,198 @@ pub extern "C" fn tl_monitor_push(
             answer
         }
     }
+}
+
+/// Makes a client of a level, 0 for UL, 1 for UH and 2 for C, behind a handle that holds nothing.
+#[unsafe(no_mangle)]
+pub extern "C" fn tl_client_new(
+    alloc: Global,
+    client: &mut Handle,
+    level: u8,
+    blocks: u16,
+    sources: u8,
+    width: u8,
+    profile: u8,
+) -> Answer
+    ensures { ClientOpenTold client.old.place.value client.new.place.value level blocks sources width profile result }
+{
+    if let Some(session) = mem::replace(client, Handle::empty(alloc)).into_box() {
+        *client = Handle::of(session);
+        return Answer::BAD;
+    }
+    match Session::open_client(alloc, level, blocks, sources, width, profile) {
+        Err(answer) => answer,
+        Ok(session) => match Box::new(alloc, session) {
+            Err(_) => Answer::NO_MEMORY,
+            Ok(session) => {
+                *client = Handle::of(session);
+                Answer::OK
+            }
+        },
+    }
+}
+
+/// Asks a client for an operation.
+#[unsafe(no_mangle)]
+pub extern "C" fn tl_client_ask(
+    alloc: Global,
+    client: &mut Handle,
+    operation: &Operation,
+    outcome: &mut Outcome,
+) -> Answer
+    ensures { AskTold operation.now outcome.old outcome.new result client.old.place.value client.new.place.value }
+{
+    match mem::replace(client, Handle::empty(alloc)).into_box() {
+        None => Answer::BAD,
+        Some(mut session) => {
+            let answer = session.ask(operation, outcome);
+            *client = Handle::of(session);
+            answer
+        }
+    }
+}
+
+/// Offers a client a beat.
+#[unsafe(no_mangle)]
+pub extern "C" fn tl_client_offer(
+    alloc: Global,
+    client: &mut Handle,
+    beat: &Picture,
+    reception: &mut Reception,
+) -> Answer
+    ensures { OfferTold beat.now reception.old reception.new result client.old.place.value client.new.place.value }
+{
+    match mem::replace(client, Handle::empty(alloc)).into_box() {
+        None => Answer::BAD,
+        Some(mut session) => {
+            let answer = session.offer(beat, reception);
+            *client = Handle::of(session);
+            answer
+        }
+    }
+}
+
+/// Asks whether a beat would have to wait.
+#[unsafe(no_mangle)]
+pub extern "C" fn tl_client_stalls(
+    alloc: Global,
+    client: &mut Handle,
+    beat: &Picture,
+    stalled: &mut u8,
+) -> Answer
+    ensures { StallsTold beat.now stalled.old stalled.new result client.old.place.value client.new.place.value }
+{
+    match mem::replace(client, Handle::empty(alloc)).into_box() {
+        None => Answer::BAD,
+        Some(session) => {
+            let answer = session.stalls(beat, stalled);
+            *client = Handle::of(session);
+            answer
+        }
+    }
+}
+
+/// Shows the next beat that a client has to send on a channel, 0 for A to 4 for E.
+#[unsafe(no_mangle)]
+pub extern "C" fn tl_client_next(
+    alloc: Global,
+    client: &mut Handle,
+    channel: u8,
+    beat: &mut Picture,
+) -> Answer
+    ensures { NextTold channel beat.old beat.new result client.old.place.value client.new.place.value }
+{
+    match mem::replace(client, Handle::empty(alloc)).into_box() {
+        None => Answer::BAD,
+        Some(session) => {
+            let answer = session.next(channel, beat);
+            *client = Handle::of(session);
+            answer
+        }
+    }
+}
+
+/// Shows the next beat that a client has to send on a channel, which is sent now.
+#[unsafe(no_mangle)]
+pub extern "C" fn tl_client_pop(
+    alloc: Global,
+    client: &mut Handle,
+    channel: u8,
+    beat: &mut Picture,
+) -> Answer
+    ensures { PopTold channel beat.old beat.new result client.old.place.value client.new.place.value }
+{
+    match mem::replace(client, Handle::empty(alloc)).into_box() {
+        None => Answer::BAD,
+        Some(mut session) => {
+            let answer = session.pop(channel, beat);
+            *client = Handle::of(session);
+            answer
+        }
+    }
+}
+
+/// Tells what a client holds of a block: 0 for None, 1 for Branch, 2 for Trunk.
+#[unsafe(no_mangle)]
+pub extern "C" fn tl_client_held(
+    alloc: Global,
+    client: &mut Handle,
+    block: u16,
+    perm: &mut u8,
+) -> Answer
+    ensures { HeldTold block perm.old perm.new result client.old.place.value client.new.place.value }
+{
+    match mem::replace(client, Handle::empty(alloc)).into_box() {
+        None => Answer::BAD,
+        Some(session) => {
+            let answer = session.held(block, perm);
+            *client = Handle::of(session);
+            answer
+        }
+    }
+}
+
+/// Shows the bytes of a client's copy of a block.
+#[unsafe(no_mangle)]
+pub extern "C" fn tl_client_copy(
+    alloc: Global,
+    client: &mut Handle,
+    block: u16,
+    bytes: &mut [u8; 64],
+) -> Answer
+    ensures { CopyTold block bytes.old bytes.new result client.old.place.value client.new.place.value }
+{
+    match mem::replace(client, Handle::empty(alloc)).into_box() {
+        None => Answer::BAD,
+        Some(session) => {
+            let answer = session.copy(block, bytes);
+            *client = Handle::of(session);
+            answer
+        }
+    }
+}
+
+/// Tells whether a client refused a beat.
+#[unsafe(no_mangle)]
+pub extern "C" fn tl_client_closed(alloc: Global, client: &mut Handle, is_closed: &mut u8) -> Answer
+    ensures { ClosedTold is_closed.old is_closed.new result client.old.place.value client.new.place.value }
+{
+    match mem::replace(client, Handle::empty(alloc)).into_box() {
+        None => Answer::BAD,
+        Some(session) => {
+            let answer = session.closed(is_closed);
+            *client = Handle::of(session);
+            answer
+        }
+    }
+}
+
+/// Frees what a handle holds, which then holds nothing.
+#[unsafe(no_mangle)]
+pub extern "C" fn tl_client_free(alloc: Global, client: &mut Handle)
+    ensures { client.new.place.value ≡ None }
+{
+    let _session = mem::replace(client, Handle::empty(alloc)).into_box();
 }
 
 /// Frees what a handle holds, which then holds nothing.

@@ -8,6 +8,7 @@ use crate::answer::Answer;
 use crate::picture::Picture;
 use tl_beat::beat::{Beat, Link};
 use tl_monitor::monitor::Monitor;
+use tl_rules::config::MOST_CLIENTS;
 
 /// A monitor of links whose beats have 4, 8 or 16 bytes.
 #[derive(Drop)]
@@ -31,7 +32,7 @@ fn push_to<const W: usize>(monitor: &mut Monitor<W>, link: u8, beat: &Picture) -
     requires { IsWidth W }
     ensures { ToldOf monitor.old monitor.new link beat.now result }
 {
-    if link < 16 {
+    if usize::from(link) < MOST_CLIENTS {
         judge(monitor, link, beat.beat())
     } else {
         Answer::BAD

@@ -3,10 +3,13 @@
 ghost use Rattle.std.specs.Prelude.{◌≡◌, map, IfOk, IsTrue};
 ghost use Rattle.tl_beat.specs.statement.Width.{IsWidth};
 ghost use Rattle.hefrudyl.specs.statement.Opened.{level_at, profile_at, are_levels, may_open, Makes};
+ghost use Rattle.hefrudyl.specs.statement.ClientOpened.{may_open_client, MakesClient};
 
 use crate::answer::Answer;
 use std::alloc::{AllocError, Global};
 use tl_monitor::monitor::Monitor;
+use tl_ports::client::ClientPort;
+use tl_rules::config::{ClientConfig, MOST_CLIENTS, NewFault};
 use tl_rules::level::Level;
 use tl_rules::profile::Profile;
 
@@ -40,7 +43,7 @@ pub fn may_open(codes: &[u8], width: u8, profile: u8) -> bool
     ensures { result ≡ may_open codes.now width profile }
 {
     1 <= codes.len()
-        && codes.len() <= 16
+        && codes.len() <= MOST_CLIENTS
         && are_levels(codes)
         && (width == 4 || width == 8 || width == 16)
         && (profile == 1 || profile == 2)
@@ -67,5 +70,40 @@ pub fn make<const W: usize>(alloc: Global, codes: &[u8], profile: u8) -> Result<
     match Monitor::new(alloc, levels.as_slice(), profile_of(profile)) {
         Ok(monitor) => Ok(monitor),
         Err(fault) => Err(Answer::of(Err(fault))),
+    }
+}
+
+/// A level of 0 to 2, 1 to 1,024 blocks, 1 to 8 sources, a width of 4, 8 or 16 and a profile of 1 or 2.
+pub fn may_open_client(level: u8, blocks: u16, sources: u8, width: u8, profile: u8) -> bool
+    ensures { result ≡ may_open_client level blocks sources width profile }
+{
+    level < 3
+        && 1 <= blocks
+        && blocks <= 1024
+        && 1 <= sources
+        && sources <= 8
+        && (width == 4 || width == 8 || width == 16)
+        && (profile == 1 || profile == 2)
+}
+
+/// A client that has sent and taken nothing.
+pub fn make_client<const W: usize>(
+    alloc: Global,
+    level: u8,
+    blocks: u16,
+    sources: u8,
+    profile: u8,
+) -> Result<ClientPort<W>, Answer>
+    requires width { IsWidth W }
+    ensures { MakesClient level blocks sources profile result }
+{
+    let config = ClientConfig {
+        level: level_of(level),
+        sources,
+    };
+    match ClientPort::new(alloc, config, blocks, profile_of(profile)) {
+        Ok(port) => Ok(port),
+        Err(NewFault::Memory) => Err(Answer::NO_MEMORY),
+        Err(_) => Err(Answer::BAD),
     }
 }

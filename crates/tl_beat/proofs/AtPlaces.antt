@@ -1,5 +1,6 @@
 -- Fields of digits at their places are read from left to right.
-use Rattle.std.proofs.Common.{◌≡◌, ℕ, suc, ◌+◌, ◌-◌, ◌*◌, ◌<◌, ◌≤◌, Bool, true, false, cond, List, [], ◌∷◌, length, take, drop, refl, sym, ◌∙◌, arith}
+use Rattle.std.proofs.Common.{◌≡◌, ℕ, suc, ◌+◌, ◌-◌, ◌*◌, ◌<◌, ◌≤◌, Bool, true, false, cond, List, [], ◌∷◌, length}
+use Rattle.std.proofs.Common.{take, drop, refl, sym, ◌∙◌, arith}
 use Rattle.std.proofs.lemmas.List.{take_rest}
 use Rattle.std.proofs.lemmas.Bool.{ltb-true, and_parts}
 use Rattle.std.specs.Prelude.{Ok, slice_index, ◌&&◌, nat_lt}
@@ -20,7 +21,8 @@ digit_is c v e lt = go (is_digit c) refl e
     go true is f = record { is = is; value = sym f }
     go false is f = absurd (omega arith)
 
-digit_at-is : (number n c v : ℕ) (cs : List ℕ) → IsDigit c v → digits_at number (suc n) (c ∷ cs) ≡ digits_at (16 * number + v) n cs
+digit_at-is : (number n c v : ℕ) (cs : List ℕ) → IsDigit c v
+    → digits_at number (suc n) (c ∷ cs) ≡ digits_at (16 * number + v) n cs
 unfolding digits_at
 digit_at-is number n c v cs d = rw (d.is, d.value) refl
 
@@ -34,18 +36,33 @@ behind_zero v = omega arith
 field_of_one : (c v : ℕ) (cs : List ℕ) → IsDigit c v → field_at 1 (c ∷ 32 ∷ cs) ≡ Ok (v, cs)
 field_of_one c v cs d = rw (digit_at-is 0 0 c v (32 ∷ cs) d, no_digit (16 * 0 + v) (32 ∷ cs), behind_zero) refl
 
-field_of_two : (c1 c0 v1 v0 : ℕ) (cs : List ℕ) → IsDigit c1 v1 → IsDigit c0 v0 → field_at 2 (c1 ∷ c0 ∷ 32 ∷ cs) ≡ Ok (16 * v1 + v0, cs)
-field_of_two c1 c0 v1 v0 cs d1 d0 = rw (digit_at-is 0 1 c1 v1 (c0 ∷ 32 ∷ cs) d1, digit_at-is (16 * 0 + v1) 0 c0 v0 (32 ∷ cs) d0, no_digit (16 * (16 * 0 + v1) + v0) (32 ∷ cs), behind_zero) refl
+field_of_two : (c1 c0 v1 v0 : ℕ) (cs : List ℕ) → IsDigit c1 v1 → IsDigit c0 v0
+    → field_at 2 (c1 ∷ c0 ∷ 32 ∷ cs) ≡ Ok (16 * v1 + v0, cs)
+field_of_two c1 c0 v1 v0 cs d1 d0 =
+    rw (
+      digit_at-is 0 1 c1 v1 (c0 ∷ 32 ∷ cs) d1,
+      digit_at-is (16 * 0 + v1) 0 c0 v0 (32 ∷ cs) d0,
+      no_digit
+          (16 * (16 * 0 + v1) + v0) (32 ∷ cs),
+      behind_zero,
+    ) refl
 
 pub head_places : (bytes : List ℕ) (l1 l0 o p z s1 s0 : ℕ) → 14 ≤ length bytes
-    → slice_index bytes 2 ≡ 32 → slice_index bytes 6 ≡ 32 → slice_index bytes 8 ≡ 32 → slice_index bytes 10 ≡ 32 → slice_index bytes 13 ≡ 32
+    → slice_index bytes 2 ≡ 32 → slice_index bytes 6 ≡ 32 → slice_index bytes 8 ≡ 32 → slice_index bytes 10 ≡ 32
+    → slice_index bytes 13 ≡ 32
     → l1 ≡ value_or_16 (slice_index bytes 0) → l0 ≡ value_or_16 (slice_index bytes 1)
-    → o ≡ value_or_16 (slice_index bytes 5) → p ≡ value_or_16 (slice_index bytes 7) → z ≡ value_or_16 (slice_index bytes 9)
+    → o ≡ value_or_16 (slice_index bytes 5) → p ≡ value_or_16 (slice_index bytes 7)
+    → z ≡ value_or_16 (slice_index bytes 9)
     → s1 ≡ value_or_16 (slice_index bytes 11) → s0 ≡ value_or_16 (slice_index bytes 12)
     → l1 < 16 → l0 < 16 → o < 16 → p < 16 → z < 16 → s1 < 16 → s0 < 16
-    → head_at bytes ≡ Ok (record { link = 16 * l1 + l0; opcode = o; param = p; size = z; source = 16 * s1 + s0 }, take (length bytes - 14) (drop 14 bytes))
+    → head_at bytes ≡ Ok (
+      record { link = 16 * l1 + l0; opcode = o; param = p; size = z; source = 16 * s1 + s0 },
+      take
+          (length bytes - 14) (drop 14 bytes),
+    )
 unfolding head_at
-head_places (x0 ∷ x1 ∷ x2 ∷ x3 ∷ x4 ∷ x5 ∷ x6 ∷ x7 ∷ x8 ∷ x9 ∷ x10 ∷ x11 ∷ x12 ∷ x13 ∷ rest) l1 l0 o p z s1 s0 long e2 e6 e8 e10 e13 v0 v1 v5 v7 v9 v11 v12 b0 b1 b5 b7 b9 b11 b12 =
+head_places (x0 ∷ x1 ∷ x2 ∷ x3 ∷ x4 ∷ x5 ∷ x6 ∷ x7 ∷ x8 ∷ x9 ∷ x10 ∷ x11 ∷ x12 ∷ x13 ∷ rest) l1 l0 o p z s1 s0 long e2
+    e6 e8 e10 e13 v0 v1 v5 v7 v9 v11 v12 b0 b1 b5 b7 b9 b11 b12 =
     let bytes = x0 ∷ x1 ∷ x2 ∷ x3 ∷ x4 ∷ x5 ∷ x6 ∷ x7 ∷ x8 ∷ x9 ∷ x10 ∷ x11 ∷ x12 ∷ x13 ∷ rest in
     rw (
       take_rest bytes 14,
@@ -54,13 +71,15 @@ head_places (x0 ∷ x1 ∷ x2 ∷ x3 ∷ x4 ∷ x5 ∷ x6 ∷ x7 ∷ x8 ∷ x9 �
       e8,
       e10,
       e13,
-      field_of_two x0 x1 l1 l0 (x3 ∷ x4 ∷ x5 ∷ 32 ∷ x7 ∷ 32 ∷ x9 ∷ 32 ∷ x11 ∷ x12 ∷ 32 ∷ rest) (digit_is x0 l1 v0 b0) (digit_is x1 l0 v1 b1),
+      field_of_two x0 x1 l1 l0 (x3 ∷ x4 ∷ x5 ∷ 32 ∷ x7 ∷ 32 ∷ x9 ∷ 32 ∷ x11 ∷ x12 ∷ 32 ∷ rest) (digit_is x0 l1 v0 b0)
+          (digit_is x1 l0 v1 b1),
       field_of_one x5 o (x7 ∷ 32 ∷ x9 ∷ 32 ∷ x11 ∷ x12 ∷ 32 ∷ rest) (digit_is x5 o v5 b5),
       field_of_one x7 p (x9 ∷ 32 ∷ x11 ∷ x12 ∷ 32 ∷ rest) (digit_is x7 p v7 b7),
       field_of_one x9 z (x11 ∷ x12 ∷ 32 ∷ rest) (digit_is x9 z v9 b9),
       field_of_two x11 x12 s1 s0 rest (digit_is x11 s1 v11 b11) (digit_is x12 s0 v12 b12),
     ) refl
-head_places bytes l1 l0 o p z s1 s0 long e2 e6 e8 e10 e13 v0 v1 v5 v7 v9 v11 v12 b0 b1 b5 b7 b9 b11 b12 = absurd (omega arith)
+head_places bytes l1 l0 o p z s1 s0 long e2 e6 e8 e10 e13 v0 v1 v5 v7 v9 v11 v12 b0 b1 b5 b7 b9 b11 b12 =
+    absurd (omega arith)
 
 -- four values of digits
 abbrev four_digits : ℕ → ℕ → ℕ → ℕ → Bool
@@ -73,16 +92,20 @@ are_four a b c d e =
     let (is_a, is_b) = and_parts (nat_lt a 16) (nat_lt b 16) ab in
     (ltb-true a 16 is_a, ltb-true b 16 is_b, ltb-true c 16 is_c, ltb-true d 16 is_d)
 
-eight : (a b c d e f g h : ℕ) → from_be_bytes w32 ((16 * a + b) ∷ (16 * c + d) ∷ (16 * e + f) ∷ (16 * g + h) ∷ []) ≡ 16 * (16 * (16 * (16 * (16 * (16 * (16 * a + b) + c) + d) + e) + f) + g) + h
+eight : (a b c d e f g h : ℕ) → from_be_bytes w32 ((16 * a + b) ∷ (16 * c + d) ∷ (16 * e + f) ∷ (16 * g + h) ∷ [])
+    ≡ 16 * (16 * (16 * (16 * (16 * (16 * (16 * a + b) + c) + d) + e) + f) + g) + h
 eight a b c d e f g h = omega arith
 
 pub eight_places : (bytes : List ℕ) (n a b c d e f g h : ℕ) → 9 ≤ length bytes → slice_index bytes 8 ≡ 32
-    → a ≡ value_or_16 (slice_index bytes 0) → b ≡ value_or_16 (slice_index bytes 1) → c ≡ value_or_16 (slice_index bytes 2) → d ≡ value_or_16 (slice_index bytes 3)
-    → e ≡ value_or_16 (slice_index bytes 4) → f ≡ value_or_16 (slice_index bytes 5) → g ≡ value_or_16 (slice_index bytes 6) → h ≡ value_or_16 (slice_index bytes 7)
+    → a ≡ value_or_16 (slice_index bytes 0) → b ≡ value_or_16 (slice_index bytes 1)
+    → c ≡ value_or_16 (slice_index bytes 2) → d ≡ value_or_16 (slice_index bytes 3)
+    → e ≡ value_or_16 (slice_index bytes 4) → f ≡ value_or_16 (slice_index bytes 5)
+    → g ≡ value_or_16 (slice_index bytes 6) → h ≡ value_or_16 (slice_index bytes 7)
     → (four_digits a b c d && four_digits e f g h) ≡ true
     → n ≡ from_be_bytes w32 ((16 * a + b) ∷ (16 * c + d) ∷ (16 * e + f) ∷ (16 * g + h) ∷ [])
     → field_at 8 bytes ≡ Ok (n, take (length bytes - 9) (drop 9 bytes))
-eight_places (x0 ∷ x1 ∷ x2 ∷ x3 ∷ x4 ∷ x5 ∷ x6 ∷ x7 ∷ x8 ∷ rest) n a b c d e f g h long e8 v0 v1 v2 v3 v4 v5 v6 v7 small is =
+eight_places (x0 ∷ x1 ∷ x2 ∷ x3 ∷ x4 ∷ x5 ∷ x6 ∷ x7 ∷ x8 ∷ rest) n a b c d e f g h long e8 v0 v1 v2 v3 v4 v5 v6 v7 small
+    is =
     let bytes = x0 ∷ x1 ∷ x2 ∷ x3 ∷ x4 ∷ x5 ∷ x6 ∷ x7 ∷ x8 ∷ rest in
     let halves = and_parts (four_digits a b c d) (four_digits e f g h) small in
     let (b0, b1, b2, b3) = are_four a b c d halves.0 in

@@ -21,7 +21,8 @@ entry (suc n) c e lt =
     let parts = and_parts (slice_index_or VALUES n 0 == value_or_16 n) (right n) e in
     go (either n c lt) (eqb-true _ _ parts.0) (entry n c parts.1)
   where
-    go : (c ≡ n) ⊎ (c < n) → slice_index_or VALUES n 0 ≡ value_or_16 n → (c < n → slice_index_or VALUES c 0 ≡ value_or_16 c) → slice_index_or VALUES c 0 ≡ value_or_16 c
+    go : (c ≡ n) ⊎ (c < n) → slice_index_or VALUES n 0 ≡ value_or_16 n
+        → (c < n → slice_index_or VALUES c 0 ≡ value_or_16 c) → slice_index_or VALUES c 0 ≡ value_or_16 c
     go (inl same) here more = rw same here
     go (inr lt) here more = more lt
 
@@ -39,7 +40,8 @@ digit_entry (suc n) d e lt =
     let parts = and_parts (slice_index_or DIGITS n 0 == digit_char n) (digits_right n) e in
     go (either n d lt) (eqb-true _ _ parts.0) (digit_entry n d parts.1)
   where
-    go : (d ≡ n) ⊎ (d < n) → slice_index_or DIGITS n 0 ≡ digit_char n → (d < n → slice_index_or DIGITS d 0 ≡ digit_char d) → slice_index_or DIGITS d 0 ≡ digit_char d
+    go : (d ≡ n) ⊎ (d < n) → slice_index_or DIGITS n 0 ≡ digit_char n
+        → (d < n → slice_index_or DIGITS d 0 ≡ digit_char d) → slice_index_or DIGITS d 0 ≡ digit_char d
     go (inl same) here more = rw same here
     go (inr lt) here more = more lt
 

@@ -5,11 +5,13 @@ use Rattle.std.specs.Prelude.{Ok, Err}
 use Rattle.tl_beat.specs.declared.fault.LineFault.{LineFault}
 use Rattle.tl_beat.specs.code.FromLeft.{digit_at, digits_at}
 
-pub digits-step : (n w k d : ℕ) (bytes rest : List ℕ) → w ≡ suc k → digit_at bytes ≡ Ok (d, rest) → digits_at n w bytes ≡ digits_at (16 * n + d) k rest
+pub digits-step : (n w k d : ℕ) (bytes rest : List ℕ) → w ≡ suc k → digit_at bytes ≡ Ok (d, rest)
+    → digits_at n w bytes ≡ digits_at (16 * n + d) k rest
 unfolding digits_at
 digits-step n w k d bytes rest e h = rw (e, h) refl
 
-pub digits-fails : (n w k : ℕ) (bytes : List ℕ) (f : LineFault) → w ≡ suc k → digit_at bytes ≡ Err f → digits_at n w bytes ≡ Err f
+pub digits-fails : (n w k : ℕ) (bytes : List ℕ) (f : LineFault) → w ≡ suc k → digit_at bytes ≡ Err f
+    → digits_at n w bytes ≡ Err f
 unfolding digits_at
 digits-fails n w k bytes f e h = rw (e, h) refl
 

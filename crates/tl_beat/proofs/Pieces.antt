@@ -1,5 +1,6 @@
 -- A line's pieces between spaces, and the line that pieces make.
-use Rattle.std.proofs.Common.{◌≡◌, ℕ, zero, suc, ◌+◌, ◌<◌, Bool, true, false, cond, List, [], ◌∷◌, ◌++◌, length, get_or, refl, sym, ap, ◌∙◌, arith, drop}
+use Rattle.std.proofs.Common.{◌≡◌, ℕ, zero, suc, ◌+◌, ◌<◌, Bool, true, false, cond, List, [], ◌∷◌, ◌++◌, length, get_or}
+use Rattle.std.proofs.Common.{refl, sym, ap, ◌∙◌, arith, drop}
 use Rattle.std.specs.Prelude.{◌==◌, ⊤}
 use Rattle.std.specs.List.{after_first, position_or_len}
 use Rattle.std.proofs.lemmas.List.Sums.{sum_by-cons}
@@ -32,7 +33,8 @@ unfolding pieces
 NoSpaces-pieces [] = (tt, tt)
 NoSpaces-pieces (c ∷ cs) = go (c == 32) refl (NoSpaces-pieces cs)
   where
-    go : (b : Bool) → (c == 32) ≡ b → NoSpaces (pieces cs) → NoSpaces (cond b ([] ∷ pieces cs) (onto_first c (pieces cs)))
+    go : (b : Bool) → (c == 32) ≡ b → NoSpaces (pieces cs)
+        → NoSpaces (cond b ([] ∷ pieces cs) (onto_first c (pieces cs)))
     go true is h = (tt, h)
     go false is h = NoSpaces-onto_first c (pieces cs) is h
 
@@ -51,9 +53,11 @@ length-onto_first c (p ∷ ps) some = refl
 pub length-pieces : (bytes : List ℕ) → length (pieces bytes) ≡ spaces_in bytes + 1
 unfolding pieces
 length-pieces [] = omega arith
-length-pieces (c ∷ cs) = go (c == 32) (length-pieces cs) ∙ ap (λ n. n + 1) (sym (sum_by-cons (λ x. cond (x == 32) 1 0) c cs))
+length-pieces (c ∷ cs) =
+    go (c == 32) (length-pieces cs) ∙ ap (λ n. n + 1) (sym (sum_by-cons (λ x. cond (x == 32) 1 0) c cs))
   where
-    go : (b : Bool) → length (pieces cs) ≡ spaces_in cs + 1 → length (cond b ([] ∷ pieces cs) (onto_first c (pieces cs))) ≡ cond b 1 0 + spaces_in cs + 1
+    go : (b : Bool) → length (pieces cs) ≡ spaces_in cs + 1
+        → length (cond b ([] ∷ pieces cs) (onto_first c (pieces cs))) ≡ cond b 1 0 + spaces_in cs + 1
     go true h = omega arith
     go false h = rw (length-onto_first c (pieces cs) (omega arith)) (omega arith)
 
@@ -75,8 +79,10 @@ unfolding pieces
 spaced-pieces [] = spaced-nothing
 spaced-pieces (c ∷ cs) = go (c == 32) refl (spaced-pieces cs)
   where
-    go : (b : Bool) → (c == 32) ≡ b → spaced (pieces cs) ≡ cs → spaced (cond b ([] ∷ pieces cs) (onto_first c (pieces cs))) ≡ c ∷ cs
-    go true is h = let same : c ≡ 32 = eqb-true c 32 is in spaced-cons_empty (pieces cs) (pieces-some cs) ∙ rw (same, h) refl
+    go : (b : Bool) → (c == 32) ≡ b → spaced (pieces cs) ≡ cs
+        → spaced (cond b ([] ∷ pieces cs) (onto_first c (pieces cs))) ≡ c ∷ cs
+    go true is h = let same : c ≡ 32 = eqb-true c 32 is in spaced-cons_empty (pieces cs) (pieces-some cs) ∙ rw (same, h)
+        refl
     go false is h = spaced-onto_first c (pieces cs) (pieces-some cs) ∙ rw h refl
 
 pieces-piece : (p : List ℕ) → NoSpace p → pieces p ≡ p ∷ []
@@ -94,7 +100,9 @@ pub pieces-spaced : (ps : List (List ℕ)) → 0 < length ps → NoSpaces ps →
 unfolding spaced
 pieces-spaced [] some none = absurd (omega arith)
 pieces-spaced (p ∷ []) some none = pieces-piece p none.0
-pieces-spaced (p ∷ q ∷ ps) some none = pieces-append p (spaced (q ∷ ps)) none.0 ∙ ap (λ (rest : List (List ℕ)). p ∷ rest) (pieces-spaced (q ∷ ps) (omega arith) none.1)
+pieces-spaced (p ∷ q ∷ ps) some none =
+    pieces-append p (spaced (q ∷ ps)) none.0 ∙ ap (λ (rest : List (List ℕ)). p ∷ rest)
+    (pieces-spaced (q ∷ ps) (omega arith) none.1)
 
 -- what stands behind the first space
 pub after_first-piece : (p rest : List ℕ) → NoSpace p → after_first (λ b. b == 32) (p ++ 32 ∷ rest) ≡ rest

@@ -1,5 +1,6 @@
 -- A line spells what it is read as.
-use Rattle.std.proofs.Common.{◌≡◌, ℕ, suc, ◌-◌, ◌/◌, ◌^◌, ◌<◌, ◌≤◌, Bool, true, false, not, cond, List, [], ◌∷◌, ◌++◌, length, get_or, take, drop, refl, sym, ap, ap₂, subst, ◌∙◌, arith}
+use Rattle.std.proofs.Common.{◌≡◌, ℕ, suc, ◌-◌, ◌/◌, ◌^◌, ◌<◌, ◌≤◌, Bool, true, false, not, cond, List, [], ◌∷◌, ◌++◌}
+use Rattle.std.proofs.Common.{length, get_or, take, drop, refl, sym, ap, ap₂, subst, ◌∙◌, arith}
 use Rattle.std.proofs.Math.Seq.{drop-cons}
 use Rattle.std.proofs.lemmas.List.{take-append-drop, drop_all}
 use Rattle.std.proofs.lemmas.Bool.{eqb-true, ltb-true, ltb-false, and_parts}
@@ -16,10 +17,13 @@ use Rattle.tl_beat.specs.declared.channel.Channel.{Channel}
 use Rattle.tl_beat.specs.declared.channel.Channel.TheVariants as channel
 use Rattle.tl_beat.specs.declared.fault.LineFault.{LineFault}
 use Rattle.tl_beat.specs.declared.fault.LineFault.TheVariants.{F1, F4, F5}
-use Rattle.tl_beat.specs.statement.Opcode.{a_code, b_code, c_code, d_code, a_with, b_with, c_with, d_with, a_carries_data, b_carries_data, c_carries_data, d_carries_data}
+use Rattle.tl_beat.specs.statement.Opcode.{a_code, b_code, c_code, d_code, a_with, b_with, c_with, d_with}
+use Rattle.tl_beat.specs.statement.Opcode.{a_carries_data, b_carries_data, c_carries_data, d_carries_data}
 use Rattle.tl_beat.specs.statement.Digits.{digits, lanes_text, bit_text}
-use Rattle.tl_beat.specs.statement.Line.{fields_of, spaced, IsWritable, IsInRange, Spells, pieces, field, letter, channel_named, without_last}
-use Rattle.tl_beat.specs.code.Reading.{◌>>=◌, number_in, data_in, bit_in, at_most, agreement, made_a, made_b, made_c, made_d, linked, reading_a, reading_b}
+use Rattle.tl_beat.specs.statement.Line.{fields_of, spaced, IsWritable, IsInRange, Spells, pieces, field, letter}
+use Rattle.tl_beat.specs.statement.Line.{channel_named, without_last}
+use Rattle.tl_beat.specs.code.Reading.{◌>>=◌, number_in, data_in, bit_in, at_most, agreement, made_a, made_b, made_c}
+use Rattle.tl_beat.specs.code.Reading.{made_d, linked, reading_a, reading_b}
 use Rattle.tl_beat.specs.code.Reading.{reading_c, reading_d, reading_e, reading_on, reading_fields, reading}
 use Rattle.tl_beat.specs.statement.Width.{IsWidth}
 use Rattle.tl_beat.proofs.Pieces.{spaced-pieces}
@@ -34,7 +38,8 @@ pub ok_is : {A : Type 0} {x y : A} → ok_of x ≡ ok_of y → x ≡ y
 ok_is e = cc
 
 -- a step that was read, and what was read after it
-pub ok_step : {A B : Type 0} (m : Result A LineFault) (more : A → Result B LineFault) (r : B) (P : Type 0) → (m >>= more) ≡ Ok r → ((v : A) → m ≡ Ok v → more v ≡ Ok r → P) → P
+pub ok_step : {A B : Type 0} (m : Result A LineFault) (more : A → Result B LineFault) (r : B) (P : Type 0)
+    → (m >>= more) ≡ Ok r → ((v : A) → m ≡ Ok v → more v ≡ Ok r → P) → P
 ok_step (Ok v) more r P e then = then v refl e
 ok_step (Err f) more r P e then = absurd cc
 
@@ -60,14 +65,16 @@ record IsAtMost (greatest given param : ℕ) : Type 0 where
 at_most-is : (greatest given param : ℕ) → at_most greatest given ≡ Ok param → IsAtMost greatest given param
 at_most-is greatest given param e = go (nat_lt greatest given) refl e
   where
-    go : (b : Bool) → nat_lt greatest given ≡ b → cond b (Err F5) (Ok given) ≡ ok_of param → IsAtMost greatest given param
+    go : (b : Bool) → nat_lt greatest given ≡ b → cond b (Err F5) (Ok given) ≡ ok_of param
+        → IsAtMost greatest given param
     go true h f = absurd cc
     go false h f =
         let same : given ≡ param = cc in
         let le : given ≤ greatest = ltb-false greatest given h in
         record { same = sym same; small = omega arith }
 
-record IsMadeA {w : ℕ} (y : BeatA w) (code given : ℕ) (size_given source_given address_given mask_given : ℕ) (lanes_given : Option (List ℕ)) (corrupt_given : Bool) : Type 0 where
+record IsMadeA {w : ℕ} (y : BeatA w) (code given : ℕ) (size_given source_given address_given mask_given : ℕ)
+    (lanes_given : Option (List ℕ)) (corrupt_given : Bool) : Type 0 where
   opcode : a_code y.opcode ≡ code
   param : IsAtMost 7 given y.param
   size : y.size ≡ size_given
@@ -77,13 +84,26 @@ record IsMadeA {w : ℕ} (y : BeatA w) (code given : ℕ) (size_given source_giv
   lanes : y.lanes ≡ lanes_given
   corrupt : y.corrupt ≡ corrupt_given
 
-made_a-is : {w : ℕ} (y : BeatA w) (code given : ℕ) (size source address mask : ℕ) (lanes : Option (List ℕ)) (corrupt : Bool)
-    → made_a {w = w} code given size source address mask lanes corrupt ≡ Ok y → IsMadeA y code given size source address mask lanes corrupt
+made_a-is : {w : ℕ} (y : BeatA w) (code given : ℕ) (size source address mask : ℕ) (lanes : Option (List ℕ))
+    (corrupt : Bool)
+    → made_a {w = w} code given size source address mask lanes corrupt ≡ Ok y
+    → IsMadeA y code given size source address mask lanes corrupt
 made_a-is {w} y code given size source address mask lanes corrupt e =
     ok_step (ok_or (a_with code) F4) _ y _ e (λ o is_o e1.
     ok_step (at_most 7 given) _ y _ e1 (λ p is_p e2.
     ok_step (agreement (is_some lanes) (a_carries_data o)) _ y _ e2 (λ h is_h e3.
-    let made : BeatA w = record { opcode = o; param = p; size = size; source = source; address = address; mask = mask; lanes = lanes; corrupt = corrupt; carries = h } in
+    let made : BeatA w = record {
+      opcode = o;
+      param = p;
+      size = size;
+      source = source;
+      address = address;
+      mask =
+          mask;
+      lanes = lanes;
+      corrupt = corrupt;
+      carries = h;
+    } in
     let same : y ≡ made = sym (ok_is e3) in
     let bound = at_most-is 7 given p is_p in
     let param_is : y.param ≡ p = ap (λ (z : BeatA w). z.param) same in
@@ -98,7 +118,8 @@ made_a-is {w} y code given size source address mask lanes corrupt e =
       corrupt = ap (λ (z : BeatA w). z.corrupt) same;
     })))
 
-record IsMadeB {w : ℕ} (y : BeatB w) (code given : ℕ) (size_given source_given address_given mask_given : ℕ) (lanes_given : Option (List ℕ)) (corrupt_given : Bool) : Type 0 where
+record IsMadeB {w : ℕ} (y : BeatB w) (code given : ℕ) (size_given source_given address_given mask_given : ℕ)
+    (lanes_given : Option (List ℕ)) (corrupt_given : Bool) : Type 0 where
   opcode : b_code y.opcode ≡ code
   param : IsAtMost 7 given y.param
   size : y.size ≡ size_given
@@ -108,13 +129,26 @@ record IsMadeB {w : ℕ} (y : BeatB w) (code given : ℕ) (size_given source_giv
   lanes : y.lanes ≡ lanes_given
   corrupt : y.corrupt ≡ corrupt_given
 
-made_b-is : {w : ℕ} (y : BeatB w) (code given : ℕ) (size source address mask : ℕ) (lanes : Option (List ℕ)) (corrupt : Bool)
-    → made_b {w = w} code given size source address mask lanes corrupt ≡ Ok y → IsMadeB y code given size source address mask lanes corrupt
+made_b-is : {w : ℕ} (y : BeatB w) (code given : ℕ) (size source address mask : ℕ) (lanes : Option (List ℕ))
+    (corrupt : Bool)
+    → made_b {w = w} code given size source address mask lanes corrupt ≡ Ok y
+    → IsMadeB y code given size source address mask lanes corrupt
 made_b-is {w} y code given size source address mask lanes corrupt e =
     ok_step (ok_or (b_with code) F4) _ y _ e (λ o is_o e1.
     ok_step (at_most 7 given) _ y _ e1 (λ p is_p e2.
     ok_step (agreement (is_some lanes) (b_carries_data o)) _ y _ e2 (λ h is_h e3.
-    let made : BeatB w = record { opcode = o; param = p; size = size; source = source; address = address; mask = mask; lanes = lanes; corrupt = corrupt; carries = h } in
+    let made : BeatB w = record {
+      opcode = o;
+      param = p;
+      size = size;
+      source = source;
+      address = address;
+      mask =
+          mask;
+      lanes = lanes;
+      corrupt = corrupt;
+      carries = h;
+    } in
     let same : y ≡ made = sym (ok_is e3) in
     let bound = at_most-is 7 given p is_p in
     let param_is : y.param ≡ p = ap (λ (z : BeatB w). z.param) same in
@@ -129,7 +163,8 @@ made_b-is {w} y code given size source address mask lanes corrupt e =
       corrupt = ap (λ (z : BeatB w). z.corrupt) same;
     })))
 
-record IsMadeC {w : ℕ} (y : BeatC w) (code given : ℕ) (size_given source_given address_given : ℕ) (lanes_given : Option (List ℕ)) (corrupt_given : Bool) : Type 0 where
+record IsMadeC {w : ℕ} (y : BeatC w) (code given : ℕ) (size_given source_given address_given : ℕ)
+    (lanes_given : Option (List ℕ)) (corrupt_given : Bool) : Type 0 where
   opcode : c_code y.opcode ≡ code
   param : IsAtMost 7 given y.param
   size : y.size ≡ size_given
@@ -139,12 +174,23 @@ record IsMadeC {w : ℕ} (y : BeatC w) (code given : ℕ) (size_given source_giv
   corrupt : y.corrupt ≡ corrupt_given
 
 made_c-is : {w : ℕ} (y : BeatC w) (code given : ℕ) (size source address : ℕ) (lanes : Option (List ℕ)) (corrupt : Bool)
-    → made_c {w = w} code given size source address lanes corrupt ≡ Ok y → IsMadeC y code given size source address lanes corrupt
+    → made_c {w = w} code given size source address lanes corrupt ≡ Ok y
+    → IsMadeC y code given size source address lanes corrupt
 made_c-is {w} y code given size source address lanes corrupt e =
     ok_step (ok_or (c_with code) F4) _ y _ e (λ o is_o e1.
     ok_step (at_most 7 given) _ y _ e1 (λ p is_p e2.
     ok_step (agreement (is_some lanes) (c_carries_data o)) _ y _ e2 (λ h is_h e3.
-    let made : BeatC w = record { opcode = o; param = p; size = size; source = source; address = address; lanes = lanes; corrupt = corrupt; carries = h } in
+    let made : BeatC w = record {
+      opcode = o;
+      param = p;
+      size = size;
+      source = source;
+      address = address;
+      lanes =
+          lanes;
+      corrupt = corrupt;
+      carries = h;
+    } in
     let same : y ≡ made = sym (ok_is e3) in
     let bound = at_most-is 7 given p is_p in
     let param_is : y.param ≡ p = ap (λ (z : BeatC w). z.param) same in
@@ -158,7 +204,8 @@ made_c-is {w} y code given size source address lanes corrupt e =
       corrupt = ap (λ (z : BeatC w). z.corrupt) same;
     })))
 
-record IsMadeD {w : ℕ} (y : BeatD w) (code given : ℕ) (size_given source_given sink_given : ℕ) (denied_given : Bool) (lanes_given : Option (List ℕ)) (corrupt_given : Bool) : Type 0 where
+record IsMadeD {w : ℕ} (y : BeatD w) (code given : ℕ) (size_given source_given sink_given : ℕ) (denied_given : Bool)
+    (lanes_given : Option (List ℕ)) (corrupt_given : Bool) : Type 0 where
   opcode : d_code y.opcode ≡ code
   param : IsAtMost 3 given y.param
   size : y.size ≡ size_given
@@ -168,13 +215,26 @@ record IsMadeD {w : ℕ} (y : BeatD w) (code given : ℕ) (size_given source_giv
   lanes : y.lanes ≡ lanes_given
   corrupt : y.corrupt ≡ corrupt_given
 
-made_d-is : {w : ℕ} (y : BeatD w) (code given : ℕ) (size source sink : ℕ) (denied : Bool) (lanes : Option (List ℕ)) (corrupt : Bool)
-    → made_d {w = w} code given size source sink denied lanes corrupt ≡ Ok y → IsMadeD y code given size source sink denied lanes corrupt
+made_d-is : {w : ℕ} (y : BeatD w) (code given : ℕ) (size source sink : ℕ) (denied : Bool) (lanes : Option (List ℕ))
+    (corrupt : Bool)
+    → made_d {w = w} code given size source sink denied lanes corrupt ≡ Ok y
+    → IsMadeD y code given size source sink denied lanes corrupt
 made_d-is {w} y code given size source sink denied lanes corrupt e =
     ok_step (ok_or (d_with code) F4) _ y _ e (λ o is_o e1.
     ok_step (at_most 3 given) _ y _ e1 (λ p is_p e2.
     ok_step (agreement (is_some lanes) (d_carries_data o)) _ y _ e2 (λ h is_h e3.
-    let made : BeatD w = record { opcode = o; param = p; size = size; source = source; sink = sink; denied = denied; lanes = lanes; corrupt = corrupt; carries = h } in
+    let made : BeatD w = record {
+      opcode = o;
+      param = p;
+      size = size;
+      source = source;
+      sink = sink;
+      denied =
+          denied;
+      lanes = lanes;
+      corrupt = corrupt;
+      carries = h;
+    } in
     let same : y ≡ made = sym (ok_is e3) in
     let bound = at_most-is 3 given p is_p in
     let param_is : y.param ≡ p = ap (λ (z : BeatD w). z.param) same in
@@ -196,8 +256,12 @@ letter-named (x ∷ []) c e = go (x == 65) refl (x == 66) refl (x == 67) refl (x
     named : {o : Channel} → x ≡ letter_of o → some_channel o ≡ some_channel c → x ∷ [] ≡ letter c
     named {o} h f = let same : o ≡ c = cc in rw (h, same) refl
 
-    go : (p : Bool) → (x == 65) ≡ p → (q : Bool) → (x == 66) ≡ q → (r : Bool) → (x == 67) ≡ r → (s : Bool) → (x == 68) ≡ s → (t : Bool) → (x == 69) ≡ t
-        → cond p (some_channel channel.A) (cond q (some_channel channel.B) (cond r (some_channel channel.C) (cond s (some_channel channel.D) (cond t (some_channel channel.E) None)))) ≡ some_channel c
+    go : (p : Bool) → (x == 65) ≡ p → (q : Bool) → (x == 66) ≡ q → (r : Bool) → (x == 67) ≡ r → (s : Bool)
+        → (x == 68) ≡ s → (t : Bool) → (x == 69) ≡ t
+        → cond p (some_channel channel.A)
+        (cond q (some_channel channel.B)
+        (cond r (some_channel channel.C) (cond s (some_channel channel.D) (cond t (some_channel channel.E) None))))
+        ≡ some_channel c
         → x ∷ [] ≡ letter c
     go true h q _ r _ s _ t _ f = named {o = channel.A} (eqb-true x 65 h) f
     go false _ true h r _ s _ t _ f = named {o = channel.B} (eqb-true x 66 h) f
@@ -210,9 +274,11 @@ letter-named (x ∷ y ∷ ys) c e = absurd cc
 cons_same : {p q : List ℕ} {ps qs : List (List ℕ)} → p ≡ q → ps ≡ qs → p ∷ ps ≡ q ∷ qs
 cons_same e f = cc
 
-reading_a-fields : {w : ℕ} (fs : List (List ℕ)) (link : Link) (x : Beat w) → IsWidth w → channel_named (field fs 1) ≡ Some channel.A → reading_a fs ≡ Ok (link, x) → AreFields fs link x
+reading_a-fields : {w : ℕ} (fs : List (List ℕ)) (link : Link) (x : Beat w) → IsWidth w
+    → channel_named (field fs 1) ≡ Some channel.A → reading_a fs ≡ Ok (link, x) → AreFields fs link x
 unfolding reading_a
-reading_a-fields {w} (linked_to ∷ second ∷ opcode ∷ param ∷ size ∷ source ∷ address ∷ mask ∷ lanes ∷ corrupt ∷ []) link x width named e =
+reading_a-fields {w} (linked_to ∷ second ∷ opcode ∷ param ∷ size ∷ source ∷ address ∷ mask ∷ lanes ∷ corrupt ∷ []) link
+    x width named e =
     ok_step (number_in 2 linked_to) _ (link, x) _ e (λ v1 h1 e1.
     ok_step (number_in 1 opcode) _ (link, x) _ e1 (λ v2 h2 e2.
     ok_step (number_in 1 param) _ (link, x) _ e2 (λ v3 h3 e3.
@@ -244,20 +310,34 @@ reading_a-fields {w} (linked_to ∷ second ∷ opcode ∷ param ∷ size ∷ sou
     let q_lanes : lanes ≡ lanes_text y.lanes = s_lanes.spelled ∙ ap lanes_text (sym m.lanes) in
     let q_corrupt : corrupt ≡ bit_text y.corrupt = s_corrupt ∙ ap bit_text (sym m.corrupt) in
     let same : linked {w = w} v1 (beat.A y) ≡ (link, x) = ok_is last in
-    subst (λ (z : Link × Beat w). AreFields (linked_to ∷ second ∷ opcode ∷ param ∷ size ∷ source ∷ address ∷ mask ∷ lanes ∷ corrupt ∷ []) z.0 z.1) same (record {
+    subst (λ (z : Link × Beat w). AreFields
+    (linked_to ∷ second ∷ opcode ∷ param ∷ size ∷ source ∷ address ∷ mask ∷ lanes ∷ corrupt ∷ []) z.0 z.1) same
+    (record {
       are =
           cons_same q_link (cons_same q_letter (cons_same q_opcode
           (cons_same q_param (cons_same q_size (cons_same q_source
           (cons_same q_address (cons_same q_mask (cons_same q_lanes (cons_same q_corrupt (refl))))))))));
       link_in_range = omega (arith, s_linked_to.fits);
-      writable = (omega (arith, m.param.small), omega (arith, m.size, s_size.fits), rw m.mask (mask-below w v7 width s_mask.fits));
-      in_range = (omega (arith, m.source, s_source.fits), omega (arith, m.address, s_address.fits), rw m.lanes s_lanes.are_lanes);
+      writable = (
+        omega (arith, m.param.small),
+        omega (arith, m.size, s_size.fits),
+        rw m.mask
+            (mask-below w v7 width s_mask.fits),
+      );
+      in_range = (
+        omega (arith, m.source, s_source.fits),
+        omega (arith, m.address, s_address.fits),
+        rw m.lanes
+            s_lanes.are_lanes,
+      );
     })))))))))))
 reading_a-fields fs link x width named e = absurd cc
 
-reading_b-fields : {w : ℕ} (fs : List (List ℕ)) (link : Link) (x : Beat w) → IsWidth w → channel_named (field fs 1) ≡ Some channel.B → reading_b fs ≡ Ok (link, x) → AreFields fs link x
+reading_b-fields : {w : ℕ} (fs : List (List ℕ)) (link : Link) (x : Beat w) → IsWidth w
+    → channel_named (field fs 1) ≡ Some channel.B → reading_b fs ≡ Ok (link, x) → AreFields fs link x
 unfolding reading_b
-reading_b-fields {w} (linked_to ∷ second ∷ opcode ∷ param ∷ size ∷ source ∷ address ∷ mask ∷ lanes ∷ corrupt ∷ []) link x width named e =
+reading_b-fields {w} (linked_to ∷ second ∷ opcode ∷ param ∷ size ∷ source ∷ address ∷ mask ∷ lanes ∷ corrupt ∷ []) link
+    x width named e =
     ok_step (number_in 2 linked_to) _ (link, x) _ e (λ v1 h1 e1.
     ok_step (number_in 1 opcode) _ (link, x) _ e1 (λ v2 h2 e2.
     ok_step (number_in 1 param) _ (link, x) _ e2 (λ v3 h3 e3.
@@ -289,20 +369,34 @@ reading_b-fields {w} (linked_to ∷ second ∷ opcode ∷ param ∷ size ∷ sou
     let q_lanes : lanes ≡ lanes_text y.lanes = s_lanes.spelled ∙ ap lanes_text (sym m.lanes) in
     let q_corrupt : corrupt ≡ bit_text y.corrupt = s_corrupt ∙ ap bit_text (sym m.corrupt) in
     let same : linked {w = w} v1 (beat.B y) ≡ (link, x) = ok_is last in
-    subst (λ (z : Link × Beat w). AreFields (linked_to ∷ second ∷ opcode ∷ param ∷ size ∷ source ∷ address ∷ mask ∷ lanes ∷ corrupt ∷ []) z.0 z.1) same (record {
+    subst (λ (z : Link × Beat w). AreFields
+    (linked_to ∷ second ∷ opcode ∷ param ∷ size ∷ source ∷ address ∷ mask ∷ lanes ∷ corrupt ∷ []) z.0 z.1) same
+    (record {
       are =
           cons_same q_link (cons_same q_letter (cons_same q_opcode
           (cons_same q_param (cons_same q_size (cons_same q_source
           (cons_same q_address (cons_same q_mask (cons_same q_lanes (cons_same q_corrupt (refl))))))))));
       link_in_range = omega (arith, s_linked_to.fits);
-      writable = (omega (arith, m.param.small), omega (arith, m.size, s_size.fits), rw m.mask (mask-below w v7 width s_mask.fits));
-      in_range = (omega (arith, m.source, s_source.fits), omega (arith, m.address, s_address.fits), rw m.lanes s_lanes.are_lanes);
+      writable = (
+        omega (arith, m.param.small),
+        omega (arith, m.size, s_size.fits),
+        rw m.mask
+            (mask-below w v7 width s_mask.fits),
+      );
+      in_range = (
+        omega (arith, m.source, s_source.fits),
+        omega (arith, m.address, s_address.fits),
+        rw m.lanes
+            s_lanes.are_lanes,
+      );
     })))))))))))
 reading_b-fields fs link x width named e = absurd cc
 
-reading_c-fields : {w : ℕ} (fs : List (List ℕ)) (link : Link) (x : Beat w) → IsWidth w → channel_named (field fs 1) ≡ Some channel.C → reading_c fs ≡ Ok (link, x) → AreFields fs link x
+reading_c-fields : {w : ℕ} (fs : List (List ℕ)) (link : Link) (x : Beat w) → IsWidth w
+    → channel_named (field fs 1) ≡ Some channel.C → reading_c fs ≡ Ok (link, x) → AreFields fs link x
 unfolding reading_c
-reading_c-fields {w} (linked_to ∷ second ∷ opcode ∷ param ∷ size ∷ source ∷ address ∷ lanes ∷ corrupt ∷ []) link x width named e =
+reading_c-fields {w} (linked_to ∷ second ∷ opcode ∷ param ∷ size ∷ source ∷ address ∷ lanes ∷ corrupt ∷ []) link x width
+    named e =
     ok_step (number_in 2 linked_to) _ (link, x) _ e (λ v1 h1 e1.
     ok_step (number_in 1 opcode) _ (link, x) _ e1 (λ v2 h2 e2.
     ok_step (number_in 1 param) _ (link, x) _ e2 (λ v3 h3 e3.
@@ -331,18 +425,29 @@ reading_c-fields {w} (linked_to ∷ second ∷ opcode ∷ param ∷ size ∷ sou
     let q_lanes : lanes ≡ lanes_text y.lanes = s_lanes.spelled ∙ ap lanes_text (sym m.lanes) in
     let q_corrupt : corrupt ≡ bit_text y.corrupt = s_corrupt ∙ ap bit_text (sym m.corrupt) in
     let same : linked {w = w} v1 (beat.C y) ≡ (link, x) = ok_is last in
-    subst (λ (z : Link × Beat w). AreFields (linked_to ∷ second ∷ opcode ∷ param ∷ size ∷ source ∷ address ∷ lanes ∷ corrupt ∷ []) z.0 z.1) same (record {
+    subst (λ (z : Link × Beat w). AreFields (linked_to ∷ second ∷ opcode ∷ param ∷ size ∷ source ∷ address ∷ lanes
+    ∷ corrupt ∷ []) z.0 z.1) same (record {
       are =
-          cons_same q_link (cons_same q_letter (cons_same q_opcode (cons_same q_param (cons_same q_size (cons_same q_source (cons_same q_address (cons_same q_lanes (cons_same q_corrupt (refl)))))))));
+          cons_same q_link (cons_same q_letter
+          (cons_same q_opcode (cons_same q_param
+          (cons_same q_size (cons_same q_source
+          (cons_same q_address (cons_same q_lanes (cons_same q_corrupt (refl)))))))));
       link_in_range = omega (arith, s_linked_to.fits);
       writable = (omega (arith, m.param.small), omega (arith, m.size, s_size.fits));
-      in_range = (omega (arith, m.source, s_source.fits), omega (arith, m.address, s_address.fits), rw m.lanes s_lanes.are_lanes);
+      in_range = (
+        omega (arith, m.source, s_source.fits),
+        omega (arith, m.address, s_address.fits),
+        rw m.lanes
+            s_lanes.are_lanes,
+      );
     }))))))))))
 reading_c-fields fs link x width named e = absurd cc
 
-reading_d-fields : {w : ℕ} (fs : List (List ℕ)) (link : Link) (x : Beat w) → IsWidth w → channel_named (field fs 1) ≡ Some channel.D → reading_d fs ≡ Ok (link, x) → AreFields fs link x
+reading_d-fields : {w : ℕ} (fs : List (List ℕ)) (link : Link) (x : Beat w) → IsWidth w
+    → channel_named (field fs 1) ≡ Some channel.D → reading_d fs ≡ Ok (link, x) → AreFields fs link x
 unfolding reading_d
-reading_d-fields {w} (linked_to ∷ second ∷ opcode ∷ param ∷ size ∷ source ∷ sink ∷ denied ∷ lanes ∷ corrupt ∷ []) link x width named e =
+reading_d-fields {w} (linked_to ∷ second ∷ opcode ∷ param ∷ size ∷ source ∷ sink ∷ denied ∷ lanes ∷ corrupt ∷ []) link x
+    width named e =
     ok_step (number_in 2 linked_to) _ (link, x) _ e (λ v1 h1 e1.
     ok_step (number_in 1 opcode) _ (link, x) _ e1 (λ v2 h2 e2.
     ok_step (number_in 1 param) _ (link, x) _ e2 (λ v3 h3 e3.
@@ -374,18 +479,25 @@ reading_d-fields {w} (linked_to ∷ second ∷ opcode ∷ param ∷ size ∷ sou
     let q_lanes : lanes ≡ lanes_text y.lanes = s_lanes.spelled ∙ ap lanes_text (sym m.lanes) in
     let q_corrupt : corrupt ≡ bit_text y.corrupt = s_corrupt ∙ ap bit_text (sym m.corrupt) in
     let same : linked {w = w} v1 (beat.D y) ≡ (link, x) = ok_is last in
-    subst (λ (z : Link × Beat w). AreFields (linked_to ∷ second ∷ opcode ∷ param ∷ size ∷ source ∷ sink ∷ denied ∷ lanes ∷ corrupt ∷ []) z.0 z.1) same (record {
+    subst (λ (z : Link × Beat w). AreFields (linked_to ∷ second ∷ opcode ∷ param ∷ size ∷ source ∷ sink ∷ denied ∷ lanes
+    ∷ corrupt ∷ []) z.0 z.1) same (record {
       are =
           cons_same q_link (cons_same q_letter (cons_same q_opcode
           (cons_same q_param (cons_same q_size (cons_same q_source
           (cons_same q_sink (cons_same q_denied (cons_same q_lanes (cons_same q_corrupt (refl))))))))));
       link_in_range = omega (arith, s_linked_to.fits);
       writable = (omega (arith, m.param.small), omega (arith, m.size, s_size.fits));
-      in_range = (omega (arith, m.source, s_source.fits), omega (arith, m.sink, s_sink.fits), rw m.lanes s_lanes.are_lanes);
+      in_range = (
+        omega (arith, m.source, s_source.fits),
+        omega (arith, m.sink, s_sink.fits),
+        rw m.lanes
+            s_lanes.are_lanes,
+      );
     })))))))))))
 reading_d-fields fs link x width named e = absurd cc
 
-reading_e-fields : {w : ℕ} (fs : List (List ℕ)) (link : Link) (x : Beat w) → IsWidth w → channel_named (field fs 1) ≡ Some channel.E → reading_e fs ≡ Ok (link, x) → AreFields fs link x
+reading_e-fields : {w : ℕ} (fs : List (List ℕ)) (link : Link) (x : Beat w) → IsWidth w
+    → channel_named (field fs 1) ≡ Some channel.E → reading_e fs ≡ Ok (link, x) → AreFields fs link x
 unfolding reading_e
 reading_e-fields {w} (linked_to ∷ second ∷ sink ∷ []) link x width named e =
     ok_step (number_in 2 linked_to) _ (link, x) _ e (λ v1 h1 e1.
@@ -404,7 +516,8 @@ reading_e-fields {w} (linked_to ∷ second ∷ sink ∷ []) link x width named e
     })))
 reading_e-fields fs link x width named e = absurd cc
 
-reading_on-fields : {w : ℕ} (fs : List (List ℕ)) (link : Link) (x : Beat w) (c : Option Channel) → IsWidth w → channel_named (field fs 1) ≡ c → reading_on c fs ≡ Ok (link, x) → AreFields fs link x
+reading_on-fields : {w : ℕ} (fs : List (List ℕ)) (link : Link) (x : Beat w) (c : Option Channel) → IsWidth w
+    → channel_named (field fs 1) ≡ c → reading_on c fs ≡ Ok (link, x) → AreFields fs link x
 reading_on-fields fs link x None width named e = absurd cc
 reading_on-fields fs link x (Some channel.A) width named e = reading_a-fields fs link x width named e
 reading_on-fields fs link x (Some channel.B) width named e = reading_b-fields fs link x width named e
@@ -412,11 +525,13 @@ reading_on-fields fs link x (Some channel.C) width named e = reading_c-fields fs
 reading_on-fields fs link x (Some channel.D) width named e = reading_d-fields fs link x width named e
 reading_on-fields fs link x (Some channel.E) width named e = reading_e-fields fs link x width named e
 
-reading_fields-are : {w : ℕ} (fs : List (List ℕ)) (link : Link) (x : Beat w) → IsWidth w → reading_fields fs ≡ Ok (link, x) → AreFields fs link x
+reading_fields-are : {w : ℕ} (fs : List (List ℕ)) (link : Link) (x : Beat w) → IsWidth w
+    → reading_fields fs ≡ Ok (link, x) → AreFields fs link x
 unfolding reading_fields
 reading_fields-are {w} fs link x width e = go (nat_lt (length fs) 2) e
   where
-    go : (b : Bool) → cond b (Err F1) (reading_on {w = w} (channel_named (field fs 1)) fs) ≡ ok_of (link, x) → AreFields fs link x
+    go : (b : Bool) → cond b (Err F1) (reading_on {w = w} (channel_named (field fs 1)) fs) ≡ ok_of (link, x)
+        → AreFields fs link x
     go true f = absurd cc
     go false f = reading_on-fields fs link x (channel_named (field fs 1)) width refl f
 
@@ -430,22 +545,27 @@ line-whole line e =
     ∙ ap₂ (λ (x : ℕ) (xs : List ℕ). x ∷ xs) last (drop_all (suc (length line - 1)) line (omega arith)) in
     sym (take-append-drop (length line - 1) line) ∙ ap (λ (xs : List ℕ). take (length line - 1) line ++ xs) rest
 
-pub reading-spells : {w : ℕ} (line : List ℕ) (link : Link) (x : Beat w) → IsWidth w → reading w line ≡ Ok (link, x) → Spells line link x
+pub reading-spells : {w : ℕ} (line : List ℕ) (link : Link) (x : Beat w) → IsWidth w → reading w line ≡ Ok (link, x)
+    → Spells line link x
 unfolding reading
 reading-spells {w} line link x width e = go (nat_lt 256 (length line)) (ends_with_byte 10 line) refl e
   where
-    go : (long ends : Bool) → ends_with_byte 10 line ≡ ends → cond (long || not ends) (Err F1) (reading_fields {w = w} (pieces (without_last line))) ≡ ok_of (link, x) → Spells line link x
+    go : (long ends : Bool) → ends_with_byte 10 line ≡ ends
+        → cond (long || not ends) (Err F1) (reading_fields {w = w} (pieces (without_last line))) ≡ ok_of (link, x)
+        → Spells line link x
     go true ends is f = absurd cc
     go false false is f = absurd cc
     go false true is f =
         let r = reading_fields-are (pieces (without_last line)) link x width f in
         record {
-          is_line = line-whole line is ∙ ap (λ (b : List ℕ). b ++ 10 ∷ []) (sym (spaced-pieces (without_last line)) ∙ ap spaced r.are);
+          is_line = line-whole line is ∙ ap (λ (b : List ℕ). b ++ 10 ∷ [])
+              (sym (spaced-pieces (without_last line)) ∙ ap spaced r.are);
           link_in_range = r.link_in_range;
           writable = r.writable;
           in_range = r.in_range;
         }
 
-pub ok-spells : {w : ℕ} (line : List ℕ) (r : Result (Link × Beat w) LineFault) → IsWidth w → r ≡ reading w line → IfOk r (λ read. Spells line read.0 read.1)
+pub ok-spells : {w : ℕ} (line : List ℕ) (r : Result (Link × Beat w) LineFault) → IsWidth w → r ≡ reading w line
+    → IfOk r (λ read. Spells line read.0 read.1)
 ok-spells line (Ok read) width e = reading-spells line read.0 read.1 width (sym e)
 ok-spells line (Err fault) width e = tt

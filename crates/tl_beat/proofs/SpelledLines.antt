@@ -1,5 +1,6 @@
 -- What a line spells is read.
-use Rattle.std.proofs.Common.{◌≡◌, ℕ, zero, suc, ◌+◌, ◌-◌, ◌*◌, ◌/◌, ◌%◌, ◌^◌, ◌<◌, ◌≤◌, Bool, true, false, cond, List, [], ◌∷◌, ◌++◌, length, get_or, take}
+use Rattle.std.proofs.Common.{◌≡◌, ℕ, zero, suc, ◌+◌, ◌-◌, ◌*◌, ◌/◌, ◌%◌, ◌^◌, ◌<◌, ◌≤◌, Bool, true, false, cond, List}
+use Rattle.std.proofs.Common.{[], ◌∷◌, ◌++◌, length, get_or, take}
 use Rattle.std.proofs.Common.{refl, sym, ap, ap₂, ◌∙◌, arith, length-append, inl, inr}
 use Rattle.std.proofs.Math.Seq.{get_or-append_seam, take-append_seam}
 use Rattle.std.proofs.lemmas.Bool.{eqb-true, lt-ltb, le-ltb}
@@ -18,13 +19,17 @@ use Rattle.tl_beat.specs.declared.opcode.OpC.TheVariants as c
 use Rattle.tl_beat.specs.declared.opcode.OpD.{OpD}
 use Rattle.tl_beat.specs.declared.opcode.OpD.TheVariants as d
 use Rattle.tl_beat.specs.declared.fault.LineFault.{LineFault}
-use Rattle.tl_beat.specs.statement.Opcode.{a_code, b_code, c_code, d_code, a_opcodes, b_opcodes, c_opcodes, d_opcodes, a_with, b_with, c_with, d_with}
+use Rattle.tl_beat.specs.statement.Opcode.{a_code, b_code, c_code, d_code, a_opcodes, b_opcodes, c_opcodes, d_opcodes}
+use Rattle.tl_beat.specs.statement.Opcode.{a_with, b_with, c_with, d_with}
 use Rattle.tl_beat.specs.statement.Digits.{digits, lane_digits, lanes_text, bit_text}
-use Rattle.tl_beat.specs.statement.Line.{fields_of, spaced, IsWritable, AreLanes, IsInRange, Spells, pieces, without_last}
-use Rattle.tl_beat.specs.code.Reading.{at_most, reading_a, reading_b, reading_c, reading_d, reading_e, reading_fields, reading}
+use Rattle.tl_beat.specs.statement.Line.{fields_of, spaced, IsWritable, AreLanes, IsInRange, Spells, pieces}
+use Rattle.tl_beat.specs.statement.Line.{without_last}
+use Rattle.tl_beat.specs.code.Reading.{at_most, reading_a, reading_b, reading_c, reading_d, reading_e, reading_fields}
+use Rattle.tl_beat.specs.code.Reading.{reading}
 use Rattle.tl_beat.specs.statement.Width.{IsWidth}
 use Rattle.tl_beat.proofs.Pieces.{NoSpace, NoSpaces, pieces-spaced}
-use Rattle.tl_beat.proofs.SpelledDigits.{digit_char-no_space, length-digits, number_in-digits, bit_in-text, length-lane_digits, data_in-text}
+use Rattle.tl_beat.proofs.SpelledDigits.{digit_char-no_space, length-digits, number_in-digits, bit_in-text}
+use Rattle.tl_beat.proofs.SpelledDigits.{length-lane_digits, data_in-text}
 use Rattle.tl_beat.proofs.Made.{made_a-ok, made_b-ok, made_c-ok, made_d-ok}
 
 -- ---- opcodes and their codes
@@ -33,7 +38,8 @@ pub find-passes : {X : Type 0} (test : X → Bool) (xs : List X) (x : X) → fin
 find-passes test [] x e = absurd cc
 find-passes {X} test (y ∷ ys) x e = go (test y) refl e (λ f. find-passes test ys x f)
   where
-    go : (b : Bool) → test y ≡ b → cond b (Some y) (find test ys) ≡ Some x → (find test ys ≡ Some x → test x ≡ true) → test x ≡ true
+    go : (b : Bool) → test y ≡ b → cond b (Some y) (find test ys) ≡ Some x → (find test ys ≡ Some x → test x ≡ true)
+        → test x ≡ true
     go true h f more = let same : y ≡ x = cc in ap test (sym same) ∙ h
     go false h f more = more f
 
@@ -155,7 +161,8 @@ NoSpace-append (c ∷ cs) q np nq = (np.0, NoSpace-append cs q np.1 nq)
 NoSpace-lane_digits : (lanes : List ℕ) → NoSpace (lane_digits lanes)
 unfolding lane_digits
 NoSpace-lane_digits [] = tt
-NoSpace-lane_digits (x ∷ xs) = NoSpace-append (lane_digits xs) (digits 2 x) (NoSpace-lane_digits xs) (NoSpace-digits 2 x)
+NoSpace-lane_digits (x ∷ xs) = NoSpace-append (lane_digits xs) (digits 2 x) (NoSpace-lane_digits xs)
+    (NoSpace-digits 2 x)
 
 NoSpace-lanes : (lanes : Option (List ℕ)) → NoSpace (lanes_text lanes)
 NoSpace-lanes None = (refl, tt)
@@ -239,7 +246,10 @@ fields-no_space {w} link (beat.C x) = (
         NoSpace-digits 1 x.param,
         (
           NoSpace-digits 1 x.size,
-          (NoSpace-digits 2 x.source, (NoSpace-digits 8 x.address, (NoSpace-lanes x.lanes, (NoSpace-bit x.corrupt, tt)))),
+          (
+            NoSpace-digits 2 x.source,
+            (NoSpace-digits 8 x.address, (NoSpace-lanes x.lanes, (NoSpace-bit x.corrupt, tt))),
+          ),
         ),
       ),
     ),
@@ -255,7 +265,10 @@ fields-no_space {w} link (beat.D x) = (
         NoSpace-digits 1 x.param,
         (
           NoSpace-digits 1 x.size,
-          (NoSpace-digits 2 x.source, (NoSpace-digits 2 x.sink, (NoSpace-bit x.denied, (NoSpace-lanes x.lanes, (NoSpace-bit x.corrupt, tt))))),
+          (
+            NoSpace-digits 2 x.source,
+            (NoSpace-digits 2 x.sink, (NoSpace-bit x.denied, (NoSpace-lanes x.lanes, (NoSpace-bit x.corrupt, tt)))),
+          ),
         ),
       ),
     ),
@@ -319,7 +332,8 @@ fields-short {w} link (beat.E x) small within = omega (arith, length-digits 2 li
 
 -- ---- what is spelled is read
 
-fields-read : {w : ℕ} (link : Link) (x : Beat w) → IsWidth w → link.0 < 2 ^ 8 → IsWritable x → IsInRange x → reading_fields (fields_of link x) ≡ Ok (link, x)
+fields-read : {w : ℕ} (link : Link) (x : Beat w) → IsWidth w → link.0 < 2 ^ 8 → IsWritable x → IsInRange x
+    → reading_fields (fields_of link x) ≡ Ok (link, x)
 unfolding reading_fields reading_a reading_b reading_c reading_d reading_e
 fields-read {w} link (beat.A x) width l writable within =
     let m = mask-fits w x.mask width writable.2 in
@@ -374,7 +388,8 @@ fields-read {w} link (beat.D x) width l writable within =
       bit_in-text x.corrupt,
       ← made_d-ok x (d_code x.opcode) x.param (d_with-code x.opcode) (at_most-ok 3 x.param (omega arith)),
     ) refl
-fields-read {w} link (beat.E x) width l writable within = rw (number_in-digits 2 link.0 (omega arith), number_in-digits 2 x.sink (omega arith)) refl
+fields-read {w} link (beat.E x) width l writable within =
+    rw (number_in-digits 2 link.0 (omega arith), number_in-digits 2 x.sink (omega arith)) refl
 
 pub without_last-line : (body : List ℕ) → without_last (body ++ 10 ∷ []) ≡ body
 without_last-line body =
@@ -384,15 +399,18 @@ without_last-line body =
 pub ends_with_byte-line : (body : List ℕ) → ends_with_byte 10 (body ++ 10 ∷ []) ≡ true
 ends_with_byte-line body =
     let len : length (body ++ 10 ∷ []) - 1 ≡ length body = omega (arith, length-append body (10 ∷ [])) in
-    let some : nat_lt 0 (length (body ++ 10 ∷ [])) ≡ true = lt-ltb 0 (length (body ++ 10 ∷ [])) (omega (arith, length-append body (10 ∷ []))) in
-    let last : (get_or (body ++ 10 ∷ []) (length (body ++ 10 ∷ []) - 1) 0 == 10) ≡ true = ap (λ (i : ℕ). get_or (body ++ 10 ∷ []) i 0 == 10) len
+    let some : nat_lt 0 (length (body ++ 10 ∷ [])) ≡ true =
+    lt-ltb 0 (length (body ++ 10 ∷ [])) (omega (arith, length-append body (10 ∷ []))) in
+    let last : (get_or (body ++ 10 ∷ []) (length (body ++ 10 ∷ []) - 1) 0 == 10) ≡ true =
+    ap (λ (i : ℕ). get_or (body ++ 10 ∷ []) i 0 == 10) len
     ∙ ap (λ (b : ℕ). b == 10) (get_or-append_seam body 10 [] 0) in
     ap₂ (λ (p q : Bool). p && q) some last
 
 reading-line : (w : ℕ) (body : List ℕ) → length body ≤ 255 → reading w (body ++ 10 ∷ []) ≡ reading_fields (pieces body)
 unfolding reading
 reading-line w body short =
-    let fits : nat_lt 256 (length (body ++ 10 ∷ [])) ≡ false = le-ltb 256 (length (body ++ 10 ∷ [])) (omega (arith, length-append body (10 ∷ []))) in
+    let fits : nat_lt 256 (length (body ++ 10 ∷ [])) ≡ false =
+    le-ltb 256 (length (body ++ 10 ∷ [])) (omega (arith, length-append body (10 ∷ []))) in
     rw (fits, ends_with_byte-line body, without_last-line body) refl
 
 fields-some : {w : ℕ} (link : Link) (x : Beat w) → 0 < length (fields_of link x)
@@ -402,10 +420,12 @@ fields-some link (beat.C x) = omega arith
 fields-some link (beat.D x) = omega arith
 fields-some link (beat.E x) = omega arith
 
-pub reading-spelled : {w : ℕ} (line : List ℕ) (link : Link) (x : Beat w) → IsWidth w → Spells line link x → reading w line ≡ Ok (link, x)
+pub reading-spelled : {w : ℕ} (line : List ℕ) (link : Link) (x : Beat w) → IsWidth w → Spells line link x
+    → reading w line ≡ Ok (link, x)
 reading-spelled {w} line link x width s =
     let body = spaced (fields_of link x) in
-    let short : length body ≤ 255 = omega (arith, length-spaced (fields_of link x), fields-short link x (width-small w width) s.in_range) in
+    let short : length body ≤ 255 =
+    omega (arith, length-spaced (fields_of link x), fields-short link x (width-small w width) s.in_range) in
     ap (reading w) s.is_line ∙ reading-line w body short
     ∙ ap (reading_fields {w = w}) (pieces-spaced (fields_of link x) (fields-some link x) (fields-no_space link x))
     ∙ fields-read link x width s.link_in_range s.writable s.in_range
@@ -414,7 +434,8 @@ abbrev ok_pair : {w : ℕ} → Link × Beat w → Result (Link × Beat w) LineFa
 ok_pair x = Ok x
 
 -- no two beats have one line
-pub one-beat : {w : ℕ} (line : List ℕ) (k l : Link) (x y : Beat w) → IsWidth w → Spells line k x → Spells line l y → (k ≡ l) × (x ≡ y)
+pub one-beat : {w : ℕ} (line : List ℕ) (k l : Link) (x y : Beat w) → IsWidth w → Spells line k x → Spells line l y
+    → (k ≡ l) × (x ≡ y)
 one-beat {w} line k l x y width s t =
     let same : (k, x) ≡ (l, y) = ok_same (sym (reading-spelled line k x width s) ∙ reading-spelled line l y width t) in
     (ap (λ (z : Link × Beat w). z.0) same, ap (λ (z : Link × Beat w). z.1) same)

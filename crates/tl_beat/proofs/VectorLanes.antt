@@ -1,5 +1,6 @@
 -- Sixteen digits as a vector are the lanes that they spell.
-use Rattle.std.proofs.Common.{◌≡◌, ℕ, suc, ◌+◌, ◌*◌, ◌%◌, ◌^◌, ◌<◌, Bool, true, false, cond, ltb, List, [], ◌∷◌, ◌++◌, length, get_or, refl, ◌∙◌, arith}
+use Rattle.std.proofs.Common.{◌≡◌, ℕ, suc, ◌+◌, ◌*◌, ◌%◌, ◌^◌, ◌<◌, Bool, true, false, cond, ltb, List, [], ◌∷◌, ◌++◌}
+use Rattle.std.proofs.Common.{length, get_or, refl, ◌∙◌, arith}
 use Rattle.std.proofs.Math.Nat.{pow-suc}
 use Rattle.std.proofs.lemmas.Bool.Decides.{nat_tests}
 use Rattle.std.proofs.lemmas.Simd.{mask_l-lt}
@@ -10,7 +11,8 @@ use lib.Lanes.{top, mask_l}
 
 -- one lane of the vector of values
 abbrev lane : ℕ → ℕ
-lane x = cond (top 7 (cond (ltb ((x + 208) % 256) 10) 255 0)) ((x + 208) % 256) (cond (top 7 (cond (ltb ((x + 159) % 256) 6) 255 0)) (((x + 159) % 256 + 10) % 256) 16)
+lane x = cond (top 7 (cond (ltb ((x + 208) % 256) 10) 255 0)) ((x + 208) % 256)
+    (cond (top 7 (cond (ltb ((x + 159) % 256) 6) 255 0)) (((x + 159) % 256 + 10) % 256) 16)
 
 lane_value : (x : ℕ) → x < 256 → lane x ≡ value_or_16 x
 lane_value x lt = grind (arith, nat_tests)
@@ -57,22 +59,31 @@ pair-step c d n before cs c_fits d_fits c_small d_small =
 
 abbrev tests : List ℕ → List Bool
 tests field =
-    is_small (lane (get_or field 0 0)) ∷ is_small (lane (get_or field 1 0)) ∷ is_small (lane (get_or field 2 0)) ∷ is_small (lane (get_or field 3 0)) ∷ is_small (lane (get_or field 4 0))
-    ∷ is_small (lane (get_or field 5 0)) ∷ is_small (lane (get_or field 6 0)) ∷ is_small (lane (get_or field 7 0)) ∷ is_small (lane (get_or field 8 0)) ∷ is_small (lane (get_or field 9 0))
-    ∷ is_small (lane (get_or field 10 0)) ∷ is_small (lane (get_or field 11 0)) ∷ is_small (lane (get_or field 12 0)) ∷ is_small (lane (get_or field 13 0))
+    is_small (lane (get_or field 0 0)) ∷ is_small (lane (get_or field 1 0)) ∷ is_small (lane (get_or field 2 0))
+    ∷ is_small (lane (get_or field 3 0)) ∷ is_small (lane (get_or field 4 0))
+    ∷ is_small (lane (get_or field 5 0)) ∷ is_small (lane (get_or field 6 0)) ∷ is_small (lane (get_or field 7 0))
+    ∷ is_small (lane (get_or field 8 0)) ∷ is_small (lane (get_or field 9 0))
+    ∷ is_small (lane (get_or field 10 0)) ∷ is_small (lane (get_or field 11 0)) ∷ is_small (lane (get_or field 12 0))
+    ∷ is_small (lane (get_or field 13 0))
     ∷ is_small (lane (get_or field 14 0)) ∷ is_small (lane (get_or field 15 0)) ∷ []
 
 abbrev spelled : List ℕ → List ℕ
 spelled field =
-    paired (lane (get_or field 14 0)) (lane (get_or field 15 0)) ∷ paired (lane (get_or field 12 0)) (lane (get_or field 13 0)) ∷ paired (lane (get_or field 10 0)) (lane (get_or field 11 0))
-    ∷ paired (lane (get_or field 8 0)) (lane (get_or field 9 0)) ∷ paired (lane (get_or field 6 0)) (lane (get_or field 7 0)) ∷ paired (lane (get_or field 4 0)) (lane (get_or field 5 0))
-    ∷ paired (lane (get_or field 2 0)) (lane (get_or field 3 0)) ∷ paired (lane (get_or field 0 0)) (lane (get_or field 1 0)) ∷ []
+    paired (lane (get_or field 14 0)) (lane (get_or field 15 0)) ∷ paired (lane (get_or field 12 0))
+    (lane (get_or field 13 0)) ∷ paired (lane (get_or field 10 0)) (lane (get_or field 11 0))
+    ∷ paired (lane (get_or field 8 0)) (lane (get_or field 9 0)) ∷ paired (lane (get_or field 6 0))
+    (lane (get_or field 7 0)) ∷ paired (lane (get_or field 4 0)) (lane (get_or field 5 0))
+    ∷ paired (lane (get_or field 2 0)) (lane (get_or field 3 0)) ∷ paired (lane (get_or field 0 0))
+    (lane (get_or field 1 0)) ∷ []
 
-pub eight-spelled : (field before rest : List ℕ) (n : ℕ) → length field ≡ 16 → ((i : ℕ) → get_or field i 0 < 256) → mask_l (tests field) % 18446744073709551616 ≡ 65535
+pub eight-spelled : (field before rest : List ℕ) (n : ℕ) → length field ≡ 16 → ((i : ℕ) → get_or field i 0 < 256)
+    → mask_l (tests field) % 18446744073709551616 ≡ 65535
     → lanes_at before (8 + n) (field ++ rest) ≡ lanes_at (spelled field ++ before) n rest
 unfolding AreSet
-eight-spelled (x0 ∷ x1 ∷ x2 ∷ x3 ∷ x4 ∷ x5 ∷ x6 ∷ x7 ∷ x8 ∷ x9 ∷ x10 ∷ x11 ∷ x12 ∷ x13 ∷ x14 ∷ x15 ∷ []) before rest n long fits e =
-    let s = whole_mask (tests (x0 ∷ x1 ∷ x2 ∷ x3 ∷ x4 ∷ x5 ∷ x6 ∷ x7 ∷ x8 ∷ x9 ∷ x10 ∷ x11 ∷ x12 ∷ x13 ∷ x14 ∷ x15 ∷ [])) refl e in
+eight-spelled (x0 ∷ x1 ∷ x2 ∷ x3 ∷ x4 ∷ x5 ∷ x6 ∷ x7 ∷ x8 ∷ x9 ∷ x10 ∷ x11 ∷ x12 ∷ x13 ∷ x14 ∷ x15 ∷ []) before rest n
+    long fits e =
+    let s = whole_mask (tests (x0 ∷ x1 ∷ x2 ∷ x3 ∷ x4 ∷ x5 ∷ x6 ∷ x7 ∷ x8 ∷ x9 ∷ x10 ∷ x11 ∷ x12 ∷ x13 ∷ x14 ∷ x15
+    ∷ [])) refl e in
     let eight : 8 + n ≡ suc (suc (suc (suc (suc (suc (suc (suc n))))))) = omega arith in
     rw eight (
     pair-step x0 x1 _ _ _ (fits 0) (fits 1) s.0 s.1.0

@@ -1,3 +1,4 @@
+pub mod Control
 pub mod Digits
 pub mod First
 pub mod Line

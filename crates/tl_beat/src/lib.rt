@@ -3,6 +3,7 @@
 
 pub mod beat;
 pub mod channel;
+pub mod control;
 pub mod fault;
 mod lanes;
 pub mod opcode;

@@ -5,50 +5,50 @@ ghost use Rattle.std.specs.Prelude.{◌≡◌};
 /// The opcodes of channel A.
 #[derive(Clone, Copy, Debug, PartialEq, Eq)]
 pub enum OpA {
-    PutFullData,
-    PutPartialData,
-    ArithmeticData,
-    LogicalData,
-    Get,
-    Intent,
-    AcquireBlock,
-    AcquirePerm,
+    PutFullData = 0,
+    PutPartialData = 1,
+    ArithmeticData = 2,
+    LogicalData = 3,
+    Get = 4,
+    Intent = 5,
+    AcquireBlock = 6,
+    AcquirePerm = 7,
 }
 
 /// The opcodes of channel B.
 #[derive(Clone, Copy, Debug, PartialEq, Eq)]
 pub enum OpB {
-    PutFullData,
-    PutPartialData,
-    ArithmeticData,
-    LogicalData,
-    Get,
-    Intent,
-    ProbeBlock,
-    ProbePerm,
+    PutFullData = 0,
+    PutPartialData = 1,
+    ArithmeticData = 2,
+    LogicalData = 3,
+    Get = 4,
+    Intent = 5,
+    ProbeBlock = 6,
+    ProbePerm = 7,
 }
 
 /// The opcodes of channel C. Code 3 isn't in use.
 #[derive(Clone, Copy, Debug, PartialEq, Eq)]
 pub enum OpC {
-    AccessAck,
-    AccessAckData,
-    HintAck,
-    ProbeAck,
-    ProbeAckData,
-    Release,
-    ReleaseData,
+    AccessAck = 0,
+    AccessAckData = 1,
+    HintAck = 2,
+    ProbeAck = 4,
+    ProbeAckData = 5,
+    Release = 6,
+    ReleaseData = 7,
 }
 
 /// The opcodes of channel D. Codes 3 and 7 aren't in use.
 #[derive(Clone, Copy, Debug, PartialEq, Eq)]
 pub enum OpD {
-    AccessAck,
-    AccessAckData,
-    HintAck,
-    Grant,
-    GrantData,
-    ReleaseAck,
+    AccessAck = 0,
+    AccessAckData = 1,
+    HintAck = 2,
+    Grant = 4,
+    GrantData = 5,
+    ReleaseAck = 6,
 }
 
 impl OpA {
@@ -59,16 +59,7 @@ impl OpA {
     pub fn code(self) -> u8
         ensures { result ≡ a_code self }
     {
-        match self {
-            OpA::PutFullData => 0,
-            OpA::PutPartialData => 1,
-            OpA::ArithmeticData => 2,
-            OpA::LogicalData => 3,
-            OpA::Get => 4,
-            OpA::Intent => 5,
-            OpA::AcquireBlock => 6,
-            OpA::AcquirePerm => 7,
-        }
+        self as u8
     }
 
     /// The opcode with this code, where one is in use.
@@ -92,16 +83,10 @@ impl OpA {
     pub fn carries_data(self) -> bool
         ensures { result ≡ a_carries_data self }
     {
-        match self {
-            OpA::PutFullData => true,
-            OpA::PutPartialData => true,
-            OpA::ArithmeticData => true,
-            OpA::LogicalData => true,
-            OpA::Get => false,
-            OpA::Intent => false,
-            OpA::AcquireBlock => false,
-            OpA::AcquirePerm => false,
-        }
+        matches!(
+            self,
+            OpA::PutFullData | OpA::PutPartialData | OpA::ArithmeticData | OpA::LogicalData
+        )
     }
 
     /// The opcode's name, as the specification has it.
@@ -129,16 +114,7 @@ impl OpB {
     pub fn code(self) -> u8
         ensures { result ≡ b_code self }
     {
-        match self {
-            OpB::PutFullData => 0,
-            OpB::PutPartialData => 1,
-            OpB::ArithmeticData => 2,
-            OpB::LogicalData => 3,
-            OpB::Get => 4,
-            OpB::Intent => 5,
-            OpB::ProbeBlock => 6,
-            OpB::ProbePerm => 7,
-        }
+        self as u8
     }
 
     /// The opcode with this code, where one is in use.
@@ -162,16 +138,10 @@ impl OpB {
     pub fn carries_data(self) -> bool
         ensures { result ≡ b_carries_data self }
     {
-        match self {
-            OpB::PutFullData => true,
-            OpB::PutPartialData => true,
-            OpB::ArithmeticData => true,
-            OpB::LogicalData => true,
-            OpB::Get => false,
-            OpB::Intent => false,
-            OpB::ProbeBlock => false,
-            OpB::ProbePerm => false,
-        }
+        matches!(
+            self,
+            OpB::PutFullData | OpB::PutPartialData | OpB::ArithmeticData | OpB::LogicalData
+        )
     }
 
     /// The opcode's name, as the specification has it.
@@ -199,15 +169,7 @@ impl OpC {
     pub fn code(self) -> u8
         ensures { result ≡ c_code self }
     {
-        match self {
-            OpC::AccessAck => 0,
-            OpC::AccessAckData => 1,
-            OpC::HintAck => 2,
-            OpC::ProbeAck => 4,
-            OpC::ProbeAckData => 5,
-            OpC::Release => 6,
-            OpC::ReleaseData => 7,
-        }
+        self as u8
     }
 
     /// The opcode with this code, where one is in use.
@@ -230,15 +192,10 @@ impl OpC {
     pub fn carries_data(self) -> bool
         ensures { result ≡ c_carries_data self }
     {
-        match self {
-            OpC::AccessAck => false,
-            OpC::AccessAckData => true,
-            OpC::HintAck => false,
-            OpC::ProbeAck => false,
-            OpC::ProbeAckData => true,
-            OpC::Release => false,
-            OpC::ReleaseData => true,
-        }
+        matches!(
+            self,
+            OpC::AccessAckData | OpC::ProbeAckData | OpC::ReleaseData
+        )
     }
 
     /// The opcode's name, as the specification has it.
@@ -265,14 +222,7 @@ impl OpD {
     pub fn code(self) -> u8
         ensures { result ≡ d_code self }
     {
-        match self {
-            OpD::AccessAck => 0,
-            OpD::AccessAckData => 1,
-            OpD::HintAck => 2,
-            OpD::Grant => 4,
-            OpD::GrantData => 5,
-            OpD::ReleaseAck => 6,
-        }
+        self as u8
     }
 
     /// The opcode with this code, where one is in use.
@@ -294,14 +244,7 @@ impl OpD {
     pub fn carries_data(self) -> bool
         ensures { result ≡ d_carries_data self }
     {
-        match self {
-            OpD::AccessAck => false,
-            OpD::AccessAckData => true,
-            OpD::HintAck => false,
-            OpD::Grant => false,
-            OpD::GrantData => true,
-            OpD::ReleaseAck => false,
-        }
+        matches!(self, OpD::AccessAckData | OpD::GrantData)
     }
 
     /// The opcode's name, as the specification has it.

@@ -1,5 +1,6 @@
 -- Fields of bits, put above what a number already has.
-use Rattle.std.proofs.Common.{◌≡◌, ℕ, Bool, true, false, ◌+◌, ◌*◌, ◌/◌, ◌%◌, ◌-◌, ◌<◌, ◌≤◌, ◌^◌, ◌==◌, refl, sym, ap, ◌∙◌, arith, lit<}
+use Rattle.std.proofs.Common.{◌≡◌, ℕ, Bool, true, false, ◌+◌, ◌*◌, ◌/◌, ◌%◌, ◌-◌, ◌<◌, ◌≤◌, ◌^◌, ◌==◌, refl, sym, ap}
+use Rattle.std.proofs.Common.{◌∙◌, arith, lit<}
 use Rattle.std.proofs.Math.Nat.{add-mul-mod_self_right, mod-eq_of_lt, mul-le-mul_left, pow-le-pow_right}
 use Rattle.std.proofs.lemmas.Nat.{field_of, shr_high, pow-add, mul-add-lt, shl_whole}
 use Rattle.tl_burst.specs.statement.Burst.{mask_at, bit}
@@ -39,25 +40,30 @@ earlier_place w i k lt =
     omega (arith, mul-le-mul_left w h, next_place w k)
 
 -- the mask of beat i, shifted to its place and added
-pub mask_here : (w i m b r : ℕ) → r ≡ b → m < 2 ^ (w * i) → b < 2 ^ w → w * i + w ≤ 64 → mask_at w (m + r * 2 ^ (w * i) % 2 ^ 64) i ≡ b
+pub mask_here : (w i m b r : ℕ) → r ≡ b → m < 2 ^ (w * i) → b < 2 ^ w → w * i + w ≤ 64
+    → mask_at w (m + r * 2 ^ (w * i) % 2 ^ 64) i ≡ b
 mask_here w i m b r e low small le =
     let whole = shl_whole b w (w * i) 64 small (omega arith) in
     rw (e, whole) (field_here m (w * i) b w low small)
 
-pub mask_earlier : (w i m b r k : ℕ) → r ≡ b → b < 2 ^ w → w * i + w ≤ 64 → k < i → mask_at w (m + r * 2 ^ (w * i) % 2 ^ 64) k ≡ mask_at w m k
+pub mask_earlier : (w i m b r k : ℕ) → r ≡ b → b < 2 ^ w → w * i + w ≤ 64 → k < i
+    → mask_at w (m + r * 2 ^ (w * i) % 2 ^ 64) k ≡ mask_at w m k
 mask_earlier w i m b r k e small le lt =
     let whole = shl_whole b w (w * i) 64 small (omega arith) in
     rw (e, whole) (field_below m (w * i) b w (w * k) (earlier_place w i k lt))
 
-pub mask_below : (w i m b r : ℕ) → r ≡ b → m < 2 ^ (w * i) → b < 2 ^ w → w * i + w ≤ 64 → m + r * 2 ^ (w * i) % 2 ^ 64 < 2 ^ (w * (i + 1))
+pub mask_below : (w i m b r : ℕ) → r ≡ b → m < 2 ^ (w * i) → b < 2 ^ w → w * i + w ≤ 64
+    → m + r * 2 ^ (w * i) % 2 ^ 64 < 2 ^ (w * (i + 1))
 mask_below w i m b r e low small le =
     let whole = shl_whole b w (w * i) 64 small (omega arith) in
     rw (e, whole, next_place w i) (sum_below m (w * i) b w low small)
 
-pub mask_fits : (w i m b r : ℕ) → r ≡ b → m < 2 ^ (w * i) → b < 2 ^ w → w * i + w ≤ 64 → m + r * 2 ^ (w * i) % 2 ^ 64 < 2 ^ 64
+pub mask_fits : (w i m b r : ℕ) → r ≡ b → m < 2 ^ (w * i) → b < 2 ^ w → w * i + w ≤ 64
+    → m + r * 2 ^ (w * i) % 2 ^ 64 < 2 ^ 64
 mask_fits w i m b r e low small le =
     let below : m + r * 2 ^ (w * i) % 2 ^ 64 < 2 ^ (w * (i + 1)) = mask_below w i m b r e low small le in
-    let far : 2 ^ (w * (i + 1)) ≤ 2 ^ 64 = pow-le-pow_right {n = 2} (lit< tt) {i = w * (i + 1)} {j = 64} (omega arith) in
+    let far : 2 ^ (w * (i + 1)) ≤ 2 ^ 64 = pow-le-pow_right {n = 2} (lit< tt) {i = w * (i + 1)} {j = 64} (omega arith)
+    in
     omega (arith, below, far)
 
 byte_below : (set : Bool) → bool_byte set < 2 ^ 1
@@ -74,7 +80,8 @@ bit_here i m r set e low le =
     let whole = shl_whole (bool_byte set) 1 i 16 (byte_below set) (omega arith) in
     rw (e, whole) (ap (λ n. n == 1) (field_here m i (bool_byte set) 1 low (byte_below set)) ∙ byte_is set)
 
-pub bit_earlier : (i m r k : ℕ) (set : Bool) → r ≡ bool_byte set → i < 16 → k < i → bit (m + r * 2 ^ i % 2 ^ 16) k ≡ bit m k
+pub bit_earlier : (i m r k : ℕ) (set : Bool) → r ≡ bool_byte set → i < 16 → k < i
+    → bit (m + r * 2 ^ i % 2 ^ 16) k ≡ bit m k
 bit_earlier i m r k set e le lt =
     let whole = shl_whole (bool_byte set) 1 i 16 (byte_below set) (omega arith) in
     rw (e, whole) (ap (λ n. n == 1) (field_below m i (bool_byte set) 1 k (omega arith)))

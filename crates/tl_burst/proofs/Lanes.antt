@@ -1,5 +1,6 @@
 -- Where the lanes of a beat stand in a payload.
-use Rattle.std.proofs.Common.{◌≡◌, ℕ, ◌+◌, ◌*◌, ◌/◌, ◌<◌, ◌≤◌, ◌^◌, Bool, true, false, cond, refl, arith, inl, inr, lit<, nat_lt}
+use Rattle.std.proofs.Common.{◌≡◌, ℕ, ◌+◌, ◌*◌, ◌/◌, ◌<◌, ◌≤◌, ◌^◌, Bool, true, false, cond, refl, arith, inl, inr}
+use Rattle.std.proofs.Common.{lit<, nat_lt}
 use Rattle.std.proofs.Math.Nat.{pow-le-pow_right}
 use Rattle.tl_beat.specs.statement.Width.{IsWidth}
 use Rattle.tl_burst.specs.declared.message.Message.{Message}
@@ -37,7 +38,8 @@ within w n i more (inr (inr e)) le lt = rw e (within_16 n i more le (rw e at lt)
 one_beat : (w i : ℕ) → IsWidth w → i < 1 → w * i + w ≤ 64
 one_beat w i width lt = within w 0 i false width (omega arith) lt
 
-within_data : (w size i : ℕ) (carries : Bool) → IsWidth w → size ≤ 6 → i < cond carries (data_beats w size) 1 → w * i + w ≤ 64
+within_data : (w size i : ℕ) (carries : Bool) → IsWidth w → size ≤ 6 → i < cond carries (data_beats w size) 1
+    → w * i + w ≤ 64
 within_data w size i true width small lt = within w (2 ^ size) i (nat_lt w (2 ^ size)) width (block_size size small) lt
 within_data w size i false width small lt = one_beat w i width lt
 
@@ -63,13 +65,16 @@ slice_is xs n m =
     rw e (sym (drop-take n m xs))
 
 -- a write at beat i leaves the lanes of earlier beats
-pub lanes_earlier : (w i k n : ℕ) (carries : Bool) (xs ys : List ℕ) → w * k + w ≤ w * i → w * i ≤ length xs → lanes_at carries w (put_mid (w * i) n xs ys) k ≡ lanes_at carries w xs k
+pub lanes_earlier : (w i k n : ℕ) (carries : Bool) (xs ys : List ℕ) → w * k + w ≤ w * i → w * i ≤ length xs
+    → lanes_at carries w (put_mid (w * i) n xs ys) k ≡ lanes_at carries w xs k
 lanes_earlier w i k n true xs ys le inside =
-    ap Some (slice_is (put_mid (w * i) n xs ys) (w * k) w ∙ ap (drop (w * k)) (take-put_mid_below (w * i) n xs ys (w * k + w) le inside) ∙ sym (slice_is xs (w * k) w))
+    ap Some (slice_is (put_mid (w * i) n xs ys) (w * k) w ∙ ap (drop (w * k))
+    (take-put_mid_below (w * i) n xs ys (w * k + w) le inside) ∙ sym (slice_is xs (w * k) w))
 lanes_earlier w i k n false xs ys le inside = refl
 
 -- and where the payload was zero from its place on, it is zero behind it
-pub zero_behind : (w i n : ℕ) (xs ys : List ℕ) → n ≡ w → length ys ≡ n → w * i ≤ length xs → IsZeroFrom (w * i) xs → IsZeroFrom (w * (i + 1)) (put_mid (w * i) n xs ys)
+pub zero_behind : (w i n : ℕ) (xs ys : List ℕ) → n ≡ w → length ys ≡ n → w * i ≤ length xs → IsZeroFrom (w * i) xs
+    → IsZeroFrom (w * (i + 1)) (put_mid (w * i) n xs ys)
 zero_behind w i n xs ys e len inside zero =
     let next : w * (i + 1) ≡ w * i + w = next_place w i in
     rw next (

@@ -1,47 +1,49 @@
-//! The control fields of beats, which the beats of a burst share (SiFive TileLink Specification 1.8,
-//! "Serialization" on bursts).
+//! The control fields of messages, which the beats of its burst share (SiFive TileLink Specification
+//! 1.8, "Serialization").
 
 ghost use Rattle.std.specs.Prelude.{◌≡◌};
-ghost use Rattle.tl_burst.specs.statement.Messages;
+ghost use Rattle.tl_beat.specs.statement.Control.{control_of};
+ghost use Rattle.tl_burst.specs.statement.Burst.{beat_of};
 
-use tl_beat::beat::Beat;
+use crate::message::Message;
+use tl_beat::control::{Control, ControlA, ControlB, ControlC, ControlD};
 
-/// Whether two beats have the same control fields: opcode, param, size, source, and address or sink
-/// and denied.
-pub fn same_control<const W: usize>(x: &Beat<W>, y: &Beat<W>) -> bool
-    ensures { result ≡ Messages.same_control x.now y.now }
-{
-    match (x, y) {
-        (Beat::A(x), Beat::A(y)) => {
-            x.opcode == y.opcode
-                && x.param == y.param
-                && x.size == y.size
-                && x.source == y.source
-                && x.address == y.address
+impl<const W: usize> Message<W> {
+    /// The message's control fields: those of each of its beats.
+    pub fn control(&self) -> Control
+        ensures { result ≡ control_of (beat_of self.now 0) }
+    {
+        match self {
+            Message::A(m) => Control::A(ControlA {
+                opcode: m.opcode,
+                param: m.param,
+                size: m.size,
+                source: m.source,
+                address: m.address,
+            }),
+            Message::B(m) => Control::B(ControlB {
+                opcode: m.opcode,
+                param: m.param,
+                size: m.size,
+                source: m.source,
+                address: m.address,
+            }),
+            Message::C(m) => Control::C(ControlC {
+                opcode: m.opcode,
+                param: m.param,
+                size: m.size,
+                source: m.source,
+                address: m.address,
+            }),
+            Message::D(m) => Control::D(ControlD {
+                opcode: m.opcode,
+                param: m.param,
+                size: m.size,
+                source: m.source,
+                sink: m.sink,
+                denied: m.denied,
+            }),
+            Message::E(m) => Control::E(m.sink),
         }
-        (Beat::B(x), Beat::B(y)) => {
-            x.opcode == y.opcode
-                && x.param == y.param
-                && x.size == y.size
-                && x.source == y.source
-                && x.address == y.address
-        }
-        (Beat::C(x), Beat::C(y)) => {
-            x.opcode == y.opcode
-                && x.param == y.param
-                && x.size == y.size
-                && x.source == y.source
-                && x.address == y.address
-        }
-        (Beat::D(x), Beat::D(y)) => {
-            x.opcode == y.opcode
-                && x.param == y.param
-                && x.size == y.size
-                && x.source == y.source
-                && x.sink == y.sink
-                && x.denied == y.denied
-        }
-        (Beat::E(x), Beat::E(y)) => x.sink == y.sink,
-        _ => false,
     }
 }

@@ -1,6 +1,6 @@
 //! Beats written into the message that they carry.
 
-ghost use Rattle.std.specs.Prelude.{ℕ, Bool, IsTrue, ◌≡◌, ◌<◌, ◌≤◌, ◌+◌, ◌*◌, ◌^◌, is_some, if◌then◌else◌};
+ghost use Rattle.std.specs.Prelude.{ℕ, Bool, IsTrue, ◌≡◌, ◌<◌, ◌≤◌, ◌+◌, ◌*◌, ◌^◌, is_some, if◌then◌else◌, length};
 ghost use Rattle.tl_beat.specs.statement.Width.{IsWidth};
 ghost use Rattle.tl_beat.specs.declared.beat.Beat.TheVariants as beat;
 ghost use Rattle.tl_burst.specs.declared.message.Message.TheVariants as message;
@@ -9,7 +9,16 @@ ghost use Rattle.tl_burst.specs.statement.Messages.{same_control};
 ghost use Rattle.tl_burst.specs.statement.Part.{IsTakeable};
 
 use crate::message::{Message, MessageA, MessageB, MessageC, MessageD, MessageE};
+use std::simd::Simd;
 use tl_beat::beat::{Beat, BeatA, BeatB, BeatC, BeatD};
+
+/// Copies the lanes of a beat, all at once.
+fn copy_lanes<const W: usize>(lanes: &[u8; W], place: &mut [u8])
+    requires { length place.old ≡ W }
+    ensures { place.new ≡ lanes.now }
+{
+    Simd::from_array(*lanes).copy_to_slice(place);
+}
 
 /// Writes the lanes of beat `i` into a payload.
 fn write_lanes<const W: usize>(payload: &mut [u8; 64], i: u8, lanes: &Option<[u8; W]>)
@@ -22,7 +31,7 @@ fn write_lanes<const W: usize>(payload: &mut [u8; 64], i: u8, lanes: &Option<[u8
 {
     if let Some(lanes) = lanes {
         let from = W * i as usize;
-        payload[from..from + W].copy_from_slice(lanes);
+        copy_lanes(lanes, &mut payload[from..from + W]);
     }
 }
 
@@ -185,37 +194,5 @@ pub fn blank_for<const W: usize>(beat: &Beat<W>) -> Message<W>
 pub fn continues<const W: usize>(message: &Message<W>, beat: &Beat<W>) -> bool
     ensures { result ≡ same_control beat.now (beat_of message.now 0) }
 {
-    match (beat, message) {
-        (Beat::A(x), Message::A(m)) => {
-            x.opcode == m.opcode
-                && x.param == m.param
-                && x.size == m.size
-                && x.source == m.source
-                && x.address == m.address
-        }
-        (Beat::B(x), Message::B(m)) => {
-            x.opcode == m.opcode
-                && x.param == m.param
-                && x.size == m.size
-                && x.source == m.source
-                && x.address == m.address
-        }
-        (Beat::C(x), Message::C(m)) => {
-            x.opcode == m.opcode
-                && x.param == m.param
-                && x.size == m.size
-                && x.source == m.source
-                && x.address == m.address
-        }
-        (Beat::D(x), Message::D(m)) => {
-            x.opcode == m.opcode
-                && x.param == m.param
-                && x.size == m.size
-                && x.source == m.source
-                && x.sink == m.sink
-                && x.denied == m.denied
-        }
-        (Beat::E(x), Message::E(m)) => x.sink == m.sink,
-        _ => false,
-    }
+    beat.has_control(&message.control())
 }

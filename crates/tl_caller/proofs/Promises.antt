@@ -14,19 +14,31 @@ use Rattle.tl_world.specs.code.Holds.{clients_of}
 use Rattle.tl_world.specs.statement.World.{IsReached, IsReplayed, held_by}
 use Rattle.tl_caller.specs.Promised.{Promised}
 
-module _ {w : ℕ} {A M : Type 0} (knows : A → Endpoint w → Type 0) (terms : A → EndConfig) (perm_of : M → ℕ → ℕ → Perm) (config : Config) where
-  pub promised : (contents : WorldState w A M) (log : Log w) → IsReached knows terms perm_of config contents log → Promised config log
-  promised contents log r = record { run = r.sound.run; coherent = r.sound.coherent; unrefused = r.sound.unrefused; moving = r.sound.moving }
+module _ {w : ℕ} {A M : Type 0} (knows : A → Endpoint w → Type 0) (terms : A → EndConfig) (perm_of : M → ℕ → ℕ → Perm)
+    (config : Config) where
+  pub promised : (contents : WorldState w A M) (log : Log w) → IsReached knows terms perm_of config contents log
+      → Promised config log
+  promised contents log r = record {
+    run = r.sound.run;
+    coherent = r.sound.coherent;
+    unrefused =
+        r.sound.unrefused;
+    moving = r.sound.moving;
+  }
 
-  pub replayed : (events : List (Event w)) (old new : List (Outcome w)) (result : Result (WorldState w A M) NewFault) → IsReplayed knows terms perm_of config events old new result
+  pub replayed : (events : List (Event w)) (old new : List (Outcome w)) (result : Result (WorldState w A M) NewFault)
+      → IsReplayed knows terms perm_of config events old new result
       → IfOk result (λ contents. Promised config (logged events new []))
   replayed events old new (Ok contents) r = promised contents (logged events new []) r
   replayed events old new (Err fault) r = tt
 
   -- beside one who may write nobody holds anything
-  pub alone : (contents : WorldState w A M) (log : Log w) (c d block : ℕ) (p q : Perm) → IsReached knows terms perm_of config contents log → c ≢ d
-      → p ≡ held_by config c block (system_after config log) → q ≡ held_by config d block (system_after config log) → p ≡ perm.Trunk → q ≡ perm.None
-  alone contents log c d block p q r apart is_p is_q owns = go (nat_lt c (clients_of config)) (nat_lt d (clients_of config)) (sym is_p ∙ owns) is_q
+  pub alone : (contents : WorldState w A M) (log : Log w) (c d block : ℕ) (p q : Perm)
+      → IsReached knows terms perm_of config contents log → c ≢ d
+      → p ≡ held_by config c block (system_after config log) → q ≡ held_by config d block (system_after config log)
+      → p ≡ perm.Trunk → q ≡ perm.None
+  alone contents log c d block p q r apart is_p is_q owns =
+      go (nat_lt c (clients_of config)) (nat_lt d (clients_of config)) (sym is_p ∙ owns) is_q
     where
       go : (x y : Bool) → (if x then held_at ((system_after config log).clients c) block else perm.None) ≡ perm.Trunk
           → q ≡ (if y then held_at ((system_after config log).clients d) block else perm.None) → q ≡ perm.None

@@ -7,7 +7,7 @@ pub mod agent;
 pub mod any;
 pub mod busy;
 pub mod caching;
-mod check;
+pub mod check;
 pub mod law;
 pub mod operation;
 mod order;

@@ -1,5 +1,6 @@
 -- The place of the first LF cuts the first line off.
-use Rattle.std.proofs.Common.{◌≡◌, ◌<◌, ℕ, ◌+◌, List, [], ◌∷◌, ◌++◌, length, take, drop, get_or, true, false, Bool, refl, ap, ◌∙◌, arith}
+use Rattle.std.proofs.Common.{◌≡◌, ◌<◌, ℕ, ◌+◌, List, [], ◌∷◌, ◌++◌, length, take, drop, get_or, true, false, Bool}
+use Rattle.std.proofs.Common.{refl, ap, ◌∙◌, arith}
 use Rattle.std.proofs.lemmas.Bool.{eqb-true}
 use Rattle.std.proofs.lemmas.List.{take_more, take-append-drop, get_or-take, length-take-le}
 use Rattle.std.proofs.lemmas.List.Elements.{All-from_get_or}
@@ -12,7 +13,8 @@ not_true true apart = absurd (apart refl)
 not_true false apart = refl
 
 -- the bytes up to an LF, and it
-pub cut_line : (bytes : List ℕ) (k : ℕ) → NoneBefore (Passes (is_byte 10) bytes) 0 (length bytes) k → Passes (is_byte 10) bytes k
+pub cut_line : (bytes : List ℕ) (k : ℕ) → NoneBefore (Passes (is_byte 10) bytes) 0 (length bytes) k
+    → Passes (is_byte 10) bytes k
     → IsLine (take (k + 1) bytes) × (take (k + 1) bytes ++ drop (k + 1) bytes ≡ bytes)
 cut_line bytes k first is =
     let lf : get_or bytes k 0 ≡ 10 = eqb-true (get_or bytes k 0) 10 is in
@@ -20,5 +22,6 @@ cut_line bytes k first is =
     let lacks : LacksLf (take k bytes) = All-from_get_or (λ b. (b == 10) ≡ false) (take k bytes) 0 (λ i lt.
     let near : i < k = omega (arith, size, lt) in
     rw (get_or-take k bytes i 0 near) (not_true (get_or bytes i 0 == 10) (first.before i (omega arith) near))) in
-    let more : take (k + 1) bytes ≡ take k bytes ++ 10 ∷ [] = take_more bytes k 0 first.high ∙ ap (λ (x : ℕ). take k bytes ++ x ∷ []) lf in
+    let more : take (k + 1) bytes ≡ take k bytes ++ 10 ∷ [] =
+    take_more bytes k 0 first.high ∙ ap (λ (x : ℕ). take k bytes ++ x ∷ []) lf in
     ((take k bytes, lacks, more), take-append-drop (k + 1) bytes)

@@ -29,7 +29,8 @@ abbrev pub AreOne : List ℕ → List ℕ → Status → Status → Type 0
 AreOne text other status another = (text ≡ other) × (status ≡ another)
 
 -- a line that spells a beat is no line at fault
-spells_or_fails : {w : ℕ} (line : List ℕ) (link : Link) (beat : Beat w) (fault : LineFault) → IsWidth w → Spells line link beat → line_fault w line ≡ Some fault → ⊥
+spells_or_fails : {w : ℕ} (line : List ℕ) (link : Link) (beat : Beat w) (fault : LineFault) → IsWidth w
+    → Spells line link beat → line_fault w line ≡ Some fault → ⊥
 spells_or_fails {w} line link beat fault width spells fails =
     let read : reading w line ≡ _ = reading-spelled line link beat width spells in
     let none : None ≡ line_fault w line = ap result_err (sym read) ∙ reading-fault w line in
@@ -39,35 +40,43 @@ spells_or_fails {w} line link beat fault width spells fails =
 abbrev at : {w : ℕ} → Link → Beat w → Link × Beat w
 at link beat = (link, beat)
 
-same_beat : {w : ℕ} (line : List ℕ) (k l : Link) (b d : Beat w) → IsWidth w → Spells line k b → Spells line l d → at k b ≡ at l d
+same_beat : {w : ℕ} (line : List ℕ) (k l : Link) (b d : Beat w) → IsWidth w → Spells line k b → Spells line l d
+    → at k b ≡ at l d
 same_beat line k l b d width s t =
     let (links, beats) = one-beat line k l b d width s t in
     rw (links, beats) refl
 
-pub decodes_once : (w n : ℕ) → IsWidth w → (lines : List (List ℕ)) (text other : List ℕ) (status another : Status) → Decodes w n lines text status
+pub decodes_once : (w n : ℕ) → IsWidth w → (lines : List (List ℕ)) (text other : List ℕ) (status another : Status)
+    → Decodes w n lines text status
     → Decodes w n lines other another → AreOne text other status another
 unfolding Decodes
 decodes_once w n width [] text other status another d e = (d.0 ∙ sym e.0, d.1 ∙ sym e.1)
-decodes_once w n width (line ∷ lines) text other status another (inl (k, b, rest, s, is, d)) (inl (l, c, more, t, so, e)) =
+decodes_once w n width (line ∷ lines) text other status another (inl (k, b, rest, s, is, d))
+    (inl (l, c, more, t, so, e)) =
     let (links, beats) = one-beat line k l b c width s t in
     let (same, ends) = decodes_once w (n + 1) width lines rest more status another d e in
     (is ∙ rw (links, beats, same) refl ∙ sym so, ends)
-decodes_once w n width (line ∷ lines) text other status another (inl (k, b, rest, s, is, d)) (inr (fault, fails, so, ends)) = absurd (spells_or_fails line k b fault width s fails)
-decodes_once w n width (line ∷ lines) text other status another (inr (fault, fails, is, ends)) (inl (l, c, more, t, so, e)) = absurd (spells_or_fails line l c fault width t fails)
-decodes_once w n width (line ∷ lines) text other status another (inr (f, fails, is, ends)) (inr (g, fails_so, so, ends_so)) =
+decodes_once w n width (line ∷ lines) text other status another (inl (k, b, rest, s, is, d))
+    (inr (fault, fails, so, ends)) = absurd (spells_or_fails line k b fault width s fails)
+decodes_once w n width (line ∷ lines) text other status another (inr (fault, fails, is, ends))
+    (inl (l, c, more, t, so, e)) = absurd (spells_or_fails line l c fault width t fails)
+decodes_once w n width (line ∷ lines) text other status another (inr (f, fails, is, ends))
+    (inr (g, fails_so, so, ends_so)) =
     let same : f ≡ g = cc in
     (is ∙ ap (λ (x : LineFault). fault_text n (Line x)) same ∙ sym so, ends ∙ sym ends_so)
 
 -- ---- traces
 
 module _ {w : ℕ} (width : IsWidth w) (levels : List Level) (p : Profile) where
-  fault_once : (t : Trace w) (line : List ℕ) (f g : Fault) → IsAtFault levels p t line f → IsAtFault levels p t line g → f ≡ g
+  fault_once : (t : Trace w) (line : List ℕ) (f g : Fault) → IsAtFault levels p t line f → IsAtFault levels p t line g
+      → f ≡ g
   fault_once t line (Line x) (Line y) is so = cc
   fault_once t line (Line x) (Breaks s) is (l, c, spells, breaks) = absurd (spells_or_fails line l c x width spells is)
   fault_once t line (Breaks r) (Line y) (k, b, spells, breaks) so = absurd (spells_or_fails line k b y width spells so)
   fault_once t line (Breaks r) (Breaks s) (k, b, spells, breaks) (l, c, spells_so, breaks_so) =
       let same = same_beat line k l b c width spells spells_so in
-      let rules : broken_on_link levels p (k, b) t ≡ broken_on_link levels p (l, c) t = ap (λ (x : Link × Beat w). broken_on_link levels p x t) same in
+      let rules : broken_on_link levels p (k, b) t ≡ broken_on_link levels p (l, c) t =
+      ap (λ (x : Link × Beat w). broken_on_link levels p x t) same in
       cc
   fault_once t line Header g is so = absurd is
   fault_once t line (Event x) g is so = absurd is
@@ -76,25 +85,32 @@ module _ {w : ℕ} (width : IsWidth w) (levels : List Level) (p : Profile) where
   fault_once t line (Breaks r) Header is so = absurd so
   fault_once t line (Breaks r) (Event y) is so = absurd so
 
-  good_or_bad : (t : Trace w) (line : List ℕ) (k : Link) (b : Beat w) (fault : Fault) → Spells line k b → broken_on_link levels p (k, b) t ≡ None → IsAtFault levels p t line fault → ⊥
+  good_or_bad : (t : Trace w) (line : List ℕ) (k : Link) (b : Beat w) (fault : Fault) → Spells line k b
+      → broken_on_link levels p (k, b) t ≡ None → IsAtFault levels p t line fault → ⊥
   good_or_bad t line k b Header spells good is = is
   good_or_bad t line k b (Event x) spells good is = is
   good_or_bad t line k b (Line x) spells good is = spells_or_fails line k b x width spells is
   good_or_bad t line k b (Breaks r) spells good (l, c, spells_so, breaks) =
       let same = same_beat line k l b c width spells spells_so in
-      let rules : broken_on_link levels p (k, b) t ≡ broken_on_link levels p (l, c) t = ap (λ (x : Link × Beat w). broken_on_link levels p x t) same in
+      let rules : broken_on_link levels p (k, b) t ≡ broken_on_link levels p (l, c) t =
+      ap (λ (x : Link × Beat w). broken_on_link levels p x t) same in
       absurd cc
 
-  judged_after_once : (t : Trace w) (lines : List (List ℕ)) (text other : List ℕ) (status another : Status) → JudgedAfter levels p t lines text status
+  judged_after_once : (t : Trace w) (lines : List (List ℕ)) (text other : List ℕ) (status another : Status)
+      → JudgedAfter levels p t lines text status
       → JudgedAfter levels p t lines other another → AreOne text other status another
   unfolding JudgedAfter
   judged_after_once t [] text other status another d e = (d.0 ∙ sym e.0, d.1 ∙ sym e.1)
   judged_after_once t (line ∷ lines) text other status another (inl (k, b, s, good, d)) (inl (l, c, r, good_so, e)) =
       let same = same_beat line l k c b width r s in
-      judged_after_once ((k, b) ∷ t) lines text other status another d (subst (λ (x : Link × Beat w). JudgedAfter levels p (x ∷ t) lines other another) same e)
-  judged_after_once t (line ∷ lines) text other status another (inl (k, b, s, good, d)) (inr (fault, is, says, ends)) = absurd (good_or_bad t line k b fault s good is)
-  judged_after_once t (line ∷ lines) text other status another (inr (fault, is, says, ends)) (inl (l, c, r, good, e)) = absurd (good_or_bad t line l c fault r good is)
-  judged_after_once t (line ∷ lines) text other status another (inr (f, is, says, ends)) (inr (g, so, says_so, ends_so)) =
+      judged_after_once ((k, b) ∷ t) lines text other status another d
+      (subst (λ (x : Link × Beat w). JudgedAfter levels p (x ∷ t) lines other another) same e)
+  judged_after_once t (line ∷ lines) text other status another (inl (k, b, s, good, d)) (inr (fault, is, says, ends)) =
+      absurd (good_or_bad t line k b fault s good is)
+  judged_after_once t (line ∷ lines) text other status another (inr (fault, is, says, ends)) (inl (l, c, r, good, e)) =
+      absurd (good_or_bad t line l c fault r good is)
+  judged_after_once t (line ∷ lines) text other status another (inr (f, is, says, ends))
+      (inr (g, so, says_so, ends_so)) =
       (says ∙ ap (fault_text (length t + 2)) (fault_once t line f g is so) ∙ sym says_so, ends ∙ sym ends_so)
 
 pub is_width_of : (wide : Width) → IsWidth (bytes_of wide)
@@ -105,13 +121,17 @@ is_width_of width.Sixteen = inr (inr refl)
 abbrev Named : Type 0
 Named = (Width × Profile) × List Level
 
-pub judged_once : (lines : List (List ℕ)) (text other : List ℕ) (status another : Status) → Judged lines text status → Judged lines other another → AreOne text other status another
+pub judged_once : (lines : List (List ℕ)) (text other : List ℕ) (status another : Status) → Judged lines text status
+    → Judged lines other another → AreOne text other status another
 unfolding Judged
 judged_once [] text other status another d e = (d.0 ∙ sym e.0, d.1 ∙ sym e.1)
 judged_once (line ∷ lines) text other status another (inl (wide, p, levels, s, d)) (inl (wider, q, others, r, e)) =
     let same = one_header line wider wide q p others levels r s in
     judged_after_once (is_width_of wide) levels p [] lines text other status another d
     (subst (λ (x : Named). JudgedAfter {w = bytes_of x.0.0} x.1 x.0.1 [] lines other another) same e)
-judged_once (line ∷ lines) text other status another (inl (wide, p, levels, s, d)) (inr (none, says, ends)) = absurd (none wide p levels s)
-judged_once (line ∷ lines) text other status another (inr (none, says, ends)) (inl (wide, p, levels, s, e)) = absurd (none wide p levels s)
-judged_once (line ∷ lines) text other status another (inr (none, says, ends)) (inr (none_so, says_so, ends_so)) = (says ∙ sym says_so, ends ∙ sym ends_so)
+judged_once (line ∷ lines) text other status another (inl (wide, p, levels, s, d)) (inr (none, says, ends)) =
+    absurd (none wide p levels s)
+judged_once (line ∷ lines) text other status another (inr (none, says, ends)) (inl (wide, p, levels, s, e)) =
+    absurd (none wide p levels s)
+judged_once (line ∷ lines) text other status another (inr (none, says, ends)) (inr (none_so, says_so, ends_so)) =
+    (says ∙ sym says_so, ends ∙ sym ends_so)

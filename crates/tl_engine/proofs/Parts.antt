@@ -10,7 +10,8 @@ pub part_of : (a b : Option (List ℕ)) (n : ℕ) (bytes : List ℕ) → Appends
 part_of a b n bytes p = (take n bytes, drop n bytes, take-append-drop n bytes, p)
 
 -- bytes that were written, and then a part of those that follow
-pub part_more : (a b c : Option (List ℕ)) (done next rest whole : List ℕ) → Appends a b done → AppendsPart b c next → done ++ (next ++ rest) ≡ whole → AppendsPart a c whole
+pub part_more : (a b c : Option (List ℕ)) (done next rest whole : List ℕ) → Appends a b done → AppendsPart b c next
+    → done ++ (next ++ rest) ≡ whole → AppendsPart a c whole
 part_more a b c done next rest whole p (front, left, cut, q) e =
     (done ++ front, left ++ rest, rw (← e, ← cut) (simp append_assoc), Appends-trans a b c done front p q)
 

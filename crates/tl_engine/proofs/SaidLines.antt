@@ -1,5 +1,6 @@
 -- What is said in a line has the sizes of its types, and each line says something or nothing.
-use Rattle.std.proofs.Common.{◌≡◌, ◌<◌, ◌≤◌, ℕ, ◌-◌, ◌%◌, ◌^◌, Bool, true, false, cond, List, ◌++◌, length, take, refl, sym, subst, arith, inl, inr, length-append, lt-ltb, lit<}
+use Rattle.std.proofs.Common.{◌≡◌, ◌<◌, ◌≤◌, ℕ, ◌-◌, ◌%◌, ◌^◌, Bool, true, false, cond, List, ◌++◌, length, take, refl}
+use Rattle.std.proofs.Common.{sym, subst, arith, inl, inr, length-append, lt-ltb, lit<}
 use Rattle.std.specs.Prelude.{◌⊎◌, ◌||◌, not, nat_lt, replicate, if◌then◌else◌, Result, Ok, Err, ok_or}
 use Rattle.std.specs.Io.BufRead.{ends_with_byte}
 use Rattle.std.proofs.Math.Nat.{pow-le-pow_right}
@@ -13,8 +14,10 @@ use Rattle.tl_coherence.proofs.lines.Ranges.{zeros-bytes}
 use Rattle.tl_schedule.specs.declared.line.EventFault.{EventFault}
 use Rattle.tl_schedule.specs.declared.line.EventFault.TheVariants.{F1, F8}
 use Rattle.tl_schedule.specs.declared.line.Line.{Line}
-use Rattle.tl_schedule.specs.statement.EventLine.{Asked, Get, Put, Part, Arith, Logic, Hint, AskedFits, Fits, Said, Load, Store, Acquire, Whole, Release, Access, Deliver}
-use Rattle.tl_schedule.specs.statement.EventLine.{SpellsEvent, SpellsLine, asked_payload, event_fault, event_of, payload_of}
+use Rattle.tl_schedule.specs.statement.EventLine.{Asked, Get, Put, Part, Arith, Logic, Hint, AskedFits, Fits, Said}
+use Rattle.tl_schedule.specs.statement.EventLine.{Load, Store, Acquire, Whole, Release, Access, Deliver}
+use Rattle.tl_schedule.specs.statement.EventLine.{SpellsEvent, SpellsLine, asked_payload, event_fault, event_of}
+use Rattle.tl_schedule.specs.statement.EventLine.{payload_of}
 use Rattle.tl_schedule.specs.code.EventReading.{event_at, line_at}
 use Rattle.tl_schedule.proofs.WholeLines.{read_said, said_read}
 use Rattle.tl_engine.specs.code.Lines.{IsOpen}
@@ -24,10 +27,15 @@ use Rattle.tl_engine.specs.code.Lines.{IsOpen}
 width-few : (w : ℕ) → IsWidth w → (0 < w) × (w ≤ 64)
 width-few w is = elim is [
   | inl four ↦ (omega (arith, four), omega (arith, four))
-  | inr more ↦ elim more [ inl eight ↦ (omega (arith, eight), omega (arith, eight)) | inr sixteen ↦ (omega (arith, sixteen), omega (arith, sixteen)) ]
+  | inr more ↦ elim more [
+    | inl eight ↦ (omega (arith, eight), omega (arith, eight))
+    | inr
+        sixteen ↦ (omega (arith, sixteen), omega (arith, sixteen))
+  ]
 ]
 
-payload-long : (w size address : ℕ) (bytes : List ℕ) → IsWidth w → size ≤ 6 → length bytes ≡ 2 ^ size → length (payload_of w size address bytes) ≡ 64
+payload-long : (w size address : ℕ) (bytes : List ℕ) → IsWidth w → size ≤ 6 → length bytes ≡ 2 ^ size
+    → length (payload_of w size address bytes) ≡ 64
 payload-long w size address bytes width small long = go (nat_lt (2 ^ size) w)
   where
     few : 2 ^ size ≤ 2 ^ 6
@@ -37,9 +45,18 @@ payload-long w size address bytes width small long = go (nat_lt (2 ^ size) w)
     filled = bytes ++ replicate (64 - length bytes) 0
 
     full : length filled ≡ 64
-    full = omega (arith, length-append bytes (replicate (64 - length bytes) 0), length-replicate {A = ℕ} (64 - length bytes) 0, long, few)
+    full = omega (
+      arith,
+      length-append bytes (replicate (64 - length bytes) 0),
+      length-replicate {A = ℕ}
+          (64 - length bytes) 0,
+      long,
+      few,
+    )
 
-    go : (b : Bool) → length (if b then replicate (address % w) 0 ++ (take (w - address % w) filled ++ replicate (64 - w) 0) else filled) ≡ 64
+    go : (b : Bool) → length
+        (if b then replicate (address % w) 0 ++ (take (w - address % w) filled ++ replicate (64 - w) 0) else filled)
+        ≡ 64
     go true =
         let within = width-few w width in
         let below : address % w < w = omega (arith, within.0) in
@@ -51,12 +68,16 @@ payload-long w size address bytes width small long = go (nat_lt (2 ^ size) w)
         omega (arith, within.1, below, front, middle, back, both, all, full)
     go false = full
 
-asked-long : (w size address : ℕ) (asked : Asked) → IsWidth w → size ≤ 6 → AskedFits w size asked → length (asked_payload w size address asked) ≡ 64
+asked-long : (w size address : ℕ) (asked : Asked) → IsWidth w → size ≤ 6 → AskedFits w size asked
+    → length (asked_payload w size address asked) ≡ 64
 asked-long w size address Get width small fits = length-replicate {A = ℕ} 64 0
 asked-long w size address (Put bytes) width small (long, each) = payload-long w size address bytes width small long
-asked-long w size address (Part mask bytes) width small (room, are) = payload-long w size address bytes width small are.0
-asked-long w size address (Arith operation bytes) width small (long, each) = payload-long w size address bytes width small long
-asked-long w size address (Logic operation bytes) width small (long, each) = payload-long w size address bytes width small long
+asked-long w size address (Part mask bytes) width small (room, are) =
+    payload-long w size address bytes width small are.0
+asked-long w size address (Arith operation bytes) width small (long, each) =
+    payload-long w size address bytes width small long
+asked-long w size address (Logic operation bytes) width small (long, each) =
+    payload-long w size address bytes width small long
 asked-long w size address (Hint intent) width small fits = length-replicate {A = ℕ} 64 0
 
 typed-said : {w : ℕ} (said : Said) (fits : Fits w said) → IsWidth w → IsTyped {w = w} (event_of said fits)
@@ -65,7 +86,8 @@ typed-said (Store client size address value) fits width = tt
 typed-said (Acquire client block grow) fits width = tt
 typed-said (Whole client block bytes) (room, other, are) width = are.0
 typed-said (Release client block prune) fits width = tt
-typed-said {w} (Access client size address asked) (room, small, other, fits) width = asked-long w size address asked width small fits
+typed-said {w} (Access client size address asked) (room, small, other, fits) width =
+    asked-long w size address asked width small fits
 typed-said (Deliver link channel) fits width = tt
 
 pub typed-spelled : {w : ℕ} (line : List ℕ) (e : Event w) → IsWidth w → SpellsEvent line e → IsTyped e
@@ -80,15 +102,20 @@ payload-bytes w size address bytes are = go (nat_lt (2 ^ size) w)
     filled = bytes ++ replicate (64 - length bytes) 0
 
     all : AreBytes filled
-    all = All-append (λ byte. byte < 2 ^ 8) bytes (replicate (64 - length bytes) 0) are (zeros-bytes (64 - length bytes))
+    all = All-append (λ byte. byte < 2 ^ 8) bytes (replicate (64 - length bytes) 0) are
+        (zeros-bytes (64 - length bytes))
 
-    go : (b : Bool) → AreBytes (if b then replicate (address % w) 0 ++ (take (w - address % w) filled ++ replicate (64 - w) 0) else filled)
+    go : (b : Bool) → AreBytes
+        (if b then replicate (address % w) 0 ++ (take (w - address % w) filled ++ replicate (64 - w) 0) else filled)
     go true =
-        All-append (λ byte. byte < 2 ^ 8) (replicate (address % w) 0) (take (w - address % w) filled ++ replicate (64 - w) 0) (zeros-bytes (address % w))
-        (All-append (λ byte. byte < 2 ^ 8) (take (w - address % w) filled) (replicate (64 - w) 0) (All-take (λ byte. byte < 2 ^ 8) (w - address % w) filled all) (zeros-bytes (64 - w)))
+        All-append (λ byte. byte < 2 ^ 8) (replicate (address % w) 0)
+        (take (w - address % w) filled ++ replicate (64 - w) 0) (zeros-bytes (address % w))
+        (All-append (λ byte. byte < 2 ^ 8) (take (w - address % w) filled) (replicate (64 - w) 0)
+        (All-take (λ byte. byte < 2 ^ 8) (w - address % w) filled all) (zeros-bytes (64 - w)))
     go false = all
 
-asked-bytes : (w size address : ℕ) (asked : Asked) → AskedFits w size asked → AreBytes (asked_payload w size address asked)
+asked-bytes : (w size address : ℕ) (asked : Asked) → AskedFits w size asked
+    → AreBytes (asked_payload w size address asked)
 asked-bytes w size address Get fits = zeros-bytes 64
 asked-bytes w size address (Put bytes) (long, each) = payload-bytes w size address bytes each
 asked-bytes w size address (Part mask bytes) (room, are) = payload-bytes w size address bytes are.1
@@ -111,16 +138,19 @@ ranged-spelled {w} line e s = subst (λ (x : Event w). IsRanged x) s.means (rang
 -- ---- lines
 
 -- a line that is read otherwise says nothing
-pub says-none : {w : ℕ} (line : List ℕ) (fault : EventFault) → IsWidth w → event_at {w = w} line ≡ Err fault → (said : Line w) → ¬ SpellsLine line said
+pub says-none : {w : ℕ} (line : List ℕ) (fault : EventFault) → IsWidth w → event_at {w = w} line ≡ Err fault
+    → (said : Line w) → ¬ SpellsLine line said
 says-none {w} line fault width e said s = refused (sym e) (said_read (event_at line) line width refl said s)
   where
     refused : {r : Result (Line w) EventFault} → Err fault ≡ r → r ≡ Ok said → ⊥
     refused p q = absurd cc
 
-pub says-or-not : {w : ℕ} (line : List ℕ) → IsWidth w → ((said : Line w) × SpellsLine line said) ⊎ ((said : Line w) → ¬ SpellsLine line said)
+pub says-or-not : {w : ℕ} (line : List ℕ) → IsWidth w → ((said : Line w) × SpellsLine line said)
+    ⊎ ((said : Line w) → ¬ SpellsLine line said)
 says-or-not {w} line width = go (event_at line) refl
   where
-    go : (r : Result (Line w) EventFault) → event_at line ≡ r → ((said : Line w) × SpellsLine line said) ⊎ ((said : Line w) → ¬ SpellsLine line said)
+    go : (r : Result (Line w) EventFault) → event_at line ≡ r → ((said : Line w) × SpellsLine line said)
+        ⊎ ((said : Line w) → ¬ SpellsLine line said)
     go (Ok said) e = inl (said, read_said (Ok said) line (sym e))
     go (Err fault) e = inr (says-none line fault width e)
 
@@ -137,7 +167,8 @@ pub open-fault : (line : List ℕ) → IsOpen line → event_fault line ≡ F1
 open-fault line is = rw (is-open line is) refl
 
 pub open-none : {w : ℕ} (line : List ℕ) → IsWidth w → IsOpen line → (said : Line w) → ¬ SpellsLine line said
-open-none {w} line width is = says-none line F1 width (read (nat_lt 256 (length line) || not (ends_with_byte 10 line)) (is-open line is))
+open-none {w} line width is =
+    says-none line F1 width (read (nat_lt 256 (length line) || not (ends_with_byte 10 line)) (is-open line is))
   where
     read : (b : Bool) → b ≡ true → cond b (Err F1) (ok_or (line_at {w = w} (take (length line - 1) line)) F8) ≡ Err F1
     read true e = refl

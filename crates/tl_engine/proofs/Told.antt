@@ -12,14 +12,16 @@ use Rattle.tl_engine.proofs.OneText.{AreOne, decodes_once, is_width_of, judged_o
 use Rattle.tl_engine.proofs.PlayedOnce.{played-once}
 use Rattle.tl_engine.proofs.Playing.{played-whole}
 
-pub told-once : (command : Command) (lines : List (List ℕ)) (text other : List ℕ) (status another : Status) → text_told command lines text status
+pub told-once : (command : Command) (lines : List (List ℕ)) (text other : List ℕ) (status another : Status)
+    → text_told command lines text status
     → text_told command lines other another → AreOne text other status another
 told-once (Decode width) = decodes_once (bytes_of width) 1 (is_width_of width)
 told-once Monitor = judged_once
 told-once Explain = judged_once
 told-once (Run trace) = played-once trace
 
-pub always-told : (command : Command) (lines : List (List ℕ)) → (text : List ℕ) × (status : Status) × text_told command lines text status
+pub always-told : (command : Command) (lines : List (List ℕ)) → (text : List ℕ) × (status : Status)
+    × text_told command lines text status
 always-told (Decode Four) = decodes 4 1 (judged_line 4 refl)
 always-told (Decode Eight) = decodes 8 1 (judged_line 8 refl)
 always-told (Decode Sixteen) = decodes 16 1 (judged_line 16 refl)

@@ -1,5 +1,6 @@
 -- The line of a beat, and that of a header, have their LF at the end alone.
-use Rattle.std.proofs.Common.{◌≡◌, ◌<◌, ℕ, zero, suc, ◌*◌, ◌/◌, ◌%◌, ◌^◌, Bool, true, false, List, [], ◌∷◌, ◌++◌, codes, refl, arith}
+use Rattle.std.proofs.Common.{◌≡◌, ◌<◌, ℕ, zero, suc, ◌*◌, ◌/◌, ◌%◌, ◌^◌, Bool, true, false, List, [], ◌∷◌, ◌++◌, codes}
+use Rattle.std.proofs.Common.{refl, arith}
 use Rattle.std.specs.Prelude.{◌==◌, not, Option, Some, None}
 use Rattle.std.proofs.lemmas.Bool.{and_parts, not-true}
 use Rattle.std.proofs.lemmas.Bool.Decides.{nat_tests}
@@ -40,12 +41,14 @@ other-digit d small = grind (arith, nat_tests)
 lacks-digits : (n number : ℕ) → LacksLf (digits n number)
 unfolding digits
 lacks-digits zero number = All-nil IsOther
-lacks-digits (suc n) number = All-cons IsOther (digit_char (number / 2 ^ (4 * n) % 16)) (digits n number) (other-digit (number / 2 ^ (4 * n) % 16) (omega arith)) (lacks-digits n number)
+lacks-digits (suc n) number = All-cons IsOther (digit_char (number / 2 ^ (4 * n) % 16)) (digits n number)
+    (other-digit (number / 2 ^ (4 * n) % 16) (omega arith)) (lacks-digits n number)
 
 lacks-lane_digits : (lanes : List ℕ) → LacksLf (lane_digits lanes)
 unfolding lane_digits
 lacks-lane_digits [] = All-nil IsOther
-lacks-lane_digits (lane ∷ lanes) = lacks-append (lane_digits lanes) (digits 2 lane) (lacks-lane_digits lanes) (lacks-digits 2 lane)
+lacks-lane_digits (lane ∷ lanes) = lacks-append (lane_digits lanes) (digits 2 lane) (lacks-lane_digits lanes)
+    (lacks-digits 2 lane)
 
 lacks-lanes : (lanes : Option (List ℕ)) → LacksLf (lanes_text lanes)
 lacks-lanes None = lacks-all (45 ∷ []) refl
@@ -63,7 +66,8 @@ lacks-spaced : (fields : List (List ℕ)) → AllLack fields → LacksLf (spaced
 unfolding spaced
 lacks-spaced [] lack = All-nil IsOther
 lacks-spaced (field ∷ []) lack = lack.0
-lacks-spaced (field ∷ next ∷ fields) lack = lacks-append field (32 ∷ spaced (next ∷ fields)) lack.0 (All-cons IsOther 32 (spaced (next ∷ fields)) refl (lacks-spaced (next ∷ fields) lack.1))
+lacks-spaced (field ∷ next ∷ fields) lack = lacks-append field (32 ∷ spaced (next ∷ fields)) lack.0
+    (All-cons IsOther 32 (spaced (next ∷ fields)) refl (lacks-spaced (next ∷ fields) lack.1))
 
 lacks-letter : (c : ℕ) → IsOther c → LacksLf (c ∷ [])
 lacks-letter c other = All-cons IsOther c [] other (All-nil IsOther)
@@ -171,8 +175,11 @@ lacks-level level.C = lacks-all (codes " " ++ level_text level.C) refl
 
 lacks-levels : (levels : List Level) → LacksLf (levels_text levels)
 lacks-levels [] = All-nil IsOther
-lacks-levels (l ∷ levels) = lacks-append (codes " " ++ level_text l) (levels_text levels) (lacks-level l) (lacks-levels levels)
+lacks-levels (l ∷ levels) = lacks-append (codes " " ++ level_text l) (levels_text levels) (lacks-level l)
+    (lacks-levels levels)
 
-pub lacks-header : (version : Version) (levels : List Level) → LacksLf (trace_word ++ version_text version ++ levels_text levels)
+pub lacks-header : (version : Version) (levels : List Level)
+    → LacksLf (trace_word ++ version_text version ++ levels_text levels)
 lacks-header version levels = lacks-append (trace_word ++ version_text version) (levels_text levels)
-    (lacks-append trace_word (version_text version) (lacks-all trace_word refl) (lacks-version version)) (lacks-levels levels)
+    (lacks-append trace_word (version_text version) (lacks-all trace_word refl) (lacks-version version))
+    (lacks-levels levels)

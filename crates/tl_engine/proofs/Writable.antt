@@ -20,9 +20,13 @@ use Rattle.tl_coherence.proofs.lines.Delivered.{have-room}
 use Rattle.tl_coherence.proofs.flow.Flows.{asked-still}
 use Rattle.tl_coherence.proofs.flow.FlowTraces.{taken}
 
-pub delivered-writable : {w : ℕ} (config : Config) (log : Log w) (link : Link) (ch : Channel) (o : Outcome w) (x : Beat w)
-    → IsGiven config ((Deliver link ch, o) ∷ log) → flow link.0 ((Deliver link ch, o) ∷ log) ≡ x ∷ flow link.0 log → IsWritable x
-delivered-writable config log link ch o x given flowing = All-head IsWritable x (flow link.0 log) (subst (All IsWritable) flowing (have-room config ((Deliver link ch, o) ∷ log) given link.0))
+pub delivered-writable : {w : ℕ} (config : Config) (log : Log w) (link : Link) (ch : Channel) (o : Outcome w)
+    (x : Beat w)
+    → IsGiven config ((Deliver link ch, o) ∷ log) → flow link.0 ((Deliver link ch, o) ∷ log) ≡ x ∷ flow link.0 log
+    → IsWritable x
+delivered-writable config log link ch o x given flowing =
+    All-head IsWritable x (flow link.0 log)
+    (subst (All IsWritable) flowing (have-room config ((Deliver link ch, o) ∷ log) given link.0))
 
 -- where no beat is moved there is none without room
 still-writable : {w : ℕ} (o : Outcome w) → is_moving o ≡ false → HasLine o
@@ -33,11 +37,15 @@ still-writable outcome.Empty e = tt
 still-writable outcome.Stalled e = tt
 still-writable outcome.NoSuchClient e = tt
 
-pub writable : {w : ℕ} (config : Config) (log : Log w) (event : Event w) (o : Outcome w) → IsGiven config ((event, o) ∷ log) → HasLine o
+pub writable : {w : ℕ} (config : Config) (log : Log w) (event : Event w) (o : Outcome w)
+    → IsGiven config ((event, o) ∷ log) → HasLine o
 unfolding flow IsLog
-writable config log (Ask client op) o given = still-writable o (ap is_moving given.is_log.0 ∙ asked-still config log client op)
-writable config log (Deliver link ch) (outcome.Moved x) given = delivered-writable config log link ch (outcome.Moved x) x given (taken link x (flow link.0 log))
-writable config log (Deliver link ch) (outcome.Done x source f) given = delivered-writable config log link ch (outcome.Done x source f) x given (taken link x (flow link.0 log))
+writable config log (Ask client op) o given =
+    still-writable o (ap is_moving given.is_log.0 ∙ asked-still config log client op)
+writable config log (Deliver link ch) (outcome.Moved x) given = delivered-writable config log link ch (outcome.Moved x)
+    x given (taken link x (flow link.0 log))
+writable config log (Deliver link ch) (outcome.Done x source f) given =
+    delivered-writable config log link ch (outcome.Done x source f) x given (taken link x (flow link.0 log))
 writable config log (Deliver link ch) (outcome.Replied r) given = tt
 writable config log (Deliver link ch) outcome.Empty given = tt
 writable config log (Deliver link ch) outcome.Stalled given = tt

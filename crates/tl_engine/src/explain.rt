@@ -1,6 +1,6 @@
 //! Explains what a recorded trace is judged, by reading it twice.
 
-ghost use Rattle.std.specs.Prelude.{◌≡◌, ◌++◌, ℕ, List, IfOk};
+ghost use Rattle.std.specs.Prelude.{◌≡◌, ◌≢◌, ◌++◌, ℕ, List, IfErr, IfOk, Ok};
 ghost use Rattle.std.specs.Io.KnownBytes.{Appends, Consumes};
 ghost use Rattle.tl_beat.specs.statement.Width.{IsWidth};
 ghost use Rattle.tl_engine.specs.code.Lines.{lines_of};
@@ -21,7 +21,6 @@ use std::io::{Read, Write};
 use tl_beat::beat::{Beat, Link};
 use tl_beat::fault::LineFault;
 use tl_beat::read::read_line;
-use tl_explain::bursts::channel_of;
 use tl_explain::ledger::Ledger;
 use tl_explain::named::append_sentence;
 use tl_explain::reason::find_reason;
@@ -62,6 +61,18 @@ impl From<AllocError> for ExplainFault {
 impl From<io::Error> for ExplainFault {
     fn from(_error: io::Error) -> ExplainFault {
         ExplainFault::Tool(ToolFault::Memory)
+    }
+}
+
+/// The outcome of a run that writes into memory alone, where a writer fails for want of it.
+fn in_memory(outcome: Result<Status, ToolFault>) -> Result<Status, ToolFault>
+    ensures ok { IfOk result (λ status. outcome ≡ Ok status) }
+    ensures fault { IfErr result (λ fault. fault ≢ ToolFault.Write) }
+{
+    match outcome {
+        Err(ToolFault::Write) => Err(ToolFault::Memory),
+        Ok(status) => Ok(status),
+        Err(fault) => Err(fault),
     }
 }
 
@@ -143,7 +154,7 @@ fn is_illegal<const W: usize>(level: Option<Level>, rule: Rule, beat: &Beat<W>) 
 {
     match level {
         None => rule == Rule::L1,
-        Some(level) => match check_beat(level, channel_of(beat), beat) {
+        Some(level) => match check_beat(level, beat.channel(), beat) {
             Ok(()) => false,
             Err(broken) => broken == rule,
         },
@@ -225,7 +236,7 @@ fn record<const W: usize, R: Read>(
         count: 0,
         reached: &mut reached,
     };
-    let _status = handle_input(alloc, replay, reader, &mut unread)?;
+    let _status = in_memory(handle_input(alloc, replay, reader, &mut unread))?;
     if reached {
         Ok(recorder)
     } else {
@@ -279,7 +290,7 @@ fn explain_clean<const W: usize, R: Read>(
         ledger: &mut ledger,
         count: &mut count,
     };
-    let status = handle_input(alloc, listing, reader, &mut unread)?;
+    let status = in_memory(handle_input(alloc, listing, reader, &mut unread))?;
     if status != Status::Clean || count != good {
         return Err(ExplainFault::Changed);
     }
@@ -354,7 +365,7 @@ pub fn explain_input<R: Read, S: Read, W: Write>(
         monitor_lines: MonitorLines::Waiting(alloc),
         found: &mut found,
     };
-    let status = handle_input(alloc, examiner, first, &mut verdict)?;
+    let status = in_memory(handle_input(alloc, examiner, first, &mut verdict))?;
     let mut why = Vec::new(alloc);
     reasons(alloc, second, &found, status, &mut why)?;
     write_all(writer, &verdict)?;

@@ -9,6 +9,7 @@ ghost use Rattle.tl_engine.specs.statement.Trace.{IsHeader, SpellsHeader, trace_
 ghost use Rattle.tl_engine.specs.code.TraceReading.{GivesHeader, header_at, levels_at};
 
 use arrayvec::ArrayVec;
+use tl_params::config::MOST_CLIENTS;
 use tl_params::header::{front_level, front_version, is_end};
 use tl_params::width::Width;
 use tl_rules::level::Level;
@@ -20,11 +21,11 @@ use tl_rules::profile::Profile;
 pub struct Header {
     pub width: Width,
     pub profile: Profile,
-    pub levels: ArrayVec<Level, 16>,
+    pub levels: ArrayVec<Level, MOST_CLIENTS>,
 }
 
 /// The levels up to the LF that ends the line, at most 16.
-fn levels(bytes: &[u8]) -> Option<ArrayVec<Level, 16>>
+fn levels(bytes: &[u8]) -> Option<ArrayVec<Level, MOST_CLIENTS>>
     ensures { GivesAll result (levels_at 16 bytes.now) }
 {
     let mut levels = ArrayVec::new();

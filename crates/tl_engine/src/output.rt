@@ -2,7 +2,7 @@
 
 ghost use Rattle.std.specs.Prelude.{◌≡◌, ◌++◌, ◌∷◌, [], ℕ, OnOk, OnErr, IfErr, codes};
 ghost use Rattle.std.specs.Io.KnownBytes.{Appends};
-ghost use Rattle.tl_engine.specs.statement.Fault.{changed_text, open_fault_text};
+ghost use Rattle.tl_engine.specs.statement.Fault.{changed_text, once_text, open_fault_text};
 ghost use Rattle.tl_engine.specs.code.Parts.{AppendsPart};
 
 use crate::status::ToolFault;
@@ -65,4 +65,19 @@ pub fn write_changed<W: Write>(name: &str, writer: &mut W) -> Result<(), ToolFau
     ensures fault { IfErr result (λ fault. fault ≡ ToolFault.Write) }
 {
     write_around(b"tltool: ", name, b" changed while it was read\n", writer)
+}
+
+/// Writes the line for standard error where a file of this name can be read once alone, as a pipe. Its
+/// only fault is `Write`.
+pub fn write_once<W: Write>(name: &str, writer: &mut W) -> Result<(), ToolFault>
+    ensures ok { OnOk result (Appends (W.contents writer.old) (W.contents writer.new) (once_text name.now)) }
+    ensures err { OnErr result (AppendsPart (W.contents writer.old) (W.contents writer.new) (once_text name.now)) }
+    ensures fault { IfErr result (λ fault. fault ≡ ToolFault.Write) }
+{
+    write_around(
+        b"tltool: ",
+        name,
+        b" can't be read twice, as explain does: write it to a file\n",
+        writer,
+    )
 }

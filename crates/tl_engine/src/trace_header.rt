@@ -38,8 +38,8 @@ fn profile_word(profile: Profile) -> &'static str
     }
 }
 
-/// Appends the version of a trace's header.
-fn append_version(version: Version, out: &mut Vec<u8>) -> Result<(), AllocError>
+/// Appends the version of a header, of a trace or of a schedule.
+pub fn append_version(version: Version, out: &mut Vec<u8>) -> Result<(), AllocError>
     ensures { OnOk result (out.new.items ≡ out.old.items ++ version_text version) }
 {
     match version {
@@ -57,7 +57,8 @@ fn append_version(version: Version, out: &mut Vec<u8>) -> Result<(), AllocError>
     }
 }
 
-fn level_word(level: Level) -> &'static str
+/// The name of a level in a header.
+pub fn level_word(level: Level) -> &'static str
     ensures { result.now ≡ level_text level }
 {
     match level {

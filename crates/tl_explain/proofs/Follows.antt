@@ -1,5 +1,5 @@
 -- A recorder follows a trace by one more beat.
-use Rattle.std.proofs.Common.{◌≡◌, ℕ, ◌+◌, ◌==◌, ◌&&◌, ◌||◌, List, [], ◌∷◌, length, true, false, Bool, refl, sym, ap, ap₂, ◌∙◌, arith}
+use Rattle.std.proofs.Common.{◌≡◌, ℕ, ◌+◌, ◌==◌, ◌&&◌, List, [], ◌∷◌, length, true, false, Bool, refl, sym, ap, ap₂, ◌∙◌, arith}
 use Rattle.std.specs.Prelude.{Option, Some, None, is_some, is_none, if◌then◌else◌}
 use Rattle.tl_beat.specs.declared.beat.Beat.{Beat}
 use Rattle.tl_beat.specs.declared.beat.Beat.TheVariants as beat
@@ -13,9 +13,9 @@ use Rattle.tl_burst.specs.statement.Part.{completes, is_empty}
 use Rattle.tl_params.specs.declared.key.Key.{Key}
 use Rattle.tl_params.specs.declared.key.Key.TheVariants.{RequestSource, ReleaseSource, AcquireOf, ReleaseOf, GrantSink, GrantAckOf, ProbeOf}
 use Rattle.tl_rules.specs.statement.Conformance.{Trace, on_link}
-use Rattle.tl_rules.specs.statement.History.{begins, block_at, ends, opens, closes, says_held, is_grant, is_release, is_probe_ack, is_release_ack, asks_for, releases, request_of, release_of, grant_sink, is_sink}
-use Rattle.tl_monitor.specs.code.Control.{control_of}
-use Rattle.tl_monitor.specs.declared.control.Control.{Control}
+use Rattle.tl_rules.specs.statement.History.{begins, block_at, ends, opens, closes, says_held, is_grant, is_release_ack, asks_for, releases, request_of, release_of, grant_sink, is_sink}
+use Rattle.tl_beat.specs.statement.Control.{control_of}
+use Rattle.tl_beat.specs.declared.control.Control.{Control}
 use Rattle.tl_explain.specs.declared.told.Mention.{Mention}
 use Rattle.tl_explain.specs.declared.told.Told.{Told}
 use Rattle.tl_explain.specs.declared.turn.Turn.{Turn}
@@ -29,8 +29,8 @@ use Rattle.tl_explain.specs.declared.recorder.Recorder.{Recorder}
 use Rattle.tl_beat.specs.declared.channel.Channel.{Channel}
 use Rattle.tl_beat.specs.declared.channel.Channel.TheVariants as channel
 use Rattle.tl_monitor.specs.code.Count.{at}
-use Rattle.tl_explain.specs.statement.Evidence.{is_opening, is_closing, is_saying, last_opening, last_closing, last_saying, burst_opening, told}
-use Rattle.tl_explain.specs.code.Recorded.{AreBlocks, AreTurns, IsBegun, IsMoment, IsRecord, IsTurn, asked_next, burst_after, burst_on, burst_with, channel_in, completes_burst, released_next, same_channel, block_asked, block_of, block_released, closes_by, is_number, mention_of, opens_by, says_by, sink_by, sink_in}
+use Rattle.tl_explain.specs.statement.Evidence.{last_opening, last_saying, last_where, burst_opening, mention_of, told}
+use Rattle.tl_explain.specs.code.Recorded.{AreBlocks, AreTurns, IsBegun, IsMoment, IsRecord, IsTurn, asked_next, burst_after, burst_on, burst_with, channel_in, completes_burst, released_next, same_channel, block_asked, block_of, block_released, closes_by, is_number, opens_by, says_by, sink_by, sink_in}
 
 -- ---- the block of an answer
 
@@ -184,7 +184,7 @@ sink_step b (beat.D x) h true m rest e ih = chosen _ m rest x.sink _ ih (ap sink
 sink_step b (beat.E x) h true m rest e ih = ap mention_sink (never _ (Some m) rest) ∙ ih
 
 granted_is : {w : ℕ} (n b : ℕ) (t : Trace w) → mention_sink (last_opening n (GrantAckOf b) t) ≡ grant_sink b (on_link n t)
-unfolding last_opening on_link grant_sink mention_sink
+unfolding last_where on_link grant_sink mention_sink
 granted_is n b [] = refl
 granted_is n b (x ∷ t) = sink_step b x.1 (on_link n t) (x.0.0 == n) (told x t) (last_opening n (GrantAckOf b) t) refl (granted_is n b t)
 
@@ -204,7 +204,7 @@ pub turn_next : {w : ℕ} (old new : Turn) (n : ℕ) (k : Key) (m : Moment) (x :
     → new.opening ≡ (if m.first && opens_by k m.told.mention.control m.block then Some m.told else old.opening)
     → new.closing ≡ (if m.last && closes_by k m.told.mention.control m.block (sink_in old.opening) then Some m.told else old.closing)
     → IsTurn new n k (x ∷ t)
-unfolding last_opening last_closing
+unfolding last_where
 turn_next old new n k m x t is turn opening closing =
     let control : m.told.mention.control ≡ control_of x.1 = ap (λ (y : Mention). y.control) is.told_is in
     let opens : opens_by k m.told.mention.control m.block ≡ opens k x.1 (on_link n t) = ap₂ (opens_by k) control is.block_is ∙ opens_is k x.1 (on_link n t) in
@@ -222,7 +222,7 @@ turn_next old new n k m x t is turn opening closing =
 pub said_next : {w : ℕ} (old new : Option Told) (n k : ℕ) (m : Moment) (x : Link × Beat w) (t : Trace w) → IsMoment m n x t → mention_of old ≡ last_saying n k t
     → new ≡ (if m.last && says_by k m.told.mention.control m.block then Some m.told else old)
     → mention_of new ≡ last_saying n k (x ∷ t)
-unfolding last_saying
+unfolding last_where
 said_next old new n k m x t is was e =
     let control : m.told.mention.control ≡ control_of x.1 = ap (λ (y : Mention). y.control) is.told_is in
     let says : says_by k m.told.mention.control m.block ≡ is_some (says_held k x.1 (on_link n t)) = ap₂ (says_by k) control is.block_is ∙ says_is k x.1 (on_link n t) in
@@ -232,11 +232,11 @@ said_next old new n k m x t is was e =
 -- ---- before any beat
 
 pub no_turn : {w : ℕ} (turn : Turn) (n : ℕ) (k : Key) → turn.opening ≡ None → turn.closing ≡ None → IsTurn {w = w} turn n k []
-unfolding last_opening last_closing
+unfolding last_where
 no_turn turn n k opening closing = record { opening_is = ap mention_of opening; closing_is = ap mention_of closing }
 
 pub no_saying : (w n k : ℕ) → mention_of None ≡ last_saying {w = w} n k []
-unfolding last_saying
+unfolding last_where
 no_saying w n k = refl
 
 pub no_blocks : (w : ℕ) (asked released : List (Option ℕ)) → ((s : ℕ) → at asked s ≡ None) → ((s : ℕ) → at released s ≡ None)
@@ -264,11 +264,11 @@ module _ {w : ℕ} (n : ℕ) (x : Link × Beat w) (t : Trace w) (elsewhere : (x.
   not_on = rw elsewhere refl
 
   turn_kept : (turn : Turn) (k : Key) → IsTurn turn n k t → IsTurn turn n k (x ∷ t)
-  unfolding last_opening last_closing
+  unfolding last_where
   turn_kept turn k is = record { opening_is = is.opening_is ∙ rw elsewhere refl; closing_is = is.closing_is ∙ rw elsewhere refl }
 
   saying_kept : (k : ℕ) (m : Option Mention) → m ≡ last_saying n k t → m ≡ last_saying n k (x ∷ t)
-  unfolding last_saying
+  unfolding last_where
   saying_kept k m is = is ∙ rw elsewhere refl
 
   opening_kept : (ch : Channel) → burst_opening n ch (x ∷ t) ≡ burst_opening n ch t
@@ -328,7 +328,7 @@ on_is channel.E (beat.C x) = refl
 on_is channel.E (beat.D x) = refl
 on_is channel.E (beat.E x) = refl
 
-on_own : {w : ℕ} (ch : Channel) (x : Beat w) → on ch x ≡ true → ch ≡ channel_of x
+pub on_own : {w : ℕ} (ch : Channel) (x : Beat w) → on ch x ≡ true → ch ≡ channel_of x
 on_own channel.A (beat.A x) e = refl
 on_own channel.A (beat.B x) e = absurd cc
 on_own channel.A (beat.C x) e = absurd cc

@@ -1,6 +1,6 @@
 -- What is told of a trace is so.
-use Rattle.std.proofs.Common.{◌≡◌, ℕ, ◌+◌, ◌<◌, ◌≤◌, ◌==◌, ◌&&◌, ◌||◌, ◌++◌, List, [], ◌∷◌, length, true, false, Bool, refl, sym, ap, ◌∙◌, arith}
-use Rattle.std.specs.Prelude.{Option, Some, None, IfSome, is_some, if◌then◌else◌, nat_le, unwrap_or}
+use Rattle.std.proofs.Common.{◌≡◌, ℕ, ◌+◌, ◌<◌, ◌≤◌, ◌==◌, ◌&&◌, ◌||◌, [], ◌∷◌, true, false, Bool, refl, sym, arith}
+use Rattle.std.specs.Prelude.{Option, Some, None, is_some, if◌then◌else◌, nat_le, unwrap_or}
 use Rattle.tl_beat.specs.declared.beat.Beat.{Beat}
 use Rattle.tl_beat.specs.declared.beat.Beat.TheVariants as beat
 use Rattle.tl_beat.specs.declared.beat.Link.{Link}
@@ -8,10 +8,10 @@ use Rattle.tl_burst.specs.statement.Messages.{History}
 use Rattle.tl_params.specs.declared.key.Key.{Key}
 use Rattle.tl_params.specs.declared.perm.Perm.{Perm}
 use Rattle.tl_rules.specs.statement.Conformance.{Trace, on_link}
-use Rattle.tl_rules.specs.statement.History.{begins, ends, opens, closes, pending, held, says_held, grants, is_probe_ack, is_release, block_at, reported, capped}
-use Rattle.tl_monitor.specs.code.Control.{control_of}
+use Rattle.tl_rules.specs.statement.History.{pending, held, says_held, grants, is_probe_ack, is_release, block_at, reported, capped}
+use Rattle.tl_beat.specs.statement.Control.{control_of}
 use Rattle.tl_explain.specs.declared.told.Mention.{Mention}
-use Rattle.tl_explain.specs.statement.Evidence.{is_open, is_opening, is_closing, is_saying, last_opening, last_closing, last_saying, left_by, left_of, next_line, told}
+use Rattle.tl_explain.specs.statement.Evidence.{is_open, last_opening, last_closing, last_saying, last_where, left_by, left_of, next_line, told}
 
 -- ---- what is told stands before
 
@@ -31,12 +31,12 @@ line_more : {w : ℕ} (x : Link × Beat w) (t : Trace w) → next_line (x ∷ t)
 line_more x t = omega arith
 
 opening_before : {w : ℕ} (n : ℕ) (k : Key) (t : Trace w) → IsBefore (next_line t) (last_opening n k t)
-unfolding last_opening
+unfolding last_where
 opening_before n k [] = tt
 opening_before n k (x ∷ t) = rw (line_more x t) (before_if (next_line t) _ (told x t) (last_opening n k t) refl (opening_before n k t))
 
 closing_before : {w : ℕ} (n : ℕ) (k : Key) (t : Trace w) → IsBefore (next_line t) (last_closing n k t)
-unfolding last_closing
+unfolding last_where
 closing_before n k [] = tt
 closing_before n k (x ∷ t) = rw (line_more x t) (before_if (next_line t) _ (told x t) (last_closing n k t) refl (closing_before n k t))
 
@@ -59,13 +59,13 @@ open_step line false false m n o c p e f x y h = h
 
 pending_step : {w : ℕ} (n : ℕ) (k : Key) (x : Link × Beat w) (t : Trace w) (here : Bool) → (x.0.0 == n) ≡ here → pending k (on_link n t) ≡ is_open (last_opening n k t) (last_closing n k t)
     → pending k (on_link n (x ∷ t)) ≡ is_open (last_opening n k (x ∷ t)) (last_closing n k (x ∷ t))
-unfolding pending on_link last_opening last_closing
+unfolding pending on_link last_where
 pending_step n k x t true e ih =
     rw e (open_step (next_line t) _ _ (told x t) (told x t) (last_opening n k t) (last_closing n k t) (pending k (on_link n t)) refl refl (opening_before n k t) (closing_before n k t) ih)
 pending_step n k x t false e ih = rw e ih
 
 pub pending_open : {w : ℕ} (n : ℕ) (k : Key) (t : Trace w) → pending k (on_link n t) ≡ is_open (last_opening n k t) (last_closing n k t)
-unfolding pending on_link last_opening last_closing
+unfolding pending on_link last_where
 pending_open n k [] = refl
 pending_open n k (x ∷ t) = pending_step n k x t (x.0.0 == n) refl (pending_open n k t)
 
@@ -95,11 +95,11 @@ left_step false (Some q) m o p e ih = ih
 
 held_step : {w : ℕ} (n k : ℕ) (x : Link × Beat w) (t : Trace w) (here : Bool) → (x.0.0 == n) ≡ here → held k (on_link n t) ≡ left_of (last_saying n k t)
     → held k (on_link n (x ∷ t)) ≡ left_of (last_saying n k (x ∷ t))
-unfolding held on_link last_saying
+unfolding held on_link last_where
 held_step n k x t true e ih = rw e (left_step _ (says_held k x.1 (on_link n t)) (told x t) (last_saying n k t) (held k (on_link n t)) (says_left k x.1 (on_link n t)) ih)
 held_step n k x t false e ih = rw e ih
 
 pub held_left : {w : ℕ} (n k : ℕ) (t : Trace w) → held k (on_link n t) ≡ left_of (last_saying n k t)
-unfolding held on_link last_saying
+unfolding held on_link last_where
 held_left n k [] = refl
 held_left n k (x ∷ t) = held_step n k x t (x.0.0 == n) refl (held_left n k t)

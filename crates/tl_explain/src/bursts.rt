@@ -10,8 +10,8 @@ ghost use Rattle.tl_explain.specs.code.Recorded.{burst_on, burst_after, channel_
 use crate::told::Told;
 use tl_beat::beat::Beat;
 use tl_beat::channel::Channel;
+use tl_beat::control::Control;
 use tl_burst::burst::burst_length;
-use tl_monitor::control::Control;
 
 /// How many beats the longest burst has.
 const LONGEST: u8 = 16;
@@ -32,19 +32,6 @@ pub struct Bursts {
     pub c: Option<Begun>,
     pub d: Option<Begun>,
     pub e: Option<Begun>,
-}
-
-/// The channel that carries a beat.
-pub fn channel_of<const W: usize>(beat: &Beat<W>) -> Channel
-    ensures { result ≡ Messages.channel_of beat.now }
-{
-    match beat {
-        Beat::A(_) => Channel::A,
-        Beat::B(_) => Channel::B,
-        Beat::C(_) => Channel::C,
-        Beat::D(_) => Channel::D,
-        Beat::E(_) => Channel::E,
-    }
 }
 
 /// Whether the size is one that a message may have.
@@ -117,14 +104,14 @@ impl Bursts {
     pub fn begins<const W: usize>(&self, beat: &Beat<W>) -> bool
         ensures { result ≡ is_none (burst_on self.now (Messages.channel_of beat.now)) }
     {
-        self.on(channel_of(beat)).is_none()
+        self.on(beat.channel()).is_none()
     }
 
     /// Whether a burst has room for one more beat.
     pub fn has_room<const W: usize>(&self, beat: &Beat<W>) -> bool
         ensures { result ≡ has_room (burst_on self.now (Messages.channel_of beat.now)) }
     {
-        match self.on(channel_of(beat)) {
+        match self.on(beat.channel()) {
             None => true,
             Some(burst) => burst.came < LONGEST,
         }
@@ -137,7 +124,7 @@ impl Bursts {
         requires room { has_room (burst_on self.now (Messages.channel_of beat.now)) ≡ true }
         ensures { result ≡ completes_burst beat.now (burst_on self.now (Messages.channel_of beat.now)) }
     {
-        match self.on(channel_of(beat)) {
+        match self.on(beat.channel()) {
             None => burst_length(beat) == 1,
             Some(burst) => burst.came + 1 == burst_length(beat),
         }

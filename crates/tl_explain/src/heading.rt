@@ -3,6 +3,7 @@
 use crate::shown::{Span, append_line, shown};
 use std::io;
 use std::io::Write;
+use tl_params::config::MOST_CLIENTS;
 use tl_params::header::{front_level, front_version};
 
 /// Where reading a header stopped, and what was wanted there.
@@ -32,9 +33,9 @@ fn common(line: &[u8], word: &[u8]) -> usize {
 fn levels_stop(line: &[u8], from: usize, bytes: &[u8]) -> Stop {
     let mut rest = bytes;
     let mut at = from;
-    for count in 0..17u8 {
+    for count in 0..=MOST_CLIENTS {
         match front_level(rest) {
-            Some((_, after)) if count < 16 => {
+            Some((_, after)) if count < MOST_CLIENTS => {
                 at = line.len().saturating_sub(after.len());
                 rest = after;
             }

@@ -3,7 +3,7 @@
 ghost use Rattle.std.specs.Prelude.{◌≡◌};
 ghost use Rattle.tl_explain.specs.code.Recorded.{opens_by, closes_by, says_by};
 
-use tl_monitor::control::Control;
+use tl_beat::control::Control;
 use tl_params::key::Key;
 use tl_rules::kind::{is_acquire, is_grant, is_probe, is_probe_ack, is_release, is_release_ack};
 

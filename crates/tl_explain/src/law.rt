@@ -1,17 +1,60 @@
 //! What is told of a trace, as laws.
 
-ghost use Rattle.std.specs.Prelude.{◌≡◌, ℕ};
+ghost use Rattle.std.specs.Prelude.{◌≡◌, ℕ, Some, true};
+ghost use Rattle.tl_beat.specs.declared.beat.Beat.{Beat};
 ghost use Rattle.tl_params.specs.declared.key.Key.{Key};
+ghost use Rattle.tl_params.specs.declared.profile.Profile.{Profile};
+ghost use Rattle.tl_params.specs.declared.rule.Rule.{Rule};
 ghost use Rattle.tl_rules.specs.statement.Conformance.{Trace, on_link};
 ghost use Rattle.tl_rules.specs.statement.History.{held, pending};
+ghost use Rattle.tl_explain.specs.declared.told.Mention.{Mention};
 ghost use Rattle.tl_explain.specs.statement.Evidence.{is_open, last_closing, last_opening, last_saying, left_of};
+ghost use Rattle.tl_explain.specs.statement.Evidence.{is_opening, is_closing, is_saying};
+ghost use Rattle.tl_explain.specs.declared.reason.Reason.{Reason};
+ghost use Rattle.tl_explain.specs.statement.Reasons.{Breaks, IsEvidence, convicted};
+ghost use Rattle.tl_explain.specs.statement.Since.{IsHeldSince, IsLast, IsLastIfAny, IsPendingSince};
 
 /// A key is pending where its last opening isn't followed by a closing.
 pub fn pending_where_open()
-    ensures { (w n : ℕ) (k : Key) (t : Trace w) → pending k (on_link n t) ≡ is_open (last_opening n k t) (last_closing n k t) }
+    ensures { (w n : ℕ) (k : Key) (t : Trace w) →
+        pending k (on_link n t) ≡ is_open (last_opening n k t) (last_closing n k t) }
 {}
 
 /// What the message that is told leaves of a block is what is held of it.
 pub fn held_is_left()
     ensures { (w n k : ℕ) (t : Trace w) → held k (on_link n t) ≡ left_of (last_saying n k t) }
+{}
+
+/// The messages that are told of as the last that opened a key, that closed it and that left what is
+/// held stand in the lines that are told, and behind each of them there is no other. Where none is
+/// told there is none.
+pub fn last_are_last()
+    ensures opening { (w n : ℕ) (k : Key) (t : Trace w) →
+        IsLastIfAny (is_opening n k) (last_opening n k t) t }
+    ensures closing { (w n : ℕ) (k : Key) (t : Trace w) →
+        IsLastIfAny (is_closing n k) (last_closing n k t) t }
+    ensures saying { (w n k : ℕ) (t : Trace w) → IsLastIfAny (is_saying n k) (last_saying n k t) t }
+    ensures only { (w n : ℕ) (k : Key) (m : Mention) (t : Trace w) → IsLast (is_opening n k) m t →
+        last_opening n k t ≡ Some m }
+{}
+
+/// A key that is pending is so since its last opening: no opening and no closing of it stands behind
+/// that. And what is told so is pending.
+pub fn pending_since_opening()
+    ensures since { (w n : ℕ) (k : Key) (m : Mention) (t : Trace w) → pending k (on_link n t) ≡ true →
+        last_opening n k t ≡ Some m → IsPendingSince n k m t }
+    ensures pending { (w n : ℕ) (k : Key) (m : Mention) (t : Trace w) → IsPendingSince n k m t →
+        pending k (on_link n t) ≡ true }
+{}
+
+/// What is held of a block is so since the last message that says so; no later one changes it.
+pub fn held_since_saying()
+    ensures { (w n k : ℕ) (t : Trace w) → IsHeldSince n k (left_of (last_saying n k t)) (last_saying n k t) t }
+{}
+
+/// What is told for a verdict makes the rule broken: where what a reason tells of a trace is so, the
+/// beat breaks the rule that follows from the reason and the beat alone.
+pub fn evidence_convicts()
+    ensures { (w n : ℕ) (p : Profile) (rule : Rule) (x : Beat w) (reason : Reason) (t : Trace w) → IsEvidence n x reason t →
+        convicted p x reason ≡ Some rule → Breaks p rule x (on_link n t) }
 {}

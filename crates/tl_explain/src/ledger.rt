@@ -10,7 +10,6 @@ use std::collections::BTreeMap;
 use std::io;
 use std::io::Write;
 use tl_beat::beat::{Beat, Link};
-use tl_monitor::control::control_of;
 use tl_params::key::block_at;
 use tl_rules::kind::{is_grant, is_probe, is_probe_ack, is_release, is_release_ack};
 
@@ -129,7 +128,7 @@ impl Ledger {
         let told = Told {
             mention: Mention {
                 line: number,
-                control: control_of(beat),
+                control: beat.control(),
             },
             spelling: Spelling::of(line),
         };

@@ -1,6 +1,7 @@
 //! Why a line of a trace is at fault: what a verdict rests on, and its words.
 #![tactic(auto)]
 
+mod answer;
 mod blocks;
 pub mod bursts;
 mod example;
@@ -9,7 +10,9 @@ mod key;
 pub mod law;
 pub mod ledger;
 pub mod legal;
+mod missing;
 pub mod named;
+mod names;
 mod params;
 pub mod reason;
 pub mod recorder;

@@ -1,22 +1,29 @@
 //! What makes a rule of bursts or of the order of messages broken.
 
-use crate::bursts::{Begun, channel_of};
+ghost use Rattle.std.specs.Prelude.{◌≡◌, true, Some, IfSome, is_some};
+ghost use Rattle.tl_beat.specs.declared.beat.Link.{Link};
+ghost use Rattle.tl_explain.specs.code.Chosen;
+ghost use Rattle.tl_explain.specs.code.Recorded.{IsRecord};
+ghost use Rattle.tl_explain.specs.statement.Reasons.{HasBlockAsked, IsEvidence, IsSubject, convicted, is_always_told};
+ghost use Rattle.tl_rules.specs.statement.Conformance.{Trace, on_link};
+ghost use Rattle.tl_explain.specs.statement.Evidence;
+ghost use Rattle.tl_params.specs.statement.Param.{cap_of, prune_of};
+ghost use Rattle.tl_rules.specs.statement.Conformance;
+
+use crate::answer::for_answer;
+use crate::bursts::Begun;
+use crate::missing::{first_of, unless_held, where_not_pending, where_pending};
 use crate::recorder::Recorder;
 use crate::told::Told;
-use crate::turn::Turn;
-use tl_beat::beat::{Beat, BeatA, BeatB, BeatC, BeatD, BeatE};
-use tl_beat::channel::Channel;
-use tl_beat::opcode::{OpA, OpB, OpD};
-use tl_monitor::control::{Control, has_control};
-use tl_params::key::Key;
+use tl_beat::beat::{Beat, BeatA, BeatB, BeatC, BeatE};
+use tl_beat::control::Control;
+use tl_beat::opcode::OpB;
+use tl_params::key::{Key, block_at};
 use tl_params::param::{Cap, Grow, Prune};
 use tl_params::profile::Profile;
 use tl_params::report::report_of;
 use tl_params::rule::Rule;
-use tl_rules::kind::{
-    answers, capped, is_acquire, is_grant, is_probe, is_probe_ack, is_release, is_release_ack,
-    reported,
-};
+use tl_rules::kind::{capped, is_acquire, is_probe, is_probe_ack, is_release, reported};
 use tl_rules::perm::Perm;
 
 /// What is held of a block, and the message that left it so, if there was one.
@@ -45,6 +52,8 @@ pub enum Reason {
     WrongCap(Told),
     /// The request needs data, by what is held.
     WithoutData(Told, Held),
+    /// A Probe of the request's block is pending.
+    Probed(Told, Told),
     /// What is held doesn't fit the param.
     Holds(Held),
     /// ProbeAckData answers this ProbePerm.
@@ -56,7 +65,9 @@ pub enum Reason {
 }
 
 /// What a Grant, ProbeAck or Release leaves.
-fn left_by(control: &Control) -> Perm {
+fn left_by(control: &Control) -> Perm
+    ensures { result ≡ Evidence.left_by control.now }
+{
     match control {
         Control::C(x) => reported(x.param),
         Control::D(x) => capped(x.param),
@@ -65,66 +76,49 @@ fn left_by(control: &Control) -> Perm {
 }
 
 /// What is held of the subject's block.
-pub fn held_of(record: &Recorder) -> Held {
+pub fn held_of(recorder: &Recorder) -> Held
+    ensures { result ≡ Chosen.held_by recorder.now.turns.said }
+{
     Held {
-        perm: match &record.turns.said {
+        perm: match &recorder.turns.said {
             None => Perm::None,
             Some(told) => left_by(&told.mention.control),
         },
-        since: record.turns.said,
+        since: recorder.turns.said,
     }
 }
 
-/// Where the key is pending.
-fn where_pending(key: Key, turn: &Turn) -> Option<Reason> {
-    let told = turn.pending()?;
-    Some(Reason::Pending(key, told))
-}
-
-/// Where no complete message has the key pending. The burst is that which is unfinished on the
-/// channel whose messages open the key.
-fn where_not_pending(key: Key, turn: &Turn, burst: &Option<Begun>) -> Option<Reason> {
-    let Some(opening) = turn.opening else {
-        return Some(Reason::Never(key));
-    };
-    if turn.pending().is_none() {
-        return Some(Reason::Closed(key, opening, turn.closing?));
-    }
-    match burst {
-        Some(begun) if begun.first.mention.line == opening.mention.line => {
-            Some(Reason::Unfinished(key, opening, begun.came))
-        }
-        _ => None,
-    }
-}
-
-fn first_of(one: Option<Reason>, other: Option<Reason>) -> Option<Reason> {
-    if one.is_some() { one } else { other }
-}
-
-fn for_request<const W: usize>(rule: Rule, x: &BeatA<W>, record: &Recorder) -> Option<Reason> {
-    let subject = record.subject;
-    let turns = &record.turns;
+fn for_request<const W: usize>(rule: Rule, x: &BeatA<W>, recorder: &Recorder) -> Option<Reason>
+    ensures { result ≡ Chosen.for_request rule x.now recorder.now }
+{
+    let turns = &recorder.turns;
+    let block = block_at(x.address);
     match rule {
-        Rule::H1 => where_pending(Key::RequestSource(subject.source), &turns.request),
-        Rule::H4 if is_acquire(x.opcode) => first_of(
-            where_pending(Key::AcquireOf(subject.block), &turns.acquire),
-            where_pending(Key::ReleaseOf(subject.block), &turns.release),
-        ),
-        Rule::H5 if is_acquire(x.opcode) => {
-            let held = held_of(record);
-            if grows_from(x.param, held.perm) {
-                None
-            } else {
-                Some(Reason::Holds(held))
+        Rule::H1 => where_pending(Key::RequestSource(x.source), &turns.request),
+        Rule::H4 => {
+            if !is_acquire(x.opcode) {
+                return None;
             }
+            first_of(
+                where_pending(Key::AcquireOf(block), &turns.acquire),
+                where_pending(Key::ReleaseOf(block), &turns.release),
+            )
+        }
+        Rule::H5 => {
+            if !is_acquire(x.opcode) {
+                return None;
+            }
+            let held = held_of(recorder);
+            unless_held(grows_from(x.param, held.perm), held)
         }
         _ => None,
     }
 }
 
 /// BtoT grows from all but Trunk, NtoB and NtoT grow from nothing held.
-pub fn grows_from(param: u8, perm: Perm) -> bool {
+pub fn grows_from(param: u8, perm: Perm) -> bool
+    ensures { result ≡ Conformance.grows_from param perm }
+{
     if param == Grow::BtoT.param() {
         perm != Perm::Trunk
     } else {
@@ -132,68 +126,85 @@ pub fn grows_from(param: u8, perm: Perm) -> bool {
     }
 }
 
-fn for_probe<const W: usize>(rule: Rule, x: &BeatB<W>, record: &Recorder) -> Option<Reason> {
-    let block = record.subject.block;
-    if rule != Rule::H9 || !is_probe(x.opcode) {
-        return None;
-    }
-    first_of(
-        where_pending(Key::ProbeOf(block), &record.turns.probe),
-        where_pending(Key::GrantAckOf(block), &record.turns.grant_ack),
-    )
-}
-
-fn for_release<const W: usize>(rule: Rule, x: &BeatC<W>, record: &Recorder) -> Option<Reason> {
-    let subject = record.subject;
-    let turns = &record.turns;
+fn for_probe<const W: usize>(rule: Rule, x: &BeatB<W>, recorder: &Recorder) -> Option<Reason>
+    ensures { result ≡ Chosen.for_probe rule x.now recorder.now }
+{
+    let turns = &recorder.turns;
+    let block = block_at(x.address);
     match rule {
-        Rule::H1 => where_pending(
-            Key::ReleaseSource(subject.source),
-            &turns.release_with_source,
-        ),
-        Rule::H13 => first_of(
-            first_of(
-                where_pending(Key::AcquireOf(subject.block), &turns.acquire),
-                where_pending(Key::ReleaseOf(subject.block), &turns.release),
-            ),
-            where_not_pruned(x.param, held_of(record)),
-        ),
-        _ => None,
-    }
-}
-
-/// Where a Release with this param doesn't give up what is held.
-fn where_not_pruned(param: u8, held: Held) -> Option<Reason> {
-    match Prune::from_param(param) {
-        Some(prune) if prune.left() == held.perm => None,
-        _ => Some(Reason::Holds(held)),
-    }
-}
-
-fn for_probe_ack<const W: usize>(rule: Rule, x: &BeatC<W>, record: &Recorder) -> Option<Reason> {
-    let block = record.subject.block;
-    let turns = &record.turns;
-    match rule {
-        Rule::H10 => match turns.probe.pending() {
-            None => where_not_pending(Key::ProbeOf(block), &turns.probe, &None),
-            Some(probe) if x.opcode.carries_data() && !is_probe_block(&probe) => {
-                Some(Reason::WrongProbe(probe))
+        Rule::H9 => {
+            if !is_probe(x.opcode) {
+                return None;
             }
-            Some(_) => None,
-        },
-        Rule::H11 => where_pending(Key::ReleaseOf(block), &turns.release),
-        Rule::H12 => {
-            let probe = turns.probe.pending()?;
-            where_misreported(x.param, probe, held_of(record))
+            first_of(
+                where_pending(Key::ProbeOf(block), &turns.probe),
+                where_pending(Key::GrantAckOf(block), &turns.grant_ack),
+            )
         }
         _ => None,
     }
 }
 
-fn is_probe_block(probe: &Told) -> bool {
+fn for_release<const W: usize>(rule: Rule, x: &BeatC<W>, recorder: &Recorder) -> Option<Reason>
+    ensures { result ≡ Chosen.for_release rule x.now recorder.now }
+{
+    let turns = &recorder.turns;
+    let block = block_at(x.address);
+    match rule {
+        Rule::H1 => where_pending(Key::ReleaseSource(x.source), &turns.release_with_source),
+        Rule::H13 => {
+            let pending = first_of(
+                where_pending(Key::AcquireOf(block), &turns.acquire),
+                where_pending(Key::ReleaseOf(block), &turns.release),
+            );
+            let held = held_of(recorder);
+            first_of(pending, unless_held(prunes_from(x.param, held.perm), held))
+        }
+        _ => None,
+    }
+}
+
+/// Whether a Release with this param gives up what is held.
+fn prunes_from(param: u8, perm: Perm) -> bool
+    ensures { result ≡ Conformance.prunes_from (prune_of param) perm }
+{
+    match Prune::from_param(param) {
+        None => false,
+        Some(prune) => prune.left() == perm,
+    }
+}
+
+fn for_probe_ack<const W: usize>(rule: Rule, x: &BeatC<W>, recorder: &Recorder) -> Option<Reason>
+    ensures { result ≡ Chosen.for_probe_ack rule x.now recorder.now }
+{
+    let turns = &recorder.turns;
+    match rule {
+        Rule::H10 => match turns.probe.pending() {
+            None => where_not_pending(Key::ProbeOf(block_at(x.address)), &turns.probe, &None),
+            Some(probe) => where_wrong_probe(x, probe),
+        },
+        Rule::H11 => where_pending(Key::ReleaseOf(block_at(x.address)), &turns.release),
+        Rule::H12 => {
+            let probe = turns.probe.pending()?;
+            where_misreported(x, probe, held_of(recorder))
+        }
+        _ => None,
+    }
+}
+
+/// Where an answer with data answers a Probe that asks for none.
+fn where_wrong_probe<const W: usize>(x: &BeatC<W>, probe: Told) -> Option<Reason>
+    ensures { result ≡ Chosen.probe_in x.now probe probe.mention.control }
+{
     match probe.mention.control {
-        Control::B(x) => x.opcode == OpB::ProbeBlock,
-        _ => false,
+        Control::B(asked) => {
+            if x.opcode.carries_data() && asked.opcode != OpB::ProbeBlock {
+                Some(Reason::WrongProbe(probe))
+            } else {
+                None
+            }
+        }
+        _ => None,
     }
 }
 
@@ -205,137 +216,123 @@ pub fn cap_asked(probe: &Told) -> Option<Cap> {
     }
 }
 
+/// Whether a param is the report of a Probe's cap and of what is held.
+fn is_report(param: u8, cap: u8, perm: Perm) -> bool
+    ensures { result ≡ Conformance.is_report_at param (cap_of cap) perm }
+{
+    match Cap::from_param(cap) {
+        None => false,
+        Some(cap) => param == report_of(cap, perm).param(),
+    }
+}
+
 /// Where a param isn't the report of a Probe's cap and of what is held.
-fn where_misreported(param: u8, probe: Told, held: Held) -> Option<Reason> {
-    match cap_asked(&probe) {
-        Some(cap) if report_of(cap, held.perm).param() == param => None,
-        _ => Some(Reason::Misreport(probe, held)),
-    }
-}
-
-/// Where no complete request with the source is pending, or it may not be answered so.
-fn where_not_asked<const W: usize>(x: &BeatD<W>, record: &Recorder) -> Option<Reason> {
-    let source = record.subject.source;
-    let turns = &record.turns;
-    let bursts = &record.bursts;
-    if is_release_ack(x.opcode) {
-        let key = Key::ReleaseSource(source);
-        return where_not_pending(key, &turns.release_with_source, &bursts.on(Channel::C));
-    }
-    let key = Key::RequestSource(source);
-    let missing = where_not_pending(key, &turns.request, &bursts.on(Channel::A));
-    if missing.is_some() {
-        return missing;
-    }
-    let request = turns.request.pending()?;
-    match request.mention.control {
-        Control::A(asked) if answers(x.opcode, asked.opcode) => None,
-        _ => Some(Reason::OtherKind(request)),
-    }
-}
-
-/// The request or Release that a message on D answers, where it is pending.
-fn asked<const W: usize>(x: &BeatD<W>, record: &Recorder) -> Option<Told> {
-    if is_release_ack(x.opcode) {
-        record.turns.release_with_source.pending()
-    } else {
-        record.turns.request.pending()
-    }
-}
-
-/// Where the request has another size.
-fn where_other_size<const W: usize>(x: &BeatD<W>, record: &Recorder) -> Option<Reason> {
-    let request = asked(x, record)?;
-    match request.mention.control {
-        Control::A(asked) if asked.size == x.size => None,
-        Control::C(asked) if asked.size == x.size => None,
-        _ => Some(Reason::OtherSize(request)),
-    }
-}
-
-/// The caps that answer an Acquire with this param: one, or two of them under the second profile.
-pub fn fits_grow(profile: Profile, opcode: OpA, param: u8, cap: u8) -> bool {
-    if param != Grow::NtoB.param() {
-        return cap == Cap::ToT.param();
-    }
-    cap == Cap::ToB.param()
-        || (cap == Cap::ToT.param() && profile == Profile::Two && opcode == OpA::AcquireBlock)
-}
-
-/// Where a Grant isn't one for its request.
-fn where_misgranted<const W: usize>(
-    profile: Profile,
-    x: &BeatD<W>,
-    record: &Recorder,
-) -> Option<Reason> {
-    let request = record.turns.request.pending()?;
-    let Control::A(asked) = request.mention.control else {
-        return None;
-    };
-    if !fits_grow(profile, asked.opcode, asked.param, x.param) {
-        return Some(Reason::WrongCap(request));
-    }
-    let held = held_of(record);
-    if x.opcode == OpD::Grant && asked.opcode == OpA::AcquireBlock && held.perm != Perm::Branch {
-        return Some(Reason::WithoutData(request, held));
-    }
-    where_pending(Key::ProbeOf(record.subject.block), &record.turns.probe)
-}
-
-fn for_answer<const W: usize>(
-    profile: Profile,
-    rule: Rule,
-    x: &BeatD<W>,
-    record: &Recorder,
-) -> Option<Reason> {
-    match rule {
-        Rule::H2 => where_not_asked(x, record),
-        Rule::H3 => where_other_size(x, record),
-        Rule::H6 if is_grant(x.opcode) => where_misgranted(profile, x, record),
-        Rule::H7 if is_grant(x.opcode) => {
-            where_pending(Key::GrantSink(record.subject.sink), &record.turns.sink)
+fn where_misreported<const W: usize>(x: &BeatC<W>, probe: Told, held: Held) -> Option<Reason>
+    ensures { result ≡ Chosen.report_in x.now probe probe.mention.control held }
+{
+    match probe.mention.control {
+        Control::B(asked) => {
+            if is_report(x.param, asked.param, held.perm) {
+                None
+            } else {
+                Some(Reason::Misreport(probe, held))
+            }
         }
         _ => None,
     }
 }
 
-fn for_acknowledgement(rule: Rule, x: &BeatE, record: &Recorder) -> Option<Reason> {
-    if rule != Rule::H8 {
-        return None;
+fn for_acknowledgement(rule: Rule, x: &BeatE, recorder: &Recorder) -> Option<Reason>
+    ensures { result ≡ Chosen.for_acknowledgement rule x.now recorder.now }
+{
+    match rule {
+        Rule::H8 => {
+            where_not_pending(
+                Key::GrantSink(x.sink),
+                &recorder.turns.sink,
+                &recorder.bursts.d,
+            )
+        }
+        _ => None,
     }
-    where_not_pending(
-        Key::GrantSink(x.sink),
-        &record.turns.sink,
-        &record.bursts.on(Channel::D),
-    )
 }
 
 /// Where a beat doesn't continue the burst that is unfinished on its channel.
-fn where_differs<const W: usize>(beat: &Beat<W>, record: &Recorder) -> Option<Reason> {
-    let begun = record.bursts.on(channel_of(beat))?;
-    if has_control(beat, &begun.newest) {
+fn where_differs<const W: usize>(beat: &Beat<W>, burst: Option<Begun>) -> Option<Reason>
+    ensures { result ≡ Chosen.differs_by beat.now burst }
+{
+    let begun = burst?;
+    if beat.has_control(&begun.newest) {
+        None
+    } else {
+        Some(Reason::Differs(begun))
+    }
+}
+
+fn for_message_c<const W: usize>(rule: Rule, x: &BeatC<W>, recorder: &Recorder) -> Option<Reason>
+    ensures { result ≡ Chosen.for_message_c rule x.now recorder.now }
+{
+    if is_release(x.opcode) {
+        for_release(rule, x, recorder)
+    } else if is_probe_ack(x.opcode) {
+        for_probe_ack(rule, x, recorder)
+    } else {
+        None
+    }
+}
+
+fn for_message<const W: usize>(
+    profile: Profile,
+    rule: Rule,
+    beat: &Beat<W>,
+    recorder: &Recorder,
+) -> Option<Reason>
+    ensures { result ≡ Chosen.for_message profile rule beat.now recorder.now }
+{
+    match beat {
+        Beat::A(x) => for_request(rule, x, recorder),
+        Beat::B(x) => for_probe(rule, x, recorder),
+        Beat::C(x) => for_message_c(rule, x, recorder),
+        Beat::D(x) => for_answer(profile, rule, x, recorder),
+        Beat::E(x) => for_acknowledgement(rule, x, recorder),
+    }
+}
+
+fn chosen_reason<const W: usize>(
+    profile: Profile,
+    rule: Rule,
+    beat: &Beat<W>,
+    recorder: &Recorder,
+) -> Option<Reason>
+    ensures { result ≡ Chosen.reason_by profile rule beat.now recorder.now }
+{
+    if rule == Rule::S1 {
+        return where_differs(beat, recorder.bursts.on(beat.channel()));
+    }
+    if !recorder.bursts.begins(beat) {
         return None;
     }
-    Some(Reason::Differs(begun))
+    for_message(profile, rule, beat, recorder)
 }
 
 /// Why the beat breaks the rule, by what is recorded of the beats before it; nothing where it doesn't.
+/// What is told is so, of the beats that were recorded, and from it and the beat alone the rule is
+/// broken. Of H3, H6 and H12 a reason is told wherever they are the first rule that the beat breaks.
 pub fn find_reason<const W: usize>(
     profile: Profile,
     rule: Rule,
     beat: &Beat<W>,
-    record: &Recorder,
-) -> Option<Reason> {
-    if rule == Rule::S1 {
-        return where_differs(beat, record);
-    }
-    match beat {
-        Beat::A(x) => for_request(rule, x, record),
-        Beat::B(x) => for_probe(rule, x, record),
-        Beat::C(x) if is_release(x.opcode) => for_release(rule, x, record),
-        Beat::C(x) if is_probe_ack(x.opcode) => for_probe_ack(rule, x, record),
-        Beat::C(_) => None,
-        Beat::D(x) => for_answer(profile, rule, x, record),
-        Beat::E(x) => for_acknowledgement(rule, x, record),
-    }
+    recorder: &Recorder,
+) -> Option<Reason>
+    ensures told { (t : Trace W) (link : Link) → IsRecord recorder.now t →
+        IsSubject recorder.now.subject link beat.now →
+        IfSome result (λ reason. IsEvidence recorder.now.subject.link.0 beat.now reason t
+        × (convicted profile beat.now reason ≡ Some rule)) }
+    ensures first { (t : Trace W) (link : Link) → IsRecord recorder.now t →
+        IsSubject recorder.now.subject link beat.now → HasBlockAsked recorder.now.subject beat.now t →
+        is_always_told rule ≡ true →
+        Conformance.broken_in_order profile beat.now (on_link recorder.now.subject.link.0 t) ≡ Some rule →
+        is_some result ≡ true }
+{
+    chosen_reason(profile, rule, beat, recorder)
 }

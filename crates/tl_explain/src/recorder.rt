@@ -11,7 +11,6 @@ use crate::bursts::{Bursts, is_small};
 use crate::told::{Mention, Spelling, Told};
 use crate::turns::{Moment, Subject, Turns};
 use tl_beat::beat::{Beat, Link};
-use tl_monitor::control::control_of;
 
 /// A recorder can't go on: a monitor has taken no such beats.
 #[derive(Clone, Copy, Debug, PartialEq, Eq)]
@@ -60,7 +59,7 @@ impl Recorder {
             told: Told {
                 mention: Mention {
                     line: number,
-                    control: control_of(beat),
+                    control: beat.control(),
                 },
                 spelling: Spelling::of(line),
             },

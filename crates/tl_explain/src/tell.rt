@@ -2,39 +2,25 @@
 
 ghost use Rattle.tl_beat.specs.statement.Width.{IsWidth};
 
+use crate::answer::fits_grow;
 use crate::bursts::Begun;
-use crate::reason::{Held, Reason, cap_asked, fits_grow, grows_from, held_of};
+use crate::names::Names;
+use crate::reason::{Held, Reason, cap_asked, grows_from, held_of};
 use crate::recorder::Recorder;
 use crate::told::Told;
 use crate::words::{address_of, append_key, append_told, perm_name};
 use std::io;
 use std::io::Write;
 use tl_beat::beat::Beat;
+use tl_beat::control::Control;
 use tl_beat::opcode::{OpA, OpD};
 use tl_burst::burst::burst_length;
-use tl_monitor::control::Control;
 use tl_params::key::Key;
 use tl_params::param::{Cap, Grow, Prune};
 use tl_params::perm::Perm;
 use tl_params::profile::Profile;
 use tl_params::report::report_of;
 use tl_rules::kind::answers;
-
-/// Appends names with a comma between each two; whether one has been appended.
-#[derive(Drop)]
-struct Names {
-    any: bool,
-}
-
-impl Names {
-    fn append(&mut self, name: &str, out: &mut Vec<u8>) -> io::Result<()> {
-        if self.any {
-            out.write_all(b", ")?;
-        }
-        self.any = true;
-        out.write_all(name.as_bytes())
-    }
-}
 
 /// What is pending, since which message.
 fn tell_pending<const W: usize>(key: Key, told: &Told, out: &mut Vec<u8>) -> io::Result<()>
@@ -272,6 +258,21 @@ fn tell_without_data<const W: usize>(
     out.write_all(b"  wanted: GrantData\n")
 }
 
+/// The request, and the Probe of its block that is pending.
+fn tell_probed<const W: usize>(
+    request: &Told,
+    probe: &Told,
+    block: u32,
+    out: &mut Vec<u8>,
+) -> io::Result<()>
+    requires { IsWidth W }
+{
+    let line = request.mention.line;
+    write!(out, "  the request, of line {line}:\n")?;
+    append_told::<W>(request, out)?;
+    tell_pending::<W>(Key::ProbeOf(block), probe, out)
+}
+
 fn tell_misreport<const W: usize>(
     probe: &Told,
     held: &Held,
@@ -387,6 +388,7 @@ pub fn tell<const W: usize>(
         Reason::OtherSize(request) => tell_other_size::<W>(request, out),
         Reason::WrongCap(request) => tell_wrong_cap::<W>(profile, request, out),
         Reason::WithoutData(request, held) => tell_without_data::<W>(request, held, block, out),
+        Reason::Probed(request, probe) => tell_probed::<W>(request, probe, block, out),
         Reason::Holds(held) => tell_holds(beat, held, record, out),
         Reason::WrongProbe(probe) => {
             out.write_all(b"  the Probe asks for no data:\n")?;

@@ -1,6 +1,6 @@
 //! Beats with the numbers of their lines.
 
-use tl_monitor::control::Control;
+use tl_beat::control::Control;
 
 /// A beat by its control fields, with the number of its line.
 #[derive(Clone, Copy)]

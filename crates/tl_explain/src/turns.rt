@@ -11,7 +11,7 @@ use crate::key::{closes, opens, says_held};
 use crate::told::Told;
 use crate::turn::Turn;
 use tl_beat::beat::Link;
-use tl_monitor::control::Control;
+use tl_beat::control::Control;
 use tl_params::key::Key;
 
 /// The keys that a verdict may speak of.

@@ -7,12 +7,13 @@ ghost use Rattle.tl_manager.specs.code.Bits.{perm_in};
 use crate::bits::Words;
 use crate::directory::Directory;
 use std::alloc::{AllocError, Global};
+use tl_rules::config::MOST_CLIENTS;
 use tl_rules::perm::Perm;
 
 /// A directory of one entry for each block and client.
 #[derive(Drop)]
 pub struct TableDirectory {
-    rows: Vec<[Perm; 16]>,
+    rows: Vec<[Perm; MOST_CLIENTS]>,
     clients: u8,
     ghost few: { clients ≤ 16 },
 }
@@ -27,13 +28,13 @@ impl TableDirectory {
         ensures covers { IfOk result (λ d. (blocks_of_table d ≡ blocks) × (clients_of_table d ≡ clients)) }
     {
         let mut rows = Vec::new(alloc);
-        rows.resize(usize::from(blocks), [Perm::None; 16])?;
+        rows.resize(usize::from(blocks), [Perm::None; MOST_CLIENTS])?;
         Ok(TableDirectory { rows, clients })
     }
 }
 
 /// The entries of a block after one of them is recorded.
-fn with_entry(mut row: [Perm; 16], client: u8, perm: Perm) -> [Perm; 16]
+fn with_entry(mut row: [Perm; MOST_CLIENTS], client: u8, perm: Perm) -> [Perm; MOST_CLIENTS]
     requires { client < 16 }
     ensures here { entry result client ≡ perm }
     ensures others { (c : ℕ) → c ≢ client → entry result c ≡ entry row c }
@@ -43,7 +44,7 @@ fn with_entry(mut row: [Perm; 16], client: u8, perm: Perm) -> [Perm; 16]
 }
 
 /// The words of a block's entries.
-fn words_in(row: &[Perm; 16]) -> Words
+fn words_in(row: &[Perm; MOST_CLIENTS]) -> Words
     ensures { (c : ℕ) → perm_in result.owners result.sharers c ≡ entry row.now c }
 {
     let mut words = Words::NONE;

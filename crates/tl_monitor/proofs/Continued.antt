@@ -1,5 +1,6 @@
 -- What is kept of unfinished bursts, with one more beat.
-use Rattle.std.proofs.Common.{◌≡◌, ℕ, zero, suc, ◌≢◌, ◌<◌, ◌+◌, ◌-◌, Bool, true, false, refl, sym, ap, ◌∙◌, arith, inl, inr}
+use Rattle.std.proofs.Common.{◌≡◌, ℕ, zero, suc, ◌≢◌, ◌<◌, ◌+◌, ◌-◌, Bool, true, false, refl, sym, ap, ◌∙◌, arith, inl}
+use Rattle.std.proofs.Common.{inr}
 use Rattle.std.specs.Prelude.{if◌then◌else◌, [], ◌∷◌, ◌==◌, nat_le, length, List, Option, Some, None, is_none, IsTrue}
 use Rattle.std.proofs.lemmas.Bool.{cases_Bool, cases_eq, eq-eqb, ne_eqb, lt-leb, not-false}
 use Rattle.tl_beat.specs.statement.Width.{IsWidth}
@@ -7,12 +8,13 @@ use Rattle.tl_beat.specs.declared.beat.Beat.{Beat}
 use Rattle.tl_beat.specs.declared.beat.Beat.TheVariants.{A, B, C, D, E}
 use Rattle.tl_beat.specs.declared.channel.Channel.{Channel}
 use Rattle.tl_beat.specs.declared.channel.Channel.TheVariants as channel
-use Rattle.tl_burst.specs.statement.Messages.{History, channel_of, on, unfinished, grown, breaks_burst, same_control, burst_length}
+use Rattle.tl_burst.specs.statement.Messages.{History, channel_of, on, unfinished, grown, breaks_burst, same_control}
+use Rattle.tl_burst.specs.statement.Messages.{burst_length}
 use Rattle.tl_burst.specs.statement.Part.{is_empty, completes}
 use Rattle.tl_burst.proofs.ControlFields.{control_a, control_b, control_c, control_d}
 use Rattle.tl_burst.proofs.Splitting.{some_data_beats}
 use Rattle.tl_beat.specs.statement.Opcode.{a_carries_data, b_carries_data, c_carries_data, d_carries_data}
-use Rattle.tl_monitor.specs.code.Control.{control_of}
+use Rattle.tl_beat.specs.statement.Control.{control_of}
 use Rattle.tl_monitor.specs.code.Bursts.{IsOf, is_last, left_after, burst_next, burst_with}
 use Rattle.tl_monitor.specs.declared.bursts.Unfinished.{Unfinished}
 
@@ -58,7 +60,8 @@ burst-same (E x) (C y) e = absurd cc
 burst-same (E x) (D y) e = absurd cc
 
 -- a beat continues a burst: they have the same control fields, where there is one
-pub same-length : {w : ℕ} (x y : Beat w) (beats : List (Beat w)) → breaks_burst x (y ∷ beats) ≡ false → burst_length x ≡ burst_length y
+pub same-length : {w : ℕ} (x y : Beat w) (beats : List (Beat w)) → breaks_burst x (y ∷ beats) ≡ false
+    → burst_length x ≡ burst_length y
 same-length x y beats e = burst-same x y (not-false (same_control x y) e)
 
 -- ---- first and last beats
@@ -67,8 +70,10 @@ pub first-is : {w : ℕ} (u : Option Unfinished) (beats : List (Beat w)) → IsO
 first-is None beats e = rw e refl
 first-is (Some u) beats (x, earlier, e, same, long, more) = rw e refl
 
-last-length : {w : ℕ} (x : Beat w) (u : Option Unfinished) (beats : List (Beat w)) → IsWidth w → IsOf u beats → breaks_burst x beats ≡ false → length beats + suc (left_after x u) ≡ burst_length x
-last-length x None beats width e cont = let p = burst-positive x width in let z : length beats ≡ 0 = ap length e in omega (arith, p, z)
+last-length : {w : ℕ} (x : Beat w) (u : Option Unfinished) (beats : List (Beat w)) → IsWidth w → IsOf u beats
+    → breaks_burst x beats ≡ false → length beats + suc (left_after x u) ≡ burst_length x
+last-length x None beats width e cont = let p = burst-positive x width in let z : length beats ≡ 0 = ap length e in
+    omega (arith, p, z)
 last-length {w} x (Some u) beats width (y, earlier, e, same, long, more) cont =
     let cont' : breaks_burst x (y ∷ earlier) ≡ false = rw e at cont in
     let l = same-length x y earlier cont' in
@@ -77,7 +82,8 @@ last-length {w} x (Some u) beats width (y, earlier, e, same, long, more) cont =
 ends_where : (n left length : ℕ) → n + suc left ≡ length → (n + 1 == length) ≡ (left == 0)
 ends_where n left length e = elim (cases_eq left 0) [
   | inl none ↦ let here : n + 1 ≡ length = omega (arith, none) in eq-eqb (n + 1) length here ∙ sym (eq-eqb left 0 none)
-  | inr some ↦ let apart : n + 1 ≢ length = λ here. some (omega (arith, here)) in ne_eqb (n + 1) length apart ∙ sym (ne_eqb left 0 some)
+  | inr some ↦ let apart : n + 1 ≢ length = λ here. some (omega (arith, here)) in
+      ne_eqb (n + 1) length apart ∙ sym (ne_eqb left 0 some)
 ]
 
 at_most : (n : ℕ) → nat_le n 1 ≡ (n - 1 == 0)
@@ -86,30 +92,38 @@ at_most (suc zero) = refl
 at_most (suc (suc n)) = leb-false' n
   where
     leb-false' : (n : ℕ) → nat_le (suc (suc n)) 1 ≡ (suc (suc n) - 1 == 0)
-    leb-false' n = let apart : suc (suc n) - 1 ≢ 0 = λ e. omega (arith, e) in lt-leb (suc (suc n)) 1 (omega arith) ∙ sym (ne_eqb (suc (suc n) - 1) 0 apart)
+    leb-false' n = let apart : suc (suc n) - 1 ≢ 0 = λ e. omega (arith, e) in
+        lt-leb (suc (suc n)) 1 (omega arith) ∙ sym (ne_eqb (suc (suc n) - 1) 0 apart)
 
 last-is_zero : {w : ℕ} (x : Beat w) (u : Option Unfinished) → is_last x u ≡ (left_after x u == 0)
 last-is_zero x None = at_most (burst_length x)
 last-is_zero x (Some u) = at_most u.left
 
-pub last-is : {w : ℕ} (x : Beat w) (u : Option Unfinished) (beats : List (Beat w)) → IsWidth w → IsOf u beats → breaks_burst x beats ≡ false → completes x beats ≡ is_last x u
-last-is x u beats width of cont = ends_where (length beats) (left_after x u) (burst_length x) (last-length x u beats width of cont) ∙ sym (last-is_zero x u)
+pub last-is : {w : ℕ} (x : Beat w) (u : Option Unfinished) (beats : List (Beat w)) → IsWidth w → IsOf u beats
+    → breaks_burst x beats ≡ false → completes x beats ≡ is_last x u
+last-is x u beats width of cont = ends_where (length beats) (left_after x u) (burst_length x)
+    (last-length x u beats width of cont) ∙ sym (last-is_zero x u)
 
 -- ---- the burst with one more beat
 
-of_next : {w : ℕ} (x : Beat w) (beats : List (Beat w)) (left : ℕ) (done : Bool) → length beats + suc left ≡ burst_length x → done ≡ (left == 0)
-    → IsOf (if left == 0 then None else Some (record { control = control_of x; left = left })) (if done then [] else x ∷ beats)
+of_next : {w : ℕ} (x : Beat w) (beats : List (Beat w)) (left : ℕ) (done : Bool)
+    → length beats + suc left ≡ burst_length x → done ≡ (left == 0)
+    → IsOf (if left == 0 then None else Some (record { control = control_of x; left = left }))
+    (if done then [] else x ∷ beats)
 of_next x beats left done long e = elim (cases_eq left 0) [
   | inl none ↦ rw (e, eq-eqb left 0 none) refl
   | inr some ↦ rw (e, ne_eqb left 0 some) (x, beats, refl, refl, omega arith, omega (arith, some))
 ]
 
-pub of-next : {w : ℕ} (x : Beat w) (u : Option Unfinished) (beats : List (Beat w)) → IsWidth w → IsOf u beats → breaks_burst x beats ≡ false → IsOf (burst_next x u) (grown x beats)
+pub of-next : {w : ℕ} (x : Beat w) (u : Option Unfinished) (beats : List (Beat w)) → IsWidth w → IsOf u beats
+    → breaks_burst x beats ≡ false → IsOf (burst_next x u) (grown x beats)
 of-next x u beats width of cont =
     let long = last-length x u beats width of cont in
-    of_next x beats (left_after x u) (completes x beats) long (ends_where (length beats) (left_after x u) (burst_length x) long)
+    of_next x beats (left_after x u) (completes x beats) long
+    (ends_where (length beats) (left_after x u) (burst_length x) long)
 
-of_with : {w : ℕ} (ch : Channel) (x : Beat w) (u : Option Unfinished) (beats : List (Beat w)) → IsOf u beats → (on ch x ≡ true → IsOf (burst_next x u) (grown x beats))
+of_with : {w : ℕ} (ch : Channel) (x : Beat w) (u : Option Unfinished) (beats : List (Beat w)) → IsOf u beats
+    → (on ch x ≡ true → IsOf (burst_next x u) (grown x beats))
     → IsOf (burst_with ch x u) (if on ch x then grown x beats else beats)
 of_with ch x u beats of next = elim (cases_Bool (on ch x)) [
   | inl here ↦ rw here (next here)
@@ -144,7 +158,8 @@ own_channel channel.E (C x) e = absurd cc
 own_channel channel.E (D x) e = absurd cc
 
 -- what is kept of each channel's burst, with one more beat
-pub bursts-next : {w : ℕ} (ch : Channel) (x : Beat w) (t : History w) (u : Option Unfinished) → IsWidth w → IsOf u (unfinished ch t) → breaks_burst x (unfinished (channel_of x) t) ≡ false
+pub bursts-next : {w : ℕ} (ch : Channel) (x : Beat w) (t : History w) (u : Option Unfinished) → IsWidth w
+    → IsOf u (unfinished ch t) → breaks_burst x (unfinished (channel_of x) t) ≡ false
     → IsOf (burst_with ch x u) (unfinished ch (x ∷ t))
 unfolding unfinished
 bursts-next ch x t u width of cont = of_with ch x u (unfinished ch t) of (λ here.

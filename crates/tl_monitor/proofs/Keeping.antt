@@ -18,10 +18,12 @@ use Rattle.tl_params.specs.declared.key.Key.TheVariants.{RequestSource, ReleaseS
 use Rattle.tl_params.specs.declared.level.Level.{Level}
 use Rattle.tl_params.specs.declared.profile.Profile.{Profile}
 use Rattle.tl_rules.specs.declared.table.Block.{Block}
-use Rattle.tl_rules.specs.statement.History.{begins, ends, pending, request_of, release_of, grant_sink, is_release_ack, is_grant, is_acquire, is_probe, asks_for, releases, is_sink, block_at}
+use Rattle.tl_rules.specs.statement.History.{begins, ends, pending, request_of, release_of, grant_sink, is_release_ack}
+use Rattle.tl_rules.specs.statement.History.{is_grant, is_acquire, is_probe, asks_for, releases, is_sink, block_at}
 use Rattle.tl_rules.specs.statement.Conformance.{broken_after}
 use Rattle.tl_rules.specs.code.Open.{request_fields}
-use Rattle.tl_rules.specs.code.Tables.{kept_request, kept_release, kept_grant, kept_block, release_fields, block_next, bears_on}
+use Rattle.tl_rules.specs.code.Tables.{kept_request, kept_release, kept_grant, kept_block, release_fields, block_next}
+use Rattle.tl_rules.specs.code.Tables.{bears_on}
 use Rattle.tl_monitor.specs.code.Count.{at}
 use Rattle.tl_monitor.specs.code.Bursts.{burst_on}
 use Rattle.tl_monitor.specs.code.LinkState.{is_first, touched, is_block, block_of_request, block_of_release}
@@ -34,10 +36,13 @@ use Rattle.tl_monitor.proofs.Judged.{continues, answers_request, answers_release
 -- ---- whether a beat begins and completes a message
 
 pub begins-is : {w : ℕ} (k : LinkState) (x : Beat w) (t : History w) → Keeps k t → begins x t ≡ is_first x k
-begins-is k x t keeps = first-is (burst_on k.bursts (channel_of x)) (unfinished (channel_of x) t) (keeps.bursts_are (channel_of x))
+begins-is k x t keeps = first-is (burst_on k.bursts (channel_of x)) (unfinished (channel_of x) t)
+    (keeps.bursts_are (channel_of x))
 
-pub ends-is : {w : ℕ} (l : Level) (p : Profile) (k : LinkState) (x : Beat w) (t : History w) → IsWidth w → Keeps k t → broken_after l p x t ≡ None → ends x t ≡ link_state.completes x k
-ends-is l p k x t width keeps legal = last-is x (burst_on k.bursts (channel_of x)) (unfinished (channel_of x) t) width (keeps.bursts_are (channel_of x)) (continues l p x t legal)
+pub ends-is : {w : ℕ} (l : Level) (p : Profile) (k : LinkState) (x : Beat w) (t : History w) → IsWidth w → Keeps k t
+    → broken_after l p x t ≡ None → ends x t ≡ link_state.completes x k
+ends-is l p k x t width keeps legal = last-is x (burst_on k.bursts (channel_of x)) (unfinished (channel_of x) t) width
+    (keeps.bursts_are (channel_of x)) (continues l p x t legal)
 
 -- ---- the block that a beat bears on
 
@@ -48,13 +53,15 @@ same_number a b = elim (cases_eq a b) [
 ]
 
 -- the block of the request that is kept is the one that its history has
-kept_asks : {w : ℕ} (b : ℕ) (before : Bool) (o : Option (BeatA w)) → is_some (if before then request_fields o else None) ≡ true
+kept_asks : {w : ℕ} (b : ℕ) (before : Bool) (o : Option (BeatA w))
+    → is_some (if before then request_fields o else None) ≡ true
     → asks_for b o ≡ is_block b (block_of_request (if before then request_fields o else None))
 kept_asks b true (Some x) e = same_number (block_at x.address) b
 kept_asks b true None e = absurd cc
 kept_asks b false o e = absurd cc
 
-kept_releases : {w : ℕ} (b : ℕ) (before : Bool) (o : Option (BeatC w)) → is_some (if before then release_fields o else None) ≡ true
+kept_releases : {w : ℕ} (b : ℕ) (before : Bool) (o : Option (BeatC w))
+    → is_some (if before then release_fields o else None) ≡ true
     → releases b o ≡ is_block b (block_of_release (if before then release_fields o else None))
 kept_releases b true (Some x) e = same_number (block_at x.address) b
 kept_releases b true None e = absurd cc
@@ -65,7 +72,9 @@ same_either true b c e = e
 same_either false b c e = refl
 
 abbrev IsSameFor : {w : ℕ} → Bool → Bool → Bool → Option ℕ → ℕ → Beat w → Block → Type 0
-IsSameFor first last bears touched b x block = (if bears then block_next first last x block else block) ≡ (if is_block b touched then block_next first last x block else block)
+IsSameFor first last bears touched b x block =
+    (if bears then block_next first last x block else block) ≡ (if is_block b touched then block_next first last x block
+    else block)
 
 bears_a : {w : ℕ} (first last acquire : Bool) (b block : ℕ) (x : BeatA w) (c : Block) → acquire ≡ is_acquire x.opcode
     → IsSameFor first last (block == b) (if first && acquire then Some block else None) b (A x) c
@@ -79,42 +88,55 @@ bears_b true last true b block x c e = rw (same_number block b) refl
 bears_b true last false b block x c e = same_either (block == b) (block_next true last (B x) c) c (rw (sym e) refl)
 bears_b false last probe b block x c e = same_either (block == b) (block_next false last (B x) c) c refl
 
-bears_c : {w : ℕ} (first last : Bool) (b block : ℕ) (x : BeatC w) (c : Block) → IsSameFor first last (block == b) (if first || last then Some block else None) b (C x) c
+bears_c : {w : ℕ} (first last : Bool) (b block : ℕ) (x : BeatC w) (c : Block)
+    → IsSameFor first last (block == b) (if first || last then Some block else None) b (C x) c
 bears_c true last b block x c = rw (same_number block b) refl
 bears_c false true b block x c = rw (same_number block b) refl
 bears_c false false b block x c = same_either (block == b) (block_next false false (C x) c) c refl
 
 -- an answer: a ReleaseAck, a Grant, or another
-bears_d : {w : ℕ} (first last ack grant released asked : Bool) (b : ℕ) (r q : Option ℕ) (x : BeatD w) (c : Block) → ack ≡ is_release_ack x.opcode → grant ≡ is_grant x.opcode
+bears_d : {w : ℕ} (first last ack grant released asked : Bool) (b : ℕ) (r q : Option ℕ) (x : BeatD w) (c : Block)
+    → ack ≡ is_release_ack x.opcode → grant ≡ is_grant x.opcode
     → (ack ≡ true → released ≡ is_block b r) → (ack ≡ false → grant ≡ true → asked ≡ is_block b q)
-    → IsSameFor first last (if ack then released else asked) (if first || last then (if ack then r else if grant then q else None) else None) b (D x) c
+    → IsSameFor first last (if ack then released else asked)
+    (if first || last then (if ack then r else if grant then q else None) else None) b (D x) c
 bears_d true last true grant released asked b r q x c e f h k = rw (h refl) refl
 bears_d false true true grant released asked b r q x c e f h k = rw (h refl) refl
 bears_d true last false true released asked b r q x c e f h k = rw (k refl refl) refl
 bears_d false true false true released asked b r q x c e f h k = rw (k refl refl) refl
-bears_d true true false false released asked b r q x c e f h k = same_either asked (block_next true true (D x) c) c (rw (sym e, sym f) refl)
-bears_d true false false false released asked b r q x c e f h k = same_either asked (block_next true false (D x) c) c (rw (sym f) refl)
-bears_d false true false false released asked b r q x c e f h k = same_either asked (block_next false true (D x) c) c (rw (sym e, sym f) refl)
-bears_d false false ack grant released asked b r q x c e f h k = same_either (if ack then released else asked) (block_next false false (D x) c) c refl
+bears_d true true false false released asked b r q x c e f h k = same_either asked (block_next true true (D x) c) c
+    (rw (sym e, sym f) refl)
+bears_d true false false false released asked b r q x c e f h k = same_either asked (block_next true false (D x) c) c
+    (rw (sym f) refl)
+bears_d false true false false released asked b r q x c e f h k = same_either asked (block_next false true (D x) c) c
+    (rw (sym e, sym f) refl)
+bears_d false false ack grant released asked b r q x c e f h k =
+    same_either (if ack then released else asked) (block_next false false (D x) c) c refl
 
 -- a GrantAck: of the block that was granted with its sink, and of no other that waits for it
-bears_e : (w : ℕ) (first last bears named : Bool) (x : BeatE) (c : Block) → (is_sink x.sink c.grant ≡ true → (bears ≡ true) × (named ≡ true))
-    → (if bears then block_next {w = w} first last (E x) c else c) ≡ (if named then block_next {w = w} first last (E x) c else c)
+bears_e : (w : ℕ) (first last bears named : Bool) (x : BeatE) (c : Block)
+    → (is_sink x.sink c.grant ≡ true → (bears ≡ true) × (named ≡ true))
+    → (if bears then block_next {w = w} first last (E x) c else c) ≡ (if named then block_next {w = w} first last (E x)
+    c else c)
 bears_e w first last bears named x c both = elim (cases_Bool (is_sink x.sink c.grant)) [
   | inl waits ↦ let h = both waits in rw (h.0, h.1) refl
   | inr not_its ↦
       let same : block_next {w = w} first last (E x) c ≡ c = left_as w first last x c not_its in
-      same_either bears (block_next {w = w} first last (E x) c) c same ∙ sym (same_either named (block_next {w = w} first last (E x) c) c same)
+      same_either bears (block_next {w = w} first last (E x) c) c same ∙ sym
+      (same_either named (block_next {w = w} first last (E x) c) c same)
 ]
   where
-    left_as : (w : ℕ) (first last : Bool) (x : BeatE) (c : Block) → is_sink x.sink c.grant ≡ false → block_next {w = w} first last (E x) c ≡ c
+    left_as : (w : ℕ) (first last : Bool) (x : BeatE) (c : Block) → is_sink x.sink c.grant ≡ false
+        → block_next {w = w} first last (E x) c ≡ c
     left_as w first true x c e = rw e refl
     left_as w first false x c e = refl
 
 -- ---- what an answer answers
 
-same_source : {w : ℕ} (x y : BeatD w) → breaks_burst (D x) (D y ∷ []) ≡ false → (x.opcode ≡ y.opcode) × (x.source ≡ y.source)
-same_source x y e = let c = control_d x y (is_true (same_control (D x) (D y)) (not-not (same_control (D x) (D y)) e)) in (c.0, c.3)
+same_source : {w : ℕ} (x y : BeatD w) → breaks_burst (D x) (D y ∷ []) ≡ false → (x.opcode ≡ y.opcode)
+    × (x.source ≡ y.source)
+same_source x y e = let c = control_d x y (is_true (same_control (D x) (D y)) (not-not (same_control (D x) (D y)) e)) in
+    (c.0, c.3)
   where
     is_true : (b : Bool) → b ≡ true → IsTrue b
     is_true true e = refl
@@ -129,7 +151,8 @@ pub record Answers {w : ℕ} (x : BeatD w) (t : History w) : Type 0 where
   pub release : is_release_ack x.opcode ≡ true → (is_some (kept_release x.source t) ≡ true) × (begins (D x) t ≡ true)
   pub request : is_release_ack x.opcode ≡ false → is_some (kept_request x.source t) ≡ true
 
-later : {w : ℕ} (k : LinkState) (x : BeatD w) (y : Beat w) (earlier : List (Beat w)) (t : History w) → Keeps k t → unfinished channel.D t ≡ y ∷ earlier → breaks_burst (D x) (y ∷ earlier) ≡ false
+later : {w : ℕ} (k : LinkState) (x : BeatD w) (y : Beat w) (earlier : List (Beat w)) (t : History w) → Keeps k t
+    → unfinished channel.D t ≡ y ∷ earlier → breaks_burst (D x) (y ∷ earlier) ≡ false
     → Answers x t
 later k x (D y) earlier t keeps is cont =
     let same = same_source x y cont in
@@ -146,7 +169,8 @@ later k x (B y) earlier t keeps is cont = absurd cc
 later k x (C y) earlier t keeps is cont = absurd cc
 later k x (E y) earlier t keeps is cont = absurd cc
 
-pub answers : {w : ℕ} (l : Level) (p : Profile) (k : LinkState) (x : BeatD w) (t : History w) (beats : List (Beat w)) → Keeps k t → broken_after l p (D x) t ≡ None
+pub answers : {w : ℕ} (l : Level) (p : Profile) (k : LinkState) (x : BeatD w) (t : History w) (beats : List (Beat w))
+    → Keeps k t → broken_after l p (D x) t ≡ None
     → unfinished channel.D t ≡ beats → Answers x t
 answers l p k x t [] keeps legal is =
     let first : begins (D x) t ≡ true = ap is_empty is in
@@ -154,7 +178,8 @@ answers l p k x t [] keeps legal is =
       release = λ ack. (answers_release l p x t legal first ack, first);
       request = answers_request l p x t legal first;
     }
-answers l p k x t (y ∷ earlier) keeps legal is = later k x y earlier t keeps is (sym (ap (breaks_burst (D x)) is) ∙ continues l p (D x) t legal)
+answers l p k x t (y ∷ earlier) keeps legal is =
+    later k x y earlier t keeps is (sym (ap (breaks_burst (D x)) is) ∙ continues l p (D x) t legal)
 
 -- ---- the block that a beat bears on is the one that it touches
 
@@ -169,17 +194,27 @@ sink_if s false o e = absurd cc
 pub is_own : (b : ℕ) (o : Option ℕ) → o ≡ Some b → is_block b o ≡ true
 is_own b o e = rw e (eq-eqb b b refl)
 
-pub same_touched : {w : ℕ} (l : Level) (p : Profile) (k : LinkState) (x : Beat w) (t : History w) (b : ℕ) (first last : Bool) → Keeps k t → broken_after l p x t ≡ None
+pub same_touched : {w : ℕ} (l : Level) (p : Profile) (k : LinkState) (x : Beat w) (t : History w) (b : ℕ)
+    (first last : Bool) → Keeps k t → broken_after l p x t ≡ None
     → IsSameFor first last (bears_on b x t) (touched first last x k) b x (kept_block b t)
-same_touched l p k (A x) t b first last keeps legal = bears_a first last (is_acquire x.opcode) b (block_at x.address) x (kept_block b t) refl
-same_touched l p k (B x) t b first last keeps legal = bears_b first last (is_probe x.opcode) b (block_at x.address) x (kept_block b t) refl
+same_touched l p k (A x) t b first last keeps legal = bears_a first last (is_acquire x.opcode) b (block_at x.address) x
+    (kept_block b t) refl
+same_touched l p k (B x) t b first last keeps legal = bears_b first last (is_probe x.opcode) b (block_at x.address) x
+    (kept_block b t) refl
 same_touched l p k (C x) t b first last keeps legal = bears_c first last b (block_at x.address) x (kept_block b t)
 same_touched l p k (D x) t b first last keeps legal =
     let known = answers l p k x t (unfinished channel.D t) keeps legal refl in
-    bears_d first last (is_release_ack x.opcode) (is_grant x.opcode) (releases b (release_of x.source t)) (asks_for b (request_of x.source t)) b
+    bears_d first last (is_release_ack x.opcode) (is_grant x.opcode) (releases b (release_of x.source t))
+    (asks_for b (request_of x.source t)) b
     (block_of_release (at k.releases x.source)) (block_of_request (at k.requests x.source)) x (kept_block b t) refl refl
-    (λ ack. kept_releases b (pending (ReleaseSource x.source) t) (release_of x.source t) (known.release ack).0 ∙ ap (λ r. is_block b (block_of_release r)) (sym (keeps.releases_are x.source)))
-    (λ other grant. kept_asks b (pending (RequestSource x.source) t) (request_of x.source t) (known.request other) ∙ ap (λ r. is_block b (block_of_request r)) (sym (keeps.requests_are x.source)))
+    (λ ack. kept_releases b (pending (ReleaseSource x.source) t) (release_of x.source t) (known.release ack).0 ∙ ap
+    (λ r. is_block b (block_of_release r)) (sym (keeps.releases_are x.source)))
+    (λ other grant. kept_asks b (pending (RequestSource x.source) t) (request_of x.source t) (known.request other) ∙ ap
+    (λ r. is_block b (block_of_request r)) (sym (keeps.requests_are x.source)))
 same_touched {w} l p k (E x) t b first last keeps legal =
     bears_e w first last (is_sink x.sink (grant_sink b t)) (is_block b (at k.sinks x.sink)) x (kept_block b t)
-    (λ waits. (sink_if x.sink (pending (GrantAckOf b) t) (grant_sink b t) waits, is_own b (at k.sinks x.sink) (keeps.granted b x.sink (sink_some x.sink (kept_grant b t) waits))))
+    (λ waits. (
+      sink_if x.sink (pending (GrantAckOf b) t) (grant_sink b t) waits,
+      is_own b (at k.sinks x.sink)
+          (keeps.granted b x.sink (sink_some x.sink (kept_grant b t) waits)),
+    ))

@@ -21,7 +21,8 @@ use Rattle.tl_rules.specs.declared.past.Request.{Request}
 use Rattle.tl_rules.specs.declared.table.Block.{Block}
 use Rattle.tl_rules.specs.statement.History.{begins, ends, pending, held, is_release_ack, is_grant, is_sink}
 use Rattle.tl_rules.specs.statement.Conformance.{broken_after}
-use Rattle.tl_rules.specs.code.Tables.{kept_request, kept_release, kept_block, request_next, release_next, sink_next, block_next, bears_on}
+use Rattle.tl_rules.specs.code.Tables.{kept_request, kept_release, kept_block, request_next, release_next, sink_next}
+use Rattle.tl_rules.specs.code.Tables.{block_next, bears_on}
 use Rattle.tl_rules.proofs.Tables.{request-next, release-next, sink-next, block-next}
 use Rattle.tl_monitor.specs.code.Count.{at}
 use Rattle.tl_monitor.specs.code.Blocks.{block_in}
@@ -54,13 +55,15 @@ sink-with first last (D x) block s b some = opened first (is_grant x.opcode) (x.
     opened false grant own block b some = refl
 sink-with first last (E x) block s b some = closed last (x.sink == s) b
   where
-    closed : (last own : Bool) (b : Option ℕ) → is_some (if last && own then None else b) ≡ (if last && own then false else is_some b)
+    closed : (last own : Bool) (b : Option ℕ)
+        → is_some (if last && own then None else b) ≡ (if last && own then false else is_some b)
     closed true true b = refl
     closed true false b = refl
     closed false own b = refl
 
 -- a Grant touches the block of its request
-grant_touches : {w : ℕ} (first last : Bool) (x : BeatD w) (k : LinkState) → first ≡ true → is_grant x.opcode ≡ true → is_release_ack x.opcode ≡ false → is_some (at k.requests x.source) ≡ true
+grant_touches : {w : ℕ} (first last : Bool) (x : BeatD w) (k : LinkState) → first ≡ true → is_grant x.opcode ≡ true
+    → is_release_ack x.opcode ≡ false → is_some (at k.requests x.source) ≡ true
     → is_some (touched first last (D x) k) ≡ true
 grant_touches first last x k f g a some = rw (f, a, g) (of_some (at k.requests x.source) some)
   where
@@ -76,27 +79,33 @@ grant_if false b c = refl
 
 -- each that is after a beat stands under its sink
 grants-next : {w : ℕ} (first last : Bool) (x : Beat w) (b s : ℕ) (c : Block) (block at_s at_sink : Option ℕ)
-    → ((y : BeatD w) → x ≡ D y → first ≡ true → is_grant y.opcode ≡ true → (at_sink ≡ None) × (y.sink ≡ s → at_s ≡ at_sink))
+    → ((y : BeatD w) → x ≡ D y → first ≡ true → is_grant y.opcode ≡ true
+    → (at_sink ≡ None) × (y.sink ≡ s → at_s ≡ at_sink))
     → ((y : BeatE) → x ≡ E y → y.sink ≡ s → block ≡ at_s)
     → ((n : ℕ) → c.grant ≡ Some n → n ≡ s → at_s ≡ Some b)
-    → (if is_block b block then block_next first last x c else c).grant ≡ Some s → sink_with first last x block s at_s ≡ Some b
-grants-next first last (A x) b s c block at_s at_sink free own stands e = stands s (same_grant (is_block b block) e) refl
+    → (if is_block b block then block_next first last x c else c).grant ≡ Some s
+    → sink_with first last x block s at_s ≡ Some b
+grants-next first last (A x) b s c block at_s at_sink free own stands e =
+    stands s (same_grant (is_block b block) e) refl
   where
     same_grant : (here : Bool) → (if here then block_next first last (A x) c else c).grant ≡ Some s → c.grant ≡ Some s
     same_grant true e = e
     same_grant false e = e
-grants-next first last (B x) b s c block at_s at_sink free own stands e = stands s (same_grant (is_block b block) e) refl
+grants-next first last (B x) b s c block at_s at_sink free own stands e =
+    stands s (same_grant (is_block b block) e) refl
   where
     same_grant : (here : Bool) → (if here then block_next first last (B x) c else c).grant ≡ Some s → c.grant ≡ Some s
     same_grant true e = e
     same_grant false e = e
-grants-next first last (C x) b s c block at_s at_sink free own stands e = stands s (same_grant (is_block b block) e) refl
+grants-next first last (C x) b s c block at_s at_sink free own stands e =
+    stands s (same_grant (is_block b block) e) refl
   where
     same_grant : (here : Bool) → (if here then block_next first last (C x) c else c).grant ≡ Some s → c.grant ≡ Some s
     same_grant true e = e
     same_grant false e = e
 grants-next {w} first last (D x) b s c block at_s at_sink free own stands e =
-    opened first (is_grant x.opcode) (is_block b block) (free x refl) refl (grant_if (is_block b block) (block_next {w = w} first last (D x) c) c ∙ e)
+    opened first (is_grant x.opcode) (is_block b block) (free x refl) refl
+    (grant_if (is_block b block) (block_next {w = w} first last (D x) c) c ∙ e)
   where
     named : (o : Option ℕ) → is_block b o ≡ true → o ≡ Some b
     named (Some n) e = ap Some (sym (eqb-true b n e))
@@ -112,8 +121,10 @@ grants-next {w} first last (D x) b s c block at_s at_sink free own stands e =
     same_grant true e = e
     same_grant false e = e
 
-    opened : (first grant here : Bool) → (first ≡ true → grant ≡ true → (at_sink ≡ None) × (x.sink ≡ s → at_s ≡ at_sink)) → here ≡ is_block b block
-        → (if here then (if first && grant then Some x.sink else c.grant) else c.grant) ≡ Some s → (if first && (grant && (x.sink == s)) then block else at_s) ≡ Some b
+    opened : (first grant here : Bool)
+        → (first ≡ true → grant ≡ true → (at_sink ≡ None) × (x.sink ≡ s → at_s ≡ at_sink)) → here ≡ is_block b block
+        → (if here then (if first && grant then Some x.sink else c.grant) else c.grant) ≡ Some s
+        → (if first && (grant && (x.sink == s)) then block else at_s) ≡ Some b
     opened true true true free is e = rw (eq-eqb x.sink s (some_is e)) (named block (sym is))
     opened true true false free is e = elim (cases_eq x.sink s) [
       | inl its ↦ absurd (none_some at_sink (free refl refl).0 (sym ((free refl refl).1 its) ∙ stands s e refl))
@@ -123,7 +134,8 @@ grants-next {w} first last (D x) b s c block at_s at_sink free own stands e =
     opened true false false free is e = stands s e refl
     opened false grant true free is e = stands s e refl
     opened false grant false free is e = stands s e refl
-grants-next {w} first last (E x) b s c block at_s at_sink free own stands e = closed last (is_block b block) refl (grant_if (is_block b block) (block_next {w = w} first last (E x) c) c ∙ e)
+grants-next {w} first last (E x) b s c block at_s at_sink free own stands e =
+    closed last (is_block b block) refl (grant_if (is_block b block) (block_next {w = w} first last (E x) c) c ∙ e)
   where
     none_is : {n : ℕ} → None ≡ Some n → ⊥
     none_is e = cc
@@ -139,11 +151,14 @@ grants-next {w} first last (E x) b s c block at_s at_sink free own stands e = cl
     before true None e = e
     before false o e = e
 
-    stays : (here : Bool) (last : Bool) → (if here then (if last && is_sink x.sink c.grant then None else c.grant) else c.grant) ≡ Some s → c.grant ≡ Some s
+    stays : (here : Bool) (last : Bool)
+        → (if here then (if last && is_sink x.sink c.grant then None else c.grant) else c.grant) ≡ Some s
+        → c.grant ≡ Some s
     stays true last e = before last c.grant e
     stays false last e = e
 
-    closed : (last here : Bool) → here ≡ is_block b block → (if here then (if last && is_sink x.sink c.grant then None else c.grant) else c.grant) ≡ Some s
+    closed : (last here : Bool) → here ≡ is_block b block
+        → (if here then (if last && is_sink x.sink c.grant then None else c.grant) else c.grant) ≡ Some s
         → (if last && (x.sink == s) then None else at_s) ≡ Some b
     closed false here is e = stands s (stays here false e) refl
     closed true here is e = elim (cases_eq x.sink s) [
@@ -151,7 +166,8 @@ grants-next {w} first last (E x) b s c block at_s at_sink free own stands e = cl
           let grant : c.grant ≡ Some s = stays here true e in
           let there : block ≡ Some b = own x refl its ∙ stands s grant refl in
           let it : here ≡ true = is ∙ is_own b block there in
-          let gone : (if true && is_sink x.sink (Some s) then None else Some s) ≡ Some s = sym (rw (it, grant) refl) ∙ e in
+          let gone : (if true && is_sink x.sink (Some s) then None else Some s) ≡ Some s =
+          sym (rw (it, grant) refl) ∙ e in
           absurd (none_is (sym (rw (eq-eqb s x.sink (sym its)) refl) ∙ gone))
       | inr other ↦ rw (ne_eqb x.sink s other) (stands s (stays here true e) refl)
     ]
@@ -169,19 +185,28 @@ response_alone {w} x ack = short x.opcode ack
     short d.AccessAckData e = absurd cc
     short d.HintAck e = absurd cc
 
-answering-next : {w : ℕ} (l : Level) (p : Profile) (k : LinkState) (x : Beat w) (t : History w) → Keeps k t → broken_after l p x t ≡ None
-    → (y : BeatD w) (earlier : List (Beat w)) → unfinished channel.D (x ∷ t) ≡ D y ∷ earlier → (is_release_ack y.opcode ≡ false) × (is_some (kept_request y.source (x ∷ t)) ≡ true)
+answering-next : {w : ℕ} (l : Level) (p : Profile) (k : LinkState) (x : Beat w) (t : History w) → Keeps k t
+    → broken_after l p x t ≡ None
+    → (y : BeatD w) (earlier : List (Beat w)) → unfinished channel.D (x ∷ t) ≡ D y ∷ earlier
+    → (is_release_ack y.opcode ≡ false) × (is_some (kept_request y.source (x ∷ t)) ≡ true)
 unfolding unfinished
 answering-next l p k (A x) t keeps legal y earlier e =
-    let known = keeps.answering y earlier e in
-    (known.0, ap is_some (request-next y.source (A x) t) ∙ opened _ (begins (A x) t && (x.source == y.source)) (kept_request y.source t) known.1)
+    let known = keeps.answering y earlier e in (
+      known.0,
+      ap is_some (request-next y.source (A x) t) ∙ opened _ (begins (A x) t && (x.source == y.source))
+          (kept_request y.source t) known.1,
+    )
   where
-    opened : {X : Type 0} (new : X) (b : Bool) (o : Option X) → is_some o ≡ true → is_some (if b then Some new else o) ≡ true
+    opened : {X : Type 0} (new : X) (b : Bool) (o : Option X) → is_some o ≡ true
+        → is_some (if b then Some new else o) ≡ true
     opened new true o e = refl
     opened new false o e = e
-answering-next l p k (B x) t keeps legal y earlier e = let known = keeps.answering y earlier e in (known.0, ap is_some (request-next y.source (B x) t) ∙ known.1)
-answering-next l p k (C x) t keeps legal y earlier e = let known = keeps.answering y earlier e in (known.0, ap is_some (request-next y.source (C x) t) ∙ known.1)
-answering-next l p k (E x) t keeps legal y earlier e = let known = keeps.answering y earlier e in (known.0, ap is_some (request-next y.source (E x) t) ∙ known.1)
+answering-next l p k (B x) t keeps legal y earlier e = let known = keeps.answering y earlier e in
+    (known.0, ap is_some (request-next y.source (B x) t) ∙ known.1)
+answering-next l p k (C x) t keeps legal y earlier e = let known = keeps.answering y earlier e in
+    (known.0, ap is_some (request-next y.source (C x) t) ∙ known.1)
+answering-next l p k (E x) t keeps legal y earlier e = let known = keeps.answering y earlier e in
+    (known.0, ap is_some (request-next y.source (E x) t) ∙ known.1)
 answering-next {w} l p k (D x) t keeps legal y earlier e = elim (cases_Bool (ends (D x) t)) [
   | inl done ↦ let over : [] ≡ D y ∷ earlier = rw done at e in absurd (no_beat over)
   | inr unended ↦
@@ -194,8 +219,12 @@ answering-next {w} l p k (D x) t keeps legal y earlier e = elim (cases_Bool (end
       ] in
       let asks : is_some (kept_request x.source (D x ∷ t)) ≡ true =
       ap is_some (request-next x.source (D x) t) ∙ ap (λ b.
-      is_some (if b && (not (is_release_ack x.opcode) && (x.source == x.source)) then None else kept_request x.source t)) unended ∙ known.request apart in
-      (ap (λ (z : BeatD w). is_release_ack z.opcode) (sym same) ∙ apart, ap (λ (z : BeatD w). is_some (kept_request z.source (D x ∷ t))) (sym same) ∙ asks)
+      is_some (if b && (not (is_release_ack x.opcode) && (x.source == x.source)) then None else kept_request x.source
+      t)) unended ∙ known.request apart in (
+        ap (λ (z : BeatD w). is_release_ack z.opcode) (sym same) ∙ apart,
+        ap
+            (λ (z : BeatD w). is_some (kept_request z.source (D x ∷ t))) (sym same) ∙ asks,
+      )
 ]
   where
     no_beat : {z : Beat w} {zs : List (Beat w)} → [] ≡ z ∷ zs → ⊥
@@ -219,27 +248,35 @@ answering-next {w} l p k (D x) t keeps legal y earlier e = elim (cases_Bool (end
 
 -- ---- all of it
 
-pub keeps-more : {w : ℕ} (l : Level) (p : Profile) (old new : LinkState) (x : Beat w) (t : History w) → IsWidth w → Keeps old t → broken_after l p x t ≡ None → IsNext old x new → Keeps new (x ∷ t)
+pub keeps-more : {w : ℕ} (l : Level) (p : Profile) (old new : LinkState) (x : Beat w) (t : History w) → IsWidth w
+    → Keeps old t → broken_after l p x t ≡ None → IsNext old x new → Keeps new (x ∷ t)
 keeps-more {w} l p old new x t width keeps legal next =
     let first = begins-is old x t keeps in
     let last = ends-is l p old x t width keeps legal in
     let block = touched (is_first x old) (link_state.completes x old) x old in
     let blocks : (b : ℕ) → block_in new.blocks b ≡ kept_block b (x ∷ t) = λ b.
-    next.blocks_are b ∙ ap (λ c. if is_block b block then block_next (is_first x old) (link_state.completes x old) x c else c) (keeps.blocks_are b)
+    next.blocks_are b ∙ ap (λ c. if is_block b block then block_next (is_first x old) (link_state.completes x old) x c
+    else c) (keeps.blocks_are b)
     ∙ sym (same_touched l p old x t b (is_first x old) (link_state.completes x old) keeps legal)
-    ∙ sym (block-next b x t ∙ ap₂ (λ f g. if bears_on b x t then block_next f g x (kept_block b t) else kept_block b t) first last) in
+    ∙ sym (block-next b x t ∙ ap₂ (λ f g. if bears_on b x t then block_next f g x (kept_block b t) else kept_block b t)
+    first last) in
     record {
-      bursts_are = λ ch. rw (next.bursts_are ch) (bursts-next ch x t (burst_on old.bursts ch) width (keeps.bursts_are ch) (continues l p x t legal));
-      requests_are = λ s. next.requests_are s ∙ ap (request_next (is_first x old) (link_state.completes x old) x s) (keeps.requests_are s)
+      bursts_are = λ ch. rw (next.bursts_are ch) (bursts-next ch x t (burst_on old.bursts ch) width
+          (keeps.bursts_are ch) (continues l p x t legal));
+      requests_are = λ s. next.requests_are s ∙ ap (request_next (is_first x old) (link_state.completes x old) x s)
+          (keeps.requests_are s)
           ∙ sym (request-next s x t ∙ ap₂ (λ f g. request_next f g x s (kept_request s t)) first last);
-      releases_are = λ s. next.releases_are s ∙ ap (release_next (is_first x old) (link_state.completes x old) x s) (keeps.releases_are s)
+      releases_are = λ s. next.releases_are s ∙ ap (release_next (is_first x old) (link_state.completes x old) x s)
+          (keeps.releases_are s)
           ∙ sym (release-next s x t ∙ ap₂ (λ f g. release_next f g x s (kept_release s t)) first last);
       sinks_are = λ s. ap is_some (next.sinks_are s)
-          ∙ sink-with (is_first x old) (link_state.completes x old) x block s (at old.sinks s) (λ y is f g. grant_block l p old x y t keeps legal is f g)
+          ∙ sink-with (is_first x old) (link_state.completes x old) x block s (at old.sinks s)
+          (λ y is f g. grant_block l p old x y t keeps legal is f g)
           ∙ ap (sink_next (is_first x old) (link_state.completes x old) x s) (keeps.sinks_are s)
           ∙ sym (sink-next s x t ∙ ap₂ (λ f g. sink_next f g x s (pending (GrantSink s) t)) first last);
       blocks_are = blocks;
-      granted = λ b s e. next.sinks_are s ∙ grants-next (is_first x old) (link_state.completes x old) x b s (block_in old.blocks b) block (at old.sinks s) (sink_of x)
+      granted = λ b s e. next.sinks_are s ∙ grants-next (is_first x old) (link_state.completes x old) x b s
+          (block_in old.blocks b) block (at old.sinks s) (sink_of x)
           (λ y is f g. (free x y legal is f g, λ its. sym (ap (at old.sinks) its) ∙ ap sink_of (sym is)))
           (λ y is its. ap (λ z. touched (is_first x old) (link_state.completes x old) z old) is ∙ ap (at old.sinks) its)
           (λ n e its. keeps.granted b s (sym (ap (λ c. c.grant) (keeps.blocks_are b)) ∙ e ∙ ap Some its))
@@ -255,24 +292,28 @@ keeps-more {w} l p old new x t width keeps legal next =
     not_some None e = refl
     not_some (Some n) e = absurd cc
 
-    grant_block : (l : Level) (p : Profile) (k : LinkState) (x : Beat w) (y : BeatD w) (t : History w) → Keeps k t → broken_after l p x t ≡ None → x ≡ D y → is_first x k ≡ true → is_grant y.opcode ≡ true
+    grant_block : (l : Level) (p : Profile) (k : LinkState) (x : Beat w) (y : BeatD w) (t : History w) → Keeps k t
+        → broken_after l p x t ≡ None → x ≡ D y → is_first x k ≡ true → is_grant y.opcode ≡ true
         → is_some (touched (is_first x k) (link_state.completes x k) x k) ≡ true
     grant_block l p k (D z) y t keeps legal is f g =
         let same : z ≡ y = cc in
         let grant : is_grant z.opcode ≡ true = ap (λ (v : BeatD w). is_grant v.opcode) same ∙ g in
         let known = answers l p k z t (unfinished channel.D t) keeps legal refl in
         let other = not_release_ack z.opcode grant in
-        grant_touches (is_first (D z) k) (link_state.completes (D z) k) z k f grant other (ap is_some (keeps.requests_are z.source) ∙ known.request other)
+        grant_touches (is_first (D z) k) (link_state.completes (D z) k) z k f grant other
+        (ap is_some (keeps.requests_are z.source) ∙ known.request other)
     grant_block l p k (A z) y t keeps legal is f g = absurd cc
     grant_block l p k (B z) y t keeps legal is f g = absurd cc
     grant_block l p k (C z) y t keeps legal is f g = absurd cc
     grant_block l p k (E z) y t keeps legal is f g = absurd cc
 
-    free : (x : Beat w) (y : BeatD w) → broken_after l p x t ≡ None → x ≡ D y → is_first x old ≡ true → is_grant y.opcode ≡ true → sink_of x ≡ None
+    free : (x : Beat w) (y : BeatD w) → broken_after l p x t ≡ None → x ≡ D y → is_first x old ≡ true
+        → is_grant y.opcode ≡ true → sink_of x ≡ None
     free (D z) y legal is f g =
         let same : z ≡ y = cc in
         let grant : is_grant z.opcode ≡ true = ap (λ (v : BeatD w). is_grant v.opcode) same ∙ g in
-        not_some (at old.sinks z.sink) (keeps.sinks_are z.sink ∙ sink-free l p z t legal (begins-is old (D z) t keeps ∙ f) grant)
+        not_some (at old.sinks z.sink)
+        (keeps.sinks_are z.sink ∙ sink-free l p z t legal (begins-is old (D z) t keeps ∙ f) grant)
     free (A z) y legal is f g = absurd cc
     free (B z) y legal is f g = absurd cc
     free (C z) y legal is f g = absurd cc

@@ -1,8 +1,10 @@
 -- A monitor that knows one more beat.
-use Rattle.std.proofs.Common.{◌≡◌, ℕ, zero, suc, Bool, false, List, [], ◌∷◌, ◌++◌, length, ◌<◌, ◌≤◌, ◌≢◌, refl, sym, ap, ◌∙◌, arith, inl, inr, ◌+◌, take, drop, reverse}
+use Rattle.std.proofs.Common.{◌≡◌, ℕ, zero, suc, Bool, false, List, [], ◌∷◌, ◌++◌, length, ◌<◌, ◌≤◌, ◌≢◌, refl, sym, ap}
+use Rattle.std.proofs.Common.{◌∙◌, arith, inl, inr, ◌+◌, take, drop, reverse}
 use Rattle.std.specs.Prelude.{slice_index_or, slice_get, slice_set, Option, Some, None, Err}
 use Rattle.std.proofs.lemmas.Bool.{cases_eq, eq-eqb, ne_eqb}
-use Rattle.std.proofs.lemmas.List.{get_or-set_same, get_or-set_other, drop_more, take_more, drop_all, reverse-append, length-reverse, length-take-le}
+use Rattle.std.proofs.lemmas.List.{get_or-set_same, get_or-set_other, drop_more, take_more, drop_all, reverse-append}
+use Rattle.std.proofs.lemmas.List.{length-reverse, length-take-le}
 use Rattle.tl_beat.specs.declared.beat.Beat.{Beat}
 use Rattle.tl_beat.specs.declared.beat.Link.{Link}
 use Rattle.tl_params.specs.declared.level.Level.{Level}
@@ -18,17 +20,21 @@ use Rattle.tl_monitor.specs.statement.Knows.{Knows, AllEmpty, Answers, AnswersTr
 use Rattle.tl_monitor.specs.declared.fault.MonitorFault.{MonitorFault}
 use Rattle.tl_monitor.specs.declared.fault.MonitorFault.TheVariants as monitor
 
-on_link-own : {w : ℕ} (n : ℕ) (link : Link) (x : Beat w) (t : Trace w) → link.0 ≡ n → on_link n ((link, x) ∷ t) ≡ x ∷ on_link n t
+on_link-own : {w : ℕ} (n : ℕ) (link : Link) (x : Beat w) (t : Trace w) → link.0 ≡ n
+    → on_link n ((link, x) ∷ t) ≡ x ∷ on_link n t
 unfolding on_link
 on_link-own n link x t e = rw (eq-eqb link.0 n e) refl
 
-on_link-other : {w : ℕ} (n : ℕ) (link : Link) (x : Beat w) (t : Trace w) → link.0 ≢ n → on_link n ((link, x) ∷ t) ≡ on_link n t
+on_link-other : {w : ℕ} (n : ℕ) (link : Link) (x : Beat w) (t : Trace w) → link.0 ≢ n
+    → on_link n ((link, x) ∷ t) ≡ on_link n t
 unfolding on_link
 on_link-other n link x t apart = rw (ne_eqb link.0 n apart) refl
 
 -- what is kept of one link was put anew
-knows-at : {w : ℕ} (m m' : Monitor w) (levels : List Level) (p : Profile) (t s : Trace w) (closed : Bool) (i : ℕ) (link_state : LinkState)
-    → Knows m levels p t closed → m'.levels ≡ m.levels → m'.profile ≡ m.profile → m'.closed ≡ false → m'.links.items ≡ slice_set m.links.items i link_state → i < length m.links.items
+knows-at : {w : ℕ} (m m' : Monitor w) (levels : List Level) (p : Profile) (t s : Trace w) (closed : Bool) (i : ℕ)
+    (link_state : LinkState)
+    → Knows m levels p t closed → m'.levels ≡ m.levels → m'.profile ≡ m.profile → m'.closed ≡ false
+    → m'.links.items ≡ slice_set m.links.items i link_state → i < length m.links.items
     → Keeps link_state (on_link i s) → ((n : ℕ) → n ≢ i → on_link n s ≡ on_link n t) → Knows m' levels p s false
 knows-at m m' levels p t s closed i link_state k levels_same profile_same open_still links lt own other = record {
   levels_are = ap (λ v. v.items) levels_same ∙ k.levels_are;
@@ -36,32 +42,40 @@ knows-at m m' levels p t s closed i link_state k levels_same profile_same open_s
   closed_is = open_still;
   links_are = λ n d below. elim (cases_eq n i) [
     | inl here ↦ rw (links, here, get_or-set_same m.links.items i link_state d lt) own
-    | inr apart ↦ rw (links, get_or-set_other m.links.items i n link_state d apart, other n apart) (k.links_are n d below)
+    | inr apart ↦ rw (links, get_or-set_other m.links.items i n link_state d apart, other n apart)
+        (k.links_are n d below)
   ];
 }
 
 -- a link has one more beat
-pub knows-more : {w : ℕ} (m m' : Monitor w) (levels : List Level) (p : Profile) (t : Trace w) (closed : Bool) (i : ℕ) (link : Link) (x : Beat w) (link_state : LinkState)
-    → Knows m levels p t closed → m'.levels ≡ m.levels → m'.profile ≡ m.profile → m'.closed ≡ false → m'.links.items ≡ slice_set m.links.items i link_state → i ≡ link.0 → i < length m.links.items
+pub knows-more : {w : ℕ} (m m' : Monitor w) (levels : List Level) (p : Profile) (t : Trace w) (closed : Bool) (i : ℕ)
+    (link : Link) (x : Beat w) (link_state : LinkState)
+    → Knows m levels p t closed → m'.levels ≡ m.levels → m'.profile ≡ m.profile → m'.closed ≡ false
+    → m'.links.items ≡ slice_set m.links.items i link_state → i ≡ link.0 → i < length m.links.items
     → Keeps link_state (x ∷ on_link i t) → Knows m' levels p ((link, x) ∷ t) false
 knows-more m m' levels p t closed i link x link_state k levels_same profile_same open_still links i_is lt own =
     knows-at m m' levels p t ((link, x) ∷ t) closed i link_state k levels_same profile_same open_still links lt
     (rw (on_link-own i link x t (sym i_is)) own)
     (λ n apart. on_link-other n link x t (λ e. apart (sym e ∙ sym i_is)))
 
-get_is : {X : Type 0} (xs : List X) (i : ℕ) (x : X) → i < length xs → x ≡ slice_index_or xs i x → slice_get xs i ≡ Some x
+get_is : {X : Type 0} (xs : List X) (i : ℕ) (x : X) → i < length xs → x ≡ slice_index_or xs i x
+    → slice_get xs i ≡ Some x
 get_is [] i x lt is = absurd (omega arith)
 get_is (y ∷ ys) zero x lt is = ap Some (sym is)
 get_is (y ∷ ys) (suc i) x lt is = get_is ys i x (omega arith) is
 
 -- what is kept of the link of a beat
-pub link_state-of : {w : ℕ} (m : Monitor w) (levels : List Level) (p : Profile) (t : Trace w) (closed : Bool) (i : ℕ) (link_state : LinkState) → Knows m levels p t closed → i < length m.levels.items
+pub link_state-of : {w : ℕ} (m : Monitor w) (levels : List Level) (p : Profile) (t : Trace w) (closed : Bool) (i : ℕ)
+    (link_state : LinkState) → Knows m levels p t closed → i < length m.levels.items
     → link_state ≡ slice_index_or m.links.items i link_state → Keeps link_state (on_link i t)
-link_state-of m levels p t closed i link_state k lt is = let at_i : i < length levels = rw k.levels_are at lt in rw is (k.links_are i link_state at_i)
+link_state-of m levels p t closed i link_state k lt is = let at_i : i < length levels = rw k.levels_are at lt in
+    rw is (k.links_are i link_state at_i)
 
 -- the fault of a beat is the rule that it breaks after what its link has carried
-pub fault-is : {w : ℕ} (m : Monitor w) (levels : List Level) (p : Profile) (t : Trace w) (closed : Bool) (i : ℕ) (link : Link) (x : Beat w) (l : Level) (o : Option Rule)
-    → Knows m levels p t closed → m.closed ≡ false → i ≡ link.0 → i < length m.levels.items → l ≡ slice_index_or m.levels.items i l
+pub fault-is : {w : ℕ} (m : Monitor w) (levels : List Level) (p : Profile) (t : Trace w) (closed : Bool) (i : ℕ)
+    (link : Link) (x : Beat w) (l : Level) (o : Option Rule)
+    → Knows m levels p t closed → m.closed ≡ false → i ≡ link.0 → i < length m.levels.items
+    → l ≡ slice_index_or m.levels.items i l
     → o ≡ broken_after l m.profile x (on_link i t) → fault_of levels p t closed (link, x) ≡ broken o
 fault-is m levels p t closed i link x l o k open_still i_is lt level_is rule =
     let not_closed : closed ≡ false = sym k.closed_is ∙ open_still in
@@ -73,7 +87,8 @@ on_link-none : {w : ℕ} (n : ℕ) → on_link {w = w} n [] ≡ []
 unfolding on_link
 on_link-none n = refl
 
-pub knows-new : {w : ℕ} (m : Monitor w) (levels : List Level) (p : Profile) → m.levels.items ≡ levels → m.profile ≡ p → m.closed ≡ false → AllEmpty (length levels) m.links.items
+pub knows-new : {w : ℕ} (m : Monitor w) (levels : List Level) (p : Profile) → m.levels.items ≡ levels → m.profile ≡ p
+    → m.closed ≡ false → AllEmpty (length levels) m.links.items
     → Knows m levels p [] false
 knows-new m levels p levels_are profile_is open_still all = record {
   levels_are = levels_are;
@@ -94,42 +109,55 @@ broken_by (Some s) r e = cc
 judged : {w : ℕ} (i : ℕ) (trace : Trace w) (x : Link × Beat w) → i < length trace → x ≡ slice_index_or trace i x
     → (drop i trace ≡ x ∷ drop (i + 1) trace) × (reverse (take (i + 1) trace) ≡ x ∷ reverse (take i trace))
 judged {w} i trace x lt is =
-    let more : take (i + 1) trace ≡ take i trace ++ x ∷ [] = take_more trace i x lt ∙ ap (λ (y : Link × Beat w). take i trace ++ y ∷ []) (sym is) in
-    let first : drop i trace ≡ x ∷ drop (i + 1) trace = drop_more trace i x lt ∙ ap (λ (y : Link × Beat w). y ∷ drop (i + 1) trace) (sym is) in
+    let more : take (i + 1) trace ≡ take i trace ++ x ∷ [] =
+    take_more trace i x lt ∙ ap (λ (y : Link × Beat w). take i trace ++ y ∷ []) (sym is) in
+    let first : drop i trace ≡ x ∷ drop (i + 1) trace =
+    drop_more trace i x lt ∙ ap (λ (y : Link × Beat w). y ∷ drop (i + 1) trace) (sym is) in
     (first, ap reverse more ∙ reverse-append (take i trace) (x ∷ []))
 
-pub known-goes_on : {w : ℕ} (m : Monitor w) (levels : List Level) (p : Profile) (trace : Trace w) (i : ℕ) (x : Link × Beat w) → i < length trace → x ≡ slice_index_or trace i x
+pub known-goes_on : {w : ℕ} (m : Monitor w) (levels : List Level) (p : Profile) (trace : Trace w) (i : ℕ)
+    (x : Link × Beat w) → i < length trace → x ≡ slice_index_or trace i x
     → Knows m levels p (x ∷ reverse (take i trace)) false → Knows m levels p (reverse (take (i + 1) trace)) false
 known-goes_on m levels p trace i x lt is k = rw ((judged i trace x lt is).1) k
 
-pub fault-goes_on : {w : ℕ} (levels : List Level) (p : Profile) (trace : Trace w) (i : ℕ) (x : Link × Beat w) → i < length trace → x ≡ slice_index_or trace i x
+pub fault-goes_on : {w : ℕ} (levels : List Level) (p : Profile) (trace : Trace w) (i : ℕ) (x : Link × Beat w)
+    → i < length trace → x ≡ slice_index_or trace i x
     → fault_of levels p (reverse (take i trace)) false x ≡ None
-    → fault_from levels p (reverse (take i trace)) (drop i trace) ≡ fault_from levels p (reverse (take (i + 1) trace)) (drop (i + 1) trace)
+    → fault_from levels p (reverse (take i trace)) (drop i trace) ≡ fault_from levels p (reverse (take (i + 1) trace))
+    (drop (i + 1) trace)
 unfolding fault_from
 fault-goes_on levels p trace i x lt is none =
     let e = judged i trace x lt is in
-    let fine : broken_on_link levels p x (reverse (take i trace)) ≡ None = unbroken (broken_on_link levels p x (reverse (take i trace))) none in
+    let fine : broken_on_link levels p x (reverse (take i trace)) ≡ None =
+    unbroken (broken_on_link levels p x (reverse (take i trace))) none in
     rw (e.0, e.1, fine) refl
 
-fault-found : {w : ℕ} (levels : List Level) (p : Profile) (trace : Trace w) (i : ℕ) (x : Link × Beat w) (r : Rule) → i < length trace → x ≡ slice_index_or trace i x
+fault-found : {w : ℕ} (levels : List Level) (p : Profile) (trace : Trace w) (i : ℕ) (x : Link × Beat w) (r : Rule)
+    → i < length trace → x ≡ slice_index_or trace i x
     → fault_of levels p (reverse (take i trace)) false x ≡ Some (monitor.Broken r)
     → fault_from levels p (reverse (take i trace)) (drop i trace) ≡ Some (i, r)
 unfolding fault_from
 fault-found levels p trace i x r lt is found =
     let e = judged i trace x lt is in
-    let here : broken_on_link levels p x (reverse (take i trace)) ≡ Some r = broken_by (broken_on_link levels p x (reverse (take i trace))) r found in
-    let count : length (reverse (take i trace)) ≡ i = length-reverse (take i trace) ∙ length-take-le i trace (omega arith) in
+    let here : broken_on_link levels p x (reverse (take i trace)) ≡ Some r =
+    broken_by (broken_on_link levels p x (reverse (take i trace))) r found in
+    let count : length (reverse (take i trace)) ≡ i = length-reverse (take i trace) ∙ length-take-le i trace
+    (omega arith) in
     rw (e.0, here, count) refl
 
-pub fault-none : {w : ℕ} (levels : List Level) (p : Profile) (trace before : Trace w) (i : ℕ) → length trace ≤ i → fault_from levels p before (drop i trace) ≡ None
+pub fault-none : {w : ℕ} (levels : List Level) (p : Profile) (trace before : Trace w) (i : ℕ) → length trace ≤ i
+    → fault_from levels p before (drop i trace) ≡ None
 unfolding fault_from
 fault-none levels p trace before i le = rw (drop_all i trace le) refl
 
-pub fault-answered : {w : ℕ} (levels : List Level) (p : Profile) (beats : Trace w) (i : ℕ) (x : Link × Beat w) (e : MonitorFault) → IsCount (length levels) → i < length beats
+pub fault-answered : {w : ℕ} (levels : List Level) (p : Profile) (beats : Trace w) (i : ℕ) (x : Link × Beat w)
+    (e : MonitorFault) → IsCount (length levels) → i < length beats
     → x ≡ slice_index_or beats i x
-    → fault_from levels p [] beats ≡ fault_from levels p (reverse (take i beats)) (drop i beats) → Answers (fault_of levels p (reverse (take i beats)) false x) (Err e)
+    → fault_from levels p [] beats ≡ fault_from levels p (reverse (take i beats)) (drop i beats)
+    → Answers (fault_of levels p (reverse (take i beats)) false x) (Err e)
     → AnswersTrace levels p beats (Err (trace_fault_of i e))
-fault-answered levels p beats i x (monitor.Broken rule) counted lt is same answer = (counted, same ∙ fault-found levels p beats i x rule lt is answer)
+fault-answered levels p beats i x (monitor.Broken rule) counted lt is same answer =
+    (counted, same ∙ fault-found levels p beats i x rule lt is answer)
 fault-answered levels p beats i x monitor.Levels counted lt is same answer = counted
 fault-answered levels p beats i x monitor.Memory counted lt is same answer = counted
 fault-answered levels p beats i x monitor.Closed counted lt is same answer = counted

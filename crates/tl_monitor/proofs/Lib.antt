@@ -9,3 +9,4 @@ pub mod Judging
 pub mod LooksUp
 pub mod Knowing
 pub mod Numbered
+pub mod Touching

@@ -10,14 +10,18 @@ use Rattle.tl_monitor.specs.code.Blocks.{block_in}
 use Rattle.tl_monitor.specs.code.Keeps.{Keeps}
 use Rattle.tl_monitor.specs.declared.link_state.LinkState.{LinkState}
 
-pub request-pending : {w : ℕ} (k : LinkState) (t : History w) (s : ℕ) → Keeps k t → is_some (at k.requests s) ≡ pending (RequestSource s) t
+pub request-pending : {w : ℕ} (k : LinkState) (t : History w) (s : ℕ) → Keeps k t
+    → is_some (at k.requests s) ≡ pending (RequestSource s) t
 request-pending k t s keeps = ap is_some (keeps.requests_are s) ∙ sym (pending-request s t)
 
-pub release-pending : {w : ℕ} (k : LinkState) (t : History w) (s : ℕ) → Keeps k t → is_some (at k.releases s) ≡ pending (ReleaseSource s) t
+pub release-pending : {w : ℕ} (k : LinkState) (t : History w) (s : ℕ) → Keeps k t
+    → is_some (at k.releases s) ≡ pending (ReleaseSource s) t
 release-pending k t s keeps = ap is_some (keeps.releases_are s) ∙ sym (pending-release s t)
 
-pub grant-pending : {w : ℕ} (k : LinkState) (t : History w) (b : ℕ) → Keeps k t → is_some (block_in k.blocks b).grant ≡ pending (GrantAckOf b) t
+pub grant-pending : {w : ℕ} (k : LinkState) (t : History w) (b : ℕ) → Keeps k t
+    → is_some (block_in k.blocks b).grant ≡ pending (GrantAckOf b) t
 grant-pending k t b keeps = ap (λ c. is_some c.grant) (keeps.blocks_are b) ∙ sym (pending-grant b t)
 
-pub probe-pending : {w : ℕ} (k : LinkState) (t : History w) (b : ℕ) → Keeps k t → is_some (block_in k.blocks b).probe ≡ pending (ProbeOf b) t
+pub probe-pending : {w : ℕ} (k : LinkState) (t : History w) (b : ℕ) → Keeps k t
+    → is_some (block_in k.blocks b).probe ≡ pending (ProbeOf b) t
 probe-pending k t b keeps = ap (λ c. is_some c.probe) (keeps.blocks_are b) ∙ sym (pending-probe b t)

@@ -12,7 +12,8 @@ use Rattle.tl_monitor.specs.code.LinkState.{is_first, completes, touched, is_blo
 use Rattle.tl_monitor.specs.declared.bursts.Bursts.{Bursts}
 use Rattle.tl_monitor.specs.declared.link_state.LinkState.{LinkState}
 
-bursts_by_channel : {w : ℕ} (old new : Bursts) (x : Beat w) → new.a ≡ burst_with channel.A x old.a → new.b ≡ burst_with channel.B x old.b → new.c ≡ burst_with channel.C x old.c
+bursts_by_channel : {w : ℕ} (old new : Bursts) (x : Beat w) → new.a ≡ burst_with channel.A x old.a
+    → new.b ≡ burst_with channel.B x old.b → new.c ≡ burst_with channel.C x old.c
     → new.d ≡ burst_with channel.D x old.d
     → new.e ≡ burst_with channel.E x old.e → (ch : Channel) → burst_on new ch ≡ burst_with ch x (burst_on old ch)
 bursts_by_channel old new x a b c d e channel.A = a
@@ -21,13 +22,16 @@ bursts_by_channel old new x a b c d e channel.C = c
 bursts_by_channel old new x a b c d e channel.D = d
 bursts_by_channel old new x a b c d e channel.E = e
 
-pub next-tables : {w : ℕ} (old new : LinkState) (x : Beat w) (first last : Bool) (block : Option ℕ) → first ≡ is_first x old → last ≡ completes x old → block ≡ touched first last x old
-    → new.bursts.a ≡ burst_with channel.A x old.bursts.a → new.bursts.b ≡ burst_with channel.B x old.bursts.b → new.bursts.c ≡ burst_with channel.C x old.bursts.c
+pub next-tables : {w : ℕ} (old new : LinkState) (x : Beat w) (first last : Bool) (block : Option ℕ)
+    → first ≡ is_first x old → last ≡ completes x old → block ≡ touched first last x old
+    → new.bursts.a ≡ burst_with channel.A x old.bursts.a → new.bursts.b ≡ burst_with channel.B x old.bursts.b
+    → new.bursts.c ≡ burst_with channel.C x old.bursts.c
     → new.bursts.d ≡ burst_with channel.D x old.bursts.d → new.bursts.e ≡ burst_with channel.E x old.bursts.e
     → ((s : ℕ) → at new.requests s ≡ request_next first last x s (at old.requests s))
     → ((s : ℕ) → at new.releases s ≡ release_next first last x s (at old.releases s))
     → ((s : ℕ) → at new.sinks s ≡ sink_with first last x block s (at old.sinks s))
-    → ((b : ℕ) → block_in new.blocks b ≡ (if is_block b block then block_next first last x (block_in old.blocks b) else block_in old.blocks b))
+    → ((b : ℕ) → block_in new.blocks b ≡ (if is_block b block then block_next first last x (block_in old.blocks b) else
+    block_in old.blocks b))
     → IsNext old x new
 next-tables old new x first last block f l k a b c d e requests releases sinks blocks =
     let here : block ≡ touched (is_first x old) (completes x old) x old = k ∙ rw (f, l) refl in

@@ -1,12 +1,14 @@
 -- How many keys are pending and blocks held: as many as are kept, and more with a beat that opens one.
-use Rattle.std.proofs.Common.{◌≡◌, ◌≢◌, ℕ, ◌<◌, ◌≤◌, ◌+◌, ◌^◌, Bool, true, false, refl, sym, ap, ap₂, ◌∙◌, arith, ◌⊎◌, inl, inr}
+use Rattle.std.proofs.Common.{◌≡◌, ◌≢◌, ℕ, ◌<◌, ◌≤◌, ◌+◌, ◌^◌, Bool, true, false, refl, sym, ap, ap₂, ◌∙◌, arith, ◌⊎◌}
+use Rattle.std.proofs.Common.{inl, inr}
 use Rattle.std.specs.Prelude.{if◌then◌else◌, ◌∷◌, length, List, Some, None, is_some}
 use Rattle.std.specs.List.{sum}
 use Rattle.std.proofs.lemmas.Bool.{cases_Bool, eq-eqb, ne_eqb, le-ltb, lt-ltb}
 use Rattle.tl_beat.specs.statement.Width.{IsWidth}
 use Rattle.tl_beat.specs.declared.beat.Beat.{Beat}
 use Rattle.tl_burst.specs.statement.Messages.{History}
-use Rattle.tl_params.specs.declared.key.Key.TheVariants.{RequestSource, ReleaseSource, AcquireOf, ReleaseOf, GrantSink, GrantAckOf, ProbeOf}
+use Rattle.tl_params.specs.declared.key.Key.TheVariants.{RequestSource, ReleaseSource, AcquireOf, ReleaseOf, GrantSink}
+use Rattle.tl_params.specs.declared.key.Key.TheVariants.{GrantAckOf, ProbeOf}
 use Rattle.tl_params.specs.declared.level.Level.{Level}
 use Rattle.tl_params.specs.declared.profile.Profile.{Profile}
 use Rattle.tl_rules.specs.declared.table.Block.{Block}
@@ -32,7 +34,8 @@ same_count : (n : ℕ) (f g : ℕ → Bool) → ((i : ℕ) → f i ≡ g i) → 
 same_count n f g same = sum-same n (λ i. one_if (f i)) (λ i. one_if (g i)) (λ i lt. ap one_if (same i))
 
 -- of five counts the sum is the count of the five
-five : (n : ℕ) (h a r p g : ℕ → ℕ) → sum_below n (λ i. h i + a i + r i + p i + g i) ≡ sum_below n h + sum_below n a + sum_below n r + sum_below n p + sum_below n g
+five : (n : ℕ) (h a r p g : ℕ → ℕ) → sum_below n (λ i. h i + a i + r i + p i + g i) ≡ sum_below n h + sum_below n
+    a + sum_below n r + sum_below n p + sum_below n g
 five n h a r p g =
     let one = sum-both n (λ i. h i + a i + r i + p i) g in
     let two = sum-both n (λ i. h i + a i + r i) p in
@@ -41,28 +44,35 @@ five n h a r p g =
     omega (arith, one, two, three, four)
 
 opened : {w : ℕ} (k : LinkState) (t : History w) → Keeps k t → sum_below (2 ^ 32) (λ b. open_of (block_in k.blocks b))
-    ≡ count_below (2 ^ 32) (λ b. is_held (held b t)) + count_below (2 ^ 32) (λ b. pending (AcquireOf b) t) + count_below (2 ^ 32) (λ b. pending (ReleaseOf b) t)
+    ≡ count_below (2 ^ 32) (λ b. is_held (held b t)) + count_below (2 ^ 32) (λ b. pending (AcquireOf b) t) + count_below
+    (2 ^ 32) (λ b. pending (ReleaseOf b) t)
     + count_below (2 ^ 32) (λ b. pending (ProbeOf b) t) + count_below (2 ^ 32) (λ b. pending (GrantAckOf b) t)
 unfolding open_of
 opened k t keeps =
     sum-same (2 ^ 32) (λ b. open_of (block_in k.blocks b))
-    (λ b. one_if (is_held (held b t)) + one_if (pending (AcquireOf b) t) + one_if (pending (ReleaseOf b) t) + one_if (pending (ProbeOf b) t) + one_if (pending (GrantAckOf b) t))
+    (λ b. one_if (is_held (held b t)) + one_if (pending (AcquireOf b) t) + one_if (pending (ReleaseOf b) t) + one_if
+    (pending (ProbeOf b) t) + one_if (pending (GrantAckOf b) t))
     (λ b lt. ap open_of (keeps.blocks_are b)
-    ∙ ap₂ (λ p g. one_if (is_held (held b t)) + one_if (pending (AcquireOf b) t) + one_if (pending (ReleaseOf b) t) + one_if p + one_if g) (sym (pending-probe b t)) (sym (pending-grant b t)))
-    ∙ five (2 ^ 32) (λ b. one_if (is_held (held b t))) (λ b. one_if (pending (AcquireOf b) t)) (λ b. one_if (pending (ReleaseOf b) t))
+    ∙ ap₂ (λ p g. one_if (is_held (held b t)) + one_if (pending (AcquireOf b) t) + one_if (pending (ReleaseOf b) t)
+    + one_if p + one_if g) (sym (pending-probe b t)) (sym (pending-grant b t)))
+    ∙ five (2 ^ 32) (λ b. one_if (is_held (held b t))) (λ b. one_if (pending (AcquireOf b) t))
+    (λ b. one_if (pending (ReleaseOf b) t))
     (λ b. one_if (pending (ProbeOf b) t)) (λ b. one_if (pending (GrantAckOf b) t))
 
 pub entries-are : {w : ℕ} (k : LinkState) (t : History w) → Keeps k t → entries_in k ≡ sum (numbers t)
 entries-are k t keeps =
-    let requests = same_count 256 (λ s. is_some (at k.requests s)) (λ s. pending (RequestSource s) t) (λ s. request-pending k t s keeps) in
-    let releases = same_count 256 (λ s. is_some (at k.releases s)) (λ s. pending (ReleaseSource s) t) (λ s. release-pending k t s keeps) in
+    let requests = same_count 256 (λ s. is_some (at k.requests s)) (λ s. pending (RequestSource s) t)
+    (λ s. request-pending k t s keeps) in
+    let releases = same_count 256 (λ s. is_some (at k.releases s)) (λ s. pending (ReleaseSource s) t)
+    (λ s. release-pending k t s keeps) in
     let sinks = same_count 256 (λ s. is_some (at k.sinks s)) (λ s. pending (GrantSink s) t) keeps.sinks_are in
     let blocks = opened k t keeps in
     omega (arith, requests, releases, sinks, blocks)
 
 -- ---- more of one kind
 
-one_more : (n b : ℕ) (f g : ℕ → Bool) → b < n → ((k : ℕ) → k ≢ b → f k ≡ g k) → f b ≡ false → g b ≡ true → count_below n f < count_below n g
+one_more : (n b : ℕ) (f g : ℕ → Bool) → b < n → ((k : ℕ) → k ≢ b → f k ≡ g k) → f b ≡ false → g b ≡ true
+    → count_below n f < count_below n g
 one_more n b f g lt same was is =
     let e = sum-changed n b (λ k. one_if (f k)) (λ k. one_if (g k)) lt (λ k other. ap one_if (same k other)) in
     let x : one_if (f b) ≡ 0 = rw was refl in
@@ -70,16 +80,21 @@ one_more n b f g lt same was is =
     omega (arith, e, x, y)
 
 -- what a beat leaves of each block but the one that it touches
-others_stay : {w : ℕ} (l : Level) (p : Profile) (k : LinkState) (x : Beat w) (t : History w) (b n : ℕ) → IsWidth w → Keeps k t → broken_after l p x t ≡ None
+others_stay : {w : ℕ} (l : Level) (p : Profile) (k : LinkState) (x : Beat w) (t : History w) (b n : ℕ) → IsWidth w
+    → Keeps k t → broken_after l p x t ≡ None
     → touched (is_first x k) (link_state.completes x k) x k ≡ Some b
-    → kept_block n (x ∷ t) ≡ (if is_block n (Some b) then block_next (is_first x k) (link_state.completes x k) x (kept_block n t) else kept_block n t)
+    → kept_block n (x ∷ t) ≡ (if is_block n (Some b) then block_next (is_first x k) (link_state.completes x k) x
+    (kept_block n t) else kept_block n t)
 others_stay l p k x t b n width keeps legal is =
-    block-next n x t ∙ ap₂ (λ f g. if bears_on n x t then block_next f g x (kept_block n t) else kept_block n t) (begins-is k x t keeps) (ends-is l p k x t width keeps legal)
+    block-next n x t ∙ ap₂ (λ f g. if bears_on n x t then block_next f g x (kept_block n t) else kept_block n t)
+    (begins-is k x t keeps) (ends-is l p k x t width keeps legal)
     ∙ same_touched l p k x t n (is_first x k) (link_state.completes x k) keeps legal
-    ∙ ap (λ o. if is_block n o then block_next (is_first x k) (link_state.completes x k) x (kept_block n t) else kept_block n t) is
+    ∙ ap (λ o. if is_block n o then block_next (is_first x k) (link_state.completes x k) x (kept_block n t) else
+    kept_block n t) is
 
 -- a block of which something is open or held
-some_open : (c : Block) → 0 < open_of c → (is_held c.held ≡ true) ⊎ (c.acquire ≡ true) ⊎ (c.release ≡ true) ⊎ (is_some c.probe ≡ true) ⊎ (is_some c.grant ≡ true)
+some_open : (c : Block) → 0 < open_of c → (is_held c.held ≡ true) ⊎ (c.acquire ≡ true) ⊎ (c.release ≡ true)
+    ⊎ (is_some c.probe ≡ true) ⊎ (is_some c.grant ≡ true)
 unfolding open_of
 some_open c pos = elim (cases_Bool (is_held c.held)) [
   | inl h ↦ inl h
@@ -98,46 +113,63 @@ some_open c pos = elim (cases_Bool (is_held c.held)) [
   ]
 ]
 
-pub some-more : {w : ℕ} (l : Level) (p : Profile) (k : LinkState) (x : Beat w) (t : History w) (b : ℕ) → IsWidth w → Keeps k t → broken_after l p x t ≡ None → IsNew k x b
+pub some-more : {w : ℕ} (l : Level) (p : Profile) (k : LinkState) (x : Beat w) (t : History w) (b : ℕ) → IsWidth w
+    → Keeps k t → broken_after l p x t ≡ None → IsNew k x b
     → AnyMore (numbers t) (numbers (x ∷ t))
 some-more {w} l p k x t b width keeps legal new =
-    let step : (n : ℕ) → kept_block n (x ∷ t) ≡ (if is_block n (Some b) then block_next (is_first x k) (link_state.completes x k) x
+    let step : (n : ℕ) → kept_block n (x ∷ t) ≡ (if is_block n (Some b) then block_next (is_first x k)
+    (link_state.completes x k) x
     (kept_block n t) else kept_block n t) = λ n. others_stay l p k x t b n width keeps legal new.is_touched in
     let before : kept_block b t ≡ empty_block = sym (keeps.blocks_are b) ∙ new.was_empty in
     let after : kept_block b (x ∷ t) ≡ block_next (is_first x k) (link_state.completes x k) x (block_in k.blocks b) =
-    step b ∙ rw (eq-eqb b b refl) refl ∙ ap (block_next (is_first x k) (link_state.completes x k) x) (sym (keeps.blocks_are b)) in
-    let apart : (n : ℕ) → n ≢ b → kept_block n t ≡ kept_block n (x ∷ t) = λ n other. sym (step n ∙ rw (ne_eqb n b other) refl) in
+    step b ∙ rw (eq-eqb b b refl) refl ∙ ap (block_next (is_first x k) (link_state.completes x k) x)
+    (sym (keeps.blocks_are b)) in
+    let apart : (n : ℕ) → n ≢ b → kept_block n t ≡ kept_block n (x ∷ t) =
+    λ n other. sym (step n ∙ rw (ne_eqb n b other) refl) in
     let pos : 0 < open_of (kept_block b (x ∷ t)) = rw after new.then_open in
-    let more : (f : Block → Bool) → f empty_block ≡ false → f (kept_block b (x ∷ t)) ≡ true → count_below (2 ^ 32) (λ n. f (kept_block n t)) < count_below (2 ^ 32) (λ n. f (kept_block n (x ∷ t))) =
-    λ f none is. one_more (2 ^ 32) b (λ n. f (kept_block n t)) (λ n. f (kept_block n (x ∷ t))) new.is_number (λ n other. ap f (apart n other)) (ap f before ∙ none) is in
+    let more : (f : Block → Bool) → f empty_block ≡ false → f (kept_block b (x ∷ t)) ≡ true
+    → count_below (2 ^ 32) (λ n. f (kept_block n t)) < count_below (2 ^ 32) (λ n. f (kept_block n (x ∷ t))) =
+    λ f none is. one_more (2 ^ 32) b (λ n. f (kept_block n t)) (λ n. f (kept_block n (x ∷ t))) new.is_number
+    (λ n other. ap f (apart n other)) (ap f before ∙ none) is in
     elim (some_open (kept_block b (x ∷ t)) pos) [
       | inl h ↦ inr (inr (inr (inr (inr (inr (inr (inl (more (λ c. is_held c.held) refl h))))))))
       | inr (inl a) ↦ inr (inr (inr (inl (more (λ c. c.acquire) refl a))))
       | inr (inr (inl r)) ↦ inr (inr (inr (inr (inl (more (λ c. c.release) refl r)))))
       | inr (inr (inr (inl q))) ↦ inr (inr (inr (inr (inr (inl (by_probe (more (λ c. is_some c.probe) refl q)))))))
-      | inr (inr (inr (inr g))) ↦ inr (inr (inr (inr (inr (inr (inl (by_grant (more (λ c. is_some c.grant) refl g))))))))
+      | inr (inr (inr (inr g))) ↦ inr
+          (inr (inr (inr (inr (inr (inl (by_grant (more (λ c. is_some c.grant) refl g))))))))
     ]
   where
-    by_probe : count_below (2 ^ 32) (λ n. is_some (kept_block n t).probe) < count_below (2 ^ 32) (λ n. is_some (kept_block n (x ∷ t)).probe)
+    by_probe : count_below (2 ^ 32) (λ n. is_some (kept_block n t).probe) < count_below (2 ^ 32)
+        (λ n. is_some (kept_block n (x ∷ t)).probe)
         → count_below (2 ^ 32) (λ n. pending (ProbeOf n) t) < count_below (2 ^ 32) (λ n. pending (ProbeOf n) (x ∷ t))
     by_probe lt =
-        let e = same_count (2 ^ 32) (λ n. pending (ProbeOf n) t) (λ n. is_some (kept_block n t).probe) (λ n. pending-probe n t) in
-        let f = same_count (2 ^ 32) (λ n. pending (ProbeOf n) (x ∷ t)) (λ n. is_some (kept_block n (x ∷ t)).probe) (λ n. pending-probe n (x ∷ t)) in
+        let e = same_count (2 ^ 32) (λ n. pending (ProbeOf n) t) (λ n. is_some (kept_block n t).probe)
+        (λ n. pending-probe n t) in
+        let f = same_count (2 ^ 32) (λ n. pending (ProbeOf n) (x ∷ t)) (λ n. is_some (kept_block n (x ∷ t)).probe)
+        (λ n. pending-probe n (x ∷ t)) in
         omega (arith, e, f, lt)
 
-    by_grant : count_below (2 ^ 32) (λ n. is_some (kept_block n t).grant) < count_below (2 ^ 32) (λ n. is_some (kept_block n (x ∷ t)).grant)
-        → count_below (2 ^ 32) (λ n. pending (GrantAckOf n) t) < count_below (2 ^ 32) (λ n. pending (GrantAckOf n) (x ∷ t))
+    by_grant : count_below (2 ^ 32) (λ n. is_some (kept_block n t).grant) < count_below (2 ^ 32)
+        (λ n. is_some (kept_block n (x ∷ t)).grant)
+        → count_below (2 ^ 32) (λ n. pending (GrantAckOf n) t) < count_below (2 ^ 32)
+        (λ n. pending (GrantAckOf n) (x ∷ t))
     by_grant lt =
-        let e = same_count (2 ^ 32) (λ n. pending (GrantAckOf n) t) (λ n. is_some (kept_block n t).grant) (λ n. pending-grant n t) in
-        let f = same_count (2 ^ 32) (λ n. pending (GrantAckOf n) (x ∷ t)) (λ n. is_some (kept_block n (x ∷ t)).grant) (λ n. pending-grant n (x ∷ t)) in
+        let e = same_count (2 ^ 32) (λ n. pending (GrantAckOf n) t) (λ n. is_some (kept_block n t).grant)
+        (λ n. pending-grant n t) in
+        let f = same_count (2 ^ 32) (λ n. pending (GrantAckOf n) (x ∷ t)) (λ n. is_some (kept_block n (x ∷ t)).grant)
+        (λ n. pending-grant n (x ∷ t)) in
         omega (arith, e, f, lt)
 
 -- of a link without a level there are none
-pub no-entries : {w : ℕ} (levels : List Level) (link : Link) (t : Trace w) (n count : ℕ) → n ≡ link.0 → count ≡ length levels → count ≤ n → 0 ≡ entries_of levels link t
+pub no-entries : {w : ℕ} (levels : List Level) (link : Link) (t : Trace w) (n count : ℕ) → n ≡ link.0
+    → count ≡ length levels → count ≤ n → 0 ≡ entries_of levels link t
 no-entries levels link t n count own counted none = rw (le-ltb link.0 (length levels) (omega arith)) refl
 
-pub link-entries : {w : ℕ} (levels : List Level) (link : Link) (t : Trace w) (k : LinkState) (n count : ℕ) → n ≡ link.0 → count ≡ length levels → n < count → Keeps k (on_link n t)
+pub link-entries : {w : ℕ} (levels : List Level) (link : Link) (t : Trace w) (k : LinkState) (n count : ℕ) → n ≡ link.0
+    → count ≡ length levels → n < count → Keeps k (on_link n t)
     → entries_in k ≡ entries_of levels link t
 link-entries {w} levels link t k n count own counted lt keeps =
     let below : link.0 < length levels = omega arith in
-    entries-are k (on_link n t) keeps ∙ rw (lt-ltb link.0 (length levels) below) (ap (λ i. sum (numbers (on_link i t))) own)
+    entries-are k (on_link n t) keeps ∙ rw (lt-ltb link.0 (length levels) below)
+    (ap (λ i. sum (numbers (on_link i t))) own)

@@ -1,6 +1,5 @@
 pub mod Blocks
 pub mod Bursts
-pub mod Control
 pub mod Count
 pub mod Keeps
 pub mod LinkState

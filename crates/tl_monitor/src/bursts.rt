@@ -7,9 +7,9 @@ ghost use Rattle.tl_burst.specs.statement.Messages;
 ghost use Rattle.tl_burst.specs.statement.Part.{is_small};
 ghost use Rattle.tl_monitor.specs.code.Bursts.{burst_on, is_last, burst_next, burst_with};
 
-use crate::control::{Control, control_of};
 use tl_beat::beat::Beat;
 use tl_beat::channel::Channel;
+use tl_beat::control::Control;
 use tl_burst::burst::burst_length;
 
 /// A burst that has begun and isn't complete: the control fields of its beats, and how many of them
@@ -30,19 +30,6 @@ pub struct Bursts {
     pub e: Option<Unfinished>,
 }
 
-/// The channel that carries a beat.
-pub fn channel_of<const W: usize>(beat: &Beat<W>) -> Channel
-    ensures { result ≡ Messages.channel_of beat.now }
-{
-    match beat {
-        Beat::A(_) => Channel::A,
-        Beat::B(_) => Channel::B,
-        Beat::C(_) => Channel::C,
-        Beat::D(_) => Channel::D,
-        Beat::E(_) => Channel::E,
-    }
-}
-
 /// A burst with its next beat, or nothing where that is the last.
 fn next<const W: usize>(beat: &Beat<W>, burst: Option<Unfinished>) -> Option<Unfinished>
     requires width { IsWidth W }
@@ -57,7 +44,7 @@ fn next<const W: usize>(beat: &Beat<W>, burst: Option<Unfinished>) -> Option<Unf
         return None;
     }
     Some(Unfinished {
-        control: control_of(beat),
+        control: beat.control(),
         left,
     })
 }
@@ -97,7 +84,7 @@ impl Bursts {
     pub fn begins<const W: usize>(&self, beat: &Beat<W>) -> bool
         ensures { result ≡ is_none (burst_on self.now (Messages.channel_of beat.now)) }
     {
-        self.on(channel_of(beat)).is_none()
+        self.on(beat.channel()).is_none()
     }
 
     /// Whether a beat completes its message, where it breaks no rule.
@@ -106,7 +93,7 @@ impl Bursts {
         requires small { IsTrue (is_small beat.now) }
         ensures { result ≡ is_last beat.now (burst_on self.now (Messages.channel_of beat.now)) }
     {
-        match self.on(channel_of(beat)) {
+        match self.on(beat.channel()) {
             None => burst_length(beat) <= 1,
             Some(burst) => burst.left <= 1,
         }

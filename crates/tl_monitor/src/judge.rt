@@ -7,8 +7,6 @@ ghost use Rattle.tl_burst.specs.statement.Part.{is_small};
 ghost use Rattle.tl_rules.specs.statement.Conformance;
 ghost use Rattle.tl_monitor.specs.code.Keeps.{Keeps};
 
-use crate::bursts::channel_of;
-use crate::control::has_control;
 use crate::link_state::LinkState;
 use tl_beat::beat::Beat;
 use tl_rules::legality::beat::check_beat;
@@ -25,10 +23,10 @@ fn broken_in_order<const W: usize>(
 ) -> Option<Rule>
     ensures { (t : History W) → Keeps link_state.now t → result ≡ Conformance.broken_in_order profile beat.now t }
 {
-    match link_state.bursts.on(channel_of(beat)) {
+    match link_state.bursts.on(beat.channel()) {
         None => broken_order(profile, beat, link_state),
         Some(burst) => {
-            if has_control(beat, &burst.control) {
+            if beat.has_control(&burst.control) {
                 None
             } else {
                 Some(Rule::S1)
@@ -49,7 +47,7 @@ pub fn broken_after<const W: usize>(
     ensures rule { (t : History W) → Keeps link_state.now t → result ≡ Conformance.broken_after level profile beat.now t }
     ensures small { IfNone result (IsTrue (is_small beat.now)) }
 {
-    match check_beat(level, channel_of(beat), beat) {
+    match check_beat(level, beat.channel(), beat) {
         Err(rule) => Some(rule),
         Ok(()) => broken_in_order(profile, beat, link_state),
     }

@@ -4,7 +4,6 @@
 mod blocks;
 mod bursts;
 pub mod byte_table;
-pub mod control;
 pub mod fault;
 mod judge;
 mod link_state;

@@ -243,7 +243,7 @@ impl LinkState {
     }
 
     /// The block that a beat changes something of.
-    fn touched<const W: usize>(&self, first: bool, last: bool, beat: &Beat<W>) -> Option<u32>
+    pub fn touched<const W: usize>(&self, first: bool, last: bool, beat: &Beat<W>) -> Option<u32>
         ensures { result ≡ touched first last beat.now self.now }
     {
         match beat {

@@ -1,19 +1,21 @@
 //! A monitor of links: what it answers to each beat.
 
-ghost use Rattle.std.specs.Prelude.{Bool, List, IfOk, length, ◌≡◌};
+ghost use Rattle.std.specs.Prelude.{Bool, None, List, IfOk, length, ◌≡◌};
 ghost use Rattle.tl_beat.specs.declared.beat.Beat.{Beat};
 ghost use Rattle.tl_beat.specs.statement.Width.{IsWidth};
 ghost use Rattle.tl_params.specs.declared.level.Level.{Level};
 ghost use Rattle.tl_params.specs.declared.profile.Profile.{Profile};
-ghost use Rattle.tl_rules.specs.statement.Conformance.{Trace, on_link};
+ghost use Rattle.tl_rules.specs.statement.Conformance.{Trace, broken_on_link, on_link};
 
 use crate::fault::MonitorFault;
 use crate::judge::broken_after;
 use crate::link_state::LinkState;
 use std::alloc::{AllocError, Global};
 use tl_beat::beat::{Beat, Link};
+use tl_rules::config::MOST_CLIENTS;
 use tl_rules::level::Level;
 use tl_rules::past::{Past, Request};
+use tl_rules::perm::Perm;
 use tl_rules::profile::Profile;
 use tl_rules::rule::Rule;
 
@@ -30,7 +32,7 @@ pub struct Monitor<const W: usize> {
 
 impl<const W: usize> Monitor<W> {
     ghost use Rattle.tl_monitor.specs.statement.Numbers.{IsMoreWhereRefused, entries_of};
-    ghost use Rattle.tl_monitor.specs.statement.Knows.{Knows, IsNew, Answers, fault_of, recorded_after, closed_after, request_on, AllEmpty};
+    ghost use Rattle.tl_monitor.specs.statement.Knows.{Knows, IsNew, Answers, fault_of, recorded_after, closed_after, request_on, held_on, begins_on, LeavesOthers, AllEmpty};
 
     /// What is kept of this many links that have carried nothing.
     fn empty_links(alloc: Global, count: usize) -> Result<Vec<LinkState>, AllocError>
@@ -48,7 +50,7 @@ impl<const W: usize> Monitor<W> {
         requires { IsWidth W }
         ensures { IsNew levels.now profile result }
     {
-        if levels.is_empty() || levels.len() > 16 {
+        if levels.is_empty() || levels.len() > MOST_CLIENTS {
             return Err(MonitorFault::Levels);
         }
         let Ok(links) = Self::empty_links(alloc, levels.len()) else {
@@ -113,6 +115,47 @@ impl<const W: usize> Monitor<W> {
             return None;
         }
         Past::<W>::request(&self.links[n], source)
+    }
+
+    /// What is held of a block on a link; nothing on a link without a level.
+    pub fn held(&self, link: Link, block: u32) -> Perm
+        ensures { (levels : List Level) (p : Profile) (t : Trace W) (closed : Bool) →
+            Knows self.now levels p t closed →
+            result ≡ held_on levels link block t }
+    {
+        let n = usize::from(link.0);
+        if n >= self.levels.len() {
+            return Perm::None;
+        }
+        Past::<W>::held(&self.links[n], block)
+    }
+
+    /// Whether a beat begins a message on its link; on a link without a level none does.
+    pub fn begins(&self, link: Link, beat: &Beat<W>) -> bool
+        ensures { (levels : List Level) (p : Profile) (t : Trace W) (closed : Bool) →
+            Knows self.now levels p t closed →
+            result ≡ begins_on levels link beat.now t }
+    {
+        let n = usize::from(link.0);
+        if n >= self.levels.len() {
+            return false;
+        }
+        self.links[n].bursts.begins(beat)
+    }
+
+    /// The block of which a beat may change what is held on its link, where it breaks no rule there; none
+    /// where it changes what is held of no block.
+    pub fn block_of(&self, link: Link, beat: &Beat<W>) -> Option<u32>
+        ensures { (levels : List Level) (p : Profile) (t : Trace W) (closed : Bool) →
+            Knows self.now levels p t closed →
+            broken_on_link levels p (link, beat.now) t ≡ None →
+            LeavesOthers result beat.now (on_link link.0 t) }
+    {
+        let n = usize::from(link.0);
+        if n >= self.levels.len() {
+            return None;
+        }
+        self.links[n].touched(true, true, beat)
     }
 
     /// How many keys are pending on a link, and how many blocks aren't held as None; 0 for a link

@@ -5,8 +5,8 @@ ghost use Rattle.tl_monitor.specs.code.Past.{comes_request, comes_release, comes
 ghost use Rattle.tl_monitor.specs.declared.bursts.Unfinished.{Unfinished};
 
 use crate::bursts::Unfinished;
-use crate::control::Control;
 use crate::link_state::LinkState;
+use tl_beat::control::Control;
 use tl_rules::key::Key;
 use tl_rules::kind::{is_grant, is_release};
 use tl_rules::past::{Past, Probe, Request};

@@ -1,5 +1,6 @@
 -- Readings one after another, up to a line feed.
-use Rattle.std.proofs.Common.{◌≡◌, ◌<◌, ◌≤◌, ℕ, zero, suc, ◌-◌, List, [], ◌∷◌, ◌++◌, length, true, false, refl, ap, sym, ◌∙◌, arith, append_assoc, length-append, cond}
+use Rattle.std.proofs.Common.{◌≡◌, ◌<◌, ◌≤◌, ℕ, zero, suc, ◌-◌, List, [], ◌∷◌, ◌++◌, length, true, false, refl, ap, sym}
+use Rattle.std.proofs.Common.{◌∙◌, arith, append_assoc, length-append, cond}
 use Rattle.std.proofs.lemmas.List.{append-nil}
 use Rattle.std.specs.Prelude.{Bool, Option, Some, None, option_and_then, option_map}
 use Rattle.tl_params.specs.statement.Header.{is_end}
@@ -9,7 +10,8 @@ use Rattle.tl_params.specs.code.HeaderReading.{onto, up_to}
 abbrev pub behind : {A : Type 0} → List A → Option (List A) → Option (List A)
 behind done more = option_map (λ xs. done ++ xs) more
 
-behind-onto : {A : Type 0} (done : List A) (x : A) (more : Option (List A)) → behind done (onto x more) ≡ behind (done ++ x ∷ []) more
+behind-onto : {A : Type 0} (done : List A) (x : A) (more : Option (List A))
+    → behind done (onto x more) ≡ behind (done ++ x ∷ []) more
 behind-onto done x None = refl
 behind-onto done x (Some xs) = ap Some (sym (append_assoc done (x ∷ []) xs))
 
@@ -28,17 +30,21 @@ module _ {A : Type 0} (read : List ℕ → Option (A × List ℕ)) where
   unfolding up_to
   up_to-full n bytes full more = rw (full, more) refl
 
-  pub up_to-step : (m n : ℕ) (bytes rest : List ℕ) (x : A) → m ≡ suc n → is_end bytes ≡ false → read bytes ≡ Some (x, rest) → up_to read m bytes ≡ onto x (up_to read n rest)
+  pub up_to-step : (m n : ℕ) (bytes rest : List ℕ) (x : A) → m ≡ suc n → is_end bytes ≡ false
+      → read bytes ≡ Some (x, rest) → up_to read m bytes ≡ onto x (up_to read n rest)
   unfolding up_to
   up_to-step m n bytes rest x one more is = rw (one, more, is) refl
 
   -- a loop over them
-  module _ (limit : ℕ) (bytes rest : List ℕ) (done : List A) (few : length done ≤ limit) (same : up_to read limit bytes ≡ behind done (up_to read (limit - length done) rest)) where
+  module _ (limit : ℕ) (bytes rest : List ℕ) (done : List A) (few : length done ≤ limit)
+      (same : up_to read limit bytes ≡ behind done (up_to read (limit - length done) rest)) where
     pub next-is : (x : A) (after : List ℕ) → is_end rest ≡ false → read rest ≡ Some (x, after) → length done < limit
         → up_to read limit bytes ≡ behind (done ++ x ∷ []) (up_to read (limit - length (done ++ x ∷ [])) after)
     next-is x after more is room =
-        let one : limit - length done ≡ suc (limit - length (done ++ x ∷ [])) = omega (arith, length-append done (x ∷ [])) in
-        same ∙ ap (behind done) (up_to-step _ _ rest after x one more is) ∙ behind-onto done x (up_to read (limit - length (done ++ x ∷ [])) after)
+        let one : limit - length done ≡ suc (limit - length (done ++ x ∷ [])) =
+        omega (arith, length-append done (x ∷ [])) in
+        same ∙ ap (behind done) (up_to-step _ _ rest after x one more is) ∙ behind-onto done x
+        (up_to read (limit - length (done ++ x ∷ [])) after)
 
     pub none-is : is_end rest ≡ false → read rest ≡ None → up_to read limit bytes ≡ None
     none-is more none = same ∙ ap (behind done) (up_to-none (limit - length done) rest more none)
@@ -51,7 +57,8 @@ module _ {A : Type 0} (read : List ℕ → Option (A × List ℕ)) where
 
   -- what holds of none at the end, and of one more, holds of all
   module _ (IsSo : List ℕ → List A → Type 0) (at_end : (bytes : List ℕ) → is_end bytes ≡ true → IsSo bytes [])
-      (one_more : (bytes rest : List ℕ) (x : A) (xs : List A) → read bytes ≡ Some (x, rest) → IsSo rest xs → IsSo bytes (x ∷ xs)) where
+      (one_more : (bytes rest : List ℕ) (x : A) (xs : List A) → read bytes ≡ Some (x, rest) → IsSo rest xs
+      → IsSo bytes (x ∷ xs)) where
     abbrev AreSo : ℕ → List ℕ → List A → Type 0
     AreSo n bytes xs = IsSo bytes xs × (length xs ≤ n)
 

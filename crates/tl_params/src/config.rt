@@ -9,6 +9,9 @@ use crate::sources::sources_fit;
 use arrayvec::ArrayVec;
 use std::alloc::AllocError;
 
+/// The most clients that a manager may have, and so the most links of a trace.
+pub const MOST_CLIENTS: usize = 16;
+
 /// The level of a client's link, and how many source numbers it has: from 1 to 8, in each of its two
 /// pools.
 #[derive(Clone, Copy, Debug, Default, PartialEq, Eq)]
@@ -23,7 +26,7 @@ pub struct ClientConfig {
 pub struct Config {
     pub blocks: u16,
     pub trackers: u8,
-    pub clients: ArrayVec<ClientConfig, 16>,
+    pub clients: ArrayVec<ClientConfig, MOST_CLIENTS>,
     pub profile: Profile,
 }
 

@@ -1,5 +1,6 @@
 -- A message that breaks no rule, beat by beat and from level to level.
-use Rattle.std.proofs.Common.{◌≡◌, ℕ, zero, suc, ◌+◌, ◌<◌, Bool, true, false, not, Option, None, refl, sym, ◌∙◌, arith, add-zero, inl, inr}
+use Rattle.std.proofs.Common.{◌≡◌, ℕ, zero, suc, ◌+◌, ◌<◌, Bool, true, false, not, Option, None, refl, sym, ◌∙◌, arith}
+use Rattle.std.proofs.Common.{add-zero, inl, inr}
 use Rattle.std.proofs.lemmas.Bool.{le-leb, not-false, cases_lt}
 use Rattle.tl_beat.specs.declared.channel.Channel.{Channel}
 use Rattle.tl_beat.specs.declared.channel.Channel.TheVariants as channel
@@ -18,25 +19,31 @@ use Rattle.tl_params.specs.declared.level.Level.{Level}
 use Rattle.tl_params.specs.declared.level.Level.TheVariants as level
 use Rattle.tl_params.specs.declared.rule.Rule.{Rule}
 use Rattle.tl_params.specs.declared.rule.Rule.TheVariants.{L1, L2, L3}
-use Rattle.tl_rules.specs.statement.Legality.{illegal, illegal_message, first_illegal, beats_from, a_of_level, a_has_param, a_has_size, access_has_size}
+use Rattle.tl_rules.specs.statement.Legality.{illegal, illegal_message, first_illegal, beats_from, a_of_level}
+use Rattle.tl_rules.specs.statement.Legality.{a_has_param, a_has_size, access_has_size}
 use Rattle.tl_rules.specs.code.Control.{a_control, a_own}
 use Rattle.tl_rules.proofs.Bursts.{next_rule, both_none}
 use Rattle.tl_rules.proofs.Verdicts.{illegal_a}
 use Rattle.tl_rules.proofs.Widths.{size_above_width}
 use Rattle.tl_rules.proofs.Checks.{both}
 
-from_beats : {w : ℕ} (l : Level) (ch : Channel) (m : Message w) (j n : ℕ) → ((i : ℕ) → i < n → illegal l ch (beat_of m (j + i)) ≡ None) → first_illegal l ch (beats_from m j n) ≡ None
+from_beats : {w : ℕ} (l : Level) (ch : Channel) (m : Message w) (j n : ℕ)
+    → ((i : ℕ) → i < n → illegal l ch (beat_of m (j + i)) ≡ None) → first_illegal l ch (beats_from m j n) ≡ None
 unfolding first_illegal beats_from
 from_beats l ch m j zero each = refl
 from_beats l ch m j (suc n) each =
     let first : illegal l ch (beat_of m j) ≡ None = rw add-zero at (each 0 (omega arith)) in
-    rw first (from_beats l ch m (j + 1) n (λ i lt. let place : j + 1 + i ≡ j + (i + 1) = omega arith in rw place (each (i + 1) (omega arith))))
+    rw first (from_beats l ch m (j + 1) n (λ i lt. let place : j + 1 + i ≡ j + (i + 1) = omega arith in
+    rw place (each (i + 1) (omega arith))))
 
 -- a message breaks no rule where none of its beats does
-pub legal_from_beats : {w : ℕ} (l : Level) (ch : Channel) (m : Message w) → ((i : ℕ) → i < beats_of m → illegal l ch (beat_of m i) ≡ None) → illegal_message l ch m ≡ None
-legal_from_beats l ch m each = from_beats l ch m 0 (beats_of m) (λ i lt. let place : 0 + i ≡ i = omega arith in rw place (each i lt))
+pub legal_from_beats : {w : ℕ} (l : Level) (ch : Channel) (m : Message w)
+    → ((i : ℕ) → i < beats_of m → illegal l ch (beat_of m i) ≡ None) → illegal_message l ch m ≡ None
+legal_from_beats l ch m each = from_beats l ch m 0 (beats_of m) (λ i lt. let place : 0 + i ≡ i = omega arith in
+    rw place (each i lt))
 
-to_beats : {w : ℕ} (l : Level) (ch : Channel) (m : Message w) (j n i : ℕ) → first_illegal l ch (beats_from m j n) ≡ None → i < n → illegal l ch (beat_of m (j + i)) ≡ None
+to_beats : {w : ℕ} (l : Level) (ch : Channel) (m : Message w) (j n i : ℕ) → first_illegal l ch (beats_from m j n) ≡ None
+    → i < n → illegal l ch (beat_of m (j + i)) ≡ None
 unfolding first_illegal beats_from
 to_beats l ch m j zero i e lt = absurd (omega arith)
 to_beats l ch m j (suc n) zero e lt = rw add-zero (both_none (illegal l ch (beat_of m j)) _ e).0
@@ -45,7 +52,8 @@ to_beats l ch m j (suc n) (suc i) e lt =
     rw place (to_beats l ch m (j + 1) n i (both_none (illegal l ch (beat_of m j)) _ e).1 (omega arith))
 
 -- and only there
-pub legal_beat : {w : ℕ} (l : Level) (ch : Channel) (m : Message w) (i : ℕ) → illegal_message l ch m ≡ None → i < beats_of m → illegal l ch (beat_of m i) ≡ None
+pub legal_beat : {w : ℕ} (l : Level) (ch : Channel) (m : Message w) (i : ℕ) → illegal_message l ch m ≡ None
+    → i < beats_of m → illegal l ch (beat_of m i) ≡ None
 legal_beat l ch m i e lt = let place : 0 + i ≡ i = omega arith in rw place at (to_beats l ch m 0 (beats_of m) i e lt)
 
 -- ---- accesses at TL-UH
@@ -63,7 +71,8 @@ access_of_uh a.Intent lt = refl
 access_of_uh a.AcquireBlock lt = absurd (omega arith)
 access_of_uh a.AcquirePerm lt = absurd (omega arith)
 
-access_size : (w : ℕ) (l : Level) (size : ℕ) → IsWidth w → access_has_size w l size ≡ true → access_has_size w level.UH size ≡ true
+access_size : (w : ℕ) (l : Level) (size : ℕ) → IsWidth w → access_has_size w l size ≡ true
+    → access_has_size w level.UH size ≡ true
 access_size w level.UL size is e = elim (cases_lt 4 size) [
   | inl above ↦ absurd (let no : false ≡ true = rw (size_above_width w size is above) at e in cc)
   | inr few ↦ le-leb size 6 (omega arith)
@@ -71,7 +80,8 @@ access_size w level.UL size is e = elim (cases_lt 4 size) [
 access_size w level.UH size is e = e
 access_size w level.C size is e = e
 
-size_at_uh : (w : ℕ) (l : Level) (opcode : OpA) (size : ℕ) → IsWidth w → a_has_size w l opcode size ≡ true → a_has_size w level.UH opcode size ≡ true
+size_at_uh : (w : ℕ) (l : Level) (opcode : OpA) (size : ℕ) → IsWidth w → a_has_size w l opcode size ≡ true
+    → a_has_size w level.UH opcode size ≡ true
 size_at_uh w l a.PutFullData size is e = access_size w l size is e
 size_at_uh w l a.PutPartialData size is e = access_size w l size is e
 size_at_uh w l a.ArithmeticData size is e = e
@@ -81,7 +91,8 @@ size_at_uh w l a.Intent size is e = access_size w l size is e
 size_at_uh w l a.AcquireBlock size is e = e
 size_at_uh w l a.AcquirePerm size is e = e
 
-control_at_uh : (w : ℕ) (l : Level) (opcode : OpA) (param size address : ℕ) → IsWidth w → a_code opcode < 6 → a_control w l opcode param size address ≡ None
+control_at_uh : (w : ℕ) (l : Level) (opcode : OpA) (param size address : ℕ) → IsWidth w → a_code opcode < 6
+    → a_control w l opcode param size address ≡ None
     → a_control w level.UH opcode param size address ≡ None
 control_at_uh w l opcode param size address is access e =
     let one = next_rule (not (a_of_level l opcode)) L1 _ e in
@@ -89,14 +100,21 @@ control_at_uh w l opcode param size address is access e =
     let three = next_rule (not (a_has_size w l opcode size)) L3 _ two.1 in
     no_rule (a_of_level level.UH opcode) L1 _ (access_of_uh opcode access)
     (no_rule (a_has_param opcode param) L2 _ (not-false (a_has_param opcode param) two.0)
-    (no_rule (a_has_size w level.UH opcode size) L3 _ (size_at_uh w l opcode size is (not-false (a_has_size w l opcode size) three.0)) three.1))
+    (no_rule (a_has_size w level.UH opcode size) L3 _
+    (size_at_uh w l opcode size is (not-false (a_has_size w l opcode size) three.0)) three.1))
 
-beat_at_uh : {w : ℕ} (l : Level) (x : BeatA w) → IsWidth w → a_code x.opcode < 6 → illegal l channel.A (beat.A x) ≡ None → illegal level.UH channel.A (beat.A x) ≡ None
+beat_at_uh : {w : ℕ} (l : Level) (x : BeatA w) → IsWidth w → a_code x.opcode < 6 → illegal l channel.A (beat.A x) ≡ None
+    → illegal level.UH channel.A (beat.A x) ≡ None
 beat_at_uh {w} l x is access e =
-    let p = both_none (a_control w l x.opcode x.param x.size x.address) (a_own w x.opcode x.size x.address x.mask x.corrupt) (sym (illegal_a l x) ∙ e) in
-    illegal_a level.UH x ∙ both (a_control w level.UH x.opcode x.param x.size x.address) (a_own w x.opcode x.size x.address x.mask x.corrupt)
+    let p = both_none (a_control w l x.opcode x.param x.size x.address)
+    (a_own w x.opcode x.size x.address x.mask x.corrupt) (sym (illegal_a l x) ∙ e) in
+    illegal_a level.UH x ∙ both (a_control w level.UH x.opcode x.param x.size x.address)
+    (a_own w x.opcode x.size x.address x.mask x.corrupt)
     (control_at_uh w l x.opcode x.param x.size x.address is access p.0) p.1
 
 -- an access that breaks no rule at the level of its link breaks none at TL-UH, as `perform` asks
-pub access_at_uh : {w : ℕ} (l : Level) (m : MessageA w) → IsWidth w → a_code m.opcode < 6 → illegal_message l channel.A (A m) ≡ None → illegal_message level.UH channel.A (A m) ≡ None
-access_at_uh l m is access e = legal_from_beats level.UH channel.A (A m) (λ i lt. beat_at_uh l (a_beat_of m i) is access (legal_beat l channel.A (A m) i e lt))
+pub access_at_uh : {w : ℕ} (l : Level) (m : MessageA w) → IsWidth w → a_code m.opcode < 6
+    → illegal_message l channel.A (A m) ≡ None → illegal_message level.UH channel.A (A m) ≡ None
+access_at_uh l m is access e =
+    legal_from_beats level.UH channel.A (A m)
+    (λ i lt. beat_at_uh l (a_beat_of m i) is access (legal_beat l channel.A (A m) i e lt))

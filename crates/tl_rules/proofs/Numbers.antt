@@ -16,7 +16,8 @@ unfolding number_from
 number_lt f a zero fits = omega arith
 number_lt f a (suc n) fits =
     let first : f a < 256 = rw add-zero at (fits 0 (omega arith)) in
-    let more : (i : ℕ) → i < n → f (a + 1 + i) < 256 = λ i less. let e : a + (i + 1) ≡ a + 1 + i = omega arith in rw e at (fits (i + 1) (omega arith)) in
+    let more : (i : ℕ) → i < n → f (a + 1 + i) < 256 = λ i less. let e : a + (i + 1) ≡ a + 1 + i = omega arith in
+    rw e at (fits (i + 1) (omega arith)) in
     let next : 8 * suc n ≡ 8 * n + 8 = omega arith in
     let rest = number_lt f (a + 1) n more in
     rw (next, pow-add 2 (8 * n) 8) (omega arith)
@@ -26,7 +27,8 @@ pub byte_of_rest : (n c j : ℕ) → j < c → byte_of (n % 2 ^ (8 * c)) j ≡ b
 byte_of_rest n c j lt =
     let bits : 8 * c ≡ 8 * (c - j - 1) + 8 + 8 * j = omega arith in
     rw (bytes_pow j, bits, field_of n (8 * (c - j - 1) + 8) (8 * j), mod-pow-add (n / 2 ^ (8 * j)) (8 * (c - j - 1)) 8)
-    (mod_low (n / 2 ^ (8 * j) / 2 ^ 8 % 2 ^ (8 * (c - j - 1))) 8 (n / 2 ^ (8 * j) % 2 ^ 8) (mod_below (n / 2 ^ (8 * j)) (2 ^ 8) (lit< tt)))
+    (mod_low (n / 2 ^ (8 * j) / 2 ^ 8 % 2 ^ (8 * (c - j - 1))) 8 (n / 2 ^ (8 * j) % 2 ^ 8)
+    (mod_below (n / 2 ^ (8 * j)) (2 ^ 8) (lit< tt)))
 
 pub written_byte : (n j : ℕ) → j < 8 → get_or (to_le_bytes w64 n) j 0 ≡ byte_of n j
 written_byte n zero lt = omega arith

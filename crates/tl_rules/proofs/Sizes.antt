@@ -10,7 +10,8 @@ use Rattle.tl_beat.specs.declared.opcode.OpD.TheVariants as d
 use Rattle.tl_params.specs.declared.level.Level.{Level}
 use Rattle.tl_params.specs.declared.level.Level.TheVariants as level
 use Rattle.tl_params.specs.declared.rule.Rule.TheVariants.{L1, L2, L3, L7}
-use Rattle.tl_rules.specs.statement.Legality.{access_has_size, d_has_size, breaks_l1, breaks_l2, breaks_l3, breaks_l7, illegal}
+use Rattle.tl_rules.specs.statement.Legality.{access_has_size, d_has_size, breaks_l1, breaks_l2, breaks_l3, breaks_l7}
+use Rattle.tl_rules.specs.statement.Legality.{illegal}
 use Rattle.tl_rules.proofs.Bursts.{next_rule}
 use Rattle.tl_rules.proofs.Widths.{size_above_width}
 
@@ -30,7 +31,8 @@ response_small w size l d.Grant width e = let h = eqb-true size 6 e in omega (ar
 response_small w size l d.GrantData width e = let h = eqb-true size 6 e in omega (arith, h)
 response_small w size l d.ReleaseAck width e = let h = eqb-true size 6 e in omega (arith, h)
 
-pub response-small : {w : ℕ} (l : Level) (ch : Channel) (x : BeatD w) → IsWidth w → illegal l ch (D x) ≡ None → x.size ≤ 6
+pub response-small : {w : ℕ} (l : Level) (ch : Channel) (x : BeatD w) → IsWidth w → illegal l ch (D x) ≡ None
+    → x.size ≤ 6
 unfolding illegal
 response-small {w} l ch x width e =
     let one = next_rule (breaks_l1 l ch (D x)) L1 _ e in

@@ -8,32 +8,39 @@ use Rattle.tl_beat.specs.declared.beat.BeatC.{BeatC}
 use Rattle.tl_beat.specs.declared.opcode.OpD.{OpD}
 use Rattle.tl_beat.specs.declared.opcode.OpD.TheVariants as d
 use Rattle.tl_burst.specs.statement.Messages.{History}
-use Rattle.tl_params.specs.declared.key.Key.TheVariants.{RequestSource, ReleaseSource, AcquireOf, ReleaseOf, GrantSink, GrantAckOf, ProbeOf}
+use Rattle.tl_params.specs.declared.key.Key.TheVariants.{RequestSource, ReleaseSource, AcquireOf, ReleaseOf, GrantSink}
+use Rattle.tl_params.specs.declared.key.Key.TheVariants.{GrantAckOf, ProbeOf}
 use Rattle.tl_params.specs.declared.perm.Perm.{Perm}
 use Rattle.tl_rules.specs.declared.past.Probe.{Probe}
 use Rattle.tl_rules.specs.declared.table.Block.{Block}
-use Rattle.tl_rules.specs.statement.History.{begins, ends, block_at, is_acquire, is_probe, is_probe_ack, is_release, is_grant, is_release_ack, asks_for, releases}
-use Rattle.tl_rules.specs.statement.History.{is_sink, request_of, release_of, probe_of, grant_sink, grants, pending, held, reported, capped}
+use Rattle.tl_rules.specs.statement.History.{begins, ends, block_at, is_acquire, is_probe, is_probe_ack, is_release}
+use Rattle.tl_rules.specs.statement.History.{is_grant, is_release_ack, asks_for, releases}
+use Rattle.tl_rules.specs.statement.History.{is_sink, request_of, release_of, probe_of, grant_sink, grants, pending}
+use Rattle.tl_rules.specs.statement.History.{held, reported, capped}
 use Rattle.tl_rules.proofs.Open.{never, still, release-begun, probe-begun}
 use Rattle.tl_rules.specs.code.Open.{request_fields, release_size, probe_fields, open_probe}
-use Rattle.tl_rules.specs.code.Tables.{release_fields, kept_request, kept_release, kept_grant, kept_block, request_next, release_next, sink_next, block_next, bears_on}
+use Rattle.tl_rules.specs.code.Tables.{release_fields, kept_request, kept_release, kept_grant, kept_block, request_next}
+use Rattle.tl_rules.specs.code.Tables.{release_next, sink_next, block_next, bears_on}
 
 -- ---- plain steps of what is pending
 
-pub neither : (first last before : Bool) → (if first && false then true else if last && false then false else before) ≡ before
+pub neither : (first last before : Bool) → (if first && false then true else if last && false then false else before)
+    ≡ before
 neither true true before = refl
 neither true false before = refl
 neither false true before = refl
 neither false false before = refl
 
-only_opened : (first now last before : Bool) → (if first && now then true else if last && false then false else before) ≡ (if first && now then true else before)
+only_opened : (first now last before : Bool) → (if first && now then true else if last && false then false else before)
+    ≡ (if first && now then true else before)
 only_opened true true last before = refl
 only_opened true false true before = refl
 only_opened true false false before = refl
 only_opened false now true before = refl
 only_opened false now false before = refl
 
-only_closed : (first last now before : Bool) → (if first && false then true else if last && now then false else before) ≡ (if last && now then false else before)
+only_closed : (first last now before : Bool) → (if first && false then true else if last && now then false else before)
+    ≡ (if last && now then false else before)
 only_closed true last now before = refl
 only_closed false last now before = refl
 
@@ -42,7 +49,8 @@ only_closed false last now before = refl
 module _ {X : Type 0} where
   -- opened with a new message, where the beat opens, and otherwise as before
   opened : (first now last before : Bool) (new old : Option X)
-      → (if (if first && now then true else if last && false then false else before) then (if first && now then new else old) else None)
+      → (if (if first && now then true else if last && false then false else before) then
+      (if first && now then new else old) else None)
       ≡ (if first && now then new else if before then old else None)
   opened true true last before new old = refl
   opened true false true before new old = refl
@@ -63,54 +71,71 @@ module _ {X : Type 0} where
 
   -- neither
   unmoved : (first last before : Bool) (old : Option X)
-      → (if (if first && false then true else if last && false then false else before) then old else None) ≡ (if before then old else None)
+      → (if (if first && false then true else if last && false then false else before) then old else None)
+      ≡ (if before then old else None)
   unmoved true true before old = refl
   unmoved true false before old = refl
   unmoved false true before old = refl
   unmoved false false before old = refl
 
 -- of fields of an optional message
-fields_if : {X Y : Type 0} (f : Option X → Option Y) (b : Bool) (o p : Option X) → f (if b then o else p) ≡ (if b then f o else f p)
+fields_if : {X Y : Type 0} (f : Option X → Option Y) (b : Bool) (o p : Option X)
+    → f (if b then o else p) ≡ (if b then f o else f p)
 fields_if f true o p = refl
 fields_if f false o p = refl
 
 -- ---- by source
 
-pub request-next : {w : ℕ} (s : ℕ) (x : Beat w) (t : History w) → kept_request s (x ∷ t) ≡ request_next (begins x t) (ends x t) x s (kept_request s t)
+pub request-next : {w : ℕ} (s : ℕ) (x : Beat w) (t : History w) → kept_request s (x ∷ t) ≡ request_next (begins x t)
+    (ends x t) x s (kept_request s t)
 unfolding pending request_of
 request-next s (A x) t =
     rw (fields_if request_fields (begins (A x) t && (x.source == s)) (Some x) (request_of s t))
-    (opened (begins (A x) t) (x.source == s) (ends (A x) t) (pending (RequestSource s) t) (request_fields (Some x)) (request_fields (request_of s t)))
-request-next s (B x) t = unmoved (begins (B x) t) (ends (B x) t) (pending (RequestSource s) t) (request_fields (request_of s t))
-request-next s (C x) t = unmoved (begins (C x) t) (ends (C x) t) (pending (RequestSource s) t) (request_fields (request_of s t))
-request-next s (D x) t = closed (begins (D x) t) (ends (D x) t) (not (is_release_ack x.opcode) && (x.source == s)) (pending (RequestSource s) t) (request_fields (request_of s t))
-request-next s (E x) t = unmoved (begins (E x) t) (ends (E x) t) (pending (RequestSource s) t) (request_fields (request_of s t))
+    (opened (begins (A x) t) (x.source == s) (ends (A x) t) (pending (RequestSource s) t) (request_fields (Some x))
+    (request_fields (request_of s t)))
+request-next s (B x) t = unmoved (begins (B x) t) (ends (B x) t) (pending (RequestSource s) t)
+    (request_fields (request_of s t))
+request-next s (C x) t = unmoved (begins (C x) t) (ends (C x) t) (pending (RequestSource s) t)
+    (request_fields (request_of s t))
+request-next s (D x) t = closed (begins (D x) t) (ends (D x) t) (not (is_release_ack x.opcode) && (x.source == s))
+    (pending (RequestSource s) t) (request_fields (request_of s t))
+request-next s (E x) t = unmoved (begins (E x) t) (ends (E x) t) (pending (RequestSource s) t)
+    (request_fields (request_of s t))
 
-pub release-next : {w : ℕ} (s : ℕ) (x : Beat w) (t : History w) → kept_release s (x ∷ t) ≡ release_next (begins x t) (ends x t) x s (kept_release s t)
+pub release-next : {w : ℕ} (s : ℕ) (x : Beat w) (t : History w) → kept_release s (x ∷ t) ≡ release_next (begins x t)
+    (ends x t) x s (kept_release s t)
 unfolding pending release_of
-release-next s (A x) t = unmoved (begins (A x) t) (ends (A x) t) (pending (ReleaseSource s) t) (release_fields (release_of s t))
-release-next s (B x) t = unmoved (begins (B x) t) (ends (B x) t) (pending (ReleaseSource s) t) (release_fields (release_of s t))
+release-next s (A x) t = unmoved (begins (A x) t) (ends (A x) t) (pending (ReleaseSource s) t)
+    (release_fields (release_of s t))
+release-next s (B x) t = unmoved (begins (B x) t) (ends (B x) t) (pending (ReleaseSource s) t)
+    (release_fields (release_of s t))
 release-next s (C x) t =
     rw (fields_if release_fields (begins (C x) t && (is_release x.opcode && (x.source == s))) (Some x) (release_of s t))
-    (opened (begins (C x) t) (is_release x.opcode && (x.source == s)) (ends (C x) t) (pending (ReleaseSource s) t) (release_fields (Some x))
+    (opened (begins (C x) t) (is_release x.opcode && (x.source == s)) (ends (C x) t) (pending (ReleaseSource s) t)
+    (release_fields (Some x))
     (release_fields (release_of s t)))
-release-next s (D x) t = closed (begins (D x) t) (ends (D x) t) (is_release_ack x.opcode && (x.source == s)) (pending (ReleaseSource s) t) (release_fields (release_of s t))
-release-next s (E x) t = unmoved (begins (E x) t) (ends (E x) t) (pending (ReleaseSource s) t) (release_fields (release_of s t))
+release-next s (D x) t = closed (begins (D x) t) (ends (D x) t) (is_release_ack x.opcode && (x.source == s))
+    (pending (ReleaseSource s) t) (release_fields (release_of s t))
+release-next s (E x) t = unmoved (begins (E x) t) (ends (E x) t) (pending (ReleaseSource s) t)
+    (release_fields (release_of s t))
 
 -- ---- by sink
 
-pub sink-next : {w : ℕ} (s : ℕ) (x : Beat w) (t : History w) → pending (GrantSink s) (x ∷ t) ≡ sink_next (begins x t) (ends x t) x s (pending (GrantSink s) t)
+pub sink-next : {w : ℕ} (s : ℕ) (x : Beat w) (t : History w) → pending (GrantSink s) (x ∷ t) ≡ sink_next (begins x t)
+    (ends x t) x s (pending (GrantSink s) t)
 unfolding pending
 sink-next s (A x) t = neither (begins (A x) t) (ends (A x) t) (pending (GrantSink s) t)
 sink-next s (B x) t = neither (begins (B x) t) (ends (B x) t) (pending (GrantSink s) t)
 sink-next s (C x) t = neither (begins (C x) t) (ends (C x) t) (pending (GrantSink s) t)
-sink-next s (D x) t = only_opened (begins (D x) t) (is_grant x.opcode && (x.sink == s)) (ends (D x) t) (pending (GrantSink s) t)
+sink-next s (D x) t = only_opened (begins (D x) t) (is_grant x.opcode && (x.sink == s)) (ends (D x) t)
+    (pending (GrantSink s) t)
 sink-next s (E x) t = only_closed (begins (E x) t) (ends (E x) t) (x.sink == s) (pending (GrantSink s) t)
 
 -- ---- by block
 
 -- what a message of this block makes of one of its parts, where `here` says that it is of the block
-chosen : {X : Type 0} (at now here : Bool) (new old : X) → (if at && (now && here) then new else old) ≡ (if here then (if at && now then new else old) else old)
+chosen : {X : Type 0} (at now here : Bool) (new old : X)
+    → (if at && (now && here) then new else old) ≡ (if here then (if at && now then new else old) else old)
 chosen true true true new old = refl
 chosen true true false new old = refl
 chosen true false true new old = refl
@@ -122,7 +147,8 @@ either : {X : Type 0} (here : Bool) (x : X) → x ≡ (if here then x else x)
 either true x = refl
 either false x = refl
 
-said : (last now here : Bool) (p h : Perm) → (if last then unwrap_or (if now && here then Some p else None) h else h) ≡ (if here then (if last && now then p else h) else h)
+said : (last now here : Bool) (p h : Perm) → (if last then unwrap_or (if now && here then Some p else None) h else h)
+    ≡ (if here then (if last && now then p else h) else h)
 said true true true p h = refl
 said true true false p h = refl
 said true false true p h = refl
@@ -134,18 +160,30 @@ unsaid : (last : Bool) (h : Perm) → (if last then unwrap_or None h else h) ≡
 unsaid true h = refl
 unsaid false h = refl
 
-same_block : (d b : Block) → d.held ≡ b.held → d.acquire ≡ b.acquire → d.release ≡ b.release → d.probe ≡ b.probe → d.grant ≡ b.grant → d ≡ b
-same_block d b h a r p g = ap (λ (x : Perm × Bool × Bool × Option Probe × Option ℕ). record { held = x.0; acquire = x.1; release = x.2; probe = x.3; grant = x.4 })
+same_block : (d b : Block) → d.held ≡ b.held → d.acquire ≡ b.acquire → d.release ≡ b.release → d.probe ≡ b.probe
+    → d.grant ≡ b.grant → d ≡ b
+same_block d b h a r p g =
+    ap (λ (x : Perm × Bool × Bool × Option Probe × Option ℕ). record {
+      held = x.0;
+      acquire = x.1;
+      release = x.2;
+      probe =
+          x.3;
+      grant = x.4;
+    })
     (rw (h, a, r, p, g) refl)
 
 -- a block whose parts are all chosen by one test is chosen by it
-parts : (here : Bool) (b c d : Block) → d.held ≡ (if here then b.held else c.held) → d.acquire ≡ (if here then b.acquire else c.acquire) → d.release ≡ (if here then b.release else c.release)
-    → d.probe ≡ (if here then b.probe else c.probe) → d.grant ≡ (if here then b.grant else c.grant) → d ≡ (if here then b else c)
+parts : (here : Bool) (b c d : Block) → d.held ≡ (if here then b.held else c.held)
+    → d.acquire ≡ (if here then b.acquire else c.acquire) → d.release ≡ (if here then b.release else c.release)
+    → d.probe ≡ (if here then b.probe else c.probe) → d.grant ≡ (if here then b.grant else c.grant)
+    → d ≡ (if here then b else c)
 parts true b c d h a r p g = same_block d b h a r p g
 parts false b c d h a r p g = same_block d c h a r p g
 
 -- a Grant is of the block of its request, a ReleaseAck of that of its Release
-grant_here : (op : OpD) (released asked : Bool) → (is_grant op && asked) ≡ (is_grant op && (if is_release_ack op then released else asked))
+grant_here : (op : OpD) (released asked : Bool)
+    → (is_grant op && asked) ≡ (is_grant op && (if is_release_ack op then released else asked))
 grant_here d.AccessAck r a = refl
 grant_here d.AccessAckData r a = refl
 grant_here d.HintAck r a = refl
@@ -153,7 +191,8 @@ grant_here d.Grant r a = refl
 grant_here d.GrantData r a = refl
 grant_here d.ReleaseAck r a = refl
 
-ack_here : (op : OpD) (released asked : Bool) → (is_release_ack op && released) ≡ (is_release_ack op && (if is_release_ack op then released else asked))
+ack_here : (op : OpD) (released asked : Bool)
+    → (is_release_ack op && released) ≡ (is_release_ack op && (if is_release_ack op then released else asked))
 ack_here d.AccessAck r a = refl
 ack_here d.AccessAckData r a = refl
 ack_here d.HintAck r a = refl
@@ -163,7 +202,8 @@ ack_here d.ReleaseAck r a = refl
 
 -- a GrantAck with the sink of the block's last Grant closes what is pending of it
 acked : (last before here : Bool) (g : Option ℕ) (kept : Bool) → kept ≡ (if before then here else false)
-    → (if last && here then None else if before then g else None) ≡ (if here then (if last && kept then None else if before then g else None) else if before then g else None)
+    → (if last && here then None else if before then g else None)
+    ≡ (if here then (if last && kept then None else if before then g else None) else if before then g else None)
 acked true true true g kept e = rw e refl
 acked true true false g kept e = refl
 acked true false true g kept e = rw e refl
@@ -171,63 +211,81 @@ acked true false false g kept e = refl
 acked false before true g kept e = refl
 acked false before false g kept e = refl
 
-kept_sink : (before : Bool) (s : ℕ) (g : Option ℕ) → is_sink s (if before then g else None) ≡ (if before then is_sink s g else false)
+kept_sink : (before : Bool) (s : ℕ) (g : Option ℕ)
+    → is_sink s (if before then g else None) ≡ (if before then is_sink s g else false)
 kept_sink true s g = refl
 kept_sink false s g = refl
 
-pub block-next : {w : ℕ} (k : ℕ) (x : Beat w) (t : History w) → kept_block k (x ∷ t) ≡ (if bears_on k x t then block_next (begins x t) (ends x t) x (kept_block k t) else kept_block k t)
+pub block-next : {w : ℕ} (k : ℕ) (x : Beat w) (t : History w)
+    → kept_block k (x ∷ t) ≡ (if bears_on k x t then block_next (begins x t) (ends x t) x (kept_block k t) else
+    kept_block k t)
 unfolding pending held probe_of grant_sink
 block-next k (A x) t =
     let here = block_at x.address == k in
-    parts here (block_next (begins (A x) t) (ends (A x) t) (A x) (kept_block k t)) (kept_block k t) (kept_block k (A x ∷ t))
+    parts here (block_next (begins (A x) t) (ends (A x) t) (A x) (kept_block k t)) (kept_block k t)
+    (kept_block k (A x ∷ t))
     (unsaid (ends (A x) t) (held k t) ∙ either here (held k t))
-    (only_opened (begins (A x) t) (is_acquire x.opcode && here) (ends (A x) t) (pending (AcquireOf k) t) ∙ chosen (begins (A x) t) (is_acquire x.opcode) here true (pending (AcquireOf k) t))
+    (only_opened (begins (A x) t) (is_acquire x.opcode && here) (ends (A x) t) (pending (AcquireOf k) t) ∙ chosen
+    (begins (A x) t) (is_acquire x.opcode) here true (pending (AcquireOf k) t))
     (neither (begins (A x) t) (ends (A x) t) (pending (ReleaseOf k) t) ∙ either here (pending (ReleaseOf k) t))
-    (unmoved (begins (A x) t) (ends (A x) t) (pending (ProbeOf k) t) (probe_fields (probe_of k t)) ∙ either here (open_probe k t))
+    (unmoved (begins (A x) t) (ends (A x) t) (pending (ProbeOf k) t) (probe_fields (probe_of k t)) ∙ either here
+    (open_probe k t))
     (unmoved (begins (A x) t) (ends (A x) t) (pending (GrantAckOf k) t) (grant_sink k t) ∙ either here (kept_grant k t))
 block-next k (B x) t =
     let here = block_at x.address == k in
-    parts here (block_next (begins (B x) t) (ends (B x) t) (B x) (kept_block k t)) (kept_block k t) (kept_block k (B x ∷ t))
+    parts here (block_next (begins (B x) t) (ends (B x) t) (B x) (kept_block k t)) (kept_block k t)
+    (kept_block k (B x ∷ t))
     (unsaid (ends (B x) t) (held k t) ∙ either here (held k t))
     (neither (begins (B x) t) (ends (B x) t) (pending (AcquireOf k) t) ∙ either here (pending (AcquireOf k) t))
     (neither (begins (B x) t) (ends (B x) t) (pending (ReleaseOf k) t) ∙ either here (pending (ReleaseOf k) t))
     (rw (fields_if probe_fields (begins (B x) t && (is_probe x.opcode && here)) (Some x) (probe_of k t))
-    (opened (begins (B x) t) (is_probe x.opcode && here) (ends (B x) t) (pending (ProbeOf k) t) (probe_fields (Some x)) (probe_fields (probe_of k t)))
+    (opened (begins (B x) t) (is_probe x.opcode && here) (ends (B x) t) (pending (ProbeOf k) t) (probe_fields (Some x))
+    (probe_fields (probe_of k t)))
     ∙ chosen (begins (B x) t) (is_probe x.opcode) here (probe_fields (Some x)) (open_probe k t))
     (unmoved (begins (B x) t) (ends (B x) t) (pending (GrantAckOf k) t) (grant_sink k t) ∙ either here (kept_grant k t))
 block-next k (C x) t =
     let here = block_at x.address == k in
-    parts here (block_next (begins (C x) t) (ends (C x) t) (C x) (kept_block k t)) (kept_block k t) (kept_block k (C x ∷ t))
+    parts here (block_next (begins (C x) t) (ends (C x) t) (C x) (kept_block k t)) (kept_block k t)
+    (kept_block k (C x ∷ t))
     (said (ends (C x) t) (is_probe_ack x.opcode || is_release x.opcode) here (reported x.param) (held k t))
     (neither (begins (C x) t) (ends (C x) t) (pending (AcquireOf k) t) ∙ either here (pending (AcquireOf k) t))
-    (only_opened (begins (C x) t) (is_release x.opcode && here) (ends (C x) t) (pending (ReleaseOf k) t) ∙ chosen (begins (C x) t) (is_release x.opcode) here true (pending (ReleaseOf k) t))
-    (closed (begins (C x) t) (ends (C x) t) (is_probe_ack x.opcode && here) (pending (ProbeOf k) t) (probe_fields (probe_of k t))
+    (only_opened (begins (C x) t) (is_release x.opcode && here) (ends (C x) t) (pending (ReleaseOf k) t) ∙ chosen
+    (begins (C x) t) (is_release x.opcode) here true (pending (ReleaseOf k) t))
+    (closed (begins (C x) t) (ends (C x) t) (is_probe_ack x.opcode && here) (pending (ProbeOf k) t)
+    (probe_fields (probe_of k t))
     ∙ chosen (ends (C x) t) (is_probe_ack x.opcode) here None (open_probe k t))
     (unmoved (begins (C x) t) (ends (C x) t) (pending (GrantAckOf k) t) (grant_sink k t) ∙ either here (kept_grant k t))
 block-next k (D x) t =
     let here = bears_on k (D x) t in
-    let granted : grants k x t ≡ (is_grant x.opcode && here) = grant_here x.opcode (releases k (release_of x.source t)) (asks_for k (request_of x.source t)) in
+    let granted : grants k x t ≡ (is_grant x.opcode && here) = grant_here x.opcode (releases k (release_of x.source t))
+    (asks_for k (request_of x.source t)) in
     let released : (is_release_ack x.opcode && releases k (release_of x.source t)) ≡ (is_release_ack x.opcode && here) =
     ack_here x.opcode (releases k (release_of x.source t)) (asks_for k (request_of x.source t)) in
-    parts here (block_next (begins (D x) t) (ends (D x) t) (D x) (kept_block k t)) (kept_block k t) (kept_block k (D x ∷ t))
-    (ap (λ g. if ends (D x) t then unwrap_or (if g then Some (capped x.param) else None) (held k t) else held k t) granted ∙ said (ends (D x) t) (is_grant x.opcode) here (capped x.param) (held k t))
+    parts here (block_next (begins (D x) t) (ends (D x) t) (D x) (kept_block k t)) (kept_block k t)
+    (kept_block k (D x ∷ t))
+    (ap (λ g. if ends (D x) t then unwrap_or (if g then Some (capped x.param) else None) (held k t) else held k t)
+    granted ∙ said (ends (D x) t) (is_grant x.opcode) here (capped x.param) (held k t))
     (only_closed (begins (D x) t) (ends (D x) t) (grants k x t) (pending (AcquireOf k) t)
     ∙ ap (λ g. if ends (D x) t && g then false else pending (AcquireOf k) t) granted
     ∙ chosen (ends (D x) t) (is_grant x.opcode) here false (pending (AcquireOf k) t))
-    (only_closed (begins (D x) t) (ends (D x) t) (is_release_ack x.opcode && releases k (release_of x.source t)) (pending (ReleaseOf k) t)
+    (only_closed (begins (D x) t) (ends (D x) t) (is_release_ack x.opcode && releases k (release_of x.source t))
+    (pending (ReleaseOf k) t)
     ∙ ap (λ g. if ends (D x) t && g then false else pending (ReleaseOf k) t) released
     ∙ chosen (ends (D x) t) (is_release_ack x.opcode) here false (pending (ReleaseOf k) t))
-    (unmoved (begins (D x) t) (ends (D x) t) (pending (ProbeOf k) t) (probe_fields (probe_of k t)) ∙ either here (open_probe k t))
+    (unmoved (begins (D x) t) (ends (D x) t) (pending (ProbeOf k) t) (probe_fields (probe_of k t)) ∙ either here
+    (open_probe k t))
     (opened (begins (D x) t) (grants k x t) (ends (D x) t) (pending (GrantAckOf k) t) (Some x.sink) (grant_sink k t)
     ∙ ap (λ g. if begins (D x) t && g then Some x.sink else kept_grant k t) granted
     ∙ chosen (begins (D x) t) (is_grant x.opcode) here (Some x.sink) (kept_grant k t))
 block-next {w} k (E x) t =
     let here = is_sink x.sink (grant_sink k t) in
-    parts here (block_next {w = w} (begins (E x) t) (ends (E x) t) (E x) (kept_block k t)) (kept_block k t) (kept_block k (E x ∷ t))
+    parts here (block_next {w = w} (begins (E x) t) (ends (E x) t) (E x) (kept_block k t)) (kept_block k t)
+    (kept_block k (E x ∷ t))
     (unsaid (ends (E x) t) (held k t) ∙ either here (held k t))
     (neither (begins (E x) t) (ends (E x) t) (pending (AcquireOf k) t) ∙ either here (pending (AcquireOf k) t))
     (neither (begins (E x) t) (ends (E x) t) (pending (ReleaseOf k) t) ∙ either here (pending (ReleaseOf k) t))
-    (unmoved (begins (E x) t) (ends (E x) t) (pending (ProbeOf k) t) (probe_fields (probe_of k t)) ∙ either here (open_probe k t))
+    (unmoved (begins (E x) t) (ends (E x) t) (pending (ProbeOf k) t) (probe_fields (probe_of k t)) ∙ either here
+    (open_probe k t))
     (closed (begins (E x) t) (ends (E x) t) here (pending (GrantAckOf k) t) (grant_sink k t)
     ∙ acked (ends (E x) t) (pending (GrantAckOf k) t) here (grant_sink k t) (is_sink x.sink (kept_grant k t))
     (kept_sink (pending (GrantAckOf k) t) x.sink (grant_sink k t)))
@@ -235,31 +293,44 @@ block-next {w} k (E x) t =
 -- ---- what is pending was begun
 
 -- a request that is pending has begun
-pub request-begun : {w : ℕ} (s : ℕ) (t : History w) → pending (RequestSource s) t ≡ true → request_fields (request_of s t) ≡ None → ⊥
+pub request-begun : {w : ℕ} (s : ℕ) (t : History w) → pending (RequestSource s) t ≡ true
+    → request_fields (request_of s t) ≡ None → ⊥
 unfolding pending request_of
 request-begun s [] p none = absurd cc
 request-begun s (A y ∷ t) p none = elim (cases_Bool (begins (A y) t && (y.source == s))) [
   | inl now ↦ let none' : request_fields (Some y) ≡ None = rw now at none in absurd cc
-  | inr before ↦ request-begun s t (still _ (ends (A y) t && false) (pending (RequestSource s) t) before p) (rw before at none)
+  | inr before ↦ request-begun s t (still _ (ends (A y) t && false) (pending (RequestSource s) t) before p)
+      (rw before at none)
 ]
-request-begun s (B y ∷ t) p none = request-begun s t (sym (neither (begins (B y) t) (ends (B y) t) (pending (RequestSource s) t)) ∙ p) none
-request-begun s (C y ∷ t) p none = request-begun s t (sym (neither (begins (C y) t) (ends (C y) t) (pending (RequestSource s) t)) ∙ p) none
+request-begun s (B y ∷ t) p none =
+    request-begun s t (sym (neither (begins (B y) t) (ends (B y) t) (pending (RequestSource s) t)) ∙ p) none
+request-begun s (C y ∷ t) p none =
+    request-begun s t (sym (neither (begins (C y) t) (ends (C y) t) (pending (RequestSource s) t)) ∙ p) none
 request-begun s (D y ∷ t) p none =
-    request-begun s t (still (begins (D y) t && false) (ends (D y) t && (not (is_release_ack y.opcode) && (y.source == s))) (pending (RequestSource s) t) (never (begins (D y) t)) p) none
-request-begun s (E y ∷ t) p none = request-begun s t (sym (neither (begins (E y) t) (ends (E y) t) (pending (RequestSource s) t)) ∙ p) none
+    request-begun s t (still (begins (D y) t && false)
+    (ends (D y) t && (not (is_release_ack y.opcode) && (y.source == s))) (pending (RequestSource s) t)
+    (never (begins (D y) t)) p) none
+request-begun s (E y ∷ t) p none =
+    request-begun s t (sym (neither (begins (E y) t) (ends (E y) t) (pending (RequestSource s) t)) ∙ p) none
 
 -- a GrantAck that is pending is of a Grant that has begun
 pub grant-begun : {w : ℕ} (k : ℕ) (t : History w) → pending (GrantAckOf k) t ≡ true → grant_sink k t ≡ None → ⊥
 unfolding pending grant_sink
 grant-begun k [] p none = absurd cc
-grant-begun k (A y ∷ t) p none = grant-begun k t (sym (neither (begins (A y) t) (ends (A y) t) (pending (GrantAckOf k) t)) ∙ p) none
-grant-begun k (B y ∷ t) p none = grant-begun k t (sym (neither (begins (B y) t) (ends (B y) t) (pending (GrantAckOf k) t)) ∙ p) none
-grant-begun k (C y ∷ t) p none = grant-begun k t (sym (neither (begins (C y) t) (ends (C y) t) (pending (GrantAckOf k) t)) ∙ p) none
+grant-begun k (A y ∷ t) p none =
+    grant-begun k t (sym (neither (begins (A y) t) (ends (A y) t) (pending (GrantAckOf k) t)) ∙ p) none
+grant-begun k (B y ∷ t) p none =
+    grant-begun k t (sym (neither (begins (B y) t) (ends (B y) t) (pending (GrantAckOf k) t)) ∙ p) none
+grant-begun k (C y ∷ t) p none =
+    grant-begun k t (sym (neither (begins (C y) t) (ends (C y) t) (pending (GrantAckOf k) t)) ∙ p) none
 grant-begun k (D y ∷ t) p none = elim (cases_Bool (begins (D y) t && grants k y t)) [
   | inl now ↦ let none' : Some y.sink ≡ None = rw now at none in absurd cc
-  | inr before ↦ grant-begun k t (still _ (ends (D y) t && false) (pending (GrantAckOf k) t) before p) (rw before at none)
+  | inr before ↦ grant-begun k t (still _ (ends (D y) t && false) (pending (GrantAckOf k) t) before p)
+      (rw before at none)
 ]
-grant-begun k (E y ∷ t) p none = grant-begun k t (still (begins (E y) t && false) (ends (E y) t && is_sink y.sink (grant_sink k t)) (pending (GrantAckOf k) t) (never (begins (E y) t)) p) none
+grant-begun k (E y ∷ t) p none =
+    grant-begun k t (still (begins (E y) t && false) (ends (E y) t && is_sink y.sink (grant_sink k t))
+    (pending (GrantAckOf k) t) (never (begins (E y) t)) p) none
 
 -- ---- what is pending, by what is kept of it
 
@@ -276,7 +347,8 @@ pub pending-request : {w : ℕ} (s : ℕ) (t : History w) → pending (RequestSo
 pending-request s t = there (pending (RequestSource s) t) (request_fields (request_of s t)) (request-begun s t)
 
 pub pending-release : {w : ℕ} (s : ℕ) (t : History w) → pending (ReleaseSource s) t ≡ is_some (kept_release s t)
-pending-release s t = there (pending (ReleaseSource s) t) (release_fields (release_of s t)) (λ p none. release-begun s t p (sized (release_of s t) none))
+pending-release s t = there (pending (ReleaseSource s) t) (release_fields (release_of s t))
+    (λ p none. release-begun s t p (sized (release_of s t) none))
 
 pub pending-probe : {w : ℕ} (k : ℕ) (t : History w) → pending (ProbeOf k) t ≡ is_some (kept_block k t).probe
 pending-probe k t = there (pending (ProbeOf k) t) (probe_fields (probe_of k t)) (probe-begun k t)

@@ -1,5 +1,6 @@
 -- The mask of a beat has no bit past the beat's lanes.
-use Rattle.std.proofs.Common.{◌≡◌, ℕ, zero, suc, ◌+◌, ◌%◌, ◌^◌, ◌<◌, ◌≤◌, Bool, true, false, not, ◌&&◌, ◌||◌, leb, ltb, refl, sym, ◌∙◌, arith, inl, inr}
+use Rattle.std.proofs.Common.{◌≡◌, ℕ, zero, suc, ◌+◌, ◌%◌, ◌^◌, ◌<◌, ◌≤◌, Bool, true, false, not, ◌&&◌, ◌||◌, leb, ltb}
+use Rattle.std.proofs.Common.{refl, sym, ◌∙◌, arith, inl, inr}
 use Rattle.std.specs.Bool.{OnTrue, beq}
 use Rattle.std.specs.Int.{bit_at}
 use Rattle.std.proofs.lemmas.Bool.{cases_lt, lt-leb, le-leb, ltb-true, eqb-true, and_parts}
@@ -11,26 +12,83 @@ use Rattle.tl_rules.specs.statement.Legality.{each_below, is_aligned, is_lane, i
 use Rattle.tl_rules.proofs.Masks.{bit_at_mod}
 
 -- an aligned message that is shorter than a beat lies within one
-room_in_beat : (w size address : ℕ) → IsWidth w → 2 ^ size < w → size ≤ 6 → address % 2 ^ size ≡ 0 → address % w + 2 ^ size ≤ w
-room_in_beat w zero address is short le e = elim is [ inl w_is ↦ rw w_is (omega arith) | inr more ↦ elim more [ inl w_is ↦ rw w_is (omega arith) | inr w_is ↦ rw w_is (omega arith) ] ]
-room_in_beat w (suc zero) address is short le e = elim is [ inl w_is ↦ rw w_is (omega arith) | inr more ↦ elim more [ inl w_is ↦ rw w_is (omega arith) | inr w_is ↦ rw w_is (omega arith) ] ]
-room_in_beat w (suc (suc zero)) address is short le e = elim is [ inl w_is ↦ rw w_is (omega arith) | inr more ↦ elim more [ inl w_is ↦ rw w_is (omega arith) | inr w_is ↦ rw w_is (omega arith) ] ]
+room_in_beat : (w size address : ℕ) → IsWidth w → 2 ^ size < w → size ≤ 6 → address % 2 ^ size ≡ 0
+    → address % w + 2 ^ size ≤ w
+room_in_beat w zero address is short le e =
+    elim is [
+      | inl w_is ↦ rw w_is (omega arith)
+      | inr more ↦ elim more [
+        | inl w_is ↦ rw w_is (omega arith)
+        | inr w_is ↦ rw
+            w_is (omega arith)
+      ]
+    ]
+room_in_beat w (suc zero) address is short le e =
+    elim is [
+      | inl w_is ↦ rw w_is (omega arith)
+      | inr more ↦ elim more [
+        | inl w_is ↦ rw w_is (omega arith)
+        | inr w_is ↦ rw
+            w_is (omega arith)
+      ]
+    ]
+room_in_beat w (suc (suc zero)) address is short le e =
+    elim is [
+      | inl w_is ↦ rw w_is (omega arith)
+      | inr more ↦ elim more [
+        | inl w_is ↦ rw w_is (omega arith)
+        | inr w_is ↦ rw
+            w_is (omega arith)
+      ]
+    ]
 room_in_beat w (suc (suc (suc zero))) address is short le e =
-    elim is [ inl w_is ↦ rw w_is (omega arith) | inr more ↦ elim more [ inl w_is ↦ rw w_is (omega arith) | inr w_is ↦ rw w_is (omega arith) ] ]
+    elim is [
+      | inl w_is ↦ rw w_is (omega arith)
+      | inr more ↦ elim more [
+        | inl w_is ↦ rw w_is (omega arith)
+        | inr w_is ↦ rw
+            w_is (omega arith)
+      ]
+    ]
 room_in_beat w (suc (suc (suc (suc zero)))) address is short le e =
-    elim is [ inl w_is ↦ rw w_is (omega arith) | inr more ↦ elim more [ inl w_is ↦ rw w_is (omega arith) | inr w_is ↦ rw w_is (omega arith) ] ]
+    elim is [
+      | inl w_is ↦ rw w_is (omega arith)
+      | inr more ↦ elim more [
+        | inl w_is ↦ rw w_is (omega arith)
+        | inr w_is ↦ rw
+            w_is (omega arith)
+      ]
+    ]
 room_in_beat w (suc (suc (suc (suc (suc zero))))) address is short le e =
-    elim is [ inl w_is ↦ rw w_is (omega arith) | inr more ↦ elim more [ inl w_is ↦ rw w_is (omega arith) | inr w_is ↦ rw w_is (omega arith) ] ]
+    elim is [
+      | inl w_is ↦ rw w_is (omega arith)
+      | inr more ↦ elim more [
+        | inl w_is ↦ rw w_is (omega arith)
+        | inr w_is ↦ rw
+            w_is (omega arith)
+      ]
+    ]
 room_in_beat w (suc (suc (suc (suc (suc (suc zero)))))) address is short le e =
-    elim is [ inl w_is ↦ rw w_is (omega arith) | inr more ↦ elim more [ inl w_is ↦ rw w_is (omega arith) | inr w_is ↦ rw w_is (omega arith) ] ]
+    elim is [
+      | inl w_is ↦ rw w_is (omega arith)
+      | inr more ↦ elim more [
+        | inl w_is ↦ rw w_is (omega arith)
+        | inr w_is ↦ rw
+            w_is (omega arith)
+      ]
+    ]
 room_in_beat w (suc (suc (suc (suc (suc (suc (suc n))))))) address is short le e = absurd (omega arith)
 
-lane_in_beat : (w size address lane : ℕ) → IsWidth w → size ≤ 6 → is_aligned address size ≡ true → is_lane w size address lane ≡ true → lane < w
+lane_in_beat : (w size address lane : ℕ) → IsWidth w → size ≤ 6 → is_aligned address size ≡ true
+    → is_lane w size address lane ≡ true → lane < w
 lane_in_beat w size address lane is le aligned e = elim (cases_lt (2 ^ size) w) [
   | inl short ↦
-      let part : (leb (address % w) lane && ltb lane (address % w + 2 ^ size)) ≡ true = rw (lt-leb w (2 ^ size) short) at e in
-      let upper : lane < address % w + 2 ^ size = ltb-true lane (address % w + 2 ^ size) (and_parts (leb (address % w) lane) _ part).1 in
-      let room : address % w + 2 ^ size ≤ w = room_in_beat w size address is short le (eqb-true (address % 2 ^ size) 0 aligned) in
+      let part : (leb (address % w) lane && ltb lane (address % w + 2 ^ size)) ≡ true =
+      rw (lt-leb w (2 ^ size) short) at e in
+      let upper : lane < address % w + 2 ^ size =
+      ltb-true lane (address % w + 2 ^ size) (and_parts (leb (address % w) lane) _ part).1 in
+      let room : address % w + 2 ^ size ≤ w =
+      room_in_beat w size address is short le (eqb-true (address % 2 ^ size) 0 aligned) in
       omega arith
   | inr long ↦
       let all : ltb lane w ≡ true = rw (le-leb w (2 ^ size) long) at e in
@@ -65,9 +123,11 @@ narrow : (w mask : ℕ) → mask < 2 ^ 16 → ((i : ℕ) → i < 16 → bit mask
 narrow w mask small within =
     let low : mask % 2 ^ w < 2 ^ w = mod_below mask (2 ^ w) (pow_pos w) in
     let below : mask % 2 ^ w < 2 ^ 16 = omega arith in
-    let same : mask ≡ mask % 2 ^ w = same_from_bits_below 16 mask (mask % 2 ^ w) small below (λ i lt. elim (cases_lt i w) [
+    let same : mask ≡ mask % 2 ^ w = same_from_bits_below 16 mask (mask % 2 ^ w) small below
+    (λ i lt. elim (cases_lt i w) [
       | inl inside ↦ sym (bit_at_mod mask w i inside)
-      | inr outside ↦ no_bit mask i (not_true (bit mask i) (λ e. let inside : i < w = within i lt e in omega arith)) ∙ sym (bit_at_above (mask % 2 ^ w) w i low outside)
+      | inr outside ↦ no_bit mask i (not_true (bit mask i) (λ e. let inside : i < w = within i lt e in omega arith))
+          ∙ sym (bit_at_above (mask % 2 ^ w) w i low outside)
     ]) in
     omega arith
 
@@ -80,13 +140,17 @@ pub part_bit : (b lane : Bool) → (not b || lane) ≡ true → b ≡ true → l
 part_bit true lane part e = part
 part_bit false lane part e = absurd cc
 
-pub full_mask-narrow : (w size address mask : ℕ) → IsWidth w → size ≤ 6 → mask < 2 ^ 16 → is_aligned address size ≡ true → is_full_mask w size address mask ≡ true → mask < 2 ^ w
+pub full_mask-narrow : (w size address mask : ℕ) → IsWidth w → size ≤ 6 → mask < 2 ^ 16 → is_aligned address size ≡ true
+    → is_full_mask w size address mask ≡ true → mask < 2 ^ w
 full_mask-narrow w size address mask is le small aligned full =
-    narrow w mask small (λ i lt e. lane_in_beat w size address i is le aligned (full_bit (bit mask i) _ (each_at (λ lane. beq (bit mask lane) (is_lane w size address lane)) 16 i full lt) e))
+    narrow w mask small (λ i lt e. lane_in_beat w size address i is le aligned
+    (full_bit (bit mask i) _ (each_at (λ lane. beq (bit mask lane) (is_lane w size address lane)) 16 i full lt) e))
 
-pub part_mask-narrow : (w size address mask : ℕ) → IsWidth w → size ≤ 6 → mask < 2 ^ 16 → is_aligned address size ≡ true → is_part_mask w size address mask ≡ true → mask < 2 ^ w
+pub part_mask-narrow : (w size address mask : ℕ) → IsWidth w → size ≤ 6 → mask < 2 ^ 16 → is_aligned address size ≡ true
+    → is_part_mask w size address mask ≡ true → mask < 2 ^ w
 part_mask-narrow w size address mask is le small aligned part =
-    narrow w mask small (λ i lt e. lane_in_beat w size address i is le aligned (part_bit (bit mask i) _ (each_at (λ lane. not (bit mask lane) || is_lane w size address lane) 16 i part lt) e))
+    narrow w mask small (λ i lt e. lane_in_beat w size address i is le aligned
+    (part_bit (bit mask i) _ (each_at (λ lane. not (bit mask lane) || is_lane w size address lane) 16 i part lt) e))
 
 pub if_true : (b c : Bool) {P : Type 0} → b ≡ c → (c ≡ true → P) → OnTrue b P
 if_true b true e then = rw e (then refl)

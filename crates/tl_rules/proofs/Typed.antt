@@ -1,5 +1,6 @@
 -- Messages of 64 bytes have typed beats, and typed beats a payload of 64 bytes.
-use Rattle.std.proofs.Common.{◌≡◌, ℕ, suc, ◌+◌, ◌-◌, ◌*◌, ◌/◌, ◌%◌, ◌^◌, ◌<◌, ◌≤◌, Bool, true, false, List, [], ◌∷◌, ◌++◌, length, Option, Some, None, unwrap_or, ◌∙◌, ap, arith, inl, inr}
+use Rattle.std.proofs.Common.{◌≡◌, ℕ, suc, ◌+◌, ◌-◌, ◌*◌, ◌/◌, ◌%◌, ◌^◌, ◌<◌, ◌≤◌, Bool, true, false, List, [], ◌∷◌}
+use Rattle.std.proofs.Common.{◌++◌, length, Option, Some, None, unwrap_or, ◌∙◌, ap, arith, inl, inr}
 use Rattle.std.specs.Prelude.{IfSome, replicate, drop}
 use Rattle.std.proofs.lemmas.List.{length-append, length-replicate, length-take-le, length-drop}
 use Rattle.tl_beat.specs.statement.Width.{IsWidth}
@@ -15,7 +16,8 @@ use Rattle.tl_rules.specs.laws.Typed.{IsTyped, AreTyped, HasBlock}
 
 -- ---- the beats of a message
 
-whole_lanes : (carries : Bool) (w : ℕ) (payload : List ℕ) (i : ℕ) → length payload ≡ 64 → w * i + w ≤ 64 → IfSome (lanes_at carries w payload i) (λ lanes. length lanes ≡ w)
+whole_lanes : (carries : Bool) (w : ℕ) (payload : List ℕ) (i : ℕ) → length payload ≡ 64 → w * i + w ≤ 64
+    → IfSome (lanes_at carries w payload i) (λ lanes. length lanes ≡ w)
 whole_lanes false w payload i long room = tt
 whole_lanes true w payload i long room =
     let wide : w * i + w - w * i ≡ w = omega arith in
@@ -28,10 +30,20 @@ mask_fits w n (inr (inl e)) = rw e (omega arith)
 mask_fits w n (inr (inr e)) = rw e (omega arith)
 
 pub typed-beat : {w : ℕ} (m : Message w) (i : ℕ) → IsWidth w → HasBlock m → i < beats_of m → IsTyped (beat_of m i)
-typed-beat {w} (A m) i is long lt = (mask_fits w (m.mask / 2 ^ (w * i)) is, whole_lanes (a_carries_data m.opcode) w m.payload i long (within_payload (A m) i is lt))
-typed-beat {w} (B m) i is long lt = (mask_fits w (m.mask / 2 ^ (w * i)) is, whole_lanes (b_carries_data m.opcode) w m.payload i long (within_payload (B m) i is lt))
-typed-beat {w} (C m) i is long lt = whole_lanes (c_carries_data m.opcode) w m.payload i long (within_payload (C m) i is lt)
-typed-beat {w} (D m) i is long lt = whole_lanes (d_carries_data m.opcode) w m.payload i long (within_payload (D m) i is lt)
+typed-beat {w} (A m) i is long lt = (
+  mask_fits w (m.mask / 2 ^ (w * i)) is,
+  whole_lanes (a_carries_data m.opcode) w m.payload i long
+      (within_payload (A m) i is lt),
+)
+typed-beat {w} (B m) i is long lt = (
+  mask_fits w (m.mask / 2 ^ (w * i)) is,
+  whole_lanes (b_carries_data m.opcode) w m.payload i long
+      (within_payload (B m) i is lt),
+)
+typed-beat {w} (C m) i is long lt = whole_lanes (c_carries_data m.opcode) w m.payload i long
+    (within_payload (C m) i is lt)
+typed-beat {w} (D m) i is long lt = whole_lanes (d_carries_data m.opcode) w m.payload i long
+    (within_payload (D m) i is lt)
 typed-beat (E m) i is long lt = tt
 
 -- ---- the payload of beats
@@ -52,11 +64,21 @@ unfolding bytes_carried
 few_bytes [] typed = omega arith
 few_bytes {w} (x ∷ beats) typed =
     let next : w * suc (length beats) ≡ w * length beats + w = omega arith in
-    let both : length (bytes_carried beats ++ lanes_of x) ≡ length (bytes_carried beats) + length (lanes_of x) = length-append (bytes_carried beats) (lanes_of x) in
+    let both : length (bytes_carried beats ++ lanes_of x) ≡ length (bytes_carried beats) + length (lanes_of x) =
+    length-append (bytes_carried beats) (lanes_of x) in
     omega (arith, next, both, few_bytes beats typed.1, few_lanes x typed.0)
 
-pub payload-long : {w : ℕ} (beats : List (Beat w)) → AreTyped beats → w * length beats ≤ 64 → length (payload_of beats) ≡ 64
+pub payload-long : {w : ℕ} (beats : List (Beat w)) → AreTyped beats → w * length beats ≤ 64
+    → length (payload_of beats) ≡ 64
 payload-long beats typed room =
     let few = few_bytes beats typed in
-    let zeros : length {A = ℕ} (replicate (64 - length (bytes_carried beats)) 0) ≡ 64 - length (bytes_carried beats) = length-replicate (64 - length (bytes_carried beats)) 0 in
-    omega (arith, few, room, zeros, length-append (bytes_carried beats) (replicate (64 - length (bytes_carried beats)) 0))
+    let zeros : length {A = ℕ} (replicate (64 - length (bytes_carried beats)) 0) ≡ 64 - length (bytes_carried beats) =
+    length-replicate (64 - length (bytes_carried beats)) 0 in
+    omega (
+      arith,
+      few,
+      room,
+      zeros,
+      length-append (bytes_carried beats)
+          (replicate (64 - length (bytes_carried beats)) 0),
+    )

@@ -1,5 +1,6 @@
 -- What the widths have in common.
-use Rattle.std.proofs.Common.{◌≡◌, ℕ, ◌<◌, ◌≤◌, ◌^◌, false, leb, inl, inr, arith, lit<, ◌/◌, ◌%◌, ◌*◌, ◌+◌, ◌↔◌, eqb, true, refl}
+use Rattle.std.proofs.Common.{◌≡◌, ℕ, ◌<◌, ◌≤◌, ◌^◌, false, leb, inl, inr, arith, lit<, ◌/◌, ◌%◌, ◌*◌, ◌+◌, ◌↔◌, eqb}
+use Rattle.std.proofs.Common.{true, refl}
 use Rattle.std.proofs.lemmas.Bool.{lt-leb, eqb-true, eq-eqb}
 use Rattle.std.proofs.lemmas.Nat.{shr_split, pow_pos, mod_below}
 use Rattle.std.proofs.Math.Nat.{pow-le-pow_right, div-eq_of_lt}
@@ -7,11 +8,16 @@ use Rattle.tl_beat.specs.statement.Width.{IsWidth}
 use Rattle.tl_burst.specs.statement.Burst.{data_beats}
 
 pub width-bounds : (w : ℕ) → IsWidth w → (4 ≤ w) × (w ≤ 16)
-width-bounds w is = elim is [ inl e ↦ (omega arith, omega arith) | inr more ↦ elim more [ inl e ↦ (omega arith, omega arith) | inr e ↦ (omega arith, omega arith) ] ]
+width-bounds w is = elim is [
+  | inl e ↦ (omega arith, omega arith)
+  | inr more ↦ elim more
+      [ inl e ↦ (omega arith, omega arith) | inr e ↦ (omega arith, omega arith) ]
+]
 
 -- a block is this many whole beats
 pub whole_block : (w : ℕ) → IsWidth w → w * data_beats w 6 ≡ 64
-whole_block w is = elim is [ inl w_is ↦ rw w_is refl | inr more ↦ elim more [ inl w_is ↦ rw w_is refl | inr w_is ↦ rw w_is refl ] ]
+whole_block w is = elim is
+    [ inl w_is ↦ rw w_is refl | inr more ↦ elim more [ inl w_is ↦ rw w_is refl | inr w_is ↦ rw w_is refl ] ]
 
 -- 32 bytes are more than a beat's
 pub size_above_width : (w size : ℕ) → IsWidth w → 4 < size → leb (2 ^ size) w ≡ false

@@ -14,7 +14,8 @@ filled-whole : (bytes : List ℕ) → length bytes ≡ 64 → filled bytes ≡ b
 filled-whole bytes e = let none : 64 - length bytes ≡ 0 = omega arith in rw none (append-nil bytes)
 
 -- the bytes of a block
-pub block_bytes : (fields : List (List ℕ)) (read : List ℕ) → Some read ≡ option_map filled (last (bytes_in 64) fields) → last (bytes_in 64) fields ≡ Some read
+pub block_bytes : (fields : List (List ℕ)) (read : List ℕ) → Some read ≡ option_map filled (last (bytes_in 64) fields)
+    → last (bytes_in 64) fields ≡ Some read
 block_bytes fields read e = go (last (bytes_in 64) fields) refl e
   where
     go : (o : Option (List ℕ)) → last (bytes_in 64) fields ≡ o → Some read ≡ option_map filled o → o ≡ Some read

@@ -1,5 +1,6 @@
 -- The digits of bytes, the last byte first.
-use Rattle.std.proofs.Common.{◌≡◌, ◌<◌, ◌≤◌, ℕ, suc, ◌+◌, ◌-◌, ◌^◌, List, [], ◌∷◌, ◌++◌, length, get_or, take, drop, refl, sym, arith, append_assoc, lit<}
+use Rattle.std.proofs.Common.{◌≡◌, ◌<◌, ◌≤◌, ℕ, suc, ◌+◌, ◌-◌, ◌^◌, List, [], ◌∷◌, ◌++◌, length, get_or, take, drop}
+use Rattle.std.proofs.Common.{refl, sym, arith, append_assoc, lit<}
 use Rattle.std.proofs.Math.Nat.{pow-le-pow_right}
 use Rattle.std.proofs.Math.Seq.{drop-cons}
 use Rattle.std.proofs.lemmas.List.{append-nil, drop_all, take_all}
@@ -19,13 +20,18 @@ append-none bytes old =
     let past : drop (length bytes - 0) bytes ≡ [] = drop_all (length bytes - 0) bytes (omega arith) in
     rw (past, no_digits, append-nil) refl
 
-pub append-step : (i : ℕ) (bytes old out pair : List ℕ) → i < length bytes → pair ≡ digits 2 (get_or bytes (length bytes - 1 - i) 0)
-    → out ≡ old ++ lane_digits (drop (length bytes - i) bytes) → out ++ pair ≡ old ++ lane_digits (drop (length bytes - (i + 1)) bytes)
+pub append-step : (i : ℕ) (bytes old out pair : List ℕ) → i < length bytes
+    → pair ≡ digits 2 (get_or bytes (length bytes - 1 - i) 0)
+    → out ≡ old ++ lane_digits (drop (length bytes - i) bytes)
+    → out ++ pair ≡ old ++ lane_digits (drop (length bytes - (i + 1)) bytes)
 append-step i bytes old out pair lt two so_far =
     let at : length bytes - (i + 1) ≡ length bytes - 1 - i = omega arith in
     let after : length bytes - i ≡ suc (length bytes - 1 - i) = omega arith in
-    let cut : drop (length bytes - 1 - i) bytes ≡ get_or bytes (length bytes - 1 - i) 0 ∷ drop (suc (length bytes - 1 - i)) bytes = drop-cons bytes (length bytes - 1 - i) 0 (omega arith) in
-    rw (so_far, two, at, after, cut, one_more_byte) (append_assoc old (lane_digits (drop (suc (length bytes - 1 - i)) bytes)) (digits 2 (get_or bytes (length bytes - 1 - i) 0)))
+    let cut : drop (length bytes - 1 - i) bytes ≡ get_or bytes (length bytes - 1 - i) 0 ∷ drop
+    (suc (length bytes - 1 - i)) bytes = drop-cons bytes (length bytes - 1 - i) 0 (omega arith) in
+    rw (so_far, two, at, after, cut, one_more_byte)
+    (append_assoc old (lane_digits (drop (suc (length bytes - 1 - i)) bytes))
+    (digits 2 (get_or bytes (length bytes - 1 - i) 0)))
 
 -- bytes of a block are at most those of a size from 6 on
 pub all_shown : (size : ℕ) (bytes : List ℕ) → 6 ≤ size → length bytes ≤ 64 → bytes ≡ take (2 ^ size) bytes

@@ -1,5 +1,6 @@
 -- What a line says is read.
-use Rattle.std.proofs.Common.{◌≡◌, ℕ, zero, suc, ◌+◌, ◌*◌, ◌/◌, ◌%◌, ◌^◌, ◌≤◌, Bool, true, false, cond, List, [], ◌∷◌, length, refl, arith, inl, inr}
+use Rattle.std.proofs.Common.{◌≡◌, ℕ, zero, suc, ◌+◌, ◌*◌, ◌/◌, ◌%◌, ◌^◌, ◌≤◌, Bool, true, false, cond, List, [], ◌∷◌}
+use Rattle.std.proofs.Common.{length, refl, arith, inl, inr}
 use Rattle.std.specs.Prelude.{nat_lt, Some}
 use Rattle.tl_burst.proofs.Lanes.{block_size}
 use Rattle.tl_beat.specs.statement.Digits.{digits, lane_digits}
@@ -20,7 +21,8 @@ use Rattle.tl_params.specs.declared.param.Logical.TheVariants as logical
 use Rattle.tl_params.specs.declared.param.Prune.{Prune}
 use Rattle.tl_params.specs.declared.param.Prune.TheVariants as prune
 use Rattle.tl_params.specs.statement.Names.{arithmetic_name, grow_name, intent_name, logical_name, prune_name}
-use Rattle.tl_schedule.specs.statement.EventLine.{Asked, Said, Get, Put, Part, Arith, Logic, Hint, Load, Store, Acquire, Whole, Release, Access, Deliver, AskedFits, Fits}
+use Rattle.tl_schedule.specs.statement.EventLine.{Asked, Said, Get, Put, Part, Arith, Logic, Hint, Load, Store, Acquire}
+use Rattle.tl_schedule.specs.statement.EventLine.{Whole, Release, Access, Deliver, AskedFits, Fits}
 use Rattle.tl_schedule.specs.statement.EventLine.{asked_fields, asked_name, mask_digits, said_fields}
 use Rattle.tl_schedule.specs.code.EventReading.{ask_at}
 use Rattle.tl_schedule.specs.code.NameReading.{arithmetic_in, grow_in, intent_in, logical_in, prune_in}
@@ -60,15 +62,31 @@ intent_again intent.PrefetchWrite = refl
 -- ---- the fields of what is said are read
 
 pub ask_again : (w : ℕ) (said : Said) → Fits w said → ask_at w (said_fields w said) ≡ Some said
-ask_again w (Load client size address) fits = rw (number_again 2 client fits.0, size_again 3 size (omega arith) fits.1, number_again 8 address fits.2) refl
+ask_again w (Load client size address) fits =
+    rw (number_again 2 client fits.0, size_again 3 size (omega arith) fits.1, number_again 8 address fits.2) refl
 ask_again w (Store client size address value) fits =
-    rw (number_again 2 client fits.0, size_again 3 size (omega arith) fits.1, number_again 8 address fits.2, number_again (2 * 2 ^ size) value fits.3) refl
-ask_again w (Acquire client block g) fits = rw (number_again 2 client fits.0, number_again 3 block fits.1, grow_again g) refl
-ask_again w (Whole client block bytes) fits = rw (number_again 2 client fits.0, number_again 3 block fits.1, bytes_again 64 bytes fits.2) refl
-ask_again w (Release client block p) fits = rw (number_again 2 client fits.0, number_again 3 block fits.1, prune_again p) refl
-ask_again w (Access client size address Get) fits = rw (number_again 2 client fits.0, size_again 6 size (omega arith) fits.1, number_again 8 address fits.2) refl
+    rw (
+      number_again 2 client fits.0,
+      size_again 3 size (omega arith) fits.1,
+      number_again 8 address fits.2,
+      number_again (2 * 2 ^ size) value fits.3,
+    ) refl
+ask_again w (Acquire client block g) fits = rw (number_again 2 client fits.0, number_again 3 block fits.1, grow_again g)
+    refl
+ask_again w (Whole client block bytes) fits =
+    rw (number_again 2 client fits.0, number_again 3 block fits.1, bytes_again 64 bytes fits.2) refl
+ask_again w (Release client block p) fits =
+    rw (number_again 2 client fits.0, number_again 3 block fits.1, prune_again p) refl
+ask_again w (Access client size address Get) fits =
+    rw (number_again 2 client fits.0, size_again 6 size (omega arith) fits.1, number_again 8 address fits.2) refl
 ask_again w (Access client size address (Put bytes)) fits =
-    rw (number_again 2 client fits.0, size_again 6 size (omega arith) fits.1, number_again 8 address fits.2, bytes_again (2 ^ size) bytes fits.3) refl
+    rw (
+      number_again 2 client fits.0,
+      size_again 6 size (omega arith) fits.1,
+      number_again 8 address fits.2,
+      bytes_again
+          (2 ^ size) bytes fits.3,
+    ) refl
 ask_again w (Access client size address (Part mask bytes)) fits =
     rw (
       number_again 2 client fits.0,
@@ -78,10 +96,28 @@ ask_again w (Access client size address (Part mask bytes)) fits =
       bytes_again (2 ^ size) bytes fits.3.1,
     ) refl
 ask_again w (Access client size address (Arith o bytes)) fits =
-    rw (number_again 2 client fits.0, size_again 6 size (omega arith) fits.1, number_again 8 address fits.2, arithmetic_again o, bytes_again (2 ^ size) bytes fits.3) refl
+    rw (
+      number_again 2 client fits.0,
+      size_again 6 size (omega arith) fits.1,
+      number_again 8 address fits.2,
+      arithmetic_again o,
+      bytes_again (2 ^ size) bytes fits.3,
+    ) refl
 ask_again w (Access client size address (Logic o bytes)) fits =
-    rw (number_again 2 client fits.0, size_again 6 size (omega arith) fits.1, number_again 8 address fits.2, logical_again o, bytes_again (2 ^ size) bytes fits.3) refl
-ask_again w (Access client size address (Hint i)) fits = rw (number_again 2 client fits.0, size_again 6 size (omega arith) fits.1, number_again 8 address fits.2, intent_again i) refl
+    rw (
+      number_again 2 client fits.0,
+      size_again 6 size (omega arith) fits.1,
+      number_again 8 address fits.2,
+      logical_again o,
+      bytes_again (2 ^ size) bytes fits.3,
+    ) refl
+ask_again w (Access client size address (Hint i)) fits =
+    rw (
+      number_again 2 client fits.0,
+      size_again 6 size (omega arith) fits.1,
+      number_again 8 address fits.2,
+      intent_again i,
+    ) refl
 ask_again w (Deliver link c) fits = rw (number_again 2 link fits, channel_again c) refl
 
 -- ---- no field has a space
@@ -125,8 +161,23 @@ logical_is logical.And = record { no_space = (refl, (refl, (refl, tt))); short =
 logical_is logical.Swap = record { no_space = (refl, (refl, (refl, (refl, tt)))); short = omega arith }
 
 intent_is : (i : Intent) → IsName (intent_name i)
-intent_is intent.PrefetchRead = record { no_space = (refl, (refl, (refl, (refl, (refl, (refl, (refl, (refl, (refl, (refl, (refl, (refl, tt)))))))))))); short = omega arith }
-intent_is intent.PrefetchWrite = record { no_space = (refl, (refl, (refl, (refl, (refl, (refl, (refl, (refl, (refl, (refl, (refl, (refl, (refl, tt))))))))))))); short = omega arith }
+intent_is intent.PrefetchRead =
+    record {
+      no_space = (
+        refl,
+        (refl, (refl, (refl, (refl, (refl, (refl, (refl, (refl, (refl, (refl, (refl, tt))))))))))),
+      );
+      short = omega arith;
+    }
+intent_is intent.PrefetchWrite =
+    record {
+      no_space = (
+        refl,
+        (refl, (refl, (refl, (refl, (refl, (refl, (refl, (refl, (refl, (refl, (refl, (refl, tt)))))))))))),
+      );
+      short =
+          omega arith;
+    }
 
 letter_is : (c : Channel) → IsName (letter c)
 letter_is channel.A = record { no_space = (refl, tt); short = omega arith }
@@ -152,14 +203,41 @@ asked-no_spaces w size (Logic o bytes) = ((logical_is o).no_space, (no_space-byt
 asked-no_spaces w size (Hint i) = ((intent_is i).no_space, tt)
 
 pub said-no_spaces : (w : ℕ) (said : Said) → NoSpaces (said_fields w said)
-said-no_spaces w (Load client size address) = (no_space-digits 2 client, ((refl, (refl, (refl, (refl, tt)))), (no_space-digits 1 size, (no_space-digits 8 address, tt))))
-said-no_spaces w (Store client size address value) =
-    (no_space-digits 2 client, ((refl, (refl, (refl, (refl, (refl, tt))))), (no_space-digits 1 size, (no_space-digits 8 address, (no_space-digits (2 * 2 ^ size) value, tt)))))
-said-no_spaces w (Acquire client block g) = (no_space-digits 2 client, ((refl, (refl, (refl, (refl, (refl, (refl, (refl, tt))))))), (no_space-digits 3 block, ((grow_is g).no_space, tt))))
-said-no_spaces w (Whole client block bytes) = (no_space-digits 2 client, ((refl, (refl, (refl, (refl, (refl, tt))))), (no_space-digits 3 block, (no_space-bytes bytes, tt))))
-said-no_spaces w (Release client block p) = (no_space-digits 2 client, ((refl, (refl, (refl, (refl, (refl, (refl, (refl, tt))))))), (no_space-digits 3 block, ((prune_is p).no_space, tt))))
-said-no_spaces w (Access client size address x) = (no_space-digits 2 client, ((asked_is x).no_space, (no_space-digits 1 size, (no_space-digits 8 address, asked-no_spaces w size x))))
-said-no_spaces w (Deliver link c) = (no_space-digits 2 link, ((refl, (refl, (refl, (refl, (refl, (refl, (refl, tt))))))), ((letter_is c).no_space, tt)))
+said-no_spaces w (Load client size address) = (
+  no_space-digits 2 client,
+  ((refl, (refl, (refl, (refl, tt)))), (no_space-digits 1 size, (no_space-digits 8 address, tt))),
+)
+said-no_spaces w (Store client size address value) = (
+  no_space-digits 2 client,
+  (
+    (refl, (refl, (refl, (refl, (refl, tt))))),
+    (no_space-digits 1 size, (no_space-digits 8 address, (no_space-digits (2 * 2 ^ size) value, tt))),
+  ),
+)
+said-no_spaces w (Acquire client block g) = (
+  no_space-digits 2 client,
+  (
+    (refl, (refl, (refl, (refl, (refl, (refl, (refl, tt))))))),
+    (no_space-digits 3 block, ((grow_is g).no_space, tt)),
+  ),
+)
+said-no_spaces w (Whole client block bytes) = (
+  no_space-digits 2 client,
+  ((refl, (refl, (refl, (refl, (refl, tt))))), (no_space-digits 3 block, (no_space-bytes bytes, tt))),
+)
+said-no_spaces w (Release client block p) = (
+  no_space-digits 2 client,
+  (
+    (refl, (refl, (refl, (refl, (refl, (refl, (refl, tt))))))),
+    (no_space-digits 3 block, ((prune_is p).no_space, tt)),
+  ),
+)
+said-no_spaces w (Access client size address x) = (
+  no_space-digits 2 client,
+  ((asked_is x).no_space, (no_space-digits 1 size, (no_space-digits 8 address, asked-no_spaces w size x))),
+)
+said-no_spaces w (Deliver link c) =
+    (no_space-digits 2 link, ((refl, (refl, (refl, (refl, (refl, (refl, (refl, tt))))))), ((letter_is c).no_space, tt)))
 
 -- ---- a line is short
 
@@ -191,20 +269,49 @@ data-short size bytes small all = omega (arith, length-lane_digits bytes, block_
 asked-short : (w size : ℕ) (x : Asked) → IsWidth w → size ≤ 6 → AskedFits w size x → total (asked_fields w size x) ≤ 146
 asked-short w size Get width small fits = omega arith
 asked-short w size (Put bytes) width small fits = omega (arith, data-short size bytes small fits.0)
-asked-short w size (Part mask bytes) width small fits = omega (arith, length-digits (mask_digits w size) mask, mask-short w size width small, data-short size bytes small fits.1.0)
-asked-short w size (Arith o bytes) width small fits = omega (arith, (arithmetic_is o).short, data-short size bytes small fits.0)
-asked-short w size (Logic o bytes) width small fits = omega (arith, (logical_is o).short, data-short size bytes small fits.0)
+asked-short w size (Part mask bytes) width small fits =
+    omega (
+      arith,
+      length-digits (mask_digits w size) mask,
+      mask-short w size width small,
+      data-short size bytes small
+          fits.1.0,
+    )
+asked-short w size (Arith o bytes) width small fits =
+    omega (arith, (arithmetic_is o).short, data-short size bytes small fits.0)
+asked-short w size (Logic o bytes) width small fits =
+    omega (arith, (logical_is o).short, data-short size bytes small fits.0)
 asked-short w size (Hint i) width small fits = omega (arith, (intent_is i).short)
 
 pub said-short : (w : ℕ) (said : Said) → IsWidth w → Fits w said → total (said_fields w said) ≤ 255
-said-short w (Load client size address) width fits = omega (arith, length-digits 2 client, length-digits 1 size, length-digits 8 address)
+said-short w (Load client size address) width fits =
+    omega (arith, length-digits 2 client, length-digits 1 size, length-digits 8 address)
 said-short w (Store client size address value) width fits =
-    omega (arith, length-digits 2 client, length-digits 1 size, length-digits 8 address, length-digits (2 * 2 ^ size) value, smaller_power size fits.1)
-said-short w (Acquire client block g) width fits = omega (arith, length-digits 2 client, length-digits 3 block, (grow_is g).short)
-said-short w (Whole client block bytes) width fits = omega (arith, length-digits 2 client, length-digits 3 block, length-lane_digits bytes, fits.2.0)
-said-short w (Release client block p) width fits = omega (arith, length-digits 2 client, length-digits 3 block, (prune_is p).short)
+    omega (
+      arith,
+      length-digits 2 client,
+      length-digits 1 size,
+      length-digits 8 address,
+      length-digits (2 * 2 ^ size)
+          value,
+      smaller_power size fits.1,
+    )
+said-short w (Acquire client block g) width fits =
+    omega (arith, length-digits 2 client, length-digits 3 block, (grow_is g).short)
+said-short w (Whole client block bytes) width fits =
+    omega (arith, length-digits 2 client, length-digits 3 block, length-lane_digits bytes, fits.2.0)
+said-short w (Release client block p) width fits =
+    omega (arith, length-digits 2 client, length-digits 3 block, (prune_is p).short)
 said-short w (Access client size address x) width fits =
-    omega (arith, length-digits 2 client, (asked_is x).short, length-digits 1 size, length-digits 8 address, asked-short w size x width fits.1 fits.3)
+    omega (
+      arith,
+      length-digits 2 client,
+      (asked_is x).short,
+      length-digits 1 size,
+      length-digits 8 address,
+      asked-short
+          w size x width fits.1 fits.3,
+    )
 said-short w (Deliver link c) width fits = omega (arith, length-digits 2 link, (letter_is c).short)
 
 pub said-some : (w : ℕ) (said : Said) → 2 ≤ length (said_fields w said)

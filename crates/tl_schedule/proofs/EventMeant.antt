@@ -9,7 +9,8 @@ use Rattle.tl_client.specs.declared.operation.Op.TheVariants as op
 use Rattle.tl_coherence.specs.declared.event.Event.TheVariants as event
 use Rattle.tl_schedule.specs.declared.access.Request.{Request}
 use Rattle.tl_schedule.specs.declared.name.Word.{Word}
-use Rattle.tl_schedule.specs.statement.EventLine.{Asked, Said, Load, Store, Acquire, Whole, Release, Access, Deliver, Fits, event_of}
+use Rattle.tl_schedule.specs.statement.EventLine.{Asked, Said, Load, Store, Acquire, Whole, Release, Access, Deliver}
+use Rattle.tl_schedule.specs.statement.EventLine.{Fits, event_of}
 use Rattle.tl_schedule.specs.code.EventReading.{access_at, asked_at, meant, meant_by, request_of, size_if, small_size}
 use Rattle.tl_schedule.specs.code.FieldReading.{front, number_in, size_in}
 
@@ -34,17 +35,31 @@ meant-event (Access client size address asked) fits = rw (small_size-is size fit
 meant-event (Deliver link channel) fits = refl
 
 abbrev made : {w : ℕ} (size address : ℕ) → Request → size ≤ 6 → MessageA w
-made size address r small = record { opcode = r.opcode; param = r.param; size = size; source = 0; address = address; payload = r.payload; mask = r.mask; corrupt = 0; small = small }
+made size address r small = record {
+  opcode = r.opcode;
+  param = r.param;
+  size = size;
+  source = 0;
+  address =
+      address;
+  payload = r.payload;
+  mask = r.mask;
+  corrupt = 0;
+  small = small;
+}
 
 -- the access that was read is the one that is meant
-pub access_meant : {w : ℕ} (k : Word) (client size address : ℕ) (fields others rest : List (List ℕ)) (r : Request) (small : size ≤ 6) → front (size_in 6) fields ≡ Some (size, others)
+pub access_meant : {w : ℕ} (k : Word) (client size address : ℕ) (fields others rest : List (List ℕ)) (r : Request)
+    (small : size ≤ 6) → front (size_in 6) fields ≡ Some (size, others)
     → front (number_in 0 8) others ≡ Some (address, rest)
     → Some r ≡ option_map (request_of w size address) (asked_at w k size rest)
-    → Some (event.Ask client (op.Access (message.A (made {w = w} size address r small)))) ≡ meant_by (access_at w k client fields)
+    → Some (event.Ask client (op.Access (message.A (made {w = w} size address r small)))) ≡ meant_by
+    (access_at w k client fields)
 access_meant {w} k client size address fields others rest r small e f h = go (asked_at w k size rest) refl h
   where
     go : (o : Option Asked) → asked_at w k size rest ≡ o → Some r ≡ option_map (request_of w size address) o
-        → Some (event.Ask client (op.Access (message.A (made {w = w} size address r small)))) ≡ meant_by (access_at w k client fields)
+        → Some (event.Ask client (op.Access (message.A (made {w = w} size address r small)))) ≡ meant_by
+        (access_at w k client fields)
     go None is g = absurd cc
     go (Some x) is g =
         let same : r ≡ request_of w size address x = cc in

@@ -6,28 +6,37 @@ use Rattle.tl_beat.specs.statement.Digits.{digits, lane_digits}
 use Rattle.tl_beat.specs.statement.Line.{channel_named}
 use Rattle.tl_schedule.specs.declared.name.Word.{Word}
 use Rattle.tl_schedule.specs.declared.name.Word.TheVariants as word
-use Rattle.tl_schedule.specs.statement.EventLine.{Asked, Said, Get, Put, Part, Arith, Logic, Hint, Load, Store, Acquire, Whole, Release, Access, Deliver, AskedFits, Fits}
+use Rattle.tl_schedule.specs.statement.EventLine.{Asked, Said, Get, Put, Part, Arith, Logic, Hint, Load, Store, Acquire}
+use Rattle.tl_schedule.specs.statement.EventLine.{Whole, Release, Access, Deliver, AskedFits, Fits}
 use Rattle.tl_schedule.specs.statement.EventLine.{HasRoom, asked_fields, asked_name, mask_digits, said_fields}
-use Rattle.tl_schedule.specs.code.EventReading.{get_at, put_at, part_at, arith_at, logic_at, hint_at, asked_at, load_at, store_at, acquire_at, whole_at, release_at, access_at, deliver_at, said_at, ask_at}
+use Rattle.tl_schedule.specs.code.EventReading.{get_at, put_at, part_at, arith_at, logic_at, hint_at, asked_at, load_at}
+use Rattle.tl_schedule.specs.code.EventReading.{store_at, acquire_at, whole_at, release_at, access_at, deliver_at}
+use Rattle.tl_schedule.specs.code.EventReading.{said_at, ask_at}
 use Rattle.tl_schedule.specs.code.FieldReading.{bytes_in, front, last, number_in, size_in}
-use Rattle.tl_schedule.specs.code.NameReading.{arithmetic_in, arithmetics, grow_in, grows, intent_in, intents, logical_in, logicals, prune_in, prunes, word_in, word_name, words}
-use Rattle.tl_schedule.proofs.SpelledFields.{number_taken, size_taken, bytes_taken, name_taken, front_taken, end_taken, last_taken, map_taken}
+use Rattle.tl_schedule.specs.code.NameReading.{arithmetic_in, arithmetics, grow_in, grows, intent_in, intents}
+use Rattle.tl_schedule.specs.code.NameReading.{logical_in, logicals, prune_in, prunes, word_in, word_name, words}
+use Rattle.tl_schedule.proofs.SpelledFields.{number_taken, size_taken, bytes_taken, name_taken, front_taken, end_taken}
+use Rattle.tl_schedule.proofs.SpelledFields.{last_taken, map_taken}
 use Rattle.tl_beat.proofs.ReadLines.{letter-named}
 use Rattle.tl_schedule.proofs.Options.{bind_some}
 
 -- ---- fields in a row
 
-one_field : (fields rest : List (List ℕ)) (p text : List ℕ) → fields ≡ p ∷ rest → rest ≡ [] → p ≡ text → fields ≡ text ∷ []
+one_field : (fields rest : List (List ℕ)) (p text : List ℕ) → fields ≡ p ∷ rest → rest ≡ [] → p ≡ text
+    → fields ≡ text ∷ []
 one_field fields rest p text a none b = rw (a, none, b) refl
 
-two_fields : (fields r s : List (List ℕ)) (p q a b : List ℕ) → fields ≡ p ∷ r → r ≡ q ∷ s → s ≡ [] → p ≡ a → q ≡ b → fields ≡ a ∷ b ∷ []
+two_fields : (fields r s : List (List ℕ)) (p q a b : List ℕ) → fields ≡ p ∷ r → r ≡ q ∷ s → s ≡ [] → p ≡ a → q ≡ b
+    → fields ≡ a ∷ b ∷ []
 two_fields fields r s p q a b e f none g h = rw (e, f, none, g, h) refl
 
-three_fields : (fields r s t : List (List ℕ)) (p q u a b c : List ℕ) → fields ≡ p ∷ r → r ≡ q ∷ s → s ≡ u ∷ t → t ≡ [] → p ≡ a → q ≡ b → u ≡ c → fields ≡ a ∷ b ∷ c ∷ []
+three_fields : (fields r s t : List (List ℕ)) (p q u a b c : List ℕ) → fields ≡ p ∷ r → r ≡ q ∷ s → s ≡ u ∷ t → t ≡ []
+    → p ≡ a → q ≡ b → u ≡ c → fields ≡ a ∷ b ∷ c ∷ []
 three_fields fields r s t p q u a b c e f g none h i j = rw (e, f, g, none, h, i, j) refl
 
 -- two fields, and what stands behind them
-two_before : (fields r s rest : List (List ℕ)) (p q a b : List ℕ) → fields ≡ p ∷ r → r ≡ q ∷ s → s ≡ rest → p ≡ a → q ≡ b → fields ≡ a ∷ b ∷ rest
+two_before : (fields r s rest : List (List ℕ)) (p q a b : List ℕ) → fields ≡ p ∷ r → r ≡ q ∷ s → s ≡ rest → p ≡ a
+    → q ≡ b → fields ≡ a ∷ b ∷ rest
 two_before fields r s rest p q a b e f g h i = rw (e, f, g, h, i) refl
 
 -- ---- accesses
@@ -38,22 +47,31 @@ record IsAsked (w : ℕ) (k : Word) (size : ℕ) (fields : List (List ℕ)) (ask
   text : fields ≡ asked_fields w size asked
   fits : AskedFits w size asked
 
-same_asked : (w : ℕ) (k : Word) (size : ℕ) (fields : List (List ℕ)) (found asked : Asked) → found ≡ asked → IsAsked w k size fields found → IsAsked w k size fields asked
+same_asked : (w : ℕ) (k : Word) (size : ℕ) (fields : List (List ℕ)) (found asked : Asked) → found ≡ asked
+    → IsAsked w k size fields found → IsAsked w k size fields asked
 same_asked w k size fields found asked e h = rw (← e) h
 
-get_taken : (w size : ℕ) (fields : List (List ℕ)) (asked : Asked) → get_at fields ≡ Some asked → IsAsked w word.Get size fields asked
+get_taken : (w size : ℕ) (fields : List (List ℕ)) (asked : Asked) → get_at fields ≡ Some asked
+    → IsAsked w word.Get size fields asked
 get_taken w size fields asked e =
     let (none, same) = end_taken fields Get asked e in
     same_asked w word.Get size fields Get asked same (record { name = refl; text = none; fits = tt })
 
-put_taken : (w size : ℕ) (fields : List (List ℕ)) (asked : Asked) → put_at size fields ≡ Some asked → IsAsked w word.Put size fields asked
+put_taken : (w size : ℕ) (fields : List (List ℕ)) (asked : Asked) → put_at size fields ≡ Some asked
+    → IsAsked w word.Put size fields asked
 put_taken w size fields asked e =
     let (bytes, is, same) = map_taken _ (last (bytes_in (2 ^ size)) fields) asked e in
     let found = last_taken (bytes_in (2 ^ size)) fields bytes is in
     let read = bytes_taken (2 ^ size) found.field bytes found.says in
-    same_asked w word.Put size fields (Put bytes) asked same (record { name = refl; text = one_field fields [] found.field (lane_digits bytes) found.same refl read.text; fits = read.are_bytes })
+    same_asked w word.Put size fields (Put bytes) asked same
+    (record {
+      name = refl;
+      text = one_field fields [] found.field (lane_digits bytes) found.same refl read.text;
+      fits = read.are_bytes;
+    })
 
-part_taken : (w size : ℕ) (fields : List (List ℕ)) (asked : Asked) → part_at w size fields ≡ Some asked → IsAsked w word.Part size fields asked
+part_taken : (w size : ℕ) (fields : List (List ℕ)) (asked : Asked) → part_at w size fields ≡ Some asked
+    → IsAsked w word.Part size fields asked
 part_taken w size fields asked e =
     let (m, is_m, more) = bind_some (front (number_in 0 (mask_digits w size)) fields) _ asked e in
     let (bytes, is, same) = map_taken _ (last (bytes_in (2 ^ size)) m.1) asked more in
@@ -67,7 +85,8 @@ part_taken w size fields asked e =
       fits = (mask.room, read.are_bytes);
     })
 
-arith_taken : (w size : ℕ) (fields : List (List ℕ)) (asked : Asked) → arith_at size fields ≡ Some asked → IsAsked w word.Arith size fields asked
+arith_taken : (w size : ℕ) (fields : List (List ℕ)) (asked : Asked) → arith_at size fields ≡ Some asked
+    → IsAsked w word.Arith size fields asked
 arith_taken w size fields asked e =
     let (o, is_o, more) = bind_some (front arithmetic_in fields) _ asked e in
     let (bytes, is, same) = map_taken _ (last (bytes_in (2 ^ size)) o.1) asked more in
@@ -76,11 +95,13 @@ arith_taken w size fields asked e =
     let read = bytes_taken (2 ^ size) found.field bytes found.says in
     same_asked w word.Arith size fields (Arith o.0 bytes) asked same (record {
       name = refl;
-      text = two_fields fields o.1 [] first.field found.field _ _ first.same found.same refl (name_taken arithmetic_name arithmetics first.field o.0 first.says) read.text;
+      text = two_fields fields o.1 [] first.field found.field _ _ first.same found.same refl
+          (name_taken arithmetic_name arithmetics first.field o.0 first.says) read.text;
       fits = read.are_bytes;
     })
 
-logic_taken : (w size : ℕ) (fields : List (List ℕ)) (asked : Asked) → logic_at size fields ≡ Some asked → IsAsked w word.Logic size fields asked
+logic_taken : (w size : ℕ) (fields : List (List ℕ)) (asked : Asked) → logic_at size fields ≡ Some asked
+    → IsAsked w word.Logic size fields asked
 logic_taken w size fields asked e =
     let (o, is_o, more) = bind_some (front logical_in fields) _ asked e in
     let (bytes, is, same) = map_taken _ (last (bytes_in (2 ^ size)) o.1) asked more in
@@ -89,22 +110,26 @@ logic_taken w size fields asked e =
     let read = bytes_taken (2 ^ size) found.field bytes found.says in
     same_asked w word.Logic size fields (Logic o.0 bytes) asked same (record {
       name = refl;
-      text = two_fields fields o.1 [] first.field found.field _ _ first.same found.same refl (name_taken logical_name logicals first.field o.0 first.says) read.text;
+      text = two_fields fields o.1 [] first.field found.field _ _ first.same found.same refl
+          (name_taken logical_name logicals first.field o.0 first.says) read.text;
       fits = read.are_bytes;
     })
 
-hint_taken : (w size : ℕ) (fields : List (List ℕ)) (asked : Asked) → hint_at fields ≡ Some asked → IsAsked w word.Hint size fields asked
+hint_taken : (w size : ℕ) (fields : List (List ℕ)) (asked : Asked) → hint_at fields ≡ Some asked
+    → IsAsked w word.Hint size fields asked
 hint_taken w size fields asked e =
     let (i, is_i, more) = bind_some (front intent_in fields) _ asked e in
     let (none, same) = end_taken i.1 (Hint i.0) asked more in
     let first = front_taken intent_in fields i.0 i.1 is_i in
     same_asked w word.Hint size fields (Hint i.0) asked same (record {
       name = refl;
-      text = one_field fields i.1 first.field _ first.same none (name_taken intent_name intents first.field i.0 first.says);
+      text = one_field fields i.1 first.field _ first.same none
+          (name_taken intent_name intents first.field i.0 first.says);
       fits = tt;
     })
 
-asked_taken : (w : ℕ) (k : Word) (size : ℕ) (fields : List (List ℕ)) (asked : Asked) → asked_at w k size fields ≡ Some asked → IsAsked w k size fields asked
+asked_taken : (w : ℕ) (k : Word) (size : ℕ) (fields : List (List ℕ)) (asked : Asked)
+    → asked_at w k size fields ≡ Some asked → IsAsked w k size fields asked
 asked_taken w word.Load size fields asked e = absurd cc
 asked_taken w word.Store size fields asked e = absurd cc
 asked_taken w word.Acquire size fields asked e = absurd cc
@@ -125,7 +150,8 @@ record IsSaid (w : ℕ) (k : Word) (client : ℕ) (fields : List (List ℕ)) (sa
   text : digits 2 client ∷ word_name k ∷ fields ≡ said_fields w said
   fits : Fits w said
 
-same_said : (w : ℕ) (k : Word) (client : ℕ) (fields : List (List ℕ)) (found said : Said) → found ≡ said → IsSaid w k client fields found → IsSaid w k client fields said
+same_said : (w : ℕ) (k : Word) (client : ℕ) (fields : List (List ℕ)) (found said : Said) → found ≡ said
+    → IsSaid w k client fields found → IsSaid w k client fields said
 same_said w k client fields found said e h = rw (← e) h
 
 module _ (w client : ℕ) (fields : List (List ℕ)) (said : Said) (room : HasRoom 2 client) where
@@ -138,7 +164,8 @@ module _ (w client : ℕ) (fields : List (List ℕ)) (said : Said) (room : HasRo
       let fa = front_taken (number_in 0 8) s.1 a.0 a.1 is_a in
       let size = size_taken 3 s.0 fs.field fs.says in
       let address = number_taken 8 a.0 fa.field fa.says in
-      let text = two_fields fields s.1 a.1 fs.field fa.field (digits 1 s.0) (digits 8 a.0) fs.same fa.same none size.text address.text in
+      let text = two_fields fields s.1 a.1 fs.field fa.field (digits 1 s.0) (digits 8 a.0) fs.same fa.same none
+      size.text address.text in
       same_said w word.Load client fields (Load client s.0 a.0) said same (record {
         text = ap (λ (x : List (List ℕ)). digits 2 client ∷ codes "load" ∷ x) text;
         fits = (room, size.small, address.room);
@@ -156,7 +183,8 @@ module _ (w client : ℕ) (fields : List (List ℕ)) (said : Said) (room : HasRo
       let size = size_taken 3 s.0 fs.field fs.says in
       let address = number_taken 8 a.0 fa.field fa.says in
       let value = number_taken (2 * 2 ^ s.0) v.0 fv.field fv.says in
-      let text = three_fields fields s.1 a.1 v.1 fs.field fa.field fv.field (digits 1 s.0) (digits 8 a.0) (digits (2 * 2 ^ s.0) v.0) fs.same fa.same fv.same none size.text address.text value.text in
+      let text = three_fields fields s.1 a.1 v.1 fs.field fa.field fv.field (digits 1 s.0) (digits 8 a.0)
+      (digits (2 * 2 ^ s.0) v.0) fs.same fa.same fv.same none size.text address.text value.text in
       same_said w word.Store client fields (Store client s.0 a.0 v.0) said same (record {
         text = ap (λ (x : List (List ℕ)). digits 2 client ∷ codes "store" ∷ x) text;
         fits = (room, size.small, address.room, value.room);
@@ -170,7 +198,8 @@ module _ (w client : ℕ) (fields : List (List ℕ)) (said : Said) (room : HasRo
       let fb = front_taken (number_in 0 3) fields b.0 b.1 is_b in
       let fg = front_taken grow_in b.1 g.0 g.1 is_g in
       let block = number_taken 3 b.0 fb.field fb.says in
-      let text = two_fields fields b.1 g.1 fb.field fg.field (digits 3 b.0) (grow_name g.0) fb.same fg.same none block.text (name_taken grow_name grows fg.field g.0 fg.says) in
+      let text = two_fields fields b.1 g.1 fb.field fg.field (digits 3 b.0) (grow_name g.0) fb.same fg.same none
+      block.text (name_taken grow_name grows fg.field g.0 fg.says) in
       same_said w word.Acquire client fields (Acquire client b.0 g.0) said same (record {
         text = ap (λ (x : List (List ℕ)). digits 2 client ∷ codes "acquire" ∷ x) text;
         fits = (room, block.room);
@@ -184,7 +213,8 @@ module _ (w client : ℕ) (fields : List (List ℕ)) (said : Said) (room : HasRo
       let found = last_taken (bytes_in 64) b.1 bytes is in
       let block = number_taken 3 b.0 fb.field fb.says in
       let read = bytes_taken 64 found.field bytes found.says in
-      let text = two_fields fields b.1 [] fb.field found.field (digits 3 b.0) (lane_digits bytes) fb.same found.same refl block.text read.text in
+      let text = two_fields fields b.1 [] fb.field found.field (digits 3 b.0) (lane_digits bytes) fb.same found.same
+      refl block.text read.text in
       same_said w word.Whole client fields (Whole client b.0 bytes) said same (record {
         text = ap (λ (x : List (List ℕ)). digits 2 client ∷ codes "whole" ∷ x) text;
         fits = (room, block.room, read.are_bytes);
@@ -198,7 +228,8 @@ module _ (w client : ℕ) (fields : List (List ℕ)) (said : Said) (room : HasRo
       let fb = front_taken (number_in 0 3) fields b.0 b.1 is_b in
       let fp = front_taken prune_in b.1 p.0 p.1 is_p in
       let block = number_taken 3 b.0 fb.field fb.says in
-      let text = two_fields fields b.1 p.1 fb.field fp.field (digits 3 b.0) (prune_name p.0) fb.same fp.same none block.text (name_taken prune_name prunes fp.field p.0 fp.says) in
+      let text = two_fields fields b.1 p.1 fb.field fp.field (digits 3 b.0) (prune_name p.0) fb.same fp.same none
+      block.text (name_taken prune_name prunes fp.field p.0 fp.says) in
       same_said w word.Release client fields (Release client b.0 p.0) said same (record {
         text = ap (λ (x : List (List ℕ)). digits 2 client ∷ codes "release" ∷ x) text;
         fits = (room, block.room);
@@ -225,7 +256,8 @@ module _ (w client : ℕ) (fields : List (List ℕ)) (said : Said) (room : HasRo
       let size = size_taken 6 s.0 fs.field fs.says in
       let address = number_taken 8 a.0 fa.field fa.says in
       let asked = asked_taken w k s.0 a.1 x is_x in
-      let text = two_before fields s.1 a.1 (asked_fields w s.0 x) fs.field fa.field (digits 1 s.0) (digits 8 a.0) fs.same fa.same asked.text size.text address.text in
+      let text = two_before fields s.1 a.1 (asked_fields w s.0 x) fs.field fa.field (digits 1 s.0) (digits 8 a.0)
+      fs.same fa.same asked.text size.text address.text in
       same_said w k client fields (Access client s.0 a.0 x) said same (record {
         text = ap₂ (λ (n : List ℕ) (y : List (List ℕ)). digits 2 client ∷ n ∷ y) (sym asked.name) text;
         fits = (room, size.small, address.room, asked.fits);
@@ -258,5 +290,6 @@ ask_taken w fields said e =
     let fk = front_taken word_in c.1 k.0 k.1 is_k in
     let client = number_taken 2 c.0 fc.field fc.says in
     let s = said_taken w c.0 k.1 said client.room k.0 e2 in
-    let text = two_before fields c.1 k.1 k.1 fc.field fk.field (digits 2 c.0) (word_name k.0) fc.same fk.same refl client.text (name_taken word_name words fk.field k.0 fk.says) in
+    let text = two_before fields c.1 k.1 k.1 fc.field fk.field (digits 2 c.0) (word_name k.0) fc.same fk.same refl
+    client.text (name_taken word_name words fk.field k.0 fk.says) in
     record { text = text ∙ s.text; fits = s.fits }

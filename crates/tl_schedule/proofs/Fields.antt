@@ -1,5 +1,6 @@
 -- Fields cut from a line, and the numbers and bytes that they spell.
-use Rattle.std.proofs.Common.{◌≡◌, ℕ, zero, suc, ◌+◌, ◌*◌, ◌-◌, ◌^◌, ◌<◌, ◌≤◌, Bool, true, false, cond, List, [], ◌∷◌, ◌++◌, length, take, drop, replicate, set}
+use Rattle.std.proofs.Common.{◌≡◌, ℕ, zero, suc, ◌+◌, ◌*◌, ◌-◌, ◌^◌, ◌<◌, ◌≤◌, Bool, true, false, cond, List, [], ◌∷◌}
+use Rattle.std.proofs.Common.{◌++◌, length, take, drop, replicate, set}
 use Rattle.std.proofs.Common.{refl, sym, ap, ◌∙◌, arith, lit<, inl, inr}
 use Rattle.std.proofs.Math.Nat.{pow-le-pow_right}
 use Rattle.std.specs.Prelude.{not, Some, None, option_map, position, ◌==◌}
@@ -11,37 +12,46 @@ use Rattle.tl_beat.specs.statement.Line.{pieces, onto_first}
 use Rattle.tl_beat.proofs.Pieces.{pieces-some}
 use Rattle.tl_beat.proofs.Spaces.{position_some}
 use Rattle.tl_schedule.specs.statement.EventLine.{filled}
-use Rattle.tl_schedule.specs.code.FieldReading.{hex_at, number_in, pair_at, pairs_in, bytes_in, fields_behind, is_none_left}
+use Rattle.tl_schedule.specs.code.FieldReading.{hex_at, number_in, pair_at, pairs_in, bytes_in, fields_behind}
+use Rattle.tl_schedule.specs.code.FieldReading.{is_none_left}
 
 -- ---- the first field
 
 abbrev is_space : ℕ → Bool
 is_space c = c == 32
 
-first_piece : (xs : List ℕ) → pieces xs ≡ take (position_or_len is_space xs) xs ∷ fields_behind (drop (position_or_len is_space xs) xs)
+first_piece : (xs : List ℕ) → pieces xs ≡ take (position_or_len is_space xs) xs ∷ fields_behind
+    (drop (position_or_len is_space xs) xs)
 unfolding pieces
 first_piece [] = refl
 first_piece (c ∷ cs) = go (c == 32) (position_or_len is_space cs) (first_piece cs)
   where
     go : (b : Bool) (n : ℕ) → pieces cs ≡ take n cs ∷ fields_behind (drop n cs)
-        → cond b ([] ∷ pieces cs) (onto_first c (pieces cs)) ≡ take (cond (not b) (1 + n) 0) (c ∷ cs) ∷ fields_behind (drop (cond (not b) (1 + n) 0) (c ∷ cs))
+        → cond b ([] ∷ pieces cs) (onto_first c (pieces cs)) ≡ take (cond (not b) (1 + n) 0) (c ∷ cs) ∷ fields_behind
+        (drop (cond (not b) (1 + n) 0) (c ∷ cs))
     go true n h = refl
     go false n h = let next : 1 + n ≡ suc n = omega arith in rw (next, h) refl
 
 pub one_piece : (xs : List ℕ) → position is_space xs ≡ None → pieces xs ≡ xs ∷ []
 one_piece xs e = elim (cases_lt (position_or_len is_space xs) (length xs)) [
   | inl lt ↦ absurd (let none = rw (lt-ltb (position_or_len is_space xs) (length xs) lt) at e in cc)
-  | inr past ↦ first_piece xs ∙ rw (take_all (position_or_len is_space xs) xs past, drop_all (position_or_len is_space xs) xs past) refl
+  | inr past ↦ first_piece xs ∙ rw (
+    take_all (position_or_len is_space xs) xs past,
+    drop_all
+        (position_or_len is_space xs) xs past,
+  ) refl
 ]
 
-pub piece_before : (xs front back : List ℕ) (i : ℕ) → position is_space xs ≡ Some i → front ≡ take i xs → back ≡ drop i xs → pieces xs ≡ front ∷ fields_behind back
+pub piece_before : (xs front back : List ℕ) (i : ℕ) → position is_space xs ≡ Some i → front ≡ take i xs
+    → back ≡ drop i xs → pieces xs ≡ front ∷ fields_behind back
 piece_before xs front back i e f b =
     let place = position_some is_space xs i e in
     rw (f, b, place) (first_piece xs)
 
 -- ---- numbers
 
-pub number-step : (n w k d : ℕ) (bytes rest : List ℕ) → w ≡ suc k → hex_at bytes ≡ Some (d, rest) → number_in n w bytes ≡ number_in (16 * n + d) k rest
+pub number-step : (n w k d : ℕ) (bytes rest : List ℕ) → w ≡ suc k → hex_at bytes ≡ Some (d, rest)
+    → number_in n w bytes ≡ number_in (16 * n + d) k rest
 unfolding number_in
 number-step n w k d bytes rest e h = rw (e, h) refl
 
@@ -74,15 +84,22 @@ zeros n = replicate n 0
 -- this many bytes of that many have been read
 abbrev pub Reads : ℕ → ℕ → List ℕ → List ℕ → List ℕ → Type 0
 Reads count i bytes field rest =
-    (done : List ℕ) × (length done ≡ i) × (bytes ≡ replicate (count - i) 0 ++ (done ++ replicate (64 - count) 0)) × (pairs_in [] count field ≡ pairs_in done (count - i) rest)
+    (done : List ℕ) × (length done ≡ i) × (bytes ≡ replicate (count - i) 0 ++ (done ++ replicate (64 - count) 0))
+    × (pairs_in [] count field ≡ pairs_in done (count - i) rest)
 
 pub data-init : (count : ℕ) (field : List ℕ) → count ≤ 64 → Reads count 0 (replicate 64 0) field field
 data-init count field le =
     let whole : 64 ≡ count - 0 + (64 - count) = omega arith in
-    let none : count ≡ count - 0 = omega arith in
-    ([], refl, ap zeros whole ∙ sym (replicate-append-replicate (count - 0) (64 - count) 0), ap (λ (k : ℕ). pairs_in [] k field) none)
+    let none : count ≡ count - 0 = omega arith in (
+      [],
+      refl,
+      ap zeros whole ∙ sym (replicate-append-replicate (count - 0) (64 - count) 0),
+      ap
+          (λ (k : ℕ). pairs_in [] k field) none,
+    )
 
-pub data-step : (count i byte : ℕ) (bytes field rest after : List ℕ) → i < count → Reads count i bytes field rest → pair_at rest ≡ Some (byte, after)
+pub data-step : (count i byte : ℕ) (bytes field rest after : List ℕ) → i < count → Reads count i bytes field rest
+    → pair_at rest ≡ Some (byte, after)
     → Reads count (i + 1) (set bytes (count - 1 - i) byte) field after
 unfolding pairs_in
 data-step count i byte bytes field rest after lt (done, len, is, same) read =
@@ -90,17 +107,20 @@ data-step count i byte bytes field rest after lt (done, len, is, same) read =
     let at : count - 1 - i ≡ count - (i + 1) = omega arith in
     let more : length (byte ∷ done) ≡ i + 1 = omega (arith, len) in
     let written : set bytes (count - 1 - i) byte ≡ replicate (count - (i + 1)) 0
-    ++ (byte ∷ (done ++ replicate (64 - count) 0)) = rw (is, one, at) (set_last (count - (i + 1)) byte (done ++ replicate (64 - count) 0)) in
+    ++ (byte ∷ (done ++ replicate (64 - count) 0)) =
+    rw (is, one, at) (set_last (count - (i + 1)) byte (done ++ replicate (64 - count) 0)) in
     (byte ∷ done, more, written, same ∙ rw (one, read) refl)
 
-pub data-fails : (count i : ℕ) (bytes field rest : List ℕ) → i < count → Reads count i bytes field rest → pair_at rest ≡ None → option_map filled (bytes_in count field) ≡ None
+pub data-fails : (count i : ℕ) (bytes field rest : List ℕ) → i < count → Reads count i bytes field rest
+    → pair_at rest ≡ None → option_map filled (bytes_in count field) ≡ None
 unfolding pairs_in
 data-fails count i bytes field rest lt (done, len, is, same) none =
     let one : count - i ≡ suc (count - (i + 1)) = omega arith in
     let nothing : pairs_in [] count field ≡ None = same ∙ rw (one, none) refl in
     rw nothing refl
 
-data-whole : (count i : ℕ) (bytes field rest : List ℕ) → count - i ≡ 0 → i ≡ count → Reads count i bytes field rest → true ≡ (length rest == 0) → option_map filled (bytes_in count field) ≡ Some bytes
+data-whole : (count i : ℕ) (bytes field rest : List ℕ) → count - i ≡ 0 → i ≡ count → Reads count i bytes field rest
+    → true ≡ (length rest == 0) → option_map filled (bytes_in count field) ≡ Some bytes
 unfolding pairs_in
 data-whole count i bytes field [] none all (done, len, is, same) empty =
     let read : pairs_in [] count field ≡ Some done = same ∙ rw none refl in
@@ -108,17 +128,20 @@ data-whole count i bytes field [] none all (done, len, is, same) empty =
     rw (read, is, none, size) refl
 data-whole count i bytes field (c ∷ cs) none all r empty = absurd (grind (arith, nat_tests))
 
-data-more : (count i : ℕ) (bytes field rest : List ℕ) → count - i ≡ 0 → Reads count i bytes field rest → false ≡ (length rest == 0) → option_map filled (bytes_in count field) ≡ None
+data-more : (count i : ℕ) (bytes field rest : List ℕ) → count - i ≡ 0 → Reads count i bytes field rest
+    → false ≡ (length rest == 0) → option_map filled (bytes_in count field) ≡ None
 unfolding pairs_in
 data-more count i bytes field [] none r some = absurd (grind (arith, nat_tests))
 data-more count i bytes field (c ∷ cs) none (done, len, is, same) some =
     let nothing : pairs_in [] count field ≡ None = same ∙ rw none refl in
     rw nothing refl
 
-pub data-done : (count i : ℕ) (bytes field rest : List ℕ) → i ≡ count → Reads count i bytes field rest → true ≡ (length rest == 0) → option_map filled (bytes_in count field) ≡ Some bytes
+pub data-done : (count i : ℕ) (bytes field rest : List ℕ) → i ≡ count → Reads count i bytes field rest
+    → true ≡ (length rest == 0) → option_map filled (bytes_in count field) ≡ Some bytes
 data-done count i bytes field rest all r empty = data-whole count i bytes field rest (omega arith) all r empty
 
-pub data-left : (count i : ℕ) (bytes field rest : List ℕ) → i ≡ count → Reads count i bytes field rest → false ≡ (length rest == 0) → option_map filled (bytes_in count field) ≡ None
+pub data-left : (count i : ℕ) (bytes field rest : List ℕ) → i ≡ count → Reads count i bytes field rest
+    → false ≡ (length rest == 0) → option_map filled (bytes_in count field) ≡ None
 data-left count i bytes field rest all r some = data-more count i bytes field rest (omega arith) r some
 
 -- ---- the end of the fields

@@ -1,5 +1,6 @@
 -- What a field spells is read, and what was read was spelled so.
-use Rattle.std.proofs.Common.{◌≡◌, ℕ, zero, suc, ◌+◌, ◌*◌, ◌/◌, ◌^◌, ◌<◌, ◌≤◌, Bool, true, false, cond, List, [], ◌∷◌, refl, sym, ap, ◌∙◌, arith}
+use Rattle.std.proofs.Common.{◌≡◌, ℕ, zero, suc, ◌+◌, ◌*◌, ◌/◌, ◌^◌, ◌<◌, ◌≤◌, Bool, true, false, cond, List, [], ◌∷◌}
+use Rattle.std.proofs.Common.{refl, sym, ap, ◌∙◌, arith}
 use Rattle.std.proofs.Math.Nat.{div-eq_of_lt, lt-div-mul-add}
 use Rattle.std.proofs.lemmas.Nat.{pow_pos}
 use Rattle.std.proofs.lemmas.Bool.{leb-true, le-leb}
@@ -9,12 +10,14 @@ use Rattle.tl_beat.specs.declared.fault.LineFault.{LineFault}
 use Rattle.tl_beat.specs.declared.fault.LineFault.TheVariants.{F3}
 use Rattle.tl_beat.specs.declared.channel.Channel.{Channel}
 use Rattle.tl_beat.specs.declared.channel.Channel.TheVariants as channel
-use Rattle.tl_beat.specs.statement.Digits.{digits, lane_digits, is_digit, digit_value, is_digits, value_from, value_of, is_pairs, lanes_before, is_dash}
+use Rattle.tl_beat.specs.statement.Digits.{digits, lane_digits, is_digit, digit_value, is_digits, value_from, value_of}
+use Rattle.tl_beat.specs.statement.Digits.{is_pairs, lanes_before, is_dash}
 use Rattle.tl_beat.specs.statement.Line.{channel_named, letter}
 use Rattle.tl_beat.specs.code.Reading as beat_reading
 use Rattle.tl_beat.proofs.SpelledDigits.{number_in-digits, number_in-ok, data_in-text, data_in-ok, pairs-no_dash}
 use Rattle.tl_schedule.specs.statement.EventLine.{AreBytes, HasRoom}
-use Rattle.tl_schedule.specs.code.FieldReading.{with_rest, number_in, byte_of, pairs_in, bytes_in, at_most, size_in, before_fields, front, at_end, last}
+use Rattle.tl_schedule.specs.code.FieldReading.{with_rest, number_in, byte_of, pairs_in, bytes_in, at_most, size_in}
+use Rattle.tl_schedule.specs.code.FieldReading.{before_fields, front, at_end, last}
 use Rattle.tl_schedule.specs.code.NameReading.{with_name}
 use Rattle.tl_schedule.specs.code.Then.{◌>>=◌}
 use Rattle.tl_params.proofs.Options.{some_pair}
@@ -31,8 +34,10 @@ number_in-is n zero (c ∷ cs) = refl
 number_in-is n (suc w) [] = refl
 number_in-is n (suc w) (c ∷ cs) = go (is_digit c) (number_in-is (16 * n + digit_value c) w cs)
   where
-    go : (b : Bool) → number_in (16 * n + digit_value c) w cs ≡ cond (is_digits w cs) (Some (value_from (16 * n + digit_value c) cs)) None
-        → ((cond b (Some (digit_value c)) None >>= with_rest cs) >>= λ d. number_in (16 * n + d.0) w d.1) ≡ cond (b && is_digits w cs) (Some (value_from (16 * n + digit_value c) cs)) None
+    go : (b : Bool) → number_in (16 * n + digit_value c) w cs ≡ cond (is_digits w cs)
+        (Some (value_from (16 * n + digit_value c) cs)) None
+        → ((cond b (Some (digit_value c)) None >>= with_rest cs) >>= λ d. number_in (16 * n + d.0) w d.1) ≡ cond
+        (b && is_digits w cs) (Some (value_from (16 * n + digit_value c) cs)) None
     go true h = h
     go false h = refl
 
@@ -59,12 +64,14 @@ number_taken w n p e = go (is_digits w p) refl (sym (number_in-is 0 w p) ∙ e)
     go false is f = absurd cc
 
 pub number_again : (w n : ℕ) → HasRoom w n → number_in 0 w (digits w n) ≡ Some n
-number_again w n room = number_in-is 0 w (digits w n) ∙ go (is_digits w (digits w n)) (number_in-digits w n (sym (div-eq_of_lt room)))
+number_again w n room = number_in-is 0 w (digits w n) ∙ go (is_digits w (digits w n))
+    (number_in-digits w n (sym (div-eq_of_lt room)))
   where
     ok_number : Bool → Result ℕ LineFault
     ok_number b = cond b (Ok (value_of (digits w n))) (Err F3)
 
-    go : (b : Bool) → cond b (Ok (value_of (digits w n))) (Err F3) ≡ Ok n → cond b (Some (value_from 0 (digits w n))) None ≡ Some n
+    go : (b : Bool) → cond b (Ok (value_of (digits w n))) (Err F3) ≡ Ok n
+        → cond b (Some (value_from 0 (digits w n))) None ≡ Some n
     go true e = let same : value_of (digits w n) ≡ n = cc in rw same refl
     go false e = absurd cc
 
@@ -77,7 +84,8 @@ size_taken limit size p e =
     let (n, is, more) = bind_some (number_in 0 1 p) (at_most limit) size e in
     go n is (nat_le n limit) refl more
   where
-    go : (n : ℕ) → number_in 0 1 p ≡ Some n → (b : Bool) → nat_le n limit ≡ b → cond b (Some n) None ≡ Some size → IsSize limit p size
+    go : (n : ℕ) → number_in 0 1 p ≡ Some n → (b : Bool) → nat_le n limit ≡ b → cond b (Some n) None ≡ Some size
+        → IsSize limit p size
     go n is true le f =
         let same : n ≡ size = some_is f in
         record { text = (number_taken 1 n p is).text ∙ ap (digits 1) same; small = rw (← same) (leb-true n limit le) }
@@ -94,10 +102,13 @@ pairs_in-is zero done [] = refl
 pairs_in-is zero done (c ∷ cs) = refl
 pairs_in-is (suc n) done [] = refl
 pairs_in-is (suc n) done (c ∷ []) = refl
-pairs_in-is (suc n) done (c ∷ d ∷ cs) = go (is_digit c) (is_digit d) (pairs_in-is n ((16 * digit_value c + digit_value d) ∷ done) cs)
+pairs_in-is (suc n) done (c ∷ d ∷ cs) =
+    go (is_digit c) (is_digit d) (pairs_in-is n ((16 * digit_value c + digit_value d) ∷ done) cs)
   where
-    go : (a b : Bool) → pairs_in ((16 * digit_value c + digit_value d) ∷ done) n cs ≡ cond (is_pairs n cs) (Some (lanes_before ((16 * digit_value c + digit_value d) ∷ done) cs)) None
-        → ((cond a (Some (digit_value c)) None >>= λ high. cond b (Some (digit_value d)) None >>= λ low. byte_of cs high low) >>= λ x. pairs_in (x.0 ∷ done) n x.1)
+    go : (a b : Bool) → pairs_in ((16 * digit_value c + digit_value d) ∷ done) n cs ≡ cond (is_pairs n cs)
+        (Some (lanes_before ((16 * digit_value c + digit_value d) ∷ done) cs)) None
+        → ((cond a (Some (digit_value c)) None >>= λ high. cond b (Some (digit_value d)) None >>= λ low. byte_of cs high
+        low) >>= λ x. pairs_in (x.0 ∷ done) n x.1)
         ≡ cond ((a && b) && is_pairs n cs) (Some (lanes_before ((16 * digit_value c + digit_value d) ∷ done) cs)) None
     go true true h = h
     go true false h = refl
@@ -124,14 +135,16 @@ bytes_again n bytes all =
     let p = lane_digits bytes in
     pairs_in-is n [] p ∙ go (is_dash p) (is_pairs n p) (lanes_before [] p) (data_in-text n (Some bytes) all)
   where
-    go : (a b : Bool) (found : List ℕ) → cond (a || b) (Ok (cond a None (Some found))) (Err F3) ≡ Ok (Some bytes) → cond b (Some found) None ≡ Some bytes
+    go : (a b : Bool) (found : List ℕ) → cond (a || b) (Ok (cond a None (Some found))) (Err F3) ≡ Ok (Some bytes)
+        → cond b (Some found) None ≡ Some bytes
     go true b found e = absurd cc
     go false true found e = cc
     go false false found e = absurd cc
 
 -- ---- names
 
-pub name_taken : {A : Type 0} (name : A → List ℕ) (all : List A) (p : List ℕ) (x : A) → with_name name all p ≡ Some x → p ≡ name x
+pub name_taken : {A : Type 0} (name : A → List ℕ) (all : List A) (p : List ℕ) (x : A) → with_name name all p ≡ Some x
+    → p ≡ name x
 name_taken name all p x e = (bytes_eq-Decides p (name x)).0 (find-passes (λ y. bytes_eq p (name y)) all x e)
 
 pub channel_again : (c : Channel) → channel_named (letter c) ≡ Some c
@@ -144,17 +157,24 @@ channel_again channel.E = refl
 -- ---- fields in a row
 
 -- the first field says this, and the others are left
-pub record IsFront {A : Type 0} (read : List ℕ → Option A) (fields : List (List ℕ)) (a : A) (rest : List (List ℕ)) : Type 0 where
+pub record IsFront {A : Type 0} (read : List ℕ → Option A) (fields : List (List ℕ)) (a : A)
+    (rest : List (List ℕ)) : Type 0 where
   pub field : List ℕ
   pub same : fields ≡ field ∷ rest
   pub says : read field ≡ Some a
 
-pub front_taken : {A : Type 0} (read : List ℕ → Option A) (fields : List (List ℕ)) (a : A) (rest : List (List ℕ)) → front read fields ≡ Some (a, rest) → IsFront read fields a rest
+pub front_taken : {A : Type 0} (read : List ℕ → Option A) (fields : List (List ℕ)) (a : A) (rest : List (List ℕ))
+    → front read fields ≡ Some (a, rest) → IsFront read fields a rest
 front_taken read [] a rest e = absurd cc
 front_taken {A} read (field ∷ fields) a rest e =
     let (x, is, more) = bind_some (read field) (before_fields fields) (a, rest) e in
     let (value, left) = some_pair (x, fields) (a, rest) more in
-    record { field = field; same = ap (λ (fs : List (List ℕ)). field ∷ fs) left; says = is ∙ ap (λ (y : A). Some y) value }
+    record {
+      field = field;
+      same = ap (λ (fs : List (List ℕ)). field ∷ fs) left;
+      says =
+          is ∙ ap (λ (y : A). Some y) value;
+    }
 
 pub end_taken : {A : Type 0} (fields : List (List ℕ)) (a b : A) → at_end fields a ≡ Some b → (fields ≡ []) × (a ≡ b)
 end_taken [] a b e = (refl, some_is e)
@@ -166,13 +186,20 @@ pub record IsLast {A : Type 0} (read : List ℕ → Option A) (fields : List (Li
   pub same : fields ≡ field ∷ []
   pub says : read field ≡ Some a
 
-pub last_taken : {A : Type 0} (read : List ℕ → Option A) (fields : List (List ℕ)) (a : A) → last read fields ≡ Some a → IsLast read fields a
+pub last_taken : {A : Type 0} (read : List ℕ → Option A) (fields : List (List ℕ)) (a : A) → last read fields ≡ Some a
+    → IsLast read fields a
 last_taken {A} read fields a e =
     let (x, is, more) = bind_some (front read fields) _ a e in
     let first = front_taken read fields x.0 x.1 is in
     let (none, value) = end_taken x.1 x.0 a more in
-    record { field = first.field; same = first.same ∙ ap (λ (fs : List (List ℕ)). first.field ∷ fs) none; says = first.says ∙ ap (λ (y : A). Some y) value }
+    record {
+      field = first.field;
+      same = first.same ∙ ap (λ (fs : List (List ℕ)). first.field ∷ fs) none;
+      says =
+          first.says ∙ ap (λ (y : A). Some y) value;
+    }
 
-pub map_taken : {A B : Type 0} (f : A → B) (o : Option A) (y : B) → option_map f o ≡ Some y → (x : A) × (o ≡ Some x) × (f x ≡ y)
+pub map_taken : {A B : Type 0} (f : A → B) (o : Option A) (y : B) → option_map f o ≡ Some y → (x : A) × (o ≡ Some x)
+    × (f x ≡ y)
 map_taken f None y e = absurd cc
 map_taken f (Some x) y e = (x, refl, some_is e)

@@ -29,8 +29,8 @@ fn bytes_of(size: u8) -> usize
     1 << size
 }
 
-/// How many beats carry the data of an access.
-fn beats<const W: usize>(size: u8) -> u8
+/// How many beats carry the data of an access of `2^size` bytes.
+pub fn beats<const W: usize>(size: u8) -> u8
     requires width { IsWidth W }
     requires small { size ≤ 6 }
     ensures value { result ≡ data_beats W size }
@@ -51,8 +51,8 @@ fn ones(count: usize) -> u64
     (1 << count) - 1
 }
 
-/// A mask of the lanes that carry a byte of an access, in this many beats.
-fn lanes<const W: usize>(size: u8, address: u32, beats: u8) -> u64
+/// A mask of the lanes that carry a byte of an access of `2^size` bytes, in this many beats.
+pub fn lanes<const W: usize>(size: u8, address: u32, beats: u8) -> u64
     requires width { IsWidth W }
     requires small { size ≤ 6 }
     requires room { W * beats ≤ 64 }

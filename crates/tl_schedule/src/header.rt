@@ -9,7 +9,7 @@ ghost use Rattle.tl_schedule.specs.code.HeaderReading.{GivesSchedule, byte_at, c
 ghost use Rattle.tl_schedule.specs.statement.Schedule.{IsSchedule, SpellsSchedule, schedule_word};
 
 use arrayvec::ArrayVec;
-use tl_params::config::{ClientConfig, Config};
+use tl_params::config::{ClientConfig, Config, MOST_CLIENTS};
 use tl_params::header::{Version, front_level, front_version, is_end};
 
 /// What the header of a schedule names.
@@ -94,7 +94,7 @@ fn client(bytes: &[u8]) -> Option<(ClientConfig, &[u8])>
 }
 
 /// The clients up to the LF that ends the line, at most 16.
-fn clients(bytes: &[u8]) -> Option<ArrayVec<ClientConfig, 16>>
+fn clients(bytes: &[u8]) -> Option<ArrayVec<ClientConfig, MOST_CLIENTS>>
     ensures { GivesAll result (clients_at 16 bytes.now) }
 {
     let mut clients = ArrayVec::new();

@@ -2,7 +2,7 @@
 //! written.
 #![tactic(auto)]
 
-mod access;
+pub mod access;
 mod field;
 pub mod header;
 pub mod line;

@@ -12,4 +12,3 @@ mod monitors;
 mod outcomes;
 mod params;
 mod performs;
-mod words;

@@ -40,7 +40,8 @@ with_version a = record a { top = record a.top { has_version = true } }
 
 -- `tltool [--version]`, which wants a subcommand, with those that read traces
 abbrev pub reading_of : App
-reading_of = with_subcommand (with_subcommand (with_required_subcommand (with_version (new_app (codes "tltool")))) decode_of.top) monitor_of.top
+reading_of = with_subcommand (with_subcommand (with_required_subcommand (with_version (new_app (codes "tltool"))))
+    decode_of.top) monitor_of.top
 
 -- and with the one that explains
 abbrev pub explaining_of : App
@@ -53,7 +54,8 @@ tool_of = with_subcommand explaining_of run_of.top
 -- the width that a word stands for, 8 bytes where there is no word
 abbrev pub width_named : Option Text → Option Width
 width_named None = Some Eight
-width_named (Some word) = if bytes_eq word (codes "4") then Some Four else if bytes_eq word (codes "8") then Some Eight else if bytes_eq word (codes "16") then Some Sixteen else None
+width_named (Some word) = if bytes_eq word (codes "4") then Some Four else if bytes_eq word (codes "8") then Some Eight
+    else if bytes_eq word (codes "16") then Some Sixteen else None
 
 -- a flag is given where its word is `true`
 abbrev pub flag_named : Option Text → Bool
@@ -70,7 +72,8 @@ command_named name width trace file =
 
 -- the command and the FILE that a subcommand's name and entries give
 abbrev pub command_in : Text → List Row → Option Command
-command_in name rows = command_named name (first_of (codes "width") rows) (first_of (codes "trace") rows) (first_of (codes "FILE") rows)
+command_in name rows = command_named name (first_of (codes "width") rows) (first_of (codes "trace") rows)
+    (first_of (codes "FILE") rows)
 
 abbrev pub file_in : List Row → Option Text
 file_in rows = first_of (codes "FILE") rows

@@ -8,6 +8,7 @@ ghost use Rattle.clap.specs.declared.builder.command.Command.TheViews.{out-Comma
 ghost use Rattle.tl_words.specs.Refused.{IsRefusal, usage_status, words_fault};
 ghost use Rattle.tl_words.specs.Tool.{command_in, command_named, decode_of, explain_of, explaining_of, file_in, flag_named, monitor_of, reading_of, run_of, tool_of, width_named};
 
+use crate::help;
 use clap::error::ErrorKind;
 use clap::{Arg, ArgAction};
 use std::alloc::{AllocError, Global};
@@ -60,33 +61,8 @@ const FILE_HELP: &str =
 const EXPLAINED_HELP: &str =
     "The trace to read, twice, so it can be no pipe; or, where there is no such file, the name of a rule or fault";
 
-/// What help says of the text `line N X`, and of the exit status.
-const OUTCOMES: &str = "\
-At the first line at fault the text is `line N X`: N is its number, X what is wrong with it. `tltool
-explain FILE` says why, and `tltool explain X` what X says.
-  F1 to F6      the line spells no beat
-  F7            the first line is no header
-  F8            the line says no event (`run`)
-  L1 to L7      the beat is not a legal one by itself
-  S1            the beat does not continue its burst
-  H1 to H13     the beat breaks the order of messages
-
-Exit status:
-  0  no line is at fault; or help or the version was asked for
-  1  `line N X` was written
-  2  the words are not of the form above
-  3  no memory, or reading, writing or opening a file failed; a directory can be opened, but not
-     read, and a reader of the output that goes away makes writing fail
-
-Examples, in the folder of examples (crates/tl_examples/data):
-  printf '00 A 4 0 3 00 00000040 ff - 0\\n' | tltool decode
-  tltool monitor two_caches.trace
-  tltool explain wrong_report.trace
-  tltool explain H12
-  tail -n +2 two_caches.trace | tltool decode
-  tltool run --trace schedules/a_writer_becomes_a_reader.schedule | tltool monitor";
-
-const VERSION: &str = "0.2.0";
+/// The version, with the toolchain that proved it.
+const VERSION: &str = "1.0.0\nproved with rattle-kit-13b logic dac8208d650f15bf";
 
 fn decode<'a>(alloc: Global) -> Result<clap::Command<'a>, AllocError>
     ensures app { IfOk result (λ c. app_of c ≡ decode_of) }
@@ -99,7 +75,7 @@ fn decode<'a>(alloc: Global) -> Result<clap::Command<'a>, AllocError>
     let file = Arg::new(alloc, "FILE").help(FILE_HELP);
     clap::Command::new(alloc, "decode")
         .about("Writes a readable line for each beat line of FILE")
-        .after_help(OUTCOMES)
+        .after_help(help::DECODE)
         .arg(width)?
         .arg(file)
 }
@@ -111,7 +87,7 @@ fn monitor<'a>(alloc: Global) -> Result<clap::Command<'a>, AllocError>
     let file = Arg::new(alloc, "FILE").help(FILE_HELP);
     clap::Command::new(alloc, "monitor")
         .about("Judges a recorded trace: writes `clean N`, N its beats, or the first line at fault")
-        .after_help(OUTCOMES)
+        .after_help(help::TRACE)
         .arg(file)
 }
 
@@ -122,7 +98,7 @@ fn explain<'a>(alloc: Global) -> Result<clap::Command<'a>, AllocError>
     let file = Arg::new(alloc, "FILE").help(EXPLAINED_HELP);
     clap::Command::new(alloc, "explain")
         .about("Writes what `monitor` does of FILE, and why; or what a rule says")
-        .after_help(OUTCOMES)
+        .after_help(help::TRACE)
         .arg(file)
 }
 
@@ -137,7 +113,7 @@ fn run<'a>(alloc: Global) -> Result<clap::Command<'a>, AllocError>
     let file = Arg::new(alloc, "FILE").help(FILE_HELP);
     clap::Command::new(alloc, "run")
         .about("Plays a schedule: writes what comes of each event")
-        .after_help(OUTCOMES)
+        .after_help(help::RUN)
         .arg(trace)?
         .arg(file)
 }
@@ -150,7 +126,7 @@ fn reading<'a>(alloc: Global) -> Result<clap::Command<'a>, AllocError>
     let monitor = monitor(alloc)?;
     clap::Command::new(alloc, "tltool")
         .about("Reads and judges recorded TileLink traces, and plays schedules")
-        .after_help(OUTCOMES)
+        .after_help(help::TOOL)
         .version(VERSION)
         .subcommand_required(true)
         .subcommand(decode)?

@@ -28,9 +28,11 @@ no-fault None done e = refl
 no-fault (Some f) done e = absurd cc
 
 -- each client's part is within its limits
-pub client-fits : (config : Config) (i : ℕ) (d : ClientConfig) → config_fault config ≡ None → i < clients_of config → client_fault (slice_index_or config.clients.items i d) config.blocks ≡ None
+pub client-fits : (config : Config) (i : ℕ) (d : ClientConfig) → config_fault config ≡ None → i < clients_of config
+    → client_fault (slice_index_or config.clients.items i d) config.blocks ≡ None
 client-fits config i d fits lt =
-    let parts = limits-fit (is_from_to 1 16 (length config.clients.items)) (blocks_fit config.blocks) (trackers_fit config.trackers) (all_sources_fit config.clients.items) fits in
+    let parts = limits-fit (is_from_to 1 16 (length config.clients.items)) (blocks_fit config.blocks)
+    (trackers_fit config.trackers) (all_sources_fit config.clients.items) fits in
     rw (parts.1, all-fit config.clients.items i d parts.3 lt) refl
 
 -- one within its limits is refused for want of memory alone
@@ -41,23 +43,27 @@ want-of-memory level.UH fault is = absurd cc
 
 -- ---- one more client
 
-pub hired : {w : ℕ} {A : Type 0} (knows : A → Endpoint w → Type 0) (terms : A → EndConfig) (config : Config) (i : ℕ) (agents new : List A) (agent : A) (d : ClientConfig)
+pub hired : {w : ℕ} {A : Type 0} (knows : A → Endpoint w → Type 0) (terms : A → EndConfig) (config : Config) (i : ℕ)
+    (agents new : List A) (agent : A) (d : ClientConfig)
     → AreMade knows terms config i agents → new ≡ agents ++ agent ∷ [] → i < clients_of config
     → IsHired knows terms (slice_index_or config.clients.items i d) config.blocks config.profile agent
     → AreMade knows terms config (i + 1) new
 hired {w} {A} knows terms config i agents new agent d so_far is inside made = record {
-  so_many = ap (λ (xs : List A). length xs) is ∙ (let many = so_far.so_many in omega (arith, many, length-append agents (agent ∷ [])));
+  so_many = ap (λ (xs : List A). length xs) is ∙ (let many = so_far.so_many in
+      omega (arith, many, length-append agents (agent ∷ [])));
   fresh = λ k f lt.
       rw is
       (elim (cases_eq k i) [
         | inl same ↦ rw (same, ← so_far.so_many, get_or-append_seam agents agent [] f) made.fresh
-        | inr other ↦ rw (get_or_append_left agents (agent ∷ []) f k (before k lt other)) (so_far.fresh k f (omega (arith, lt, other)))
+        | inr other ↦ rw (get_or_append_left agents (agent ∷ []) f k (before k lt other))
+            (so_far.fresh k f (omega (arith, lt, other)))
       ]);
   terms_are = λ k f lt.
       rw is
       (elim (cases_eq k i) [
         | inl same ↦ rw same (rw (last f) its)
-        | inr other ↦ rw (get_or_append_left agents (agent ∷ []) f k (before k lt other)) (so_far.terms_are k f (omega (arith, lt, other)))
+        | inr other ↦ rw (get_or_append_left agents (agent ∷ []) f k (before k lt other))
+            (so_far.terms_are k f (omega (arith, lt, other)))
       ]);
 }
   where

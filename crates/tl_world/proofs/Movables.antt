@@ -1,5 +1,6 @@
 -- Which delivery is next, by what the parts of a world hold.
-use Rattle.std.proofs.Common.{◌≡◌, ◌<◌, ◌≤◌, ◌+◌, zero, suc, ℕ, Bool, true, false, not, List, [], ◌∷◌, Some, None, refl, ap, sym, ◌∙◌, inl, inr, length, arith}
+use Rattle.std.proofs.Common.{◌≡◌, ◌<◌, ◌≤◌, ◌+◌, zero, suc, ℕ, Bool, true, false, not, List, [], ◌∷◌, Some, None, refl}
+use Rattle.std.proofs.Common.{ap, sym, ◌∙◌, inl, inr, length, arith}
 use Rattle.std.proofs.lemmas.Bool.{cases_eq, cases_lt}
 use Rattle.std.proofs.lemmas.Option.{slice_get_past}
 use Rattle.std.specs.Prelude.{slice_get, slice_index_or}
@@ -28,7 +29,8 @@ use Rattle.tl_world.proofs.Stepping.{member, first-is, none-left}
 
 -- ---- of several links
 
-pub first-here : {w : ℕ} (config : Config) (ch : Channel) (from link n : ℕ) (s : System w) → from ≤ link → link < from + n
+pub first-here : {w : ℕ} (config : Config) (ch : Channel) (from link n : ℕ) (s : System w) → from ≤ link
+    → link < from + n
     → ((k : ℕ) → k < link → is_movable config k ch s ≡ false) → is_movable config link ch s ≡ true
     → first_movable config ch from n s ≡ Some (record { 0 = link }, ch)
 unfolding first_movable
@@ -38,25 +40,30 @@ first-here config ch from link (suc n) s after before none is =
       | inl same ↦ rw (same, is) refl
       | inr differs ↦
           let past : from < link = omega (arith, after, differs) in
-          rw (none from past) (first-here config ch (from + 1) link n s (omega (arith, past)) (omega (arith, before)) none is)
+          rw (none from past) (first-here config ch (from + 1) link n s (omega (arith, past)) (omega (arith, before))
+          none is)
     ]
 
 -- on a link without a client none is movable
-pub movable-past : {w : ℕ} (config : Config) (link : ℕ) (ch : Channel) (s : System w) → clients_of config ≤ link → is_movable config link ch s ≡ false
+pub movable-past : {w : ℕ} (config : Config) (link : ℕ) (ch : Channel) (s : System w) → clients_of config ≤ link
+    → is_movable config link ch s ≡ false
 unfolding is_movable
 movable-past config link ch s past = rw (slice_get_past config.clients.items link past) refl
 
 -- ---- of those whose bit is set
 
 -- a channel whose bit isn't set holds no beat
-unset-still : {w : ℕ} (config : Config) (link : ℕ) (ch : Channel) (s : System w) → bit_if (not (is_empty (s.channels link ch))) ≡ 0 → is_movable config link ch s ≡ false
+unset-still : {w : ℕ} (config : Config) (link : ℕ) (ch : Channel) (s : System w)
+    → bit_if (not (is_empty (s.channels link ch))) ≡ 0 → is_movable config link ch s ≡ false
 unset-still {w} config link ch s unset = go (s.channels link ch) refl unset
   where
-    go : (beats : List (Beat w)) → s.channels link ch ≡ beats → bit_if (not (is_empty beats)) ≡ 0 → is_movable config link ch s ≡ false
+    go : (beats : List (Beat w)) → s.channels link ch ≡ beats → bit_if (not (is_empty beats)) ≡ 0
+        → is_movable config link ch s ≡ false
     go [] e none = empty-still config s link ch e
     go (x ∷ rest) e none = absurd (omega (arith, none))
 
-pub none-unset : {w : ℕ} (config : Config) (rings : Rings w) (ch : Channel) (s : System w) → Carries (clients_of config) rings s
+pub none-unset : {w : ℕ} (config : Config) (rings : Rings w) (ch : Channel) (s : System w)
+    → Carries (clients_of config) rings s
     → (k : ℕ) → bit_at (word_of rings.non_empty ch) k ≡ 0 → is_movable config k ch s ≡ false
 none-unset config rings ch s carried k unset = elim (cases_lt k (clients_of config)) [
   | inl below ↦ unset-still config k ch s (sym (carried.non_empty k ch below) ∙ unset)
@@ -64,21 +71,25 @@ none-unset config rings ch s carried k unset = elim (cases_lt k (clients_of conf
 ]
 
 -- the lowest of them is the first
-pub lowest-first : {w : ℕ} (config : Config) (ch : Channel) (links link : ℕ) (s : System w) → ((k : ℕ) → bit_at links k ≡ 0 → is_movable config k ch s ≡ false)
-    → ((k : ℕ) → k < link → bit_at links k ≡ 0) → is_movable config link ch s ≡ true → Some (record { 0 = link }, ch) ≡ movable_on config ch s
+pub lowest-first : {w : ℕ} (config : Config) (ch : Channel) (links link : ℕ) (s : System w)
+    → ((k : ℕ) → bit_at links k ≡ 0 → is_movable config k ch s ≡ false)
+    → ((k : ℕ) → k < link → bit_at links k ≡ 0) → is_movable config link ch s ≡ true
+    → Some (record { 0 = link }, ch) ≡ movable_on config ch s
 lowest-first config ch links link s others lower is =
     let below : link < clients_of config = elim (cases_lt link (clients_of config)) [
       | inl below ↦ below
       | inr past ↦ absurd (never (sym (movable-past config link ch s past) ∙ is))
     ] in
-    sym (first-here config ch 0 link (clients_of config) s (omega arith) (omega (arith, below)) (λ k lt. others k (lower k lt)) is)
+    sym (first-here config ch 0 link (clients_of config) s (omega arith) (omega (arith, below))
+    (λ k lt. others k (lower k lt)) is)
   where
     never : false ≡ true → ⊥
     never e = absurd cc
 
 -- ---- of one
 
-module _ {w : ℕ} {A M : Type 0} (knows : A → Endpoint w → Type 0) (terms : A → EndConfig) (perm_of : M → ℕ → ℕ → Perm) (config : Config) (network : Network w A M)
+module _ {w : ℕ} {A M : Type 0} (knows : A → Endpoint w → Type 0) (terms : A → EndConfig) (perm_of : M → ℕ → ℕ → Perm)
+    (config : Config) (network : Network w A M)
     (s : System w) (h : Holds knows terms perm_of config network s)
     (link : Link) (ch : Channel) where
   module _ (below : link.0 < clients_of config) where
@@ -89,32 +100,42 @@ module _ {w : ℕ} {A M : Type 0} (knows : A → Endpoint w → Type 0) (terms :
     one = member network.clients.items link.0 inside
 
     pub moves-client : (x : Beat w) (stalled : Bool) → is_to_client ch ≡ true
-        → ((e : Endpoint w) (d : A) → link.0 < length network.clients.items → knows (slice_index_or network.clients.items link.0 d) e
+        → ((e : Endpoint w) (d : A) → link.0 < length network.clients.items
+        → knows (slice_index_or network.clients.items link.0 d) e
         → stalled ≡ client.stalls (terms (slice_index_or network.clients.items link.0 d)) ch x e)
         → moves config (terms_at config link.0) link.0 ch (x ∷ []) s ≡ not stalled
-    moves-client x stalled up is = rw (h.terms_are link.0 one below, up) (ap not (sym (is (s.clients link.0) one inside (h.clients link.0 one below))))
+    moves-client x stalled up is =
+        rw (h.terms_are link.0 one below, up)
+        (ap not (sym (is (s.clients link.0) one inside (h.clients link.0 one below))))
 
     pub moves-manager : (x : Beat w) (stalled : Bool) → is_to_client ch ≡ false
-        → ((config : Config) (e : manager_end.End w) → Knows perm_of network.manager config e → stalled ≡ manager.stalls config link ch x e)
+        → ((config : Config) (e : manager_end.End w) → Knows perm_of network.manager config e
+        → stalled ≡ manager.stalls config link ch x e)
         → moves config (terms_at config link.0) link.0 ch (x ∷ []) s ≡ not stalled
-    moves-manager x stalled down is = rw (h.terms_are link.0 one below, down) (ap not (sym (is config s.manager h.manager)))
+    moves-manager x stalled down is =
+        rw (h.terms_are link.0 one below, down) (ap not (sym (is config s.manager h.manager)))
 
     pub first-moves : (x : Beat w) (stalled : Bool) → Some x ≡ slice_get (s.channels link.0 ch) 0
-        → moves config (terms_at config link.0) link.0 ch (x ∷ []) s ≡ not stalled → not stalled ≡ is_movable config link.0 ch s
+        → moves config (terms_at config link.0) link.0 ch (x ∷ []) s ≡ not stalled
+        → not stalled ≡ is_movable config link.0 ch s
     unfolding is_movable
     first-moves x stalled first is =
         let beats = first-is (s.channels link.0 ch) x first in
         rw (h.terms_are link.0 one below, beats) (sym (rw (h.terms_are link.0 one below) at is))
 
-  pub movable-empty : ((n : ℕ) (s : System w) → Carries n network.rings s → link.0 < n → None ≡ slice_get (s.channels link.0 ch) 0) → false ≡ is_movable config link.0 ch s
+  pub movable-empty : ((n : ℕ) (s : System w) → Carries n network.rings s → link.0 < n
+      → None ≡ slice_get (s.channels link.0 ch) 0) → false ≡ is_movable config link.0 ch s
   movable-empty first = elim (cases_lt link.0 (clients_of config)) [
-    | inl below ↦ sym (empty-still config s link.0 ch (none-left (s.channels link.0 ch) (first (clients_of config) s h.channels below)))
+    | inl below ↦ sym (empty-still config s link.0 ch
+        (none-left (s.channels link.0 ch) (first (clients_of config) s h.channels below)))
     | inr past ↦ sym (movable-past config link.0 ch s past)
   ]
 
-  pub movable-first : (x : Beat w) (stalled : Bool) → ((n : ℕ) (s : System w) → Carries n network.rings s → link.0 < n → Some x ≡ slice_get (s.channels link.0 ch) 0)
+  pub movable-first : (x : Beat w) (stalled : Bool) → ((n : ℕ) (s : System w) → Carries n network.rings s → link.0 < n
+      → Some x ≡ slice_get (s.channels link.0 ch) 0)
       → ((n : ℕ) (s : System w) → Carries n network.rings s → n ≤ link.0 → Some x ≡ None)
-      → (link.0 < clients_of config → moves config (terms_at config link.0) link.0 ch (x ∷ []) s ≡ not stalled) → not stalled ≡ is_movable config link.0 ch s
+      → (link.0 < clients_of config → moves config (terms_at config link.0) link.0 ch (x ∷ []) s ≡ not stalled)
+      → not stalled ≡ is_movable config link.0 ch s
   movable-first x stalled there nowhere is = elim (cases_lt link.0 (clients_of config)) [
     | inl below ↦ first-moves below x stalled (there (clients_of config) s h.channels below) (is below)
     | inr past ↦ absurd (some-none (nowhere (clients_of config) s h.channels past))

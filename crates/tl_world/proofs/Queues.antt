@@ -1,5 +1,6 @@
 -- The channels of all links as one list of queues.
-use Rattle.std.proofs.Common.{◌≡◌, ℕ, suc, Bool, true, false, List, [], ◌∷◌, ◌++◌, ◌+◌, ◌≤◌, ◌<◌, length, drop, refl, sym, ap, ◌∙◌, ◌⊎◌, inl, inr, arith}
+use Rattle.std.proofs.Common.{◌≡◌, ℕ, suc, Bool, true, false, List, [], ◌∷◌, ◌++◌, ◌+◌, ◌≤◌, ◌<◌, length, drop, refl}
+use Rattle.std.proofs.Common.{sym, ap, ◌∙◌, ◌⊎◌, inl, inr, arith}
 use Rattle.std.specs.Prelude.{not, ◌≢◌, ◌==◌, ◌&&◌, max, slice_index_or}
 use Rattle.std.specs.Int.{bit_at}
 use Rattle.std.proofs.Math.Nat.{max-eq_left}
@@ -21,7 +22,8 @@ use Rattle.tl_manager.specs.statement.Handing.{Handed}
 use Rattle.tl_world.specs.code.Carrying.{number, place, channel_at, word_of, Carries, Fit, AreKept, AreMoved}
 use Rattle.tl_world.specs.declared.ring.Ring.{Ring}
 use Rattle.tl_world.specs.declared.rings.Rings.{Rings}
-use Rattle.tl_coherence.specs.statement.System.{System, same_channel, channel_of_message, with_channel, with_message, with_messages}
+use Rattle.tl_coherence.specs.statement.System.{System, same_channel, channel_of_message, with_channel, with_message}
+use Rattle.tl_coherence.specs.statement.System.{with_messages}
 use Rattle.tl_coherence.proofs.queues.Beats.{length-beats_from}
 use Rattle.tl_coherence.proofs.queues.Channels.{same_channel-is}
 
@@ -57,13 +59,19 @@ same_place j k c ch e =
     sym (back c) ∙ ap channel_at same ∙ back ch
 
 -- two channels are one, or stand at different places
-pub places : (j k : ℕ) (c ch : Channel) → ((j ≡ k) × (c ≡ ch)) ⊎ ((place j c ≢ place k ch) × (((j == k) && same_channel c ch) ≡ false))
+pub places : (j k : ℕ) (c ch : Channel) → ((j ≡ k) × (c ≡ ch))
+    ⊎ ((place j c ≢ place k ch) × (((j == k) && same_channel c ch) ≡ false))
 places j k c ch = go (cases_eq j k) (same_channel c ch) refl
   where
-    go : (j ≡ k) ⊎ (j ≢ k) → (b : Bool) → same_channel c ch ≡ b → ((j ≡ k) × (c ≡ ch)) ⊎ ((place j c ≢ place k ch) × (((j == k) && same_channel c ch) ≡ false))
+    go : (j ≡ k) ⊎ (j ≢ k) → (b : Bool) → same_channel c ch ≡ b → ((j ≡ k) × (c ≡ ch))
+        ⊎ ((place j c ≢ place k ch) × (((j == k) && same_channel c ch) ≡ false))
     go (inr other) b e = inr ((λ f. other (same_link j k c ch f)), rw (ne_eqb j k other) refl)
     go (inl same) true e = inl (same, same_channel-is c ch e)
-    go (inl same) false e = inr ((λ f. absurd (let is : c ≡ ch = same_place j k c ch f in let yes : same_channel c ch ≡ true = rw is (same_self ch) in cc)), rw (e, eq-eqb j k same) refl)
+    go (inl same) false e = inr (
+      (λ f. absurd (let is : c ≡ ch = same_place j k c ch f in let yes : same_channel c ch ≡ true =
+          rw is (same_self ch) in cc)),
+      rw (e, eq-eqb j k same) refl,
+    )
 
 -- ---- the beats of one channel change
 
@@ -72,25 +80,30 @@ module _ {w : ℕ} where
   deepest_kept ring = sym (max-eq_left ring.covered)
 
   -- of one channel
-  pub moved-one : (n : ℕ) (old new : Rings w) (s : System w) (k : ℕ) (ch : Channel) (beats : List (Beat w)) → Carries n old s → length new.all.items ≡ length old.all.items
+  pub moved-one : (n : ℕ) (old new : Rings w) (s : System w) (k : ℕ) (ch : Channel) (beats : List (Beat w))
+      → Carries n old s → length new.all.items ≡ length old.all.items
       → ((d : Ring w) → k < n → (slice_index_or new.all.items (place k ch) d).beats.items ≡ beats)
-      → ((d : Ring w) → (slice_index_or new.all.items (place k ch) d).deepest ≡ max (slice_index_or old.all.items (place k ch) d).deepest
+      → ((d : Ring w) → (slice_index_or new.all.items (place k ch) d).deepest ≡ max
+      (slice_index_or old.all.items (place k ch) d).deepest
       (length (slice_index_or new.all.items (place k ch) d).beats.items))
       → ((i : ℕ) (d : Ring w) → i ≢ place k ch → slice_index_or new.all.items i d ≡ slice_index_or old.all.items i d)
       → (k < n → bit_at (word_of new.non_empty ch) k ≡ bit_if (not (is_empty beats)))
-      → ((j : ℕ) (c : Channel) → place j c ≢ place k ch → bit_at (word_of new.non_empty c) j ≡ bit_at (word_of old.non_empty c) j)
+      → ((j : ℕ) (c : Channel) → place j c ≢ place k ch
+      → bit_at (word_of new.non_empty c) j ≡ bit_at (word_of old.non_empty c) j)
       → AreMoved n old new (with_channel k ch beats s)
   moved-one n old new s k ch beats carried same_number here deeper others bit_here bit_others = record {
     carries = record {
       five_each = same_number ∙ carried.five_each;
       beats = λ j c d lt.
           elim (places j k c ch) [
-            | inl same ↦ rw (same.0, same.1, eq-eqb k k refl, same_self ch) (here d (let is = same.0 in omega (arith, is, lt)))
+            | inl same ↦ rw (same.0, same.1, eq-eqb k k refl, same_self ch)
+                (here d (let is = same.0 in omega (arith, is, lt)))
             | inr other ↦ rw (other.1, others (place j c) d other.0) (carried.beats j c d lt)
           ];
       non_empty = λ j c lt.
           elim (places j k c ch) [
-            | inl same ↦ rw (same.0, same.1, eq-eqb k k refl, same_self ch) (bit_here (let is = same.0 in omega (arith, is, lt)))
+            | inl same ↦ rw (same.0, same.1, eq-eqb k k refl, same_self ch)
+                (bit_here (let is = same.0 in omega (arith, is, lt)))
             | inr other ↦ rw (other.1, bit_others j c other.0) (carried.non_empty j c lt)
           ];
     };
@@ -102,22 +115,30 @@ module _ {w : ℕ} where
   }
 
   -- whose first beat is taken away: its bit is cleared where it was the last
-  pub moved-dropped : (n : ℕ) (old new : Rings w) (s : System w) (k : ℕ) (ch : Channel) (x : Beat w) (rest : List (Beat w)) → Carries n old s → k < n → s.channels k ch ≡ x ∷ rest
+  pub moved-dropped : (n : ℕ) (old new : Rings w) (s : System w) (k : ℕ) (ch : Channel) (x : Beat w)
+      (rest : List (Beat w)) → Carries n old s → k < n → s.channels k ch ≡ x ∷ rest
       → length new.all.items ≡ length old.all.items
-      → ((d : Ring w) → (slice_index_or new.all.items (place k ch) d).beats ≡ buffer (drop 1 (slice_index_or old.all.items (place k ch) d).beats.items)
+      → ((d : Ring w) → (slice_index_or new.all.items (place k ch) d).beats ≡ buffer
+      (drop 1 (slice_index_or old.all.items (place k ch) d).beats.items)
       (slice_index_or old.all.items (place k ch) d).beats.capacity)
-      → ((d : Ring w) → (slice_index_or new.all.items (place k ch) d).deepest ≡ (slice_index_or old.all.items (place k ch) d).deepest)
+      → ((d : Ring w) → (slice_index_or new.all.items (place k ch) d).deepest
+      ≡ (slice_index_or old.all.items (place k ch) d).deepest)
       → ((i : ℕ) (d : Ring w) → i ≢ place k ch → slice_index_or new.all.items i d ≡ slice_index_or old.all.items i d)
-      → (d : Ring w) → bit_at (word_of new.non_empty ch) k ≡ bit_if (not (length (slice_index_or new.all.items (place k ch) d).beats.items == 0))
-      → ((j : ℕ) (c : Channel) → place j c ≢ place k ch → bit_at (word_of new.non_empty c) j ≡ bit_at (word_of old.non_empty c) j)
+      → (d : Ring w) → bit_at (word_of new.non_empty ch) k ≡ bit_if
+      (not (length (slice_index_or new.all.items (place k ch) d).beats.items == 0))
+      → ((j : ℕ) (c : Channel) → place j c ≢ place k ch
+      → bit_at (word_of new.non_empty c) j ≡ bit_at (word_of old.non_empty c) j)
       → AreMoved n old new (with_channel k ch rest s)
   moved-dropped n old new s k ch x rest carried inside first same_number dropped flat others d bit_here bit_others =
-      moved-one n old new s k ch rest carried same_number (λ e lt. left e) deeper others (λ lt. bit_here ∙ ap bit_if (rw (left d) (some rest))) bit_others
+      moved-one n old new s k ch rest carried same_number (λ e lt. left e) deeper others
+      (λ lt. bit_here ∙ ap bit_if (rw (left d) (some rest))) bit_others
     where
       left : (e : Ring w) → (slice_index_or new.all.items (place k ch) e).beats.items ≡ rest
-      left e = ap (λ (b : Buffer (Beat w)). b.items) (dropped e) ∙ ap (λ (xs : List (Beat w)). drop 1 xs) (carried.beats k ch e inside ∙ first)
+      left e = ap (λ (b : Buffer (Beat w)). b.items) (dropped e) ∙ ap (λ (xs : List (Beat w)). drop 1 xs)
+          (carried.beats k ch e inside ∙ first)
 
-      deeper : (e : Ring w) → (slice_index_or new.all.items (place k ch) e).deepest ≡ max (slice_index_or old.all.items (place k ch) e).deepest
+      deeper : (e : Ring w) → (slice_index_or new.all.items (place k ch) e).deepest ≡ max
+          (slice_index_or old.all.items (place k ch) e).deepest
           (length (slice_index_or new.all.items (place k ch) e).beats.items)
       deeper e =
           let now = ap (λ (xs : List (Beat w)). length xs) (left e) in
@@ -130,18 +151,22 @@ module _ {w : ℕ} where
       some (y ∷ ys) = ap not (ne_eqb (suc (length ys)) 0 (λ e. absurd (omega (arith, e))))
 
   -- of none of those that there are
-  pub moved-aside : (n : ℕ) (rings : Rings w) (s : System w) (k : ℕ) (ch : Channel) (beats : List (Beat w)) → Carries n rings s → n ≤ k → AreMoved n rings rings (with_channel k ch beats s)
+  pub moved-aside : (n : ℕ) (rings : Rings w) (s : System w) (k : ℕ) (ch : Channel) (beats : List (Beat w))
+      → Carries n rings s → n ≤ k → AreMoved n rings rings (with_channel k ch beats s)
   moved-aside n rings s k ch beats carried past = record {
     carries = record {
       five_each = carried.five_each;
-      beats = λ j c d lt. let other : (j ≡ k) → ⊥ = λ same. absurd (omega (arith, same, lt, past)) in rw (ne_eqb j k other) (carried.beats j c d lt);
-      non_empty = λ j c lt. let other : (j ≡ k) → ⊥ = λ same. absurd (omega (arith, same, lt, past)) in rw (ne_eqb j k other) (carried.non_empty j c lt);
+      beats = λ j c d lt. let other : (j ≡ k) → ⊥ = λ same. absurd (omega (arith, same, lt, past)) in
+          rw (ne_eqb j k other) (carried.beats j c d lt);
+      non_empty = λ j c lt. let other : (j ≡ k) → ⊥ = λ same. absurd (omega (arith, same, lt, past)) in
+          rw (ne_eqb j k other) (carried.non_empty j c lt);
     };
     deepen = λ j c d lt. deepest_kept (slice_index_or rings.all.items (place j c) d);
   }
 
   -- one move after another, at which no channel loses a beat
-  pub moved-then : (n : ℕ) (old now new : Rings w) (s s' : System w) → AreMoved n old now s → AreMoved n now new s' → ((k : ℕ) (ch : Channel) → length (s.channels k ch) ≤ length (s'.channels k ch))
+  pub moved-then : (n : ℕ) (old now new : Rings w) (s s' : System w) → AreMoved n old now s → AreMoved n now new s'
+      → ((k : ℕ) (ch : Channel) → length (s.channels k ch) ≤ length (s'.channels k ch))
       → AreMoved n old new s'
   moved-then n old now new s s' first second more = record {
     carries = second.carries;
@@ -161,35 +186,52 @@ module _ {w : ℕ} where
   some_after [] (y ∷ ys) some = refl
   some_after (x ∷ xs) ys some = refl
 
-  pub messages-append : (xs ys : Handed w) (s : System w) → with_messages (xs ++ ys) s ≡ with_messages ys (with_messages xs s)
+  pub messages-append : (xs ys : Handed w) (s : System w)
+      → with_messages (xs ++ ys) s ≡ with_messages ys (with_messages xs s)
   unfolding with_messages
   messages-append [] ys s = refl
   messages-append (x ∷ xs) ys s = messages-append xs ys (with_message x.0.0 x.1 s)
 
   -- a channel only gets longer
-  message-grows : (l : ℕ) (m : Message w) (s : System w) (k : ℕ) (ch : Channel) → length (s.channels k ch) ≤ length ((with_message l m s).channels k ch)
+  message-grows : (l : ℕ) (m : Message w) (s : System w) (k : ℕ) (ch : Channel)
+      → length (s.channels k ch) ≤ length ((with_message l m s).channels k ch)
   message-grows l m s k ch =
       elim (places k l ch (channel_of_message m)) [
-        | inl same ↦ rw (same.0, same.1, eq-eqb l l refl, same_self (channel_of_message m), length-append (s.channels l (channel_of_message m)) (beats_from m 0 (beats_of m))) (omega arith)
+        | inl same ↦ rw (
+          same.0,
+          same.1,
+          eq-eqb l l refl,
+          same_self (channel_of_message m),
+          length-append
+              (s.channels l (channel_of_message m)) (beats_from m 0 (beats_of m)),
+        ) (omega arith)
         | inr other ↦ rw other.1 (omega arith)
       ]
 
-  pub messages-grow : (handed : Handed w) (s : System w) (k : ℕ) (ch : Channel) → length (s.channels k ch) ≤ length ((with_messages handed s).channels k ch)
+  pub messages-grow : (handed : Handed w) (s : System w) (k : ℕ) (ch : Channel)
+      → length (s.channels k ch) ≤ length ((with_messages handed s).channels k ch)
   unfolding with_messages
   messages-grow [] s k ch = omega arith
-  messages-grow (x ∷ handed) s k ch = omega (arith, message-grows x.0.0 x.1 s k ch, messages-grow handed (with_message x.0.0 x.1 s) k ch)
+  messages-grow (x ∷ handed) s k ch =
+      omega (arith, message-grows x.0.0 x.1 s k ch, messages-grow handed (with_message x.0.0 x.1 s) k ch)
 
   -- a message that fits behind its channel
-  pub moved-sent : (n : ℕ) (old new : Rings w) (s : System w) (l : ℕ) (m : Message w) → IsWidth w → Carries n old s → Fit n old (with_message l m s) → length new.all.items ≡ length old.all.items
-      → ((d : Ring w) → length (slice_index_or old.all.items (place l (channel_of_message m)) d).beats.items + beats_of m
+  pub moved-sent : (n : ℕ) (old new : Rings w) (s : System w) (l : ℕ) (m : Message w) → IsWidth w → Carries n old s
+      → Fit n old (with_message l m s) → length new.all.items ≡ length old.all.items
+      → ((d : Ring w) → length (slice_index_or old.all.items (place l (channel_of_message m)) d).beats.items + beats_of
+      m
       ≤ (slice_index_or old.all.items (place l (channel_of_message m)) d).beats.capacity
-      → (slice_index_or new.all.items (place l (channel_of_message m)) d).beats.items ≡ (slice_index_or old.all.items (place l (channel_of_message m)) d).beats.items ++ beats_from m 0 (beats_of m))
+      → (slice_index_or new.all.items (place l (channel_of_message m)) d).beats.items
+      ≡ (slice_index_or old.all.items (place l (channel_of_message m)) d).beats.items ++ beats_from m 0
+      (beats_of m))
       → ((d : Ring w) → (slice_index_or new.all.items (place l (channel_of_message m)) d).deepest ≡ max
       (slice_index_or old.all.items (place l (channel_of_message m)) d).deepest
       (length (slice_index_or new.all.items (place l (channel_of_message m)) d).beats.items))
-      → ((i : ℕ) (d : Ring w) → i ≢ place l (channel_of_message m) → slice_index_or new.all.items i d ≡ slice_index_or old.all.items i d)
+      → ((i : ℕ) (d : Ring w) → i ≢ place l (channel_of_message m) → slice_index_or new.all.items i d ≡ slice_index_or
+      old.all.items i d)
       → bit_at (word_of new.non_empty (channel_of_message m)) l ≡ 1
-      → ((j : ℕ) (c : Channel) → place j c ≢ place l (channel_of_message m) → bit_at (word_of new.non_empty c) j ≡ bit_at (word_of old.non_empty c) j)
+      → ((j : ℕ) (c : Channel) → place j c ≢ place l (channel_of_message m)
+      → bit_at (word_of new.non_empty c) j ≡ bit_at (word_of old.non_empty c) j)
       → AreMoved n old new (with_message l m s)
   moved-sent n old new s l m width carried fits same_number sent deeper others bit_here bit_others =
       moved-one n old new s l ch (s.channels l ch ++ beats_from m 0 (beats_of m)) carried same_number here deeper others
@@ -201,27 +243,41 @@ module _ {w : ℕ} where
       some : 0 < length (beats_from m 0 (beats_of m))
       some = rw (length-beats_from m 0 (beats_of m)) (beats-positive m width)
 
-      here : (d : Ring w) → l < n → (slice_index_or new.all.items (place l ch) d).beats.items ≡ s.channels l ch ++ beats_from m 0 (beats_of m)
+      here : (d : Ring w) → l < n → (slice_index_or new.all.items (place l ch) d).beats.items ≡ s.channels l
+          ch ++ beats_from m 0 (beats_of m)
       here d lt =
           let held = carried.beats l ch d lt in
           let many = ap (λ (xs : List (Beat w)). length xs) held in
-          let whole : length (s.channels l ch ++ beats_from m 0 (beats_of m)) ≤ (slice_index_or old.all.items (place l ch) d).beats.capacity = rw (eq-eqb l l refl, same_self ch) at (fits l ch d lt) in
-          let room : length (slice_index_or old.all.items (place l ch) d).beats.items + beats_of m ≤ (slice_index_or old.all.items (place l ch) d).beats.capacity =
-          omega (arith, many, whole, length-append (s.channels l ch) (beats_from m 0 (beats_of m)), length-beats_from m 0 (beats_of m)) in
+          let whole : length (s.channels l ch ++ beats_from m 0 (beats_of m)) ≤ (slice_index_or old.all.items
+          (place l ch) d).beats.capacity = rw (eq-eqb l l refl, same_self ch) at (fits l ch d lt) in
+          let room : length (slice_index_or old.all.items (place l ch) d).beats.items + beats_of
+          m ≤ (slice_index_or old.all.items (place l ch) d).beats.capacity =
+          omega (
+            arith,
+            many,
+            whole,
+            length-append (s.channels l ch) (beats_from m 0 (beats_of m)),
+            length-beats_from m
+                0 (beats_of m),
+          ) in
           sent d room ∙ ap (λ (xs : List (Beat w)). xs ++ beats_from m 0 (beats_of m)) held
 
   -- nothing that is handed out
   pub moved-still : (n : ℕ) (rings : Rings w) (s : System w) → Carries n rings s → AreMoved n rings rings s
-  moved-still n rings s carried = record { carries = carried; deepen = λ k ch d lt. deepest_kept (slice_index_or rings.all.items (place k ch) d) }
+  moved-still n rings s carried =
+      record { carries = carried; deepen = λ k ch d lt. deepest_kept (slice_index_or rings.all.items (place k ch) d) }
 
   -- one more message of several
-  pub moved-more : (n : ℕ) (old now new : Rings w) (s : System w) (before rest : Handed w) (x : Link × Message w) → AreKept old now → AreMoved n old now (with_messages before s)
-      → (Carries n now (with_messages before s) → Fit n now (with_message x.0.0 x.1 (with_messages before s)) → AreMoved n now new (with_message x.0.0 x.1 (with_messages before s)))
+  pub moved-more : (n : ℕ) (old now new : Rings w) (s : System w) (before rest : Handed w) (x : Link × Message w)
+      → AreKept old now → AreMoved n old now (with_messages before s)
+      → (Carries n now (with_messages before s) → Fit n now (with_message x.0.0 x.1 (with_messages before s))
+      → AreMoved n now new (with_message x.0.0 x.1 (with_messages before s)))
       → Fit n old (with_messages (before ++ x ∷ rest) s) → AreMoved n old new (with_messages (before ++ x ∷ []) s)
   unfolding with_messages
   moved-more n old now new s before rest x kept first next fits =
       rw (messages-append before (x ∷ []) s)
-      (moved-then n old now new (with_messages before s) _ first (next first.carries room) (λ k ch. message-grows x.0.0 x.1 (with_messages before s) k ch))
+      (moved-then n old now new (with_messages before s) _ first (next first.carries room)
+      (λ k ch. message-grows x.0.0 x.1 (with_messages before s) k ch))
     where
       room : Fit n now (with_message x.0.0 x.1 (with_messages before s))
       room k ch d lt =

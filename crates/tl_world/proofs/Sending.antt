@@ -13,7 +13,8 @@ kept_whole : {X : Type 0} (n : ℕ) (xs : List X) → length xs ≤ n → keep_l
 kept_whole n xs few = let none : length xs - n ≡ 0 = omega arith in rw none refl
 
 -- one more beat
-pub pushed : {w : ℕ} (m : Message w) (i n : ℕ) (old items : List (Beat w)) (new : Buffer (Beat w)) (x : Beat w) → new ≡ buffer (keep_last n (items ++ x ∷ [])) n
+pub pushed : {w : ℕ} (m : Message w) (i n : ℕ) (old items : List (Beat w)) (new : Buffer (Beat w)) (x : Beat w)
+    → new ≡ buffer (keep_last n (items ++ x ∷ [])) n
     → x ≡ beat_of m i → i < beats_of m → items ≡ old ++ beats_from m 0 i → length old + beats_of m ≤ n
     → new.items ≡ old ++ beats_from m 0 (i + 1)
 pushed {w} m i n old items new x is beat inside so_far room =

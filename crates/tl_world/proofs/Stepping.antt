@@ -1,5 +1,6 @@
 -- What the parts of a world hold after an event.
-use Rattle.std.proofs.Common.{◌≡◌, ◌<◌, ◌≤◌, ℕ, true, false, List, [], ◌∷◌, Option, Some, None, refl, ap, sym, subst, ◌∙◌, inl, inr, length, drop, arith}
+use Rattle.std.proofs.Common.{◌≡◌, ◌<◌, ◌≤◌, ℕ, true, false, List, [], ◌∷◌, Option, Some, None, refl, ap, sym, subst}
+use Rattle.std.proofs.Common.{◌∙◌, inl, inr, length, drop, arith}
 use Rattle.std.proofs.lemmas.Bool.{cases_eq, ne_eqb, eq-eqb}
 use Rattle.std.proofs.lemmas.Option.{slice_get_past}
 use Rattle.std.specs.Prelude.{not, ◌≢◌, Result, Ok, Err, slice_get, slice_index_or}
@@ -25,7 +26,8 @@ use Rattle.tl_manager.specs.statement.Offer as manager
 use Rattle.tl_world.specs.code.Called.{IsAsked, IsOffered}
 use Rattle.tl_world.specs.code.Carrying.{place, Carries, Fit, AreKept, Deepen, AreMoved}
 use Rattle.tl_world.specs.code.Holds.{clients_of, Holds, HasRoom, IsStepped, is_stay}
-use Rattle.tl_coherence.specs.statement.Step.{Step, stepped, only, handing, handed_by, judged, outcome_of, manager_took, is_to_client, client_of}
+use Rattle.tl_coherence.specs.statement.Step.{Step, stepped, only, handing, handed_by, judged, outcome_of, manager_took}
+use Rattle.tl_coherence.specs.statement.Step.{is_to_client, client_of}
 use Rattle.tl_coherence.specs.statement.System.{System, with_client, with_manager, with_channel, with_messages}
 use Rattle.tl_coherence.specs.declared.event.Event.{Event}
 use Rattle.tl_coherence.specs.declared.event.Event.TheVariants.{Ask, Deliver}
@@ -35,8 +37,10 @@ use Rattle.tl_world.specs.declared.network.Network.{Network}
 use Rattle.tl_world.specs.declared.rings.Rings.{Rings}
 use Rattle.tl_coherence.proofs.deliveries.Matching.{stepped-nobody}
 use Rattle.tl_world.proofs.Queues.{moved-still, moved-then, messages-grow}
-use Rattle.tl_coherence.proofs.queues.Steps.{clients-with_messages, manager-with_messages, stepped-asked, stepped-empty, stepped-to-client, stepped-to-manager}
-use Rattle.tl_world.proofs.Unmoved.{stayed-client, stayed-manager, judged-refused, judged-stayed, judged-taken, took-refused, took-stalled, took-sent}
+use Rattle.tl_coherence.proofs.queues.Steps.{clients-with_messages, manager-with_messages, stepped-asked, stepped-empty}
+use Rattle.tl_coherence.proofs.queues.Steps.{stepped-to-client, stepped-to-manager}
+use Rattle.tl_world.proofs.Unmoved.{stayed-client, stayed-manager, judged-refused, judged-stayed, judged-taken}
+use Rattle.tl_world.proofs.Unmoved.{took-refused, took-stalled, took-sent}
 
 -- one of several
 pub member : {X : Type 0} (xs : List X) (i : ℕ) → i < length xs → X
@@ -57,26 +61,32 @@ first-is {X} (y ∷ xs) x e = let same : y ≡ x = some_is e in rw same refl
     some_is e = cc
 
 -- other ends leave the channels
-carries-same : {w : ℕ} (n : ℕ) (rings : Rings w) (s s' : System w) → ((k : ℕ) (ch : Channel) → s'.channels k ch ≡ s.channels k ch) → Carries n rings s → Carries n rings s'
+carries-same : {w : ℕ} (n : ℕ) (rings : Rings w) (s s' : System w)
+    → ((k : ℕ) (ch : Channel) → s'.channels k ch ≡ s.channels k ch) → Carries n rings s → Carries n rings s'
 carries-same {w = w} n rings s s' same carried = record {
   five_each = carried.five_each;
   beats = λ k ch d lt. carried.beats k ch d lt ∙ sym (same k ch);
-  non_empty = λ k ch lt. carried.non_empty k ch lt ∙ ap (λ (xs : List (Beat w)). bit_if (not (is_empty xs))) (sym (same k ch));
+  non_empty = λ k ch lt. carried.non_empty k ch lt ∙ ap (λ (xs : List (Beat w)). bit_if (not (is_empty xs)))
+      (sym (same k ch));
 }
 
-module _ {w : ℕ} {A M : Type 0} (knows : A → Endpoint w → Type 0) (terms : A → EndConfig) (perm_of : M → ℕ → ℕ → Perm) (config : Config) where
-  fits-in : (old : Network w A M) (now : Rings w) (s s' : System w) → Holds knows terms perm_of config old s → AreKept old.rings now → HasRoom config s' → Fit (clients_of config) now s'
+module _ {w : ℕ} {A M : Type 0} (knows : A → Endpoint w → Type 0) (terms : A → EndConfig) (perm_of : M → ℕ → ℕ → Perm)
+    (config : Config) where
+  fits-in : (old : Network w A M) (now : Rings w) (s s' : System w) → Holds knows terms perm_of config old s
+      → AreKept old.rings now → HasRoom config s' → Fit (clients_of config) now s'
   fits-in old now s s' h kept room k ch d lt =
       let a = room k ch in
       let b = h.room k ch d lt in
       let c = kept.same_capacity (place k ch) d in
       omega (arith, a, b, c)
 
-  room-after : (event : Event w) (s : System w) (step : Step w) → stepped config event s ≡ step → HasRoom config (stepped config event s).after → HasRoom config step.after
+  room-after : (event : Event w) (s : System w) (step : Step w) → stepped config event s ≡ step
+      → HasRoom config (stepped config event s).after → HasRoom config step.after
   room-after event s step is room = subst (λ (x : Step w). HasRoom config x.after) is room
 
   -- a step that is known
-  stepped-by : (old new : Network w A M) (event : Event w) (s : System w) (step : Step w) (o : Outcome w) → stepped config event s ≡ step → o ≡ step.outcome
+  stepped-by : (old new : Network w A M) (event : Event w) (s : System w) (step : Step w) (o : Outcome w)
+      → stepped config event s ≡ step → o ≡ step.outcome
       → Holds knows terms perm_of config new step.after
       → Deepen (clients_of config) old.rings new.rings → IsStepped knows terms perm_of config old new event o s
   stepped-by old new event s step o is same h deepen = record {
@@ -86,31 +96,35 @@ module _ {w : ℕ} {A M : Type 0} (knows : A → Endpoint w → Type 0) (terms :
   }
 
   -- one client changes, and channels
-  client-holds : (old new : Network w A M) (s s' : System w) (i : ℕ) (e : Endpoint w) → Holds knows terms perm_of config old s → ((d : A) → knows (slice_index_or new.clients.items i d) e)
+  client-holds : (old new : Network w A M) (s s' : System w) (i : ℕ) (e : Endpoint w)
+      → Holds knows terms perm_of config old s → ((d : A) → knows (slice_index_or new.clients.items i d) e)
       → ((d : A) → terms (slice_index_or new.clients.items i d) ≡ terms (slice_index_or old.clients.items i d))
       → ((k : ℕ) (d : A) → k ≢ i → slice_index_or new.clients.items k d ≡ slice_index_or old.clients.items k d)
-      → length new.clients.items ≡ length old.clients.items → ((k : ℕ) → s'.clients k ≡ (with_client i e s).clients k) → s'.manager ≡ s.manager → new.manager ≡ old.manager
+      → length new.clients.items ≡ length old.clients.items → ((k : ℕ) → s'.clients k ≡ (with_client i e s).clients k)
+      → s'.manager ≡ s.manager → new.manager ≡ old.manager
       → AreKept old.rings new.rings → Carries (clients_of config) new.rings s' → Holds knows terms perm_of config new s'
-  client-holds old new s s' i e h known same_terms others same_number clients_are manager_is same_manager kept carried = record {
-    one_client_each = same_number ∙ h.one_client_each;
-    clients = λ k d lt.
-        subst (λ (f : Endpoint w). knows (slice_index_or new.clients.items k d) f) (sym (clients_are k))
-        (elim (cases_eq k i) [
-          | inl same ↦ rw (same, eq-eqb i i refl) (known d)
-          | inr other ↦ rw (ne_eqb k i other, others k d other) (h.clients k d lt)
-        ]);
-    terms_are = λ k d lt.
-        elim (cases_eq k i) [
-          | inl same ↦ rw (same, same_terms d) (rw same at (h.terms_are k d lt))
-          | inr other ↦ rw (others k d other) (h.terms_are k d lt)
-        ];
-    manager = rw (manager_is, same_manager) h.manager;
-    channels = carried;
-    room = λ k ch d lt. kept.same_capacity (place k ch) d ∙ h.room k ch d lt;
-  }
+  client-holds old new s s' i e h known same_terms others same_number clients_are manager_is same_manager kept carried =
+      record {
+        one_client_each = same_number ∙ h.one_client_each;
+        clients = λ k d lt.
+            subst (λ (f : Endpoint w). knows (slice_index_or new.clients.items k d) f) (sym (clients_are k))
+            (elim (cases_eq k i) [
+              | inl same ↦ rw (same, eq-eqb i i refl) (known d)
+              | inr other ↦ rw (ne_eqb k i other, others k d other) (h.clients k d lt)
+            ]);
+        terms_are = λ k d lt.
+            elim (cases_eq k i) [
+              | inl same ↦ rw (same, same_terms d) (rw same at (h.terms_are k d lt))
+              | inr other ↦ rw (others k d other) (h.terms_are k d lt)
+            ];
+        manager = rw (manager_is, same_manager) h.manager;
+        channels = carried;
+        room = λ k ch d lt. kept.same_capacity (place k ch) d ∙ h.room k ch d lt;
+      }
 
   -- all of one client are made for the same
-  made-for : (old : Network w A M) (s : System w) (i : ℕ) (d f : A) → Holds knows terms perm_of config old s → i < clients_of config
+  made-for : (old : Network w A M) (s : System w) (i : ℕ) (d f : A) → Holds knows terms perm_of config old s
+      → i < clients_of config
       → terms (slice_index_or old.clients.items i d) ≡ terms (slice_index_or old.clients.items i f)
   made-for old s i d f h below = some_is (sym (h.terms_are i d below) ∙ h.terms_are i f below)
     where
@@ -119,7 +133,8 @@ module _ {w : ℕ} {A M : Type 0} (knows : A → Endpoint w → Type 0) (terms :
 
   -- ---- the first beat of a channel
 
-  pub first-brought : (network : Network w A M) (s : System w) (link : Link) (ch : Channel) (x : Beat w) → Holds knows terms perm_of config network s → link.0 < length network.clients.items
+  pub first-brought : (network : Network w A M) (s : System w) (link : Link) (ch : Channel) (x : Beat w)
+      → Holds knows terms perm_of config network s → link.0 < length network.clients.items
       → ((n : ℕ) (s : System w) → Carries n network.rings s → link.0 < n → Some x ≡ slice_get (s.channels link.0 ch) 0)
       → s.channels link.0 ch ≡ x ∷ drop 1 (s.channels link.0 ch)
   first-brought network s link ch x h inside first =
@@ -128,15 +143,20 @@ module _ {w : ℕ} {A M : Type 0} (knows : A → Endpoint w → Type 0) (terms :
 
   -- ---- a client is asked
 
-  pub steps-asked : (old new : Network w A M) (s : System w) (i : ℕ) (op : Op w) (answer : Reply × Option (Message w)) → Holds knows terms perm_of config old s → i < length old.clients.items
-      → IsAsked knows terms old.clients.items new.clients.items i op answer → new.manager ≡ old.manager → AreKept old.rings new.rings
-      → ((n : ℕ) (s : System w) → Carries n old.rings s → Fit n old.rings (with_messages (handed_by i answer.1) s) → AreMoved n old.rings new.rings (with_messages (handed_by i answer.1) s))
+  pub steps-asked : (old new : Network w A M) (s : System w) (i : ℕ) (op : Op w) (answer : Reply × Option (Message w))
+      → Holds knows terms perm_of config old s → i < length old.clients.items
+      → IsAsked knows terms old.clients.items new.clients.items i op answer → new.manager ≡ old.manager
+      → AreKept old.rings new.rings
+      → ((n : ℕ) (s : System w) → Carries n old.rings s → Fit n old.rings (with_messages (handed_by i answer.1) s)
+      → AreMoved n old.rings new.rings (with_messages (handed_by i answer.1) s))
       → HasRoom config (stepped config (Ask i op) s).after
       → IsStepped knows terms perm_of config old new (Ask i op) (outcome.Replied answer.0) s
   steps-asked old new s i op answer h inside is same_manager kept sends room =
-      stepped-by old new (Ask i op) s (handing (outcome.Replied answer.0) handed now) (outcome.Replied answer.0) step refl
+      stepped-by old new (Ask i op) s (handing (outcome.Replied answer.0) handed now) (outcome.Replied answer.0) step
+      refl
       (client-holds old new s (with_messages handed now) i end h known is.same_terms is.others is.same_number
-      (λ k. ap (λ (f : ℕ → Endpoint w). f k) (clients-with_messages handed now)) (manager-with_messages handed now) same_manager kept moved.carries)
+      (λ k. ap (λ (f : ℕ → Endpoint w). f k) (clients-with_messages handed now)) (manager-with_messages handed now)
+      same_manager kept moved.carries)
       moved.deepen
     where
       below : i < clients_of config
@@ -160,10 +180,15 @@ module _ {w : ℕ} {A M : Type 0} (knows : A → Endpoint w → Type 0) (terms :
       step : stepped config (Ask i op) s ≡ handing (outcome.Replied answer.0) handed now
       step =
           stepped-asked config i op s t (h.terms_are i one below)
-          ∙ rw (← is.reply (s.clients i) one (h.clients i one below), ← is.message (s.clients i) one (h.clients i one below)) refl
+          ∙ rw (
+            ← is.reply (s.clients i) one (h.clients i one below),
+            ← is.message (s.clients i) one
+                (h.clients i one below),
+          ) refl
 
       known : (d : A) → knows (slice_index_or new.clients.items i d) end
-      known d = subst (λ (u : EndConfig). knows (slice_index_or new.clients.items i d) (asked u op (s.clients i)).after) (made-for old s i d one h below) (is.after (s.clients i) d (h.clients i d below))
+      known d = subst (λ (u : EndConfig). knows (slice_index_or new.clients.items i d) (asked u op (s.clients i)).after)
+          (made-for old s i d one h below) (is.after (s.clients i) d (h.clients i d below))
 
       kept-still : AreKept old.rings old.rings
       kept-still = record { same_number = refl; same_capacity = λ k d. refl }
@@ -171,13 +196,15 @@ module _ {w : ℕ} {A M : Type 0} (knows : A → Endpoint w → Type 0) (terms :
       moved : AreMoved (clients_of config) old.rings new.rings (with_messages handed now)
       moved =
           sends (clients_of config) now (carries-same (clients_of config) old.rings s now (λ k ch. refl) h.channels)
-          (fits-in old old.rings s (with_messages handed now) h kept-still (room-after (Ask i op) s (handing (outcome.Replied answer.0) handed now) step room))
+          (fits-in old old.rings s (with_messages handed now) h kept-still
+          (room-after (Ask i op) s (handing (outcome.Replied answer.0) handed now) step room))
 
   -- ---- a beat is brought to a client
 
   module _ (old new : Network w A M) (s : System w) (link : Link) (ch : Channel) (x : Beat w) (rest : List (Beat w))
       (answer : Result (Verdict × Option (Message w)) Rule) (h : Holds knows terms perm_of config old s)
-      (inside : link.0 < length old.clients.items) (first : s.channels link.0 ch ≡ x ∷ rest) (up : is_to_client ch ≡ true)
+      (inside : link.0 < length old.clients.items) (first : s.channels link.0 ch ≡ x ∷ rest)
+      (up : is_to_client ch ≡ true)
       (is : IsOffered knows terms old.clients.items new.clients.items link.0 ch x answer)
       (same_manager : new.manager ≡ old.manager) where
     below : link.0 < clients_of config
@@ -196,27 +223,35 @@ module _ {w : ℕ} {A M : Type 0} (knows : A → Endpoint w → Type 0) (terms :
     answer_is = is.answer_is (s.clients link.0) one (h.clients link.0 one below)
 
     known : (d : A) → knows (slice_index_or new.clients.items link.0 d) end
-    known d = subst (λ (u : EndConfig). knows (slice_index_or new.clients.items link.0 d) (offered u ch x (s.clients link.0)).after)
+    known d = subst (λ (u : EndConfig). knows (slice_index_or new.clients.items link.0 d)
+        (offered u ch x (s.clients link.0)).after)
         (made-for old s link.0 d one h below) (is.after (s.clients link.0) d (h.clients link.0 d below))
 
-    taken-up : stepped config (Deliver link ch) s ≡ judged (offered t ch x (s.clients link.0)).answer link.0 ch x rest end s
+    taken-up : stepped config (Deliver link ch) s ≡ judged (offered t ch x (s.clients link.0)).answer link.0 ch x rest
+        end s
     taken-up = stepped-to-client config link ch s t x rest (h.terms_are link.0 one below) first up
 
     -- where the channels are as before
     kept : new.rings ≡ old.rings → AreKept old.rings new.rings
-    kept same = subst (λ (r : Rings w). AreKept old.rings r) (sym same) (record { same_number = refl; same_capacity = λ k d. refl })
+    kept same = subst (λ (r : Rings w). AreKept old.rings r) (sym same)
+        (record { same_number = refl; same_capacity = λ k d. refl })
 
-    carried : (s' : System w) → ((k : ℕ) (c : Channel) → s'.channels k c ≡ s.channels k c) → new.rings ≡ old.rings → Carries (clients_of config) new.rings s'
-    carried s' as_before same = subst (λ (r : Rings w). Carries (clients_of config) r s') (sym same) (carries-same (clients_of config) old.rings s s' as_before h.channels)
+    carried : (s' : System w) → ((k : ℕ) (c : Channel) → s'.channels k c ≡ s.channels k c) → new.rings ≡ old.rings
+        → Carries (clients_of config) new.rings s'
+    carried s' as_before same = subst (λ (r : Rings w). Carries (clients_of config) r s') (sym same)
+        (carries-same (clients_of config) old.rings s s' as_before h.channels)
 
     still : new.rings ≡ old.rings → Deepen (clients_of config) old.rings new.rings
-    still same = subst (λ (r : Rings w). Deepen (clients_of config) old.rings r) (sym same) (moved-still (clients_of config) old.rings s h.channels).deepen
+    still same = subst (λ (r : Rings w). Deepen (clients_of config) old.rings r) (sym same)
+        (moved-still (clients_of config) old.rings s h.channels).deepen
 
-    pub steps-refused : (rule : Rule) → answer ≡ Err rule → new.rings ≡ old.rings → IsStepped knows terms perm_of config old new (Deliver link ch) outcome.Stalled s
+    pub steps-refused : (rule : Rule) → answer ≡ Err rule → new.rings ≡ old.rings
+        → IsStepped knows terms perm_of config old new (Deliver link ch) outcome.Stalled s
     steps-refused rule refused same =
         stepped-by old new (Deliver link ch) s (only outcome.Stalled (with_client link.0 end s)) outcome.Stalled
         (taken-up ∙ judged-refused _ rule link.0 ch x rest end s (sym refused ∙ answer_is)) refl
-        (client-holds old new s (with_client link.0 end s) link.0 end h known is.same_terms is.others is.same_number (λ k. refl) refl same_manager
+        (client-holds old new s (with_client link.0 end s) link.0 end h known is.same_terms is.others is.same_number
+        (λ k. refl) refl same_manager
         (kept same) (carried (with_client link.0 end s) (λ k c. refl) same))
         (still same)
 
@@ -227,28 +262,36 @@ module _ {w : ℕ} {A M : Type 0} (knows : A → Endpoint w → Type 0) (terms :
           | inr other ↦ rw (ne_eqb k link.0 other) refl
         ]
 
-    pub steps-stayed : (v : Verdict) (m : Option (Message w)) → answer ≡ Ok (v, m) → is_stay v ≡ true → new.rings ≡ old.rings
+    pub steps-stayed : (v : Verdict) (m : Option (Message w)) → answer ≡ Ok (v, m) → is_stay v ≡ true
+        → new.rings ≡ old.rings
         → IsStepped knows terms perm_of config old new (Deliver link ch) outcome.Stalled s
     steps-stayed v m stayed stays same =
-        let again : end ≡ s.clients link.0 = stayed-client t ch x (s.clients link.0) v m (sym stayed ∙ answer_is) stays in
+        let again : end ≡ s.clients link.0 = stayed-client t ch x (s.clients link.0) v m (sym stayed ∙ answer_is) stays
+        in
         stepped-by old new (Deliver link ch) s (only outcome.Stalled s) outcome.Stalled
         (taken-up ∙ judged-stayed _ v m link.0 ch x rest end s (sym stayed ∙ answer_is) stays) refl
-        (client-holds old new s s link.0 (s.clients link.0) h (λ d. subst (λ (e : Endpoint w). knows (slice_index_or new.clients.items link.0 d) e) again (known d)) is.same_terms is.others is.same_number
+        (client-holds old new s s link.0 (s.clients link.0) h
+        (λ d. subst (λ (e : Endpoint w). knows (slice_index_or new.clients.items link.0 d) e) again (known d))
+        is.same_terms is.others is.same_number
         unmoved refl same_manager (kept same) (carried s (λ k c. refl) same))
         (still same)
 
     -- the first beat is taken away, and a message sent
     pub steps-taken : (mid : Rings w) (v : Verdict) (m : Option (Message w)) → answer ≡ Ok (v, m) → is_stay v ≡ false
         → AreKept old.rings mid → AreKept mid new.rings
-        → ((n : ℕ) (s : System w) (y : Beat w) (rest : List (Beat w)) → Carries n old.rings s → link.0 < n → s.channels link.0 ch ≡ y ∷ rest → AreMoved n old.rings mid (with_channel link.0 ch rest s))
-        → ((n : ℕ) (s : System w) → Carries n mid s → Fit n mid (with_messages (handed_by link.0 m) s) → AreMoved n mid new.rings (with_messages (handed_by link.0 m) s))
+        → ((n : ℕ) (s : System w) (y : Beat w) (rest : List (Beat w)) → Carries n old.rings s → link.0 < n
+        → s.channels link.0 ch ≡ y ∷ rest → AreMoved n old.rings mid (with_channel link.0 ch rest s))
+        → ((n : ℕ) (s : System w) → Carries n mid s → Fit n mid (with_messages (handed_by link.0 m) s)
+        → AreMoved n mid new.rings (with_messages (handed_by link.0 m) s))
         → HasRoom config (stepped config (Deliver link ch) s).after
         → IsStepped knows terms perm_of config old new (Deliver link ch) (outcome_of x v) s
     steps-taken mid v m taken moves first_kept then_kept drops sends room =
         stepped-by old new (Deliver link ch) s (handing (outcome_of x v) handed now) (outcome_of x v) step refl
         (client-holds old new s (with_messages handed now) link.0 end h known is.same_terms is.others is.same_number
-        (λ k. ap (λ (f : ℕ → Endpoint w). f k) (clients-with_messages handed now)) (manager-with_messages handed now) same_manager both_kept sent.carries)
-        (moved-then (clients_of config) old.rings mid new.rings base (with_messages handed now) dropped sent (λ k c. messages-grow handed now k c)).deepen
+        (λ k. ap (λ (f : ℕ → Endpoint w). f k) (clients-with_messages handed now)) (manager-with_messages handed now)
+        same_manager both_kept sent.carries)
+        (moved-then (clients_of config) old.rings mid new.rings base (with_messages handed now) dropped sent
+        (λ k c. messages-grow handed now k c)).deepen
       where
         base : System w
         base = with_channel link.0 ch rest s
@@ -274,11 +317,13 @@ module _ {w : ℕ} {A M : Type 0} (knows : A → Endpoint w → Type 0) (terms :
         sent : AreMoved (clients_of config) mid new.rings (with_messages handed now)
         sent =
             sends (clients_of config) now (carries-same (clients_of config) mid base now (λ k c. refl) dropped.carries)
-            (fits-in old mid s (with_messages handed now) h first_kept (room-after (Deliver link ch) s (handing (outcome_of x v) handed now) step room))
+            (fits-in old mid s (with_messages handed now) h first_kept
+            (room-after (Deliver link ch) s (handing (outcome_of x v) handed now) step room))
 
   -- ---- a beat is brought to the manager
 
-  manager-holds : (old new : Network w A M) (s s' : System w) → Holds knows terms perm_of config old s → new.clients.items ≡ old.clients.items
+  manager-holds : (old new : Network w A M) (s s' : System w) → Holds knows terms perm_of config old s
+      → new.clients.items ≡ old.clients.items
       → ((k : ℕ) → s'.clients k ≡ s.clients k) → Knows perm_of new.manager config s'.manager
       → AreKept old.rings new.rings → Carries (clients_of config) new.rings s' → Holds knows terms perm_of config new s'
   manager-holds old new s s' h same_clients clients_are knowing as_made carrying = record {
@@ -290,10 +335,14 @@ module _ {w : ℕ} {A M : Type 0} (knows : A → Endpoint w → Type 0) (terms :
     room = λ k ch d lt. as_made.same_capacity (place k ch) d ∙ h.room k ch d lt;
   }
 
-  module _ (old new : Network w A M) (s : System w) (link : Link) (ch : Channel) (x : Beat w) (rest : List (Beat w)) (answer : manager.Reception w) (h : Holds knows terms perm_of config old s)
-      (inside : link.0 < length old.clients.items) (first : s.channels link.0 ch ≡ x ∷ rest) (down : is_to_client ch ≡ false) (same_clients : new.clients.items ≡ old.clients.items)
-      (answers : (config : Config) (e : manager_end.End w) → Knows perm_of old.manager config e → answer ≡ (manager.offered config link ch x e).0)
-      (knowing : (config : Config) (e : manager_end.End w) → Knows perm_of old.manager config e → Knows perm_of new.manager config (manager.offered config link ch x e).1) where
+  module _ (old new : Network w A M) (s : System w) (link : Link) (ch : Channel) (x : Beat w) (rest : List (Beat w))
+      (answer : manager.Reception w) (h : Holds knows terms perm_of config old s)
+      (inside : link.0 < length old.clients.items) (first : s.channels link.0 ch ≡ x ∷ rest)
+      (down : is_to_client ch ≡ false) (same_clients : new.clients.items ≡ old.clients.items)
+      (answers : (config : Config) (e : manager_end.End w) → Knows perm_of old.manager config e
+      → answer ≡ (manager.offered config link ch x e).0)
+      (knowing : (config : Config) (e : manager_end.End w) → Knows perm_of old.manager config e
+      → Knows perm_of new.manager config (manager.offered config link ch x e).1) where
     within : link.0 < clients_of config
     within = omega (arith, inside, h.one_client_each)
 
@@ -306,46 +355,59 @@ module _ {w : ℕ} {A M : Type 0} (knows : A → Endpoint w → Type 0) (terms :
     taken-in : stepped config (Deliver link ch) s ≡ manager_took link.0 ch x rest taken s
     taken-in =
         let some = member old.clients.items link.0 inside in
-        stepped-to-manager config link ch s (terms (slice_index_or old.clients.items link.0 some)) x rest (h.terms_are link.0 some within) first down
+        stepped-to-manager config link ch s (terms (slice_index_or old.clients.items link.0 some)) x rest
+        (h.terms_are link.0 some within) first down
 
     as_made : new.rings ≡ old.rings → AreKept old.rings new.rings
-    as_made same = subst (λ (r : Rings w). AreKept old.rings r) (sym same) (record { same_number = refl; same_capacity = λ k d. refl })
+    as_made same = subst (λ (r : Rings w). AreKept old.rings r) (sym same)
+        (record { same_number = refl; same_capacity = λ k d. refl })
 
-    carrying : (s' : System w) → ((k : ℕ) (c : Channel) → s'.channels k c ≡ s.channels k c) → new.rings ≡ old.rings → Carries (clients_of config) new.rings s'
-    carrying s' as_before same = subst (λ (r : Rings w). Carries (clients_of config) r s') (sym same) (carries-same (clients_of config) old.rings s s' as_before h.channels)
+    carrying : (s' : System w) → ((k : ℕ) (c : Channel) → s'.channels k c ≡ s.channels k c) → new.rings ≡ old.rings
+        → Carries (clients_of config) new.rings s'
+    carrying s' as_before same = subst (λ (r : Rings w). Carries (clients_of config) r s') (sym same)
+        (carries-same (clients_of config) old.rings s s' as_before h.channels)
 
     as_deep : new.rings ≡ old.rings → Deepen (clients_of config) old.rings new.rings
-    as_deep same = subst (λ (r : Rings w). Deepen (clients_of config) old.rings r) (sym same) (moved-still (clients_of config) old.rings s h.channels).deepen
+    as_deep same = subst (λ (r : Rings w). Deepen (clients_of config) old.rings r) (sym same)
+        (moved-still (clients_of config) old.rings s h.channels).deepen
 
-    pub manager-refused : (rule : Rule) → answer ≡ manager.Refused rule → new.rings ≡ old.rings → IsStepped knows terms perm_of config old new (Deliver link ch) outcome.Stalled s
+    pub manager-refused : (rule : Rule) → answer ≡ manager.Refused rule → new.rings ≡ old.rings
+        → IsStepped knows terms perm_of config old new (Deliver link ch) outcome.Stalled s
     manager-refused rule refused same =
         stepped-by old new (Deliver link ch) s (only outcome.Stalled (with_manager taken.1 s)) outcome.Stalled
         (taken-in ∙ took-refused taken rule link.0 ch x rest s (sym answered ∙ refused)) refl
-        (manager-holds old new s (with_manager taken.1 s) h same_clients (λ k. refl) (knowing config s.manager h.manager) (as_made same) (carrying (with_manager taken.1 s) (λ k c. refl) same))
+        (manager-holds old new s (with_manager taken.1 s) h same_clients (λ k. refl)
+        (knowing config s.manager h.manager) (as_made same) (carrying (with_manager taken.1 s) (λ k c. refl) same))
         (as_deep same)
 
-    pub manager-stayed : answer ≡ manager.Stalled → new.rings ≡ old.rings → IsStepped knows terms perm_of config old new (Deliver link ch) outcome.Stalled s
+    pub manager-stayed : answer ≡ manager.Stalled → new.rings ≡ old.rings
+        → IsStepped knows terms perm_of config old new (Deliver link ch) outcome.Stalled s
     manager-stayed stalled same =
         let again : taken.1 ≡ s.manager = stayed-manager config link ch x s.manager (sym answered ∙ stalled) in
         stepped-by old new (Deliver link ch) s (only outcome.Stalled s) outcome.Stalled
         (taken-in ∙ took-stalled taken link.0 ch x rest s (sym answered ∙ stalled)) refl
         (manager-holds old new s s h same_clients (λ k. refl)
-        (subst (λ (e : manager_end.End w). Knows perm_of new.manager config e) again (knowing config s.manager h.manager)) (as_made same)
+        (subst (λ (e : manager_end.End w). Knows perm_of new.manager config e) again
+        (knowing config s.manager h.manager)) (as_made same)
         (carrying s (λ k c. refl) same))
         (as_deep same)
 
     -- the first beat is taken away, and messages sent
     pub manager-sent : (mid : Rings w) (handed : Handed w) → answer ≡ manager.Sent handed
         → AreKept old.rings mid → AreKept mid new.rings
-        → ((n : ℕ) (s : System w) (y : Beat w) (rest : List (Beat w)) → Carries n old.rings s → link.0 < n → s.channels link.0 ch ≡ y ∷ rest → AreMoved n old.rings mid (with_channel link.0 ch rest s))
-        → ((n : ℕ) (s : System w) → Carries n mid s → Fit n mid (with_messages handed s) → AreMoved n mid new.rings (with_messages handed s))
+        → ((n : ℕ) (s : System w) (y : Beat w) (rest : List (Beat w)) → Carries n old.rings s → link.0 < n
+        → s.channels link.0 ch ≡ y ∷ rest → AreMoved n old.rings mid (with_channel link.0 ch rest s))
+        → ((n : ℕ) (s : System w) → Carries n mid s → Fit n mid (with_messages handed s)
+        → AreMoved n mid new.rings (with_messages handed s))
         → HasRoom config (stepped config (Deliver link ch) s).after
         → IsStepped knows terms perm_of config old new (Deliver link ch) (outcome.Moved x) s
     manager-sent mid handed sent first_kept then_kept drops sends room =
         stepped-by old new (Deliver link ch) s (handing (outcome.Moved x) handed now) (outcome.Moved x) step refl
-        (manager-holds old new s (with_messages handed now) h same_clients (λ k. ap (λ (f : ℕ → Endpoint w). f k) (clients-with_messages handed now))
+        (manager-holds old new s (with_messages handed now) h same_clients
+        (λ k. ap (λ (f : ℕ → Endpoint w). f k) (clients-with_messages handed now))
         (rw (manager-with_messages handed now) (knowing config s.manager h.manager)) both_kept moved.carries)
-        (moved-then (clients_of config) old.rings mid new.rings base (with_messages handed now) dropped moved (λ k c. messages-grow handed now k c)).deepen
+        (moved-then (clients_of config) old.rings mid new.rings base (with_messages handed now) dropped moved
+        (λ k c. messages-grow handed now k c)).deepen
       where
         base : System w
         base = with_channel link.0 ch rest s
@@ -368,24 +430,30 @@ module _ {w : ℕ} {A M : Type 0} (knows : A → Endpoint w → Type 0) (terms :
         moved : AreMoved (clients_of config) mid new.rings (with_messages handed now)
         moved =
             sends (clients_of config) now (carries-same (clients_of config) mid base now (λ k c. refl) dropped.carries)
-            (fits-in old mid s (with_messages handed now) h first_kept (room-after (Deliver link ch) s (handing (outcome.Moved x) handed now) step room))
+            (fits-in old mid s (with_messages handed now) h first_kept
+            (room-after (Deliver link ch) s (handing (outcome.Moved x) handed now) step room))
 
   -- ---- nothing changes
 
-  pub steps-nobody : (network : Network w A M) (s : System w) (event : Event w) → Holds knows terms perm_of config network s → length network.clients.items ≤ client_of event
+  pub steps-nobody : (network : Network w A M) (s : System w) (event : Event w)
+      → Holds knows terms perm_of config network s → length network.clients.items ≤ client_of event
       → IsStepped knows terms perm_of config network network event outcome.NoSuchClient s
   steps-nobody network s event h past =
       stepped-by network network event s (only outcome.NoSuchClient s) outcome.NoSuchClient
-      (stepped-nobody config event s (rw (slice_get_past config.clients.items (client_of event) (omega (arith, past, h.one_client_each))) refl)) refl h
+      (stepped-nobody config event s
+      (rw (slice_get_past config.clients.items (client_of event) (omega (arith, past, h.one_client_each))) refl))
+      refl h
       (moved-still (clients_of config) network.rings s h.channels).deepen
 
-  pub steps-empty : (network : Network w A M) (s : System w) (link : Link) (ch : Channel) → Holds knows terms perm_of config network s → link.0 < length network.clients.items
+  pub steps-empty : (network : Network w A M) (s : System w) (link : Link) (ch : Channel)
+      → Holds knows terms perm_of config network s → link.0 < length network.clients.items
       → ((n : ℕ) (s : System w) → Carries n network.rings s → link.0 < n → None ≡ slice_get (s.channels link.0 ch) 0)
       → IsStepped knows terms perm_of config network network (Deliver link ch) outcome.Empty s
   steps-empty network s link ch h inside first =
       let under : link.0 < clients_of config = omega (arith, inside, h.one_client_each) in
       let some = member network.clients.items link.0 inside in
       stepped-by network network (Deliver link ch) s (only outcome.Empty s) outcome.Empty
-      (stepped-empty config link ch s (terms (slice_index_or network.clients.items link.0 some)) (h.terms_are link.0 some under)
+      (stepped-empty config link ch s (terms (slice_index_or network.clients.items link.0 some))
+      (h.terms_are link.0 some under)
       (none-left (s.channels link.0 ch) (first (clients_of config) s h.channels under))) refl h
       (moved-still (clients_of config) network.rings s h.channels).deepen

@@ -12,7 +12,7 @@ use Rattle.tl_client.specs.declared.verdict.Verdict.TheVariants as verdict
 use Rattle.tl_client.specs.statement.Endpoint.{EndConfig, Endpoint}
 use Rattle.tl_client.specs.statement.Offer as offer
 use Rattle.tl_client.specs.statement.Offer.{offered, is_stalled, silent, waits, broken_before, broken_later}
-use Rattle.tl_client.proofs.Stalls.{taken_now}
+use Rattle.tl_client.proofs.endpoint.Stalls.{taken_now}
 use Rattle.tl_manager.specs.statement.Handing.{Handed}
 use Rattle.tl_manager.specs.statement.End as manager_end
 use Rattle.tl_manager.specs.statement.Offer as manager
@@ -45,16 +45,20 @@ module _ {w : ℕ} where
   is_stalled-stay verdict.Taken m e = absurd cc
   is_stalled-stay (verdict.Done source finish) m e = absurd cc
 
-  pub stayed-client : (terms : EndConfig) (ch : Channel) (x : Beat w) (e : Endpoint w) (v : Verdict) (m : Option (Message w)) → Ok (v, m) ≡ (offered terms ch x e).answer
+  pub stayed-client : (terms : EndConfig) (ch : Channel) (x : Beat w) (e : Endpoint w) (v : Verdict)
+      (m : Option (Message w)) → Ok (v, m) ≡ (offered terms ch x e).answer
       → is_stay v ≡ true → (offered terms ch x e).after ≡ e
   unfolding offered
-  stayed-client terms ch x e v m answer stay = before (broken_before terms ch x e) terms x e (ap is_stalled (sym answer) ∙ is_stalled-stay v m stay)
+  stayed-client terms ch x e v m answer stay =
+      before (broken_before terms ch x e) terms x e (ap is_stalled (sym answer) ∙ is_stalled-stay v m stay)
 
-  pub judged-refused : (answer : Result (Verdict × Option (Message w)) Rule) (rule : Rule) (link : ℕ) (ch : Channel) (x : Beat w) (rest : List (Beat w)) (e : Endpoint w) (s : System w) → Err rule ≡ answer
+  pub judged-refused : (answer : Result (Verdict × Option (Message w)) Rule) (rule : Rule) (link : ℕ) (ch : Channel)
+      (x : Beat w) (rest : List (Beat w)) (e : Endpoint w) (s : System w) → Err rule ≡ answer
       → judged answer link ch x rest e s ≡ only outcome.Stalled (with_client link e s)
   judged-refused answer rule link ch x rest e s is = rw (← is) refl
 
-  pub judged-stayed : (answer : Result (Verdict × Option (Message w)) Rule) (v : Verdict) (m : Option (Message w)) (link : ℕ) (ch : Channel) (x : Beat w)
+  pub judged-stayed : (answer : Result (Verdict × Option (Message w)) Rule) (v : Verdict) (m : Option (Message w))
+      (link : ℕ) (ch : Channel) (x : Beat w)
       (rest : List (Beat w)) (e : Endpoint w) (s : System w) → Ok (v, m) ≡ answer
       → is_stay v ≡ true → judged answer link ch x rest e s ≡ only outcome.Stalled s
   judged-stayed answer v m link ch x rest e s is stay = rw (← is) (go v stay)
@@ -64,12 +68,15 @@ module _ {w : ℕ} where
       go verdict.Taken f = absurd cc
       go (verdict.Done source finish) f = absurd cc
 
-  pub judged-taken : (answer : Result (Verdict × Option (Message w)) Rule) (v : Verdict) (m : Option (Message w)) (link : ℕ) (ch : Channel) (x : Beat w)
+  pub judged-taken : (answer : Result (Verdict × Option (Message w)) Rule) (v : Verdict) (m : Option (Message w))
+      (link : ℕ) (ch : Channel) (x : Beat w)
       (rest : List (Beat w)) (e : Endpoint w) (s : System w) → Ok (v, m) ≡ answer
-      → is_stay v ≡ false → judged answer link ch x rest e s ≡ handing (outcome_of x v) (handed_by link m) (with_client link e (with_channel link ch rest s))
+      → is_stay v ≡ false → judged answer link ch x rest e s ≡ handing (outcome_of x v) (handed_by link m)
+      (with_client link e (with_channel link ch rest s))
   judged-taken answer v m link ch x rest e s is moves = rw (← is) (go v moves)
     where
-      go : (v : Verdict) → is_stay v ≡ false → judged (Ok (v, m)) link ch x rest e s ≡ handing (outcome_of x v) (handed_by link m) (with_client link e (with_channel link ch rest s))
+      go : (v : Verdict) → is_stay v ≡ false → judged (Ok (v, m)) link ch x rest e s ≡ handing (outcome_of x v)
+          (handed_by link m) (with_client link e (with_channel link ch rest s))
       go verdict.Stalled f = absurd cc
       go verdict.Taken f = refl
       go (verdict.Done source finish) f = refl
@@ -79,7 +86,8 @@ module _ {w : ℕ} where
   abbrev Stood : manager.Reception w × manager_end.End w → manager_end.End w → Type 0
   Stood p e = p.0 ≡ manager.Stalled → p.1 ≡ e
 
-  stood-as : (j : manager.Judgement) (config : Config) (link : Link) (x : Beat w) (e : manager_end.End w) → Stood (manager.offered_as j config link x e) e
+  stood-as : (j : manager.Judgement) (config : Config) (link : Link) (x : Beat w) (e : manager_end.End w)
+      → Stood (manager.offered_as j config link x e) e
   stood-as (manager.Breaks rule) config link x e f = absurd cc
   stood-as manager.Waits config link x e f = refl
   stood-as manager.Passes config link x e f = absurd cc
@@ -89,14 +97,18 @@ module _ {w : ℕ} where
   unfolding manager.offered
   stayed-manager config link ch x e f = stood-as (manager.judged config link ch x e) config link x e f
 
-  pub took-refused : (p : manager.Reception w × manager_end.End w) (rule : Rule) (link : ℕ) (ch : Channel) (x : Beat w) (rest : List (Beat w)) (s : System w) → p.0 ≡ manager.Refused rule
+  pub took-refused : (p : manager.Reception w × manager_end.End w) (rule : Rule) (link : ℕ) (ch : Channel) (x : Beat w)
+      (rest : List (Beat w)) (s : System w) → p.0 ≡ manager.Refused rule
       → manager_took link ch x rest p s ≡ only outcome.Stalled (with_manager p.1 s)
   took-refused p rule link ch x rest s is = ap (λ (a : manager.Reception w). manager_took link ch x rest (a, p.1) s) is
 
-  pub took-stalled : (p : manager.Reception w × manager_end.End w) (link : ℕ) (ch : Channel) (x : Beat w) (rest : List (Beat w)) (s : System w) → p.0 ≡ manager.Stalled
+  pub took-stalled : (p : manager.Reception w × manager_end.End w) (link : ℕ) (ch : Channel) (x : Beat w)
+      (rest : List (Beat w)) (s : System w) → p.0 ≡ manager.Stalled
       → manager_took link ch x rest p s ≡ only outcome.Stalled s
   took-stalled p link ch x rest s is = ap (λ (a : manager.Reception w). manager_took link ch x rest (a, p.1) s) is
 
-  pub took-sent : (p : manager.Reception w × manager_end.End w) (handed : Handed w) (link : ℕ) (ch : Channel) (x : Beat w) (rest : List (Beat w)) (s : System w) → p.0 ≡ manager.Sent handed
-      → manager_took link ch x rest p s ≡ handing (outcome.Moved x) handed (with_manager p.1 (with_channel link ch rest s))
+  pub took-sent : (p : manager.Reception w × manager_end.End w) (handed : Handed w) (link : ℕ) (ch : Channel)
+      (x : Beat w) (rest : List (Beat w)) (s : System w) → p.0 ≡ manager.Sent handed
+      → manager_took link ch x rest p s ≡ handing (outcome.Moved x) handed
+      (with_manager p.1 (with_channel link ch rest s))
   took-sent p handed link ch x rest s is = ap (λ (a : manager.Reception w). manager_took link ch x rest (a, p.1) s) is

@@ -15,7 +15,8 @@ use Rattle.tl_engine.specs.statement.Told.{text_told}
 abbrev pub EndsAs : Command → Option (List ℕ) → Option (List ℕ) → Option (List ℕ) → Option (List ℕ) → ℕ → Type 0
 EndsAs command had left held holds status =
     (outcome : Result Status ToolFault) × (status ≡ exit_status outcome)
-    × IfOk outcome (RunsTo (text_told command) had left held holds) × OnErr outcome (FailsAt (text_told command) had left held holds)
+    × IfOk outcome (RunsTo (text_told command) had left held holds)
+    × OnErr outcome (FailsAt (text_told command) had left held holds)
 
 -- whatever was left of the input
 abbrev pub EndsOver : Command → Option (List ℕ) → Option (List ℕ) → Option (List ℕ) → ℕ → Type 0

@@ -5,13 +5,14 @@ ghost use Rattle.std.specs.Prelude.{◌≡◌, IfOk, OnOk, OnErr, Err};
 ghost use Rattle.tl_engine.specs.statement.Exit.{exit_status};
 ghost use Rattle.tltool.specs.Ended.{EndsAs, EndsOver, IsRefused};
 
+use std::fs::File;
 use std::io::{Read, Write};
 use std::process::ExitCode;
 use std::{env, fs, io};
 use tl_tool::command::Command;
 use tl_tool::explain::{ExplainFault, explain_input};
 use tl_tool::named::tell_named;
-use tl_tool::output::{write_all, write_changed, write_open_fault};
+use tl_tool::output::{write_all, write_changed, write_once, write_open_fault};
 use tl_tool::status::{Status, ToolFault, exit_of};
 use tl_tool::tool::run_tool;
 use tl_tool::words::{WordsFault, invocation, usage_status};
@@ -97,11 +98,24 @@ fn explain_name(rt: &HostRuntime, name: &str) -> u8 {
     }
 }
 
+/// Whether a file gives its bytes once, as a pipe or a terminal does: neither a file of a disk nor a
+/// directory, whose reading fails.
+fn is_read_once(file: &File) -> bool {
+    match file.metadata() {
+        Ok(metadata) => !metadata.is_file() && !metadata.is_dir(),
+        Err(_) => false,
+    }
+}
+
 /// Explains the file of this name, or the rule or fault where there is no such file.
 fn explain(rt: &HostRuntime, name: &str) -> u8 {
     let Ok(mut first) = fs::open(rt, name) else {
         return explain_name(rt, name);
     };
+    if is_read_once(&first) {
+        let _ = write_once(name, &mut rt.stderr());
+        return exit_of(&Err(ToolFault::Read));
+    }
     let Ok(mut second) = fs::open(rt, name) else {
         return unopened(rt, name);
     };

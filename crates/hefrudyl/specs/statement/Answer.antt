@@ -1,7 +1,8 @@
 -- The numbers by which C is answered.
 use Rattle.std.specs.Prelude.{ℕ, Result, Ok, Err, ⊤}
 use Rattle.tl_params.specs.declared.rule.Rule.{Rule}
-use Rattle.tl_params.specs.declared.rule.Rule.TheVariants.{L1, L2, L3, L4, L5, L6, L7, S1, H1, H2, H3, H4, H5, H6, H7, H8, H9, H10, H11, H12, H13, A1, A2, A3}
+use Rattle.tl_params.specs.declared.rule.Rule.TheVariants.{L1, L2, L3, L4, L5, L6, L7, S1, H1, H2, H3, H4, H5, H6, H7}
+use Rattle.tl_params.specs.declared.rule.Rule.TheVariants.{H8, H9, H10, H11, H12, H13, A1, A2, A3}
 use Rattle.tl_monitor.specs.declared.fault.MonitorFault.{MonitorFault}
 use Rattle.tl_monitor.specs.declared.fault.MonitorFault.TheVariants.{Levels, Broken, Memory, Closed}
 use Rattle.hefrudyl.specs.declared.answer.Answer.{Answer}
@@ -51,6 +52,10 @@ no_memory = answer 3
 
 abbrev pub closed : Answer
 closed = answer 4
+
+-- there is nothing of what was asked for
+abbrev pub nothing : Answer
+nothing = answer 5
 
 -- the answer to a beat that a monitor judged
 abbrev pub answer_of : Result ⊤ MonitorFault → Answer

@@ -22,8 +22,10 @@ use Rattle.hefrudyl.specs.statement.Picture.{shown}
 pub record Judged {w : ℕ} (old new : Monitor w) (x : Link × Beat w) (answer : Answer) : Type 0 where
   pub judged : Result ⊤ MonitorFault
   pub told : answer ≡ answer_of judged
-  pub lawful : (levels : List Level) (p : Profile) (t : Trace w) (closed : Bool) → Knows old levels p t closed → Answers (fault_of levels p t closed x) judged
-  pub knows : (levels : List Level) (p : Profile) (t : Trace w) (closed : Bool) → Knows old levels p t closed → Knows new levels p (recorded_after judged x t) (closed_after judged)
+  pub lawful : (levels : List Level) (p : Profile) (t : Trace w) (closed : Bool) → Knows old levels p t closed
+      → Answers (fault_of levels p t closed x) judged
+  pub knows : (levels : List Level) (p : Profile) (t : Trace w) (closed : Bool) → Knows old levels p t closed
+      → Knows new levels p (recorded_after judged x t) (closed_after judged)
 
 -- bad input changes nothing
 abbrev pub Refused : {A : Type 0} → A → A → Answer → Type 0
@@ -50,5 +52,6 @@ ToldOfAny _ _ link x answer = ⊥
 -- what is told of a handle that holds this, or nothing
 abbrev pub MonitorTold : Option Session → Option Session → ℕ → Picture → Answer → Type 0
 MonitorTold (Some (session.Monitor old)) (Some (session.Monitor new)) link x answer = ToldOfAny old new link x answer
+MonitorTold (Some (session.Client port)) new link x answer = Refused (Some (session.Client port)) new answer
 MonitorTold None new link x answer = Refused None new answer
 MonitorTold _ _ link x answer = ⊥

@@ -1,5 +1,6 @@
 -- What a monitor is made from, and what a new one knows.
-use Rattle.std.specs.Prelude.{ℕ, Bool, true, false, ◌&&◌, ◌||◌, ◌==◌, ◌≡◌, ◌⊎◌, List, [], ◌∷◌, map, length, nat_lt, nat_le, Option, Some, None, Result, Ok, Err, if◌then◌else◌}
+use Rattle.std.specs.Prelude.{ℕ, Bool, true, false, ◌&&◌, ◌||◌, ◌==◌, ◌≡◌, ◌⊎◌, List, [], ◌∷◌, map, length, nat_lt}
+use Rattle.std.specs.Prelude.{nat_le, Option, Some, None, Result, Ok, Err, if◌then◌else◌}
 use Rattle.tl_params.specs.declared.level.Level.{Level}
 use Rattle.tl_params.specs.declared.level.Level.TheVariants as level
 use Rattle.tl_params.specs.declared.profile.Profile.{Profile}
@@ -28,7 +29,8 @@ are_levels (code ∷ codes) = nat_lt code 3 && are_levels codes
 -- 1 to 16 levels, a width and a profile
 abbrev pub may_open : List ℕ → ℕ → ℕ → Bool
 may_open codes width profile =
-    nat_le 1 (length codes) && nat_le (length codes) 16 && are_levels codes && (width == 4 || width == 8 || width == 16) && (profile == 1 || profile == 2)
+    nat_le 1 (length codes) && nat_le (length codes) 16 && are_levels codes && (width == 4 || width == 8 || width == 16)
+    && (profile == 1 || profile == 2)
 
 -- a new monitor has the levels and the profile, and has seen no beat
 abbrev pub IsFresh : {w : ℕ} → List ℕ → ℕ → Monitor w → Type 0
@@ -43,10 +45,12 @@ abbrev pub IsOpened : List ℕ → ℕ → ℕ → Session → Type 0
 IsOpened codes width profile (session.Monitor (any.Four m)) = (width ≡ 4) × IsFresh codes profile m
 IsOpened codes width profile (session.Monitor (any.Eight m)) = (width ≡ 8) × IsFresh codes profile m
 IsOpened codes width profile (session.Monitor (any.Sixteen m)) = (width ≡ 16) × IsFresh codes profile m
+IsOpened codes width profile (session.Client port) = ⊥
 
 -- what is told of a handle that held nothing
 abbrev pub OpensTo : List ℕ → ℕ → ℕ → Option Session → Answer → Type 0
-OpensTo codes width profile (Some s) answer = (answer ≡ ok) × (may_open codes width profile ≡ true) × IsOpened codes width profile s
+OpensTo codes width profile (Some s) answer = (answer ≡ ok) × (may_open codes width profile ≡ true)
+    × IsOpened codes width profile s
 OpensTo codes width profile None answer = (answer ≡ no_memory) ⊎ (answer ≡ bad)
 
 -- what comes of making one

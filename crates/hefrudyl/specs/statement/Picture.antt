@@ -1,5 +1,6 @@
 -- The beat that the fields of a picture show, where they are within their ranges.
-use Rattle.std.specs.Prelude.{ℕ, Bool, true, false, ◌&&◌, ◌==◌, ◌^◌, ◌≡◌, refl, List, [], ◌∷◌, drop, slice_range, nat_lt, Option, Some, None, is_some, if◌then◌else◌}
+use Rattle.std.specs.Prelude.{ℕ, Bool, true, false, ◌&&◌, ◌==◌, ◌^◌, ◌≡◌, refl, List, [], ◌∷◌, drop, slice_range}
+use Rattle.std.specs.Prelude.{nat_lt, Option, Some, None, is_some, if◌then◌else◌}
 use Rattle.tl_beat.specs.declared.beat.Beat.{Beat}
 use Rattle.tl_beat.specs.declared.beat.Beat.TheVariants as beat
 use Rattle.tl_beat.specs.declared.beat.BeatA.{BeatA}
@@ -10,7 +11,8 @@ use Rattle.tl_beat.specs.declared.opcode.OpA.{OpA}
 use Rattle.tl_beat.specs.declared.opcode.OpB.{OpB}
 use Rattle.tl_beat.specs.declared.opcode.OpC.{OpC}
 use Rattle.tl_beat.specs.declared.opcode.OpD.{OpD}
-use Rattle.tl_beat.specs.statement.Opcode.{a_with, b_with, c_with, d_with, a_carries_data, b_carries_data, c_carries_data, d_carries_data}
+use Rattle.tl_beat.specs.statement.Opcode.{a_with, b_with, c_with, d_with, a_carries_data, b_carries_data}
+use Rattle.tl_beat.specs.statement.Opcode.{c_carries_data, d_carries_data}
 use Rattle.hefrudyl.specs.declared.picture.Picture.{Picture}
 
 -- each byte is 0
@@ -38,19 +40,23 @@ lanes_fit w carries bytes = is_zero_from (if carries then w else 0) bytes
 -- each field is within its range, and those that the channel lacks are 0
 abbrev pub a_fits : ℕ → Bool → Picture → Bool
 a_fits w carries x =
-    nat_lt x.param 8 && nat_lt x.size 16 && nat_lt x.mask (2 ^ w) && x.sink == 0 && x.denied == 0 && nat_lt x.corrupt 2 && lanes_fit w carries x.lanes
+    nat_lt x.param 8 && nat_lt x.size 16 && nat_lt x.mask (2 ^ w) && x.sink == 0 && x.denied == 0 && nat_lt x.corrupt
+    2 && lanes_fit w carries x.lanes
 
 abbrev pub c_fits : ℕ → Bool → Picture → Bool
 c_fits w carries x =
-    nat_lt x.param 8 && nat_lt x.size 16 && x.mask == 0 && x.sink == 0 && x.denied == 0 && nat_lt x.corrupt 2 && lanes_fit w carries x.lanes
+    nat_lt x.param 8 && nat_lt x.size 16 && x.mask == 0 && x.sink == 0 && x.denied == 0 && nat_lt x.corrupt
+    2 && lanes_fit w carries x.lanes
 
 abbrev pub d_fits : ℕ → Bool → Picture → Bool
 d_fits w carries x =
-    nat_lt x.param 4 && nat_lt x.size 16 && x.address == 0 && x.mask == 0 && nat_lt x.denied 2 && nat_lt x.corrupt 2 && lanes_fit w carries x.lanes
+    nat_lt x.param 4 && nat_lt x.size 16 && x.address == 0 && x.mask == 0 && nat_lt x.denied 2 && nat_lt x.corrupt
+    2 && lanes_fit w carries x.lanes
 
 abbrev pub e_fits : Picture → Bool
 e_fits x =
-    x.opcode == 0 && x.param == 0 && x.size == 0 && x.source == 0 && x.address == 0 && x.mask == 0 && x.denied == 0 && x.corrupt == 0 && is_zero_from 0 x.lanes
+    x.opcode == 0 && x.param == 0 && x.size == 0 && x.source == 0 && x.address == 0 && x.mask == 0 && x.denied ==
+    0 && x.corrupt == 0 && is_zero_from 0 x.lanes
 
 abbrev pub a_fields : (w : ℕ) → Picture → OpA → BeatA w
 a_fields w x op = record {

@@ -1,6 +1,7 @@
 -- A line read from left to right, as the code goes; only private clauses cite this.
 use denote.Ref.{Bor}
-use Rattle.std.specs.Prelude.{◌≡◌, ℕ, zero, suc, ◌+◌, ◌*◌, ◌-◌, ◌/◌, Bool, true, false, not, ◌&&◌, ◌||◌, List, [], ◌∷◌, length, take, drop, count_by, Option}
+use Rattle.std.specs.Prelude.{◌≡◌, ℕ, zero, suc, ◌+◌, ◌*◌, ◌-◌, ◌/◌, Bool, true, false, not, ◌&&◌, ◌||◌, List, [], ◌∷◌}
+use Rattle.std.specs.Prelude.{length, take, drop, count_by, Option}
 use Rattle.std.specs.Prelude.{Some, None, Result, Ok, Err, nat_le, nat_lt, slice_index, ◌==◌, if◌then◌else◌}
 use Rattle.std.specs.List.{after_first}
 use Rattle.std.specs.Io.BufRead.{ends_with_byte}
@@ -172,11 +173,13 @@ line_with (Some c) spaces body =
 
 abbrev pub body_at : {w : ℕ} → List ℕ → Result (Link × Beat w) LineFault
 body_at body =
-    if spaces_in body == 0 then Err F1 else line_with (letter_in (after_first (λ b. b == 32) body)) (spaces_in body) body
+    if spaces_in body == 0 then Err F1 else line_with (letter_in (after_first (λ b. b == 32) body)) (spaces_in body)
+    body
 
 -- a line with its line feed
 abbrev pub line_at : {w : ℕ} → List ℕ → Result (Link × Beat w) LineFault
-line_at line = if nat_lt 256 (length line) || not (ends_with_byte 10 line) then Err F1 else body_at (take (length line - 1) line)
+line_at line = if nat_lt 256 (length line) || not (ends_with_byte 10 line) then Err F1 else body_at
+    (take (length line - 1) line)
 
 -- ---- what a function returned is what reading gives
 

@@ -1,5 +1,6 @@
 -- What a line is read as, by the pieces between its spaces.
-use Rattle.std.specs.Prelude.{◌≡◌, refl, ℕ, ◌/◌, Bool, true, false, not, ◌||◌, List, [], ◌∷◌, length, Option, Some, None, is_some, Result, Ok, Err, nat_lt, ok_or, if◌then◌else◌}
+use Rattle.std.specs.Prelude.{◌≡◌, refl, ℕ, ◌/◌, Bool, true, false, not, ◌||◌, List, [], ◌∷◌, length, Option, Some}
+use Rattle.std.specs.Prelude.{None, is_some, Result, Ok, Err, nat_lt, ok_or, if◌then◌else◌}
 use Rattle.std.specs.Io.BufRead.{ends_with_byte}
 use Rattle.tl_beat.specs.declared.beat.Link.{Link}
 use Rattle.tl_beat.specs.declared.beat.BeatA.{BeatA}
@@ -12,7 +13,8 @@ use Rattle.tl_beat.specs.declared.channel.Channel.{Channel}
 use Rattle.tl_beat.specs.declared.channel.Channel.TheVariants as channel
 use Rattle.tl_beat.specs.declared.fault.LineFault.{LineFault}
 use Rattle.tl_beat.specs.declared.fault.LineFault.TheVariants.{F1, F2, F3, F4, F5, F6}
-use Rattle.tl_beat.specs.statement.Opcode.{a_carries_data, b_carries_data, c_carries_data, d_carries_data, a_with, b_with, c_with, d_with}
+use Rattle.tl_beat.specs.statement.Opcode.{a_carries_data, b_carries_data, c_carries_data, d_carries_data, a_with}
+use Rattle.tl_beat.specs.statement.Opcode.{b_with, c_with, d_with}
 use Rattle.tl_beat.specs.statement.Digits.{is_digits, value_of, is_data, data_of, is_bit, bit_of}
 use Rattle.tl_beat.specs.statement.Line.{field, pieces, channel_named, without_last}
 
@@ -49,28 +51,71 @@ made_a opcode param size source address mask lanes corrupt = do
   opcode ← ok_or (a_with opcode) F4
   param ← at_most 7 param
   carries ← agreement (is_some lanes) (a_carries_data opcode)
-  Ok (record { opcode = opcode; param = param; size = size; source = source; address = address; mask = mask; lanes = lanes; corrupt = corrupt; carries = carries })
+  Ok (record {
+    opcode = opcode;
+    param = param;
+    size = size;
+    source = source;
+    address = address;
+    mask = mask;
+    lanes =
+        lanes;
+    corrupt = corrupt;
+    carries = carries;
+  })
 
 abbrev pub made_b : {w : ℕ} → ℕ → ℕ → ℕ → ℕ → ℕ → ℕ → Option (List ℕ) → Bool → Result (BeatB w) LineFault
 made_b opcode param size source address mask lanes corrupt = do
   opcode ← ok_or (b_with opcode) F4
   param ← at_most 7 param
   carries ← agreement (is_some lanes) (b_carries_data opcode)
-  Ok (record { opcode = opcode; param = param; size = size; source = source; address = address; mask = mask; lanes = lanes; corrupt = corrupt; carries = carries })
+  Ok (record {
+    opcode = opcode;
+    param = param;
+    size = size;
+    source = source;
+    address = address;
+    mask = mask;
+    lanes =
+        lanes;
+    corrupt = corrupt;
+    carries = carries;
+  })
 
 abbrev pub made_c : {w : ℕ} → ℕ → ℕ → ℕ → ℕ → ℕ → Option (List ℕ) → Bool → Result (BeatC w) LineFault
 made_c opcode param size source address lanes corrupt = do
   opcode ← ok_or (c_with opcode) F4
   param ← at_most 7 param
   carries ← agreement (is_some lanes) (c_carries_data opcode)
-  Ok (record { opcode = opcode; param = param; size = size; source = source; address = address; lanes = lanes; corrupt = corrupt; carries = carries })
+  Ok (record {
+    opcode = opcode;
+    param = param;
+    size = size;
+    source = source;
+    address = address;
+    lanes = lanes;
+    corrupt =
+        corrupt;
+    carries = carries;
+  })
 
 abbrev pub made_d : {w : ℕ} → ℕ → ℕ → ℕ → ℕ → ℕ → Bool → Option (List ℕ) → Bool → Result (BeatD w) LineFault
 made_d opcode param size source sink denied lanes corrupt = do
   opcode ← ok_or (d_with opcode) F4
   param ← at_most 3 param
   carries ← agreement (is_some lanes) (d_carries_data opcode)
-  Ok (record { opcode = opcode; param = param; size = size; source = source; sink = sink; denied = denied; lanes = lanes; corrupt = corrupt; carries = carries })
+  Ok (record {
+    opcode = opcode;
+    param = param;
+    size = size;
+    source = source;
+    sink = sink;
+    denied = denied;
+    lanes =
+        lanes;
+    corrupt = corrupt;
+    carries = carries;
+  })
 
 -- ---- the beat of a channel's fields
 
@@ -159,4 +204,5 @@ reading_fields fields = if nat_lt (length fields) 2 then Err F1 else reading_on 
 -- what a line with its line feed is read as, where beats have w bytes
 unfoldable pub reading : (w : ℕ) → List ℕ → Result (Link × Beat w) LineFault
 reading w line =
-    if nat_lt 256 (length line) || not (ends_with_byte 10 line) then Err F1 else reading_fields (pieces (without_last line))
+    if nat_lt 256 (length line) || not (ends_with_byte 10 line) then Err F1 else reading_fields
+    (pieces (without_last line))

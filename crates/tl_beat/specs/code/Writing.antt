@@ -13,7 +13,8 @@ next_bit bit = 32 ∷ bit_text bit
 -- the fields that lines of channels A to D begin with
 abbrev pub head_text : ℕ → ℕ → ℕ → ℕ → ℕ → ℕ → List ℕ
 head_text link letter opcode param size source =
-    digits 2 link ++ 32 ∷ letter ∷ 32 ∷ (digits 1 opcode ++ 32 ∷ (digits 1 param ++ 32 ∷ (digits 1 size ++ 32 ∷ digits 2 source)))
+    digits 2 link ++ 32 ∷ letter ∷ 32
+    ∷ (digits 1 opcode ++ 32 ∷ (digits 1 param ++ 32 ∷ (digits 1 size ++ 32 ∷ digits 2 source)))
 
 -- the last two fields
 abbrev pub tail_text : Option (List ℕ) → Bool → List ℕ

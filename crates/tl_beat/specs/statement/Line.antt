@@ -1,5 +1,6 @@
 -- The one line of text that spells a beat, and what is wrong with a line that spells none.
-use Rattle.std.specs.Prelude.{◌≡◌, ◌<◌, ◌^◌, ◌-◌, ◌/◌, ℕ, Bool, true, false, not, ◌&&◌, ◌||◌, List, [], ◌∷◌, ◌++◌, length, take, All, Option, Some, None}
+use Rattle.std.specs.Prelude.{◌≡◌, ◌<◌, ◌^◌, ◌-◌, ◌/◌, ℕ, Bool, true, false, not, ◌&&◌, ◌||◌, List, [], ◌∷◌, ◌++◌}
+use Rattle.std.specs.Prelude.{length, take, All, Option, Some, None}
 use Rattle.std.specs.Prelude.{is_none, option_map, nat_lt, ◌==◌, if◌then◌else◌, slice_index_or, ⊤}
 use Rattle.std.specs.List.{find}
 use Rattle.std.specs.Io.BufRead.{ends_with_byte}
@@ -10,7 +11,8 @@ use Rattle.tl_beat.specs.declared.channel.Channel.{Channel}
 use Rattle.tl_beat.specs.declared.channel.Channel.TheVariants as channel
 use Rattle.tl_beat.specs.declared.fault.LineFault.{LineFault}
 use Rattle.tl_beat.specs.declared.fault.LineFault.TheVariants.{F1, F2, F3, F4, F5, F6}
-use Rattle.tl_beat.specs.statement.Opcode.{a_code, b_code, c_code, d_code, a_carries_data, b_carries_data, c_carries_data, d_carries_data, a_with, b_with, c_with, d_with}
+use Rattle.tl_beat.specs.statement.Opcode.{a_code, b_code, c_code, d_code, a_carries_data, b_carries_data}
+use Rattle.tl_beat.specs.statement.Opcode.{c_carries_data, d_carries_data, a_with, b_with, c_with, d_with}
 use Rattle.tl_beat.specs.statement.First.{first_if}
 use Rattle.tl_beat.specs.statement.Names.{letter_of}
 use Rattle.tl_beat.specs.statement.Digits.{digits, lanes_text, bit_text, is_digits, value_of, is_data, is_dash, is_bit}
@@ -24,16 +26,20 @@ letter c = letter_of c ∷ []
 -- the fields of a beat's line
 abbrev pub fields_of : {w : ℕ} → Link → Beat w → List (List ℕ)
 fields_of {w} link (beat.A x) =
-    digits 2 link.0 ∷ letter channel.A ∷ digits 1 (a_code x.opcode) ∷ digits 1 x.param ∷ digits 1 x.size ∷ digits 2 x.source ∷ digits 8 x.address
+    digits 2 link.0 ∷ letter channel.A ∷ digits 1 (a_code x.opcode) ∷ digits 1 x.param ∷ digits 1 x.size ∷ digits 2
+    x.source ∷ digits 8 x.address
     ∷ digits (w / 4) x.mask ∷ lanes_text x.lanes ∷ bit_text x.corrupt ∷ []
 fields_of {w} link (beat.B x) =
-    digits 2 link.0 ∷ letter channel.B ∷ digits 1 (b_code x.opcode) ∷ digits 1 x.param ∷ digits 1 x.size ∷ digits 2 x.source ∷ digits 8 x.address
+    digits 2 link.0 ∷ letter channel.B ∷ digits 1 (b_code x.opcode) ∷ digits 1 x.param ∷ digits 1 x.size ∷ digits 2
+    x.source ∷ digits 8 x.address
     ∷ digits (w / 4) x.mask ∷ lanes_text x.lanes ∷ bit_text x.corrupt ∷ []
 fields_of {w} link (beat.C x) =
-    digits 2 link.0 ∷ letter channel.C ∷ digits 1 (c_code x.opcode) ∷ digits 1 x.param ∷ digits 1 x.size ∷ digits 2 x.source ∷ digits 8 x.address
+    digits 2 link.0 ∷ letter channel.C ∷ digits 1 (c_code x.opcode) ∷ digits 1 x.param ∷ digits 1 x.size ∷ digits 2
+    x.source ∷ digits 8 x.address
     ∷ lanes_text x.lanes ∷ bit_text x.corrupt ∷ []
 fields_of {w} link (beat.D x) =
-    digits 2 link.0 ∷ letter channel.D ∷ digits 1 (d_code x.opcode) ∷ digits 1 x.param ∷ digits 1 x.size ∷ digits 2 x.source ∷ digits 2 x.sink
+    digits 2 link.0 ∷ letter channel.D ∷ digits 1 (d_code x.opcode) ∷ digits 1 x.param ∷ digits 1 x.size ∷ digits 2
+    x.source ∷ digits 2 x.sink
     ∷ bit_text x.denied ∷ lanes_text x.lanes ∷ bit_text x.corrupt ∷ []
 fields_of {w} link (beat.E x) = digits 2 link.0 ∷ letter channel.E ∷ digits 2 x.sink ∷ []
 
@@ -107,10 +113,14 @@ is_any field = true
 
 -- the forms of a channel's fields, where beats have w bytes
 abbrev pub forms : ℕ → Channel → List (List ℕ → Bool)
-forms w channel.A = is_digits 2 ∷ is_any ∷ is_digits 1 ∷ is_digits 1 ∷ is_digits 1 ∷ is_digits 2 ∷ is_digits 8 ∷ is_digits (w / 4) ∷ is_data w ∷ is_bit ∷ []
-forms w channel.B = is_digits 2 ∷ is_any ∷ is_digits 1 ∷ is_digits 1 ∷ is_digits 1 ∷ is_digits 2 ∷ is_digits 8 ∷ is_digits (w / 4) ∷ is_data w ∷ is_bit ∷ []
-forms w channel.C = is_digits 2 ∷ is_any ∷ is_digits 1 ∷ is_digits 1 ∷ is_digits 1 ∷ is_digits 2 ∷ is_digits 8 ∷ is_data w ∷ is_bit ∷ []
-forms w channel.D = is_digits 2 ∷ is_any ∷ is_digits 1 ∷ is_digits 1 ∷ is_digits 1 ∷ is_digits 2 ∷ is_digits 2 ∷ is_bit ∷ is_data w ∷ is_bit ∷ []
+forms w channel.A = is_digits 2 ∷ is_any ∷ is_digits 1 ∷ is_digits 1 ∷ is_digits 1 ∷ is_digits 2 ∷ is_digits
+    8 ∷ is_digits (w / 4) ∷ is_data w ∷ is_bit ∷ []
+forms w channel.B = is_digits 2 ∷ is_any ∷ is_digits 1 ∷ is_digits 1 ∷ is_digits 1 ∷ is_digits 2 ∷ is_digits
+    8 ∷ is_digits (w / 4) ∷ is_data w ∷ is_bit ∷ []
+forms w channel.C = is_digits 2 ∷ is_any ∷ is_digits 1 ∷ is_digits 1 ∷ is_digits 1 ∷ is_digits 2 ∷ is_digits 8 ∷ is_data
+    w ∷ is_bit ∷ []
+forms w channel.D = is_digits 2 ∷ is_any ∷ is_digits 1 ∷ is_digits 1 ∷ is_digits 1 ∷ is_digits 2 ∷ is_digits
+    2 ∷ is_bit ∷ is_data w ∷ is_bit ∷ []
 forms w channel.E = is_digits 2 ∷ is_any ∷ is_digits 2 ∷ []
 
 -- each field is of its form
@@ -149,7 +159,8 @@ abbrev pub opcode_fault : Channel → List (List ℕ) → Option LineFault
 opcode_fault channel fields =
     first_if (is_none (carries_with channel (value_of (field fields 2)))) F4
     (first_if (nat_lt (greatest_param channel) (value_of (field fields 3))) F5
-    (first_if (is_misplaced (carries_with channel (value_of (field fields 2))) (field fields (data_place channel))) F6 None))
+    (first_if (is_misplaced (carries_with channel (value_of (field fields 2))) (field fields (data_place channel))) F6
+    None))
 
 -- the first fault of the values of a line; those of channel E have none
 abbrev pub value_fault : Channel → List (List ℕ) → Option LineFault
@@ -173,4 +184,5 @@ without_last line = take (length line - 1) line
 
 -- the first fault of a line, where beats have w bytes; None where it spells a beat
 abbrev pub line_fault : ℕ → List ℕ → Option LineFault
-line_fault w line = first_if (nat_lt 256 (length line) || not (ends_with_byte 10 line)) F1 (fields_fault w (pieces (without_last line)))
+line_fault w line = first_if (nat_lt 256 (length line) || not (ends_with_byte 10 line)) F1
+    (fields_fault w (pieces (without_last line)))

@@ -84,7 +84,8 @@ d_carries_data _ = false
 
 -- the opcodes that are in use on channel A
 abbrev pub a_opcodes : List OpA
-a_opcodes = a.PutFullData ∷ a.PutPartialData ∷ a.ArithmeticData ∷ a.LogicalData ∷ a.Get ∷ a.Intent ∷ a.AcquireBlock ∷ a.AcquirePerm ∷ []
+a_opcodes = a.PutFullData ∷ a.PutPartialData ∷ a.ArithmeticData ∷ a.LogicalData ∷ a.Get ∷ a.Intent ∷ a.AcquireBlock
+    ∷ a.AcquirePerm ∷ []
 
 -- the opcode of this code on channel A, where one is in use
 abbrev pub a_with : ℕ → Option OpA
@@ -92,7 +93,8 @@ a_with code = find (λ opcode. a_code opcode == code) a_opcodes
 
 -- the opcodes that are in use on channel B
 abbrev pub b_opcodes : List OpB
-b_opcodes = b.PutFullData ∷ b.PutPartialData ∷ b.ArithmeticData ∷ b.LogicalData ∷ b.Get ∷ b.Intent ∷ b.ProbeBlock ∷ b.ProbePerm ∷ []
+b_opcodes = b.PutFullData ∷ b.PutPartialData ∷ b.ArithmeticData ∷ b.LogicalData ∷ b.Get ∷ b.Intent ∷ b.ProbeBlock
+    ∷ b.ProbePerm ∷ []
 
 -- the opcode of this code on channel B, where one is in use
 abbrev pub b_with : ℕ → Option OpB

@@ -1,5 +1,6 @@
 -- The beats of a message: how many they are, and what each carries of it.
-use Rattle.std.specs.Prelude.{ℕ, zero, suc, Bool, true, false, List, [], ◌∷◌, ◌==◌, ◌&&◌, ◌+◌, ◌*◌, ◌-◌, ◌/◌, ◌%◌, ◌^◌, ◌<◌, ◌≡◌, refl, if◌then◌else◌, drop}
+use Rattle.std.specs.Prelude.{ℕ, zero, suc, Bool, true, false, List, [], ◌∷◌, ◌==◌, ◌&&◌, ◌+◌, ◌*◌, ◌-◌, ◌/◌, ◌%◌, ◌^◌}
+use Rattle.std.specs.Prelude.{◌<◌, ◌≡◌, refl, if◌then◌else◌, drop}
 use Rattle.std.specs.Prelude.{replicate, slice_range, slice_get, nat_lt, nat_le, Option, Some, None, is_some, ⊤}
 use Rattle.tl_beat.specs.declared.beat.Beat.{Beat}
 use Rattle.tl_beat.specs.declared.beat.Beat.TheVariants as beat
@@ -49,7 +50,8 @@ abbrev pub mask_at : ℕ → ℕ → ℕ → ℕ
 mask_at w mask i = mask / 2 ^ (w * i) % 2 ^ w
 
 -- a beat has lanes exactly where its message carries data
-unfoldable pub some_lanes : (carries : Bool) (w : ℕ) (payload : List ℕ) (i : ℕ) → is_some (lanes_at carries w payload i) ≡ carries
+unfoldable pub some_lanes : (carries : Bool) (w : ℕ) (payload : List ℕ) (i : ℕ)
+    → is_some (lanes_at carries w payload i) ≡ carries
 some_lanes true w payload i = refl
 some_lanes false w payload i = refl
 
@@ -136,10 +138,14 @@ IsZeroFrom n payload = drop n payload ≡ replicate (64 - n) 0
 
 -- all that none of the first n beats carries is zero
 abbrev pub IsBlankAfter : {w : ℕ} → ℕ → Message w → Type 0
-IsBlankAfter {w} n (message.A m) = IsZeroFrom (if a_carries_data m.opcode then w * n else 0) m.payload × (m.mask < 2 ^ (w * n)) × (m.corrupt < 2 ^ n)
-IsBlankAfter {w} n (message.B m) = IsZeroFrom (if b_carries_data m.opcode then w * n else 0) m.payload × (m.mask < 2 ^ (w * n)) × (m.corrupt < 2 ^ n)
-IsBlankAfter {w} n (message.C m) = IsZeroFrom (if c_carries_data m.opcode then w * n else 0) m.payload × (m.corrupt < 2 ^ n)
-IsBlankAfter {w} n (message.D m) = IsZeroFrom (if d_carries_data m.opcode then w * n else 0) m.payload × (m.corrupt < 2 ^ n)
+IsBlankAfter {w} n (message.A m) = IsZeroFrom (if a_carries_data m.opcode then w * n else 0) m.payload
+    × (m.mask < 2 ^ (w * n)) × (m.corrupt < 2 ^ n)
+IsBlankAfter {w} n (message.B m) = IsZeroFrom (if b_carries_data m.opcode then w * n else 0) m.payload
+    × (m.mask < 2 ^ (w * n)) × (m.corrupt < 2 ^ n)
+IsBlankAfter {w} n (message.C m) = IsZeroFrom (if c_carries_data m.opcode then w * n else 0) m.payload
+    × (m.corrupt < 2 ^ n)
+IsBlankAfter {w} n (message.D m) = IsZeroFrom (if d_carries_data m.opcode then w * n else 0) m.payload
+    × (m.corrupt < 2 ^ n)
 IsBlankAfter n (message.E m) = ⊤
 
 -- these are the beats of the message, the newest first, and all that no beat carries is zero
@@ -162,10 +168,14 @@ reaches base size address = nat_le base address && nat_lt address (base + 2 ^ si
 -- the byte that the payload gives for an address, where it gives one. `asked` is the address of the
 -- request that a message of channel D answers.
 abbrev pub byte_at : {w : ℕ} → ℕ → Message w → ℕ → Option ℕ
-byte_at {w} asked (message.A m) address = if a_carries_data m.opcode then byte_if (λ p. bit m.mask p) m.payload (place_of w m.address address) else None
-byte_at {w} asked (message.B m) address = if b_carries_data m.opcode then byte_if (λ p. bit m.mask p) m.payload (place_of w m.address address) else None
+byte_at {w} asked (message.A m) address = if a_carries_data m.opcode then byte_if (λ p. bit m.mask p) m.payload
+    (place_of w m.address address) else None
+byte_at {w} asked (message.B m) address = if b_carries_data m.opcode then byte_if (λ p. bit m.mask p) m.payload
+    (place_of w m.address address) else None
 byte_at {w} asked (message.C m) address =
-    if c_carries_data m.opcode then byte_if (λ p. reaches m.address m.size address) m.payload (place_of w m.address address) else None
+    if c_carries_data m.opcode then byte_if (λ p. reaches m.address m.size address) m.payload
+    (place_of w m.address address) else None
 byte_at {w} asked (message.D m) address =
-    if d_carries_data m.opcode then byte_if (λ p. reaches asked m.size address) m.payload (place_of w asked address) else None
+    if d_carries_data m.opcode then byte_if (λ p. reaches asked m.size address) m.payload (place_of w asked address)
+    else None
 byte_at asked (message.E m) address = None

@@ -1,11 +1,13 @@
 -- How the beats of a channel make messages: bursts, what is unfinished, and how a history splits.
-use Rattle.std.specs.Prelude.{ℕ, Bool, true, false, not, List, [], ◌∷◌, ◌++◌, ◌==◌, ◌&&◌, ◌+◌, ◌<◌, ◌≡◌, if◌then◌else◌, length, ⊤}
-use Rattle.std.specs.Bool.{beq}
+use Rattle.std.specs.Prelude.{ℕ, Bool, true, false, not, List, [], ◌∷◌, ◌++◌, ◌==◌, ◌&&◌, ◌+◌, ◌<◌, ◌≡◌, if◌then◌else◌}
+use Rattle.std.specs.Prelude.{length, ⊤}
 use Rattle.tl_beat.specs.declared.beat.Beat.{Beat}
 use Rattle.tl_beat.specs.declared.beat.Beat.TheVariants as beat
 use Rattle.tl_beat.specs.declared.channel.Channel.{Channel}
 use Rattle.tl_beat.specs.declared.channel.Channel.TheVariants as channel
-use Rattle.tl_beat.specs.statement.Opcode.{a_code, b_code, c_code, d_code, a_carries_data, b_carries_data, c_carries_data, d_carries_data}
+pub use Rattle.tl_beat.specs.statement.Control.{channel_of}
+use Rattle.tl_beat.specs.statement.Control.{control_of, has_control}
+use Rattle.tl_beat.specs.statement.Opcode.{a_carries_data, b_carries_data, c_carries_data, d_carries_data}
 use Rattle.tl_burst.specs.declared.message.Message.{Message}
 use Rattle.tl_burst.specs.statement.Burst.{data_beats, beats_of, beat_of, burst_of, begun, IsBurst}
 
@@ -20,14 +22,6 @@ burst_length {w} (beat.B x) = if b_carries_data x.opcode then data_beats w x.siz
 burst_length {w} (beat.C x) = if c_carries_data x.opcode then data_beats w x.size else 1
 burst_length {w} (beat.D x) = if d_carries_data x.opcode then data_beats w x.size else 1
 burst_length (beat.E x) = 1
-
--- the channel of a beat
-abbrev pub channel_of : {w : ℕ} → Beat w → Channel
-channel_of (beat.A x) = channel.A
-channel_of (beat.B x) = channel.B
-channel_of (beat.C x) = channel.C
-channel_of (beat.D x) = channel.D
-channel_of (beat.E x) = channel.E
 
 -- the channel of a message
 abbrev pub channel_in : {w : ℕ} → Message w → Channel
@@ -44,17 +38,7 @@ on _ _ = false
 
 -- the control fields agree
 abbrev pub same_control : {w : ℕ} → Beat w → Beat w → Bool
-same_control (beat.A x) (beat.A y) =
-    (a_code x.opcode == a_code y.opcode) && ((x.param == y.param) && ((x.size == y.size) && ((x.source == y.source) && (x.address == y.address))))
-same_control (beat.B x) (beat.B y) =
-    (b_code x.opcode == b_code y.opcode) && ((x.param == y.param) && ((x.size == y.size) && ((x.source == y.source) && (x.address == y.address))))
-same_control (beat.C x) (beat.C y) =
-    (c_code x.opcode == c_code y.opcode) && ((x.param == y.param) && ((x.size == y.size) && ((x.source == y.source) && (x.address == y.address))))
-same_control (beat.D x) (beat.D y) =
-    (d_code x.opcode == d_code y.opcode)
-    && ((x.param == y.param) && ((x.size == y.size) && ((x.source == y.source) && ((x.sink == y.sink) && beq x.denied y.denied))))
-same_control (beat.E x) (beat.E y) = x.sink == y.sink
-same_control _ _ = false
+same_control x y = has_control x (control_of y)
 
 -- the beat doesn't continue the burst that is unfinished: a control field differs
 abbrev pub breaks_burst : {w : ℕ} → Beat w → List (Beat w) → Bool

@@ -130,7 +130,8 @@ module _ {X : Type 0} (config : Config) (size : ℕ) (left left' : Left) (answer
       grant_less m less e = acquire_owes m (grant_named caching s c m inv e) (go (view (s.block m).service c) e)
         where
           go : (v : View) → is_granting v ≡ true
-              → acquire_weight size (left' c Acquire m) (left' c Grant m) (probes_weight number size left' m (s.block m))
+              → acquire_weight size (left' c Acquire m) (left' c Grant m)
+              (probes_weight number size left' m (s.block m))
               v + 1 ≤ acquire_weight size
               (left c Acquire m) (left c Grant m) (probes_weight number size left m (s.block m)) v
           go (Granting d k) f = omega (arith, less)
@@ -188,7 +189,8 @@ module _ {X : Type 0} (config : Config) (size : ℕ) (left left' : Left) (answer
               (rw used (omega (arith, probes)))
 
       -- whichever message it is, of those that have more than one beat
-      pub message-less : (k : Kind) (m : ℕ) → shows_it s c k m ≡ true → left' c k m + 1 ≤ left c k m → is_light k ≡ false
+      pub message-less : (k : Kind) (m : ℕ) → shows_it s c k m ≡ true → left' c k m + 1 ≤ left c k m
+          → is_light k ≡ false
           → Falls
       message-less Request m e less heavy = request_less m less e
       message-less Answer m e less heavy = answer_less m less e

@@ -1,11 +1,11 @@
--- Deliveries move no more beats than the load before them; and the next ones, one after another, end what is
--- outstanding.
+-- Deliveries move no more beats than the load before them; and the next ones, one after another, end
+-- what is outstanding.
 use Rattle.tl_coherence.proofs.bound.Imports.{Link, Channel, Config, Deliver, is_moving, Log, system_after, stepped}
 use Rattle.std.proofs.Common.{◌≡◌, ℕ, zero, suc, ◌+◌, ◌≤◌, Bool, true, false, [], ◌∷◌, ◌++◌, Option, Some, None, length}
 use Rattle.std.proofs.Common.{refl, sym, ◌∙◌, ap, subst, arith}
 use Rattle.std.specs.Prelude.{All, if◌then◌else◌, filter}
 use Rattle.std.proofs.lemmas.List.Elements.{All-head, All-tail}
-use Rattle.tl_manager.proofs.Placing.{limits}
+use Rattle.tl_manager.proofs.blocks.Placing.{limits}
 use Rattle.tl_coherence.specs.declared.event.Event.{Event}
 use Rattle.tl_coherence.specs.declared.event.Event.TheVariants.{Ask}
 use Rattle.tl_coherence.specs.declared.event.Outcome.{Outcome}

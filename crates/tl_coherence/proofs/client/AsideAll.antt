@@ -1,5 +1,5 @@
--- Which clients' ends are left alone as a message is taken, and as a client is asked: all of that is what `followed`
--- does.
+-- Which clients' ends are left alone as a message is taken, and as a client is asked: all of that is
+-- what `followed` does.
 use Rattle.tl_coherence.proofs.client.Imports.{Message, Config, Cap, Report, Profile, block_at, Op, Reply, copy_stored}
 use Rattle.tl_coherence.proofs.client.Imports.{whole_grow, cap_probed, AbstractState, with_state, asked, performs}
 use Rattle.tl_coherence.proofs.client.Imports.{probes_some, some_below, access_taken, request_taken, is_unheld, gift}

@@ -18,8 +18,8 @@ use Rattle.tl_client.specs.declared.operation.Op.TheVariants as op
 use Rattle.tl_client.specs.declared.reply.Reply.TheVariants as reply
 use Rattle.tl_client.specs.statement.Ask as ask
 use Rattle.tl_client.specs.statement.Ask.{done, load, store, free_request, free_release, source_or_0}
-use Rattle.tl_client.proofs.Cases.{NotBusy, asked-cases}
-use Rattle.tl_client.proofs.Free.{least_free-some}
+use Rattle.tl_client.proofs.endpoint.Cases.{NotBusy, asked-cases}
+use Rattle.tl_client.proofs.pending.Free.{least_free-some}
 use Rattle.tl_coherence.specs.refinement.SimulationRelation.{IsSourced, IsAnswered, IsAnswer, is_c, asked_for}
 use Rattle.tl_coherence.specs.refinement.SimulationRelation.{block_used, first_of, request_source}
 use Rattle.tl_coherence.proofs.client.ClientDelivered.{shadow_of}

@@ -28,11 +28,11 @@ use Rattle.tl_client.specs.statement.Ask.{is_access_of}
 use Rattle.tl_client.specs.statement.Endpoint.{zeros, with_copy, with_waiting, kept_for}
 use Rattle.tl_client.specs.statement.EndpointInvariant.{holds}
 use Rattle.tl_client.specs.statement.Send.{sourced, about, release}
-use Rattle.tl_client.proofs.Accounted.{accounted-asked}
-use Rattle.tl_client.proofs.AfterAsked.{kept_copies, kept_closed}
-use Rattle.tl_client.proofs.KeptAsked.{kept_waiting, no_acquire, falls_to, kept-asked}
-use Rattle.tl_client.proofs.Cases.{NotBusy, asked-cases}
-use Rattle.tl_client.proofs.HeldAfter.{swapped, held-release, kept_past}
+use Rattle.tl_client.proofs.pending.Accounted.{accounted-asked}
+use Rattle.tl_client.proofs.endpoint.AfterAsked.{kept_copies, kept_closed}
+use Rattle.tl_client.proofs.pending.KeptAsked.{kept_waiting, no_acquire, falls_to, kept-asked}
+use Rattle.tl_client.proofs.endpoint.Cases.{NotBusy, asked-cases}
+use Rattle.tl_client.proofs.endpoint.HeldAfter.{swapped, held-release, kept_past}
 use Rattle.tl_coherence.specs.refinement.AbstractStep as world
 use Rattle.tl_coherence.specs.protocol.Invariant.{acquires_of, AreNamed}
 use Rattle.tl_coherence.specs.protocol.Protocol.{access_asked, acquire_asked, release_asked, block_stored}

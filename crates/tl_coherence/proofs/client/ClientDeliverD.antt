@@ -15,9 +15,9 @@ use Rattle.tl_burst.specs.declared.message.MessageE.{MessageE}
 use Rattle.tl_rules.specs.statement.History.{grants, releases, capped}
 use Rattle.tl_rules.proofs.Handed.{held-whole}
 use Rattle.tl_rules.proofs.Sent.{pending-closed}
-use Rattle.tl_client.proofs.AccountedResponse.{release_of-d}
-use Rattle.tl_client.proofs.HeldAfter.{held-beat_d}
-use Rattle.tl_client.proofs.Opens.{acquire_of-d, open_beat-d, open_beat-e, unfinished-d}
+use Rattle.tl_client.proofs.pending.AccountedResponse.{release_of-d}
+use Rattle.tl_client.proofs.endpoint.HeldAfter.{held-beat_d}
+use Rattle.tl_client.proofs.pending.Opens.{acquire_of-d, open_beat-d, open_beat-e, unfinished-d}
 use Rattle.tl_coherence.proofs.client.ClientEnd.{IsWellKept, known-kept}
 
 -- ---- what a beat says

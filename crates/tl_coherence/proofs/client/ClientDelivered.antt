@@ -24,8 +24,8 @@ use Rattle.tl_rules.specs.statement.Admission.{payload_of}
 use Rattle.tl_rules.proofs.Payload.{payload-d}
 use Rattle.tl_client.specs.statement.Offer.{granted}
 use Rattle.tl_client.specs.declared.verdict.Verdict.TheVariants as verdict
-use Rattle.tl_client.proofs.Accounted.{accounted-offered}
-use Rattle.tl_client.proofs.KeptOffered.{kept-offered}
+use Rattle.tl_client.proofs.pending.Accounted.{accounted-offered}
+use Rattle.tl_client.proofs.pending.KeptOffered.{kept-offered}
 use Rattle.tl_coherence.specs.refinement.PacketMessages.{message_of, message_of_kind}
 use Rattle.tl_coherence.specs.refinement.SimulationRelation.{IsGivenAsked}
 use Rattle.tl_coherence.proofs.queues.Carried.{IsNext}
@@ -72,8 +72,8 @@ plain_end {w} y e last plain = last_end y e last ∙ ended_plain y.opcode y _ (r
 
 -- ---- the end afterwards
 
--- the beat is taken; the end is that of the protocol as it was, or after its event where the beat is the last of its
--- message
+-- the beat is taken; the end is that of the protocol as it was, or after its event where the beat is
+-- the last of its message
 pub record IsTakenBy {w : ℕ} (config : Config) (terms : EndConfig) (tracker c : ℕ) (h : AbstractState w) (x : Beat w)
     (e : Endpoint w) : Type 0 where
   pub takes : offered terms channel.D x e ≡ taken x e

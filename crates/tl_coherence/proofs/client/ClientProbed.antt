@@ -15,9 +15,9 @@ use Rattle.tl_params.specs.statement.Param.{report_at, report_right}
 use Rattle.tl_client.specs.statement.EndpointInvariant.{holds}
 use Rattle.tl_client.specs.statement.Offer.{report_for}
 use Rattle.tl_client.specs.statement.Send.{probe_ack}
-use Rattle.tl_client.proofs.AfterAsked.{kept_copies, kept_closed}
-use Rattle.tl_client.proofs.KeptAsked.{kept_waiting}
-use Rattle.tl_client.proofs.KeptOffered.{reports_held}
+use Rattle.tl_client.proofs.endpoint.AfterAsked.{kept_copies, kept_closed}
+use Rattle.tl_client.proofs.pending.KeptAsked.{kept_waiting}
+use Rattle.tl_client.proofs.pending.KeptOffered.{reports_held}
 use Rattle.tl_coherence.proofs.client.ClientEnd.{IsWellKept, IsEnd, IsSame, known-same, opened-same, asks-same, column}
 use Rattle.tl_coherence.proofs.client.KnownProbed.{report_is, known-probed, opened-probed}
 use Rattle.tl_coherence.proofs.queues.Tokens.{set-same, set-part}

@@ -10,7 +10,7 @@ use Rattle.tl_beat.specs.declared.channel.Channel.TheVariants as channel
 use Rattle.tl_burst.specs.declared.message.Message.TheVariants.{A, C}
 use Rattle.tl_burst.specs.statement.Burst.{c_beat_of}
 use Rattle.tl_rules.proofs.Handed.{held-whole}
-use Rattle.tl_client.proofs.Opens.{open_beat-a, open_beat-c}
+use Rattle.tl_client.proofs.pending.Opens.{open_beat-a, open_beat-c}
 use Rattle.tl_coherence.proofs.client.ClientEnd.{IsWellKept, known-kept}
 
 -- ---- a request

@@ -18,7 +18,7 @@ use Rattle.tl_client.specs.declared.verdict.Verdict.TheVariants as verdict
 use Rattle.tl_client.specs.laws.After.{is_refused}
 use Rattle.tl_client.specs.statement.Ask as ask
 use Rattle.tl_client.specs.statement.Offer.{is_stalled}
-use Rattle.tl_client.proofs.Stalls.{taken_now}
+use Rattle.tl_client.proofs.endpoint.Stalls.{taken_now}
 use Rattle.tl_manager.specs.statement.Service.{services, least_untaken, trackers_of}
 use Rattle.tl_manager.specs.statement.End as manager_end
 use Rattle.tl_manager.specs.statement.Offer as manager
@@ -42,7 +42,7 @@ use Rattle.tl_coherence.proofs.queues.FirstToken.{IsFirst, first-token}
 use Rattle.tl_coherence.proofs.client.ProbeDelivered.{IsProbed, delivered-b}
 use Rattle.tl_coherence.proofs.queues.Steps.{clients-with_messages}
 use Rattle.tl_coherence.proofs.queues.Tokens.{same_number}
-use Rattle.tl_client.proofs.Calls.{kept_up}
+use Rattle.tl_client.proofs.messages.Calls.{kept_up}
 
 -- all ends are those of the protocol after this step
 abbrev AreEnds : {w : ℕ} → Config → Event w → System w → AbstractState w → ℕ → Step w → Type 0

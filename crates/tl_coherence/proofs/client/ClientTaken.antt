@@ -20,9 +20,9 @@ use Rattle.tl_client.specs.laws.After.{copy_granted, waiting_granted}
 use Rattle.tl_client.specs.statement.EndpointInvariant.{is_acquire_beat, is_acquire_perm}
 use Rattle.tl_client.specs.statement.Offer.{address_asked, finish_of, granted}
 use Rattle.tl_client.specs.statement.Send.{grant_ack}
-use Rattle.tl_client.proofs.AfterOffered.{granted_is}
-use Rattle.tl_client.proofs.HeldAfter.{swapped}
-use Rattle.tl_manager.proofs.Recording.{cap-gives}
+use Rattle.tl_client.proofs.endpoint.AfterOffered.{granted_is}
+use Rattle.tl_client.proofs.endpoint.HeldAfter.{swapped}
+use Rattle.tl_manager.proofs.blocks.Recording.{cap-gives}
 use Rattle.tl_coherence.specs.protocol.PhaseSteps.{after_grant}
 use Rattle.tl_coherence.specs.protocol.Protocol.{answer_taken, granted_copy, release_ack_taken}
 use Rattle.tl_coherence.specs.protocol.Invariant.{acquires_of, AreNamed}
@@ -35,7 +35,7 @@ use Rattle.tl_coherence.proofs.client.ClientDeliverD.{heard-part, answer_closes,
 use Rattle.tl_coherence.proofs.queues.Phases.{and_right}
 use Rattle.tl_coherence.proofs.queues.Tokens.{same_number, set-same, set-other, set-part, set_at-same}
 use Rattle.tl_coherence.proofs.queues.Codes.{acquires-so}
-use Rattle.tl_manager.proofs.Performed.{grants_by_opcode}
+use Rattle.tl_manager.proofs.pending.Performed.{grants_by_opcode}
 
 -- ---- a beat that isn't the last of its message
 

@@ -33,7 +33,7 @@ use Rattle.tl_coherence.proofs.queues.Passes.{client-takes}
 use Rattle.tl_coherence.proofs.queues.Phases.{and_left, and_right}
 use Rattle.tl_coherence.proofs.client.ResponseOrder.{answer-legal, grant-legal, ack-legal}
 use Rattle.tl_coherence.proofs.queues.Codes.{access_kind}
-use Rattle.tl_manager.proofs.Answered.{no_ack_grant}
+use Rattle.tl_manager.proofs.pending.Answered.{no_ack_grant}
 
 -- ---- what a client was made for
 

@@ -29,7 +29,7 @@ pub use Rattle.tl_rules.specs.statement.Conformance.{answers, broken_in_order, s
 pub use Rattle.tl_rules.specs.statement.History.{block_at, ends, is_acquire, is_grant, is_release, is_release_ack}
 unfoldable pub use Rattle.tl_rules.specs.statement.History.{held, pending, release_of, request_of}
 unfoldable pub use Rattle.tl_rules.specs.statement.Legality.{illegal}
-pub use Rattle.tl_client.proofs.HeldAfter.{same_block}
+pub use Rattle.tl_client.proofs.endpoint.HeldAfter.{same_block}
 pub use Rattle.tl_client.specs.declared.operation.Op.{Op}
 pub use Rattle.tl_client.specs.declared.reply.Reply.{Reply}
 pub use Rattle.tl_client.specs.declared.verdict.Finish.{Finish}

@@ -28,11 +28,11 @@ use Rattle.tl_client.specs.statement.Endpoint.{zeros}
 use Rattle.tl_client.specs.statement.Offer.{broken_before, broken_later, judged, judged_later, report_for}
 use Rattle.tl_client.specs.declared.verdict.Verdict.TheVariants as verdict
 use Rattle.tl_client.specs.statement.Send.{about, probe_ack}
-use Rattle.tl_client.proofs.HeldAfter.{held-probe_ack, kept_past, still_whole}
-use Rattle.tl_client.proofs.Opens.{open_beat-b, open_beat-c}
+use Rattle.tl_client.proofs.endpoint.HeldAfter.{held-probe_ack, kept_past, still_whole}
+use Rattle.tl_client.proofs.pending.Opens.{open_beat-b, open_beat-c}
 use Rattle.tl_coherence.proofs.queues.Tokens.{same_number, set-same, set-other}
 use Rattle.tl_coherence.proofs.queues.Codes.{cap-again}
-use Rattle.tl_client.proofs.Bytes.{burst_b}
+use Rattle.tl_client.proofs.messages.Bytes.{burst_b}
 
 -- ---- the Probe
 

@@ -1,5 +1,5 @@
--- A Probe that is delivered to a client waits for its Release, or is taken, and the client's end is then that of the
--- protocol.
+-- A Probe that is delivered to a client waits for its Release, or is taken, and the client's end is
+-- then that of the protocol.
 use Rattle.tl_coherence.proofs.client.Imports.{IsWidth, Beat, BeatA, OpD, Message, MessageA, MessageD, beat_of}
 use Rattle.tl_coherence.proofs.client.Imports.{unfinished, completes, Config, ReleaseOf, Level, Cap, Rule, is_outside}
 use Rattle.tl_coherence.proofs.client.Imports.{is_grant, pending, illegal, EndConfig, Endpoint, held_at, Offered}
@@ -20,9 +20,9 @@ use Rattle.tl_burst.specs.statement.Burst.{beats_of, begun}
 use Rattle.tl_rules.specs.statement.History.{asks_for}
 use Rattle.tl_client.specs.declared.verdict.Verdict.TheVariants as verdict
 use Rattle.tl_client.specs.statement.Offer.{judged, judged_later, broken_before, broken_later}
-use Rattle.tl_client.proofs.Accounted.{accounted-offered}
-use Rattle.tl_client.proofs.Cases.{passes_before}
-use Rattle.tl_client.proofs.KeptOffered.{kept-offered}
+use Rattle.tl_client.proofs.pending.Accounted.{accounted-offered}
+use Rattle.tl_client.proofs.endpoint.Cases.{passes_before}
+use Rattle.tl_client.proofs.pending.KeptOffered.{kept-offered}
 use Rattle.tl_manager.specs.statement.Handing.{probe_of_block}
 use Rattle.tl_manager.specs.code.Kept as manager
 use Rattle.tl_coherence.specs.refinement.Carried.{IsCarried}

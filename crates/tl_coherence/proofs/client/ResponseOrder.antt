@@ -55,8 +55,8 @@ pub answer-legal : {w : ℕ} (p : Profile) (x : BeatD w) (r : BeatA w) (t : Hist
 answer-legal p x r t is plain = begun p x t is.whole (asked_for x r t is) (size_for x r t is) (rw plain refl)
     (rw plain refl)
 
--- a Grant of block n gives what was asked for, to a client that gets data or has a copy, and nothing of the block is
--- probed
+-- a Grant of block n gives what was asked for, to a client that gets data or has a copy, and nothing
+-- of the block is probed
 pub grant-legal : {w : ℕ} (p : Profile) (n : ℕ) (x : BeatD w) (r : BeatA w) (t : History w) → IsResponse x r t
     → block_at r.address ≡ n → fits_grow p r.opcode r.param x.param ≡ true
     → (is_grant_without_data x.opcode && (is_acquire_block r.opcode && not (same_perm (held n t) perm.Branch))) ≡ false

@@ -11,7 +11,7 @@ use Rattle.std.proofs.Common.{◌≡◌, ℕ, Bool, true, false, List, [], ◌�
 use Rattle.tl_beat.specs.declared.beat.BeatE.{BeatE}
 use Rattle.tl_beat.specs.declared.channel.Channel.TheVariants as channel
 use Rattle.tl_client.specs.statement.Endpoint as client
-use Rattle.tl_manager.proofs.Events.{reaction-ack}
+use Rattle.tl_manager.proofs.calls.Events.{reaction-ack}
 use Rattle.tl_coherence.specs.protocol.Protocol.{freed_block, grant_ack_taken}
 use Rattle.tl_coherence.proofs.memory.BesideKinds.{beside_block}
 use Rattle.tl_coherence.proofs.simulation.CarriedEvents.{grant_ack_taken-carried}

@@ -20,7 +20,7 @@ use Rattle.tl_client.specs.statement.Ask as ask
 use Rattle.tl_client.specs.statement.Ask.{whole_grow}
 use Rattle.tl_client.specs.statement.Endpoint as client
 use Rattle.tl_client.specs.statement.Send.{access, sourced, acquisition}
-use Rattle.tl_client.proofs.Outstanding.{unfinished-asked}
+use Rattle.tl_client.proofs.endpoint.Outstanding.{unfinished-asked}
 use Rattle.tl_coherence.specs.declared.event.Outcome.TheVariants as outcome
 use Rattle.tl_coherence.specs.refinement.AbstractStep.{asked, acquire_opcode}
 use Rattle.tl_coherence.specs.statement.Headline.{Continues}

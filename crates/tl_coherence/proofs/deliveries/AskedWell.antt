@@ -31,11 +31,11 @@ use Rattle.tl_client.specs.statement.Ask.{Asked, asked, done, only, load, store,
 use Rattle.tl_client.specs.statement.Ask.{op_block, free_request, free_release, source_or_0, whole_grow}
 use Rattle.tl_client.specs.statement.Endpoint.{Endpoint, zeros, copy_at, held_at}
 use Rattle.tl_client.specs.statement.Send.{access, acquisition}
-use Rattle.tl_client.proofs.Cases.{NotBusy, asked-cases}
-use Rattle.tl_client.proofs.Clean.{to_blank}
-use Rattle.tl_client.proofs.Free.{least_free-some}
-use Rattle.tl_client.proofs.Sound.{formed_access}
-use Rattle.tl_client.proofs.Stores.{word_room}
+use Rattle.tl_client.proofs.endpoint.Cases.{NotBusy, asked-cases}
+use Rattle.tl_client.proofs.messages.Clean.{to_blank}
+use Rattle.tl_client.proofs.pending.Free.{least_free-some}
+use Rattle.tl_client.proofs.messages.Sound.{formed_access}
+use Rattle.tl_client.proofs.caching_client.Stores.{word_room}
 use Rattle.tl_manager.specs.statement.Offer.{level_of}
 use Rattle.tl_coherence.specs.refinement.MemoryRelation.{IsOpened, IsLet}
 use Rattle.tl_coherence.specs.statement.Machine.{Releases, Replies}

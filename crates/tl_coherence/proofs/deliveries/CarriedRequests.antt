@@ -27,7 +27,7 @@ use Rattle.tl_manager.specs.statement.Holders as holders
 use Rattle.tl_manager.specs.statement.Holders.{recorded, probed, cap_probed, is_spared}
 use Rattle.tl_rules.specs.statement.History.{is_acquire}
 use Rattle.tl_rules.proofs.Sent.{is_last}
-use Rattle.tl_client.proofs.HeldAfter.{swapped}
+use Rattle.tl_client.proofs.endpoint.HeldAfter.{swapped}
 use Rattle.tl_coherence.specs.declared.event.Outcome.TheVariants as outcome
 use Rattle.tl_coherence.specs.refinement.AbstractStep.{bytes_at, probes_some, access_taken, request_taken, performs}
 use Rattle.tl_coherence.specs.refinement.AbstractStep.{gift, is_unheld, acquire_taken}

@@ -34,7 +34,7 @@ use Rattle.tl_coherence.proofs.queues.Landed.{pushes_of, IsOn, HasHeard, landed-
 use Rattle.tl_coherence.proofs.manager.RequestsTaken.{next_tracker, invariant-taken}
 use Rattle.tl_coherence.proofs.queues.Showing.{carries}
 use Rattle.tl_coherence.proofs.queues.Codes.{grants-so, access_kind}
-use Rattle.tl_manager.proofs.Answered.{no_ack_grant}
+use Rattle.tl_manager.proofs.pending.Answered.{no_ack_grant}
 
 -- ---- a delivery that moves a beat, as the protocol follows it
 

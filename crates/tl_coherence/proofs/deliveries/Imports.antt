@@ -18,11 +18,11 @@ pub use Rattle.tl_params.specs.statement.Param.{prune_left, report_left}
 pub use Rattle.tl_rules.specs.statement.Conformance.{same_perm}
 unfoldable pub use Rattle.tl_rules.specs.statement.Conformance.{on_link}
 pub use Rattle.tl_rules.specs.statement.History.{block_at}
-pub use Rattle.tl_client.proofs.HeldAfter.{same_block}
+pub use Rattle.tl_client.proofs.endpoint.HeldAfter.{same_block}
 pub use Rattle.tl_client.specs.declared.operation.Op.{Op}
 pub use Rattle.tl_client.specs.statement.Endpoint.{EndConfig}
 pub use Rattle.tl_client.specs.statement.Send.{release}
-pub use Rattle.tl_manager.proofs.Events.{reaction-part}
+pub use Rattle.tl_manager.proofs.calls.Events.{reaction-part}
 pub use Rattle.tl_manager.specs.statement.End.{End}
 pub use Rattle.tl_manager.specs.statement.Handing.{Handed, Reaction}
 pub use Rattle.tl_manager.specs.statement.Offer.{must_wait}

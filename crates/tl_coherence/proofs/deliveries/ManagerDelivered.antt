@@ -16,7 +16,7 @@ use Rattle.tl_coherence.specs.protocol.Protocol as protocol
 use Rattle.tl_coherence.proofs.manager.RequestsTaken.{invariant-taken}
 use Rattle.tl_coherence.proofs.manager.ManagersEnd.{at_manager-matched}
 use Rattle.tl_coherence.proofs.manager.ManagerHanded.{grant-rendered}
-use Rattle.tl_manager.proofs.Events.{reaction-ack}
+use Rattle.tl_manager.proofs.calls.Events.{reaction-ack}
 use Rattle.tl_manager.specs.statement.Handing.{release_ack}
 use Rattle.std.proofs.Common.{[], ◌≡◌, ℕ, ◌+◌, Bool, true, false, ◌&&◌, List, ◌∷◌, None, length, refl, sym, ◌∙◌, ap}
 use Rattle.std.proofs.Common.{subst}
@@ -33,7 +33,7 @@ use Rattle.tl_params.specs.statement.Param.{grow_code, prune_code, report_code}
 use Rattle.tl_rules.specs.statement.Conformance.{broken_in_order}
 use Rattle.tl_rules.specs.statement.History.{pending}
 use Rattle.tl_params.specs.declared.key.Key.TheVariants.{GrantSink}
-use Rattle.tl_manager.proofs.LinkHistories.{whole-e}
+use Rattle.tl_manager.proofs.pending.LinkHistories.{whole-e}
 use Rattle.tl_manager.specs.code.Kept as manager
 use Rattle.tl_coherence.specs.refinement.AbstractStep.{acquire_opcode, granted_after}
 use Rattle.tl_coherence.specs.protocol.Invariant.{IsOwnSource}

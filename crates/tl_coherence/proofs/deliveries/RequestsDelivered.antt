@@ -1,5 +1,5 @@
--- A delivery on channel A: what is first there, that it is taken unless it has to wait, and the manager's end
--- afterwards.
+-- A delivery on channel A: what is first there, that it is taken unless it has to wait, and the
+-- manager's end afterwards.
 use Rattle.tl_coherence.proofs.deliveries.Imports.{IsWidth, Beat, MessageA, a_beat_of, beats_of, unfinished, completes}
 use Rattle.tl_coherence.proofs.deliveries.Imports.{Config, on_link, block_at, EndConfig, same_block, reaction, End}
 use Rattle.tl_coherence.proofs.deliveries.Imports.{must_wait, Deliver, AbstractState, kind_taken, packet_taken}

@@ -35,7 +35,7 @@ use Rattle.tl_coherence.proofs.flow.FlowReported.{flowed-report}
 use Rattle.tl_coherence.proofs.flow.FlowStep.{held_by}
 use Rattle.tl_coherence.proofs.queues.Phases.{and_left, and_right}
 use Rattle.tl_coherence.proofs.manager.Reporting.{IsAbout, report-about, release-about, reported-prune}
-use Rattle.tl_client.proofs.HeldAfter.{reported-report}
+use Rattle.tl_client.proofs.endpoint.HeldAfter.{reported-report}
 use Rattle.tl_coherence.proofs.queues.Tokens.{set-same, set-other, holds-first}
 use Rattle.tl_coherence.proofs.protocol.BothParts.{answered-is, releasing-is}
 use Rattle.tl_coherence.proofs.simulation.Popped.{unfinished_at}

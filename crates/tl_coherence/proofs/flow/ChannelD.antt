@@ -16,7 +16,7 @@ use Rattle.tl_beat.specs.declared.channel.Channel.TheVariants as channel
 use Rattle.tl_burst.specs.declared.message.Message.TheVariants as message
 use Rattle.tl_burst.specs.statement.Burst.{d_beat_of}
 use Rattle.tl_params.specs.statement.Param.{cap_right}
-use Rattle.tl_manager.proofs.Recording.{cap-gives}
+use Rattle.tl_manager.proofs.blocks.Recording.{cap-gives}
 use Rattle.tl_coherence.specs.protocol.PhaseSteps.{after_grant}
 use Rattle.tl_coherence.specs.protocol.Protocol.{answer_taken, grant_taken}
 use Rattle.tl_coherence.proofs.client.Aside.{set_at-else}
@@ -37,7 +37,7 @@ use Rattle.tl_coherence.proofs.queues.Phases.{and_right}
 use Rattle.tl_coherence.proofs.queues.Tokens.{same_number, set-same, set-other, holds-first}
 use Rattle.tl_coherence.proofs.protocol.BothParts.{acked-is}
 use Rattle.tl_coherence.proofs.queues.Codes.{access_kind, grants-so}
-use Rattle.tl_manager.proofs.Answered.{no_ack_grant}
+use Rattle.tl_manager.proofs.pending.Answered.{no_ack_grant}
 use Rattle.tl_coherence.proofs.simulation.Popped.{unfinished_at}
 
 -- ---- numbers and opcodes

@@ -17,7 +17,7 @@ use Rattle.tl_coherence.proofs.flow.FlowGranted.{begun, unbegun}
 use Rattle.tl_coherence.proofs.flow.FlowReleased.{with_true}
 use Rattle.tl_coherence.proofs.flow.FlowStep.{flowed-next, held_by, acquired_by, let_of, granted_by, step, step_quiet}
 use Rattle.tl_coherence.proofs.flow.FlowReport.{unopened}
-use Rattle.tl_manager.proofs.Accepted.{probe_of-a, grant_sink-a}
+use Rattle.tl_manager.proofs.pending.Accepted.{probe_of-a, grant_sink-a}
 
 pub released-of : {w : ℕ} (i : ℕ) (y : BeatA w) (t : History w) → release_of i (beat.A y ∷ t) ≡ release_of i t
 unfolding release_of

@@ -10,7 +10,7 @@ use Rattle.std.proofs.lemmas.Bool.{ne_eqb, and_right, and_from}
 use Rattle.tl_beat.specs.declared.beat.Beat.TheVariants as beat
 use Rattle.tl_beat.specs.declared.channel.Channel.TheVariants as channel
 use Rattle.tl_coherence.proofs.flow.FlowAccess.{of_source, of_other, released-of}
-use Rattle.tl_manager.proofs.Accepted.{grant_sink-a, probe_of-a}
+use Rattle.tl_manager.proofs.pending.Accepted.{grant_sink-a, probe_of-a}
 use Rattle.tl_coherence.proofs.flow.FlowAlone.{AreRests, no_coming}
 use Rattle.tl_coherence.proofs.flow.FlowAside.{IsComing, comes-same, let_by-same}
 use Rattle.tl_coherence.proofs.flow.FlowGranted.{requested-apart}

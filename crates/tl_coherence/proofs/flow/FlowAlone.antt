@@ -1,5 +1,5 @@
--- What is delivered on a link, as a Probe or a GrantAck is: messages of one beat, which leave requests and Releases
--- alone.
+-- What is delivered on a link, as a Probe or a GrantAck is: messages of one beat, which leave requests
+-- and Releases alone.
 use Rattle.tl_coherence.proofs.flow.Imports.{Beat, BeatA, BeatE, Channel, History, on, grown, Cap, comes_in_grant}
 use Rattle.tl_coherence.proofs.flow.Imports.{begins, ends, block_at, release_of, probe_of, grant_sink, MonitorRelation}
 use Rattle.tl_coherence.proofs.flow.Imports.{is_requested, is_let_by, is_sunk, is_of, is_busy, comes_granting, View}
@@ -18,8 +18,8 @@ use Rattle.tl_coherence.specs.protocol.Invariant.{AreNamed}
 use Rattle.tl_coherence.proofs.flow.FlowAside.{IsComing, requested-blocks, let_by-same}
 use Rattle.tl_coherence.proofs.flow.FlowStep.{flowed-next, held_by, acquired_by, let_of, granted_by, step}
 use Rattle.tl_coherence.proofs.queues.Tokens.{same_number, set-same, set-other, set-each, set-part}
-use Rattle.tl_manager.proofs.Acked.{probe_of-e, request_of-e, grant_sink-e}
-use Rattle.tl_client.proofs.AccountedResponse.{is_own_sink}
+use Rattle.tl_manager.proofs.pending.Acked.{probe_of-e, request_of-e, grant_sink-e}
+use Rattle.tl_client.proofs.pending.AccountedResponse.{is_own_sink}
 
 -- what of each channel's first message was delivered, with one more beat
 abbrev pub AreRests : {w : ℕ} → Beat w → (Channel → List (Beat w)) → (Channel → List (Beat w)) → Type 0

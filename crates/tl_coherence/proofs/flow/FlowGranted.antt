@@ -15,8 +15,8 @@ use Rattle.tl_beat.specs.declared.beat.Beat.TheVariants as beat
 use Rattle.tl_beat.specs.declared.channel.Channel.TheVariants as channel
 use Rattle.tl_params.specs.statement.Param.{cap_right}
 use Rattle.tl_rules.specs.statement.History.{releases, capped}
-use Rattle.tl_client.proofs.Opens.{request_of-d}
-use Rattle.tl_client.proofs.AccountedResponse.{release_of-d}
+use Rattle.tl_client.proofs.pending.Opens.{request_of-d}
+use Rattle.tl_client.proofs.pending.AccountedResponse.{release_of-d}
 use Rattle.tl_coherence.proofs.flow.FlowAlone.{AreRests}
 use Rattle.tl_coherence.proofs.flow.FlowAnswered.{probed-of, unclosed, closes_last}
 use Rattle.tl_coherence.proofs.flow.FlowAside.{let_by-same}

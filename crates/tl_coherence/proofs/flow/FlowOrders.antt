@@ -25,7 +25,7 @@ use Rattle.tl_rules.specs.statement.Conformance.{broken_order, grows_from, prune
 use Rattle.tl_rules.specs.statement.History.{is_probe}
 use Rattle.tl_rules.proofs.Later.{later-legal}
 use Rattle.tl_coherence.proofs.manager.Orders.{report-legal, acquire-legal}
-use Rattle.tl_client.proofs.InOrder.{prune_again}
+use Rattle.tl_client.proofs.messages.InOrder.{prune_again}
 
 -- who isn't granted the block holds what is recorded, as far as was delivered
 held_as : {w : ℕ} {X : Type 0} (c n : ℕ) (asked : ℕ → Option (BeatA w)) (rest : Channel → List (Beat w)) (s : State X)

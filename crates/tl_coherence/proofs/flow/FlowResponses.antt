@@ -48,7 +48,7 @@ use Rattle.tl_coherence.proofs.client.ResponseOrder.{answer-legal, grant-legal, 
 use Rattle.tl_coherence.proofs.queues.Tokens.{same_number, holds-first}
 use Rattle.tl_coherence.proofs.protocol.BothParts.{is_of-is, wanting-is, quiet_unanswered}
 use Rattle.tl_coherence.proofs.queues.Codes.{access_kind}
-use Rattle.tl_manager.proofs.Answered.{no_ack_grant}
+use Rattle.tl_manager.proofs.pending.Answered.{no_ack_grant}
 
 -- ---- what is half taken on channel A
 

@@ -1,5 +1,5 @@
--- A beat of channel E that is delivered breaks no rule after what was delivered before it: no Grant with its sink is
--- still coming.
+-- A beat of channel E that is delivered breaks no rule after what was delivered before it: no Grant
+-- with its sink is still coming.
 use Rattle.tl_coherence.proofs.flow.Imports.{IsWidth, Beat, BeatE, Message, MessageA, MessageD, begun, unfinished}
 use Rattle.tl_coherence.proofs.flow.Imports.{channel_of, Config, Level, Cap, broken_after, comes_in_grant, on_link}
 use Rattle.tl_coherence.proofs.flow.Imports.{is_grant, illegal, level_of, IsCarried, flow, Log, receiver, Service}

@@ -15,7 +15,7 @@ use Rattle.tl_client.specs.statement.Ask as ask
 use Rattle.tl_client.specs.statement.Endpoint as client
 use Rattle.tl_client.specs.statement.Endpoint.{EndConfig}
 use Rattle.tl_client.specs.statement.Offer as offer
-use Rattle.tl_client.proofs.Outstanding.{unfinished-asked}
+use Rattle.tl_client.proofs.endpoint.Outstanding.{unfinished-asked}
 use Rattle.tl_manager.specs.statement.Handing.{Handed}
 use Rattle.tl_manager.specs.statement.End as manager_end
 use Rattle.tl_manager.specs.statement.Offer as manager_offer

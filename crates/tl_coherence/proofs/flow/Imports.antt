@@ -31,8 +31,8 @@ pub use Rattle.tl_rules.specs.statement.History.{asks_for, begins, block_at, end
 pub use Rattle.tl_rules.specs.statement.History.{is_release, is_release_ack, reported}
 unfoldable pub use Rattle.tl_rules.specs.statement.History.{grant_sink, held, pending, probe_of, release_of, request_of}
 unfoldable pub use Rattle.tl_rules.specs.statement.Legality.{illegal}
-pub use Rattle.tl_client.proofs.HeldAfter.{same_block}
-pub use Rattle.tl_manager.proofs.Probing.{grant_sink-c, probe_of-c, request_of-c}
+pub use Rattle.tl_client.proofs.endpoint.HeldAfter.{same_block}
+pub use Rattle.tl_manager.proofs.pending.Probing.{grant_sink-c, probe_of-c, request_of-c}
 pub use Rattle.tl_manager.specs.statement.Offer.{level_of}
 pub use Rattle.tl_coherence.specs.protocol.Invariant.{acquires_of, is_busy, is_of}
 pub use Rattle.tl_coherence.specs.protocol.Packet.{Acquire, Answer, Grant, GrantAck, Kind, Packet, Probe, ProbeAck}

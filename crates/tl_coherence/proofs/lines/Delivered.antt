@@ -10,7 +10,7 @@ use Rattle.tl_params.specs.declared.config.Config.{Config}
 use Rattle.tl_rules.specs.statement.Admission.{is_outside}
 use Rattle.tl_rules.specs.statement.Legality.{illegal}
 use Rattle.tl_client.specs.statement.Endpoint.{EndConfig}
-use Rattle.tl_manager.proofs.Placing.{limits}
+use Rattle.tl_manager.proofs.blocks.Placing.{limits}
 use Rattle.tl_coherence.specs.declared.event.Event.{Event}
 use Rattle.tl_coherence.specs.declared.event.Event.TheVariants.{Ask, Deliver}
 use Rattle.tl_coherence.specs.declared.event.Outcome.{Outcome}
@@ -107,7 +107,8 @@ module _ {w : ℕ} (config : Config) (P : Beat w → Type 0) (Q : Log w → Type
             subst (All P) (sym (moved.delivered d))
             (with-beat d log at.0 (link.0 == d) (front log given q link.0 at.2 at.3.1 ch at.0 at.1 at.3.0) rest)
         go false still = subst (All P)
-            (sym (flow_still (Deliver link ch) (stepped config (Deliver link ch) (system_after config log)).outcome log d
+            (sym (flow_still (Deliver link ch) (stepped config (Deliver link ch) (system_after config log)).outcome log
+            d
             still)) rest
 
     pub all-delivered : (log : Log w) → IsGiven config log → Q log → (d : ℕ) → All P (flow d log)

@@ -24,7 +24,7 @@ use Rattle.tl_rules.specs.statement.Legality.{a_has_param, a_has_size, breaks_l1
 use Rattle.tl_rules.specs.statement.Legality.{c_has_param, c_has_source, d_has_param, d_has_sink, illegal}
 use Rattle.tl_rules.proofs.Bursts.{next_rule}
 use Rattle.tl_rules.proofs.Sizes.{response-small}
-use Rattle.tl_manager.proofs.Masks.{request_small}
+use Rattle.tl_manager.proofs.words_of_clients.Masks.{request_small}
 
 -- ---- params
 

@@ -18,8 +18,8 @@ use Rattle.tl_client.specs.declared.verdict.Verdict.TheVariants as verdict
 use Rattle.tl_client.specs.laws.After as client_after
 use Rattle.tl_client.specs.statement.Ask as ask
 use Rattle.tl_client.specs.statement.Offer as offer
-use Rattle.tl_client.proofs.AfterAsked.{past-asked}
-use Rattle.tl_client.proofs.AfterOffered.{past-offered}
+use Rattle.tl_client.proofs.endpoint.AfterAsked.{past-asked}
+use Rattle.tl_client.proofs.endpoint.AfterOffered.{past-offered}
 use Rattle.tl_manager.specs.statement.Handing.{Handed, with_handed}
 use Rattle.tl_manager.specs.code.Kept as manager
 use Rattle.tl_manager.specs.code.Kept.{Each}
@@ -27,9 +27,9 @@ use Rattle.tl_manager.specs.statement.Reaction as manager_reaction
 use Rattle.tl_manager.specs.statement.End as manager_end
 use Rattle.tl_manager.specs.statement.Offer as manager_offer
 use Rattle.tl_manager.specs.statement.Offer.{is_from_client}
-use Rattle.tl_manager.proofs.Reactions.{reaction_handable}
-use Rattle.tl_manager.proofs.Handed.{beats_on_link}
-use Rattle.tl_manager.proofs.Lawful.{IsHandable}
+use Rattle.tl_manager.proofs.calls.Reactions.{reaction_handable}
+use Rattle.tl_manager.proofs.pending.Handed.{beats_on_link}
+use Rattle.tl_manager.proofs.messages.Lawful.{IsHandable}
 use Rattle.tl_coherence.specs.declared.event.Event.{Event}
 use Rattle.tl_coherence.specs.declared.event.Event.TheVariants.{Ask}
 use Rattle.tl_coherence.specs.declared.event.Outcome.{Outcome}

@@ -24,7 +24,7 @@ use Rattle.tl_client.specs.statement.Ask.{op_block}
 use Rattle.tl_client.specs.statement.Offer.{address_asked, finish_of}
 use Rattle.tl_manager.specs.statement.Handing.{grant_opcode}
 use Rattle.tl_manager.specs.statement.Service.{is_access_answer}
-use Rattle.tl_manager.proofs.Recording.{cap-gives}
+use Rattle.tl_manager.proofs.blocks.Recording.{cap-gives}
 use Rattle.tl_coherence.specs.declared.event.Outcome.TheVariants as outcome
 use Rattle.tl_coherence.specs.refinement.MemoryRelation.{IsOpened, op_of}
 use Rattle.tl_coherence.specs.refinement.AbstractStep.{abstract_step, is_whole, kind_taken, taken_by_client}

@@ -1,5 +1,5 @@
--- The first beat of each channel of a client's link: it is one of the channel, no rule refuses it, and on channel B it
--- is a Probe.
+-- The first beat of each channel of a client's link: it is one of the channel, no rule refuses it, and
+-- on channel B it is a Probe.
 use Rattle.tl_coherence.proofs.links.Imports.{IsWidth, Beat, Channel, Message, beat_of, channel_of, unfinished, Config}
 use Rattle.tl_coherence.proofs.links.Imports.{Verdict, EndConfig, AbstractState, Log, system_after, packet, is_on}
 use Rattle.tl_coherence.proofs.links.Imports.{message_of_kind, block_message, System, terms_at, Kind, Request, Acquire}
@@ -22,7 +22,7 @@ use Rattle.tl_coherence.specs.protocol.Phase.{is_unreleased}
 use Rattle.tl_coherence.specs.refinement.PacketMessages.{cap_sent, message_of, probe_beat, prune_told, report_told}
 use Rattle.tl_coherence.proofs.queues.Carried.{IsNext}
 use Rattle.tl_coherence.proofs.client.ClientDelivered.{shadow_of, delivered-d}
-use Rattle.tl_client.proofs.Calls.{kept_up}
+use Rattle.tl_client.proofs.messages.Calls.{kept_up}
 use Rattle.tl_coherence.proofs.protocol.HeadOfD.{answer-due, grant-due, grant-rendered}
 use Rattle.tl_coherence.proofs.queues.FirstToken as packet
 use Rattle.tl_coherence.proofs.queues.FirstToken.{first-token}

@@ -27,7 +27,7 @@ use Rattle.tl_manager.specs.statement.End as manager_end
 use Rattle.tl_manager.specs.statement.Offer as manager
 use Rattle.tl_manager.specs.statement.Offer.{must_wait, Judgement, Breaks, Waits, Passes, breaks_or, waits_or}
 use Rattle.tl_manager.specs.statement.Offer.{is_waiting, offered_as, judged_on, judged_at, open_level}
-use Rattle.tl_manager.proofs.Stalls.{never-stalled}
+use Rattle.tl_manager.proofs.judging.Stalls.{never-stalled}
 use Rattle.tl_coherence.specs.refinement.MemoryRelation.{IsLet}
 use Rattle.tl_coherence.specs.statement.Coherent.{IsCoherent}
 use Rattle.tl_coherence.specs.statement.Delivery.{IsExact, IsReleasing, Moves, is_emptiness, is_stall}

@@ -22,9 +22,9 @@ use Rattle.tl_manager.specs.laws.Pending as waits
 use Rattle.tl_manager.specs.laws.Pending.{is_any, is_asking, is_acquiring, is_granted_to, is_granted_with, is_awaited}
 use Rattle.tl_manager.specs.laws.Pending.{IsProbed}
 use Rattle.tl_manager.specs.statement.Service as manager
-use Rattle.tl_manager.proofs.Serving.{some_is, none_of_block}
-use Rattle.tl_manager.proofs.Settled.{all-settled}
-use Rattle.tl_manager.proofs.Sources.{source-pending, sink-pending}
+use Rattle.tl_manager.proofs.services.Serving.{some_is, none_of_block}
+use Rattle.tl_manager.proofs.pending.Settled.{all-settled}
+use Rattle.tl_manager.proofs.pending.Sources.{source-pending, sink-pending}
 use Rattle.tl_coherence.specs.protocol.Invariant.{IsAwaited, IsOwnSource, is_serving, tracks_with}
 use Rattle.tl_coherence.proofs.queues.Facts.{is_other, own_wants}
 use Rattle.tl_coherence.proofs.queues.Phases.{each_phase, of_phase, and_left, and_right}

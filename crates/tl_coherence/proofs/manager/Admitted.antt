@@ -33,12 +33,12 @@ use Rattle.tl_params.specs.declared.rule.Rule.TheVariants.{H4, H5}
 use Rattle.tl_manager.specs.code.Kept.{IsSound, IsTyped}
 use Rattle.tl_manager.specs.statement.Offer as manager
 use Rattle.tl_manager.specs.statement.Offer.{open_level, before_stall, judged_at, offered_as}
-use Rattle.tl_manager.proofs.Judged.{judged-passes}
-use Rattle.tl_manager.proofs.Sound.{leveled}
+use Rattle.tl_manager.proofs.judging.Judged.{judged-passes}
+use Rattle.tl_manager.proofs.messages.Sound.{leveled}
 use Rattle.tl_manager.specs.code.Releases.{comes_of}
 use Rattle.tl_manager.specs.statement.Service.{is_in_service}
-use Rattle.tl_manager.proofs.Free.{least_free-is_free}
-use Rattle.tl_manager.proofs.Serving.{tracker_among}
+use Rattle.tl_manager.proofs.words_of_clients.Free.{least_free-is_free}
+use Rattle.tl_manager.proofs.services.Serving.{tracker_among}
 use Rattle.tl_coherence.specs.protocol.Phase.{Idle, AcquireOpen, ReleasePhase, NoRelease, ReleaseSent, ReleaseAcked}
 use Rattle.tl_coherence.specs.protocol.Phase.{is_unreleased, grow_fits}
 use Rattle.tl_coherence.specs.protocol.Invariant.{tracks_with}

@@ -18,12 +18,12 @@ use Rattle.tl_rules.proofs.Checks.{beats_room}
 use Rattle.tl_burst.proofs.Begun.{length-begun}
 use Rattle.tl_manager.specs.statement.Request.{request_carried}
 use Rattle.tl_manager.specs.statement.Service.{Service}
-use Rattle.tl_manager.proofs.Assembled.{request-again}
-use Rattle.tl_manager.proofs.Judged.{passed}
-use Rattle.tl_manager.proofs.Keeping.{is_taken}
-use Rattle.tl_manager.proofs.Requested.{service_made, made}
-use Rattle.tl_manager.proofs.Serving.{some_is}
-use Rattle.tl_manager.proofs.Steady.{request-ready}
+use Rattle.tl_manager.proofs.messages.Assembled.{request-again}
+use Rattle.tl_manager.proofs.judging.Judged.{passed}
+use Rattle.tl_manager.proofs.calls.Keeping.{is_taken}
+use Rattle.tl_manager.proofs.pending.Requested.{service_made, made}
+use Rattle.tl_manager.proofs.services.Serving.{some_is}
+use Rattle.tl_manager.proofs.pending.Steady.{request-ready}
 use Rattle.std.proofs.lemmas.Bool.{le-leb, ne_eqb}
 use Rattle.tl_manager.specs.code.Ready.{IsReady, IsServed, IsTaken}
 use Rattle.tl_coherence.proofs.queues.Tokens.{same_number}

@@ -14,9 +14,9 @@ use Rattle.tl_beat.specs.declared.channel.Channel.TheVariants as channel
 use Rattle.tl_rules.proofs.Sent.{not_last}
 use Rattle.tl_manager.specs.statement.Handing.{nothing}
 use Rattle.tl_manager.specs.statement.Offer.{Reception}
-use Rattle.tl_manager.proofs.Events.{reaction-part, reaction-probes}
-use Rattle.tl_manager.proofs.Keeping.{kept-offered}
-use Rattle.tl_manager.proofs.Memories.{memory-elsewhere}
+use Rattle.tl_manager.proofs.calls.Events.{reaction-part, reaction-probes}
+use Rattle.tl_manager.proofs.calls.Keeping.{kept-offered}
+use Rattle.tl_manager.proofs.blocks.Memories.{memory-elsewhere}
 use Rattle.tl_coherence.specs.protocol.Protocol.{served_block, performed_block}
 use Rattle.tl_coherence.proofs.manager.Accounts.{traced-known}
 use Rattle.tl_coherence.proofs.manager.Admitted.{offered-taken}

@@ -1,5 +1,5 @@
--- Clients that pass a test, as the manager finds them and as the protocol does; and which source a request that waits
--- has.
+-- Clients that pass a test, as the manager finds them and as the protocol does; and which source a
+-- request that waits has.
 use Rattle.tl_coherence.proofs.manager.Imports.{Config, Cap, is_nobody, some_below, IsInvariant, Own, Waits, State}
 use Rattle.tl_coherence.proofs.manager.Imports.{Acquires, InService, view, is_wanting, is_caching}
 use Rattle.std.proofs.Common.{◌≡◌, ℕ, zero, suc, ◌<◌, ◌≤◌, Bool, true, false, not, ◌||◌, List, [], ◌∷◌, length, refl}
@@ -9,7 +9,7 @@ use Rattle.std.proofs.lemmas.Bool.{lt-ltb}
 use Rattle.std.proofs.lemmas.Option.{slice_get_past}
 use Rattle.tl_rules.specs.statement.Legality.{is_one_of}
 use Rattle.tl_manager.specs.statement.Holders.{clients_where}
-use Rattle.tl_manager.proofs.Clients.{among-where, nobody-is, nobody-where, where-same}
+use Rattle.tl_manager.proofs.words_of_clients.Clients.{among-where, nobody-is, nobody-where, where-same}
 use Rattle.tl_coherence.specs.protocol.Invariant.{IsOwnSource}
 use Rattle.tl_coherence.proofs.queues.Facts.{own_wants}
 use Rattle.tl_coherence.proofs.protocol.FollowKept.{some-none}

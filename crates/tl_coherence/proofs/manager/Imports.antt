@@ -36,11 +36,11 @@ unfoldable pub use Rattle.tl_rules.specs.statement.Effect.{bytes_from, effect}
 pub use Rattle.tl_rules.specs.statement.History.{block_at, capped, ends, is_acquire, is_grant, is_probe_ack, is_release}
 pub use Rattle.tl_rules.specs.statement.History.{is_release_ack, reported}
 unfoldable pub use Rattle.tl_rules.specs.statement.History.{held, pending, probe_of, request_of}
-pub use Rattle.tl_client.proofs.HeldAfter.{same_block, swapped}
-pub use Rattle.tl_manager.proofs.Events.{performed-access, performed-acquire}
-pub use Rattle.tl_manager.proofs.Handed.{after_sent, other_link, own_link, whole-taken}
-pub use Rattle.tl_manager.proofs.LinkHistories.{beat-keeps, other_beat, own_beat}
-pub use Rattle.tl_manager.proofs.Replies.{burst-reply, probe-reply, reply-quiet, request-reply}
+pub use Rattle.tl_client.proofs.endpoint.HeldAfter.{same_block, swapped}
+pub use Rattle.tl_manager.proofs.calls.Events.{performed-access, performed-acquire}
+pub use Rattle.tl_manager.proofs.pending.Handed.{after_sent, other_link, own_link, whole-taken}
+pub use Rattle.tl_manager.proofs.pending.LinkHistories.{beat-keeps, other_beat, own_beat}
+pub use Rattle.tl_manager.proofs.pending.Replies.{burst-reply, probe-reply, reply-quiet, request-reply}
 pub use Rattle.tl_manager.specs.code.Kept.{IsKept, illegal_message_at}
 pub use Rattle.tl_manager.specs.laws.Pending.{IsAccounted}
 pub use Rattle.tl_manager.specs.statement.End.{End}

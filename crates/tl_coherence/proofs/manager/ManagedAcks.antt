@@ -20,9 +20,9 @@ use Rattle.tl_manager.specs.code.Kept.{AreApart, blocks_of}
 use Rattle.tl_manager.specs.laws.Pending.{is_granted_to}
 use Rattle.tl_manager.specs.statement.Service as manager
 use Rattle.tl_manager.specs.statement.Service.{is_ended_by}
-use Rattle.tl_manager.proofs.Acked.{services-e, granted-left, accounted-e, burst-e, probe_of-e, request_of-e}
-use Rattle.tl_manager.proofs.LinkHistories.{pending-closed, whole-e}
-use Rattle.tl_manager.proofs.Serving.{if_passes, serving-filter}
+use Rattle.tl_manager.proofs.pending.Acked.{services-e, granted-left, accounted-e, burst-e, probe_of-e, request_of-e}
+use Rattle.tl_manager.proofs.pending.LinkHistories.{pending-closed, whole-e}
+use Rattle.tl_manager.proofs.services.Serving.{if_passes, serving-filter}
 use Rattle.tl_coherence.specs.protocol.Protocol.{grant_ack_taken, freed_block}
 use Rattle.tl_coherence.proofs.manager.ManagedEndings.{tracker-of, tracker-alone}
 use Rattle.tl_coherence.proofs.queues.Tokens.{same_number, set-same, set-other, set-part}

@@ -18,9 +18,9 @@ use Rattle.tl_params.specs.declared.key.Key.TheVariants as key
 use Rattle.tl_manager.specs.laws.Pending.{one_if, count_where, is_asking}
 use Rattle.tl_manager.specs.statement.Service as manager
 use Rattle.tl_manager.specs.statement.Service.{is_access_answer}
-use Rattle.tl_manager.proofs.Accesses.{answer_kind, services-answer, accounted-answer}
-use Rattle.tl_manager.proofs.Counts.{serving-without}
-use Rattle.tl_manager.proofs.Replied.{IsReply, source-reply}
+use Rattle.tl_manager.proofs.pending.Accesses.{answer_kind, services-answer, accounted-answer}
+use Rattle.tl_manager.proofs.words_of_clients.Counts.{serving-without}
+use Rattle.tl_manager.proofs.pending.Replied.{IsReply, source-reply}
 use Rattle.tl_coherence.specs.protocol.Protocol.{report_answers, ended_block}
 use Rattle.tl_coherence.specs.protocol.Packet.{set_at}
 use Rattle.tl_coherence.proofs.manager.QuiescentManager.{quiet-c, IsLastOf, recorded-answer, pair-part}

@@ -19,9 +19,9 @@ use Rattle.tl_beat.specs.declared.channel.Channel.TheVariants as channel
 use Rattle.tl_params.specs.declared.key.Key.TheVariants as key
 use Rattle.tl_rules.specs.statement.History.{asks_for}
 use Rattle.tl_rules.proofs.Handed.{after_whole}
-use Rattle.tl_manager.proofs.Granted.{IsGrant, services-grant, accounted-grant}
-use Rattle.tl_manager.proofs.Replied.{source-reply}
-use Rattle.tl_manager.proofs.Replies.{pending-reply}
+use Rattle.tl_manager.proofs.pending.Granted.{IsGrant, services-grant, accounted-grant}
+use Rattle.tl_manager.proofs.pending.Replied.{source-reply}
+use Rattle.tl_manager.proofs.pending.Replies.{pending-reply}
 use Rattle.tl_coherence.proofs.manager.QuiescentManager.{quiet-c, IsLastOf}
 use Rattle.tl_coherence.proofs.manager.ManagedEndings.{tracker-of, tracker-alone, taken, service_for, no-burst}
 use Rattle.tl_coherence.proofs.manager.ManagedReports.{reported-records, reported-missing}

@@ -26,8 +26,8 @@ use Rattle.tl_burst.proofs.Begun.{length-begun}
 use Rattle.tl_manager.specs.statement.Handing.{nothing, release_ack}
 use Rattle.tl_manager.specs.statement.Holders.{is_settled, is_missing}
 use Rattle.tl_manager.specs.statement.Offer as manager_offer
-use Rattle.tl_manager.proofs.Events.{reaction-part, reaction-release, reaction-report, reaction-ack, memory_with}
-use Rattle.tl_manager.proofs.Keeping.{kept-offered}
+use Rattle.tl_manager.proofs.calls.Events.{reaction-part, reaction-release, reaction-report, reaction-ack, memory_with}
+use Rattle.tl_manager.proofs.calls.Keeping.{kept-offered}
 use Rattle.tl_coherence.specs.refinement.AbstractStep.{with_state}
 use Rattle.tl_coherence.specs.protocol.Protocol.{report_taken, release_taken, grant_ack_taken, freed_block}
 use Rattle.tl_coherence.proofs.manager.ManagedAcks.{IsAcked, managed-acked, are_served-acked}
@@ -40,7 +40,7 @@ use Rattle.tl_coherence.proofs.manager.Choices.{nobody-same}
 use Rattle.tl_coherence.proofs.manager.ManagerTakes.{IsTakenUp}
 use Rattle.tl_coherence.proofs.manager.QuiescentManager.{IsLastOf, missing-last}
 use Rattle.tl_coherence.proofs.manager.Reporting.{IsAbout, reported-prune}
-use Rattle.tl_client.proofs.HeldAfter.{reported-report}
+use Rattle.tl_client.proofs.endpoint.HeldAfter.{reported-report}
 use Rattle.tl_coherence.proofs.queues.Tokens.{same_number, set-same, set-other, set-part}
 
 -- what is kept of the manager's end beside the protocol as it follows

@@ -15,8 +15,8 @@ use Rattle.tl_coherence.proofs.manager.RequestsHanded.{memory-granted}
 
 -- ---- the Grant
 
--- who is granted the block is recorded with what it is given, so that nobody else has it to write: the memory is its
--- truth
+-- who is granted the block is recorded with what it is given, so that nobody else has it to write: the
+-- memory is its truth
 pub granted-memory : (caching : ℕ → Bool) (c q : ℕ) (r : Report) (d : Bool) (k : Cap) (b : Block (List ℕ))
     → same_perm (cap_right k) perm.None ≡ false → IsWell caching (granted_block c q r d k b)
     → protocol.written r b.truth b.memory ≡ b.truth

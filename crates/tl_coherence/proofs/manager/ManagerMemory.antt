@@ -16,8 +16,8 @@ use Rattle.tl_rules.proofs.Local.{after-local, reply-local, bytes_same}
 use Rattle.tl_rules.proofs.Rooms.{room_in_block}
 use Rattle.tl_manager.specs.statement.End as manager_end
 use Rattle.tl_manager.specs.statement.Reaction.{with_block, written}
-use Rattle.tl_manager.proofs.Memories.{memory-elsewhere}
-use Rattle.tl_manager.proofs.Written.{block-written}
+use Rattle.tl_manager.proofs.blocks.Memories.{memory-elsewhere}
+use Rattle.tl_manager.proofs.blocks.Written.{block-written}
 use Rattle.tl_coherence.specs.refinement.AbstractStep.{bytes_at}
 use Rattle.tl_coherence.proofs.queues.Tokens.{set-same, set-other}
 use Rattle.tl_coherence.proofs.manager.Memories.{byte_in}

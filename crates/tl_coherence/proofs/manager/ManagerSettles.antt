@@ -32,13 +32,13 @@ use Rattle.tl_manager.specs.statement.Handing.{grant, grant_opcode}
 use Rattle.tl_manager.specs.statement.Holders.{is_settled, has_copy}
 use Rattle.tl_manager.specs.code.Kept.{IsPerformable}
 use Rattle.tl_manager.specs.statement.Service.{is_access_answer}
-use Rattle.tl_manager.proofs.Events.{reaction-settled, memory_with}
-use Rattle.tl_manager.proofs.Granted.{of_served}
-use Rattle.tl_manager.proofs.Judged.{passed}
-use Rattle.tl_manager.proofs.Keeping.{is_taken}
-use Rattle.tl_manager.proofs.Replied.{IsReply}
-use Rattle.tl_manager.proofs.SteadyReports.{report-ready}
-use Rattle.tl_manager.proofs.Recording.{cap-gives}
+use Rattle.tl_manager.proofs.calls.Events.{reaction-settled, memory_with}
+use Rattle.tl_manager.proofs.pending.Granted.{of_served}
+use Rattle.tl_manager.proofs.judging.Judged.{passed}
+use Rattle.tl_manager.proofs.calls.Keeping.{is_taken}
+use Rattle.tl_manager.proofs.pending.Replied.{IsReply}
+use Rattle.tl_manager.proofs.pending.SteadyReports.{report-ready}
+use Rattle.tl_manager.proofs.blocks.Recording.{cap-gives}
 use Rattle.tl_coherence.specs.refinement.AbstractStep.{with_answer, with_state}
 use Rattle.tl_coherence.specs.protocol.Protocol as protocol
 use Rattle.tl_coherence.specs.protocol.Protocol.{report_answers, ended_block}
@@ -50,10 +50,10 @@ use Rattle.tl_coherence.proofs.manager.ManagerAfter.{memory-end, others_probed, 
 use Rattle.tl_coherence.proofs.manager.ManagerMemory.{block_in, blocks-now, block-performed, answer-performed}
 use Rattle.tl_coherence.proofs.manager.ManagerTakes.{IsTakenUp}
 use Rattle.tl_coherence.proofs.manager.QuiescentManager.{quiet-c, IsLastOf, missing-last}
-use Rattle.tl_client.proofs.HeldAfter.{reported-report}
+use Rattle.tl_client.proofs.endpoint.HeldAfter.{reported-report}
 use Rattle.tl_coherence.proofs.queues.Tokens.{set-same, set-other}
 use Rattle.tl_coherence.proofs.queues.Codes.{data-same}
-use Rattle.tl_manager.proofs.Performed.{grants_by_opcode}
+use Rattle.tl_manager.proofs.pending.Performed.{grants_by_opcode}
 
 -- ---- the service of the block
 

@@ -28,8 +28,8 @@ use Rattle.tl_rules.proofs.Later.{later-legal}
 use Rattle.tl_manager.specs.code.Kept.{IsSound, illegal_at}
 use Rattle.tl_manager.specs.statement.Offer as manager_offer
 use Rattle.tl_manager.specs.statement.Offer.{is_from_client, open_level, unlawful}
-use Rattle.tl_manager.proofs.Judged.{judged-passes, manager-takes}
-use Rattle.tl_manager.proofs.LinkHistories.{whole-e}
+use Rattle.tl_manager.proofs.judging.Judged.{judged-passes, manager-takes}
+use Rattle.tl_manager.proofs.pending.LinkHistories.{whole-e}
 use Rattle.tl_coherence.specs.protocol.Phase.{ProbeAnswered, ReleaseSent, is_unreleased, same_report}
 use Rattle.tl_coherence.specs.protocol.Protocol.{is_answered}
 use Rattle.tl_coherence.specs.refinement.PacketMessages.{message_of, message_of_kind}

@@ -1,5 +1,5 @@
--- What the manager knows after a request that is performed at once: an access that is answered, an Acquire that is
--- granted.
+-- What the manager knows after a request that is performed at once: an access that is answered, an
+-- Acquire that is granted.
 use Rattle.tl_coherence.proofs.manager.Imports.{beats-positive, Message, A, D, MessageA, MessageD, a_beat_of, beats_of}
 use Rattle.tl_coherence.proofs.manager.Imports.{unfinished, Config, ProbeOf, Cap, cap_right, Trace, on_link, Memory}
 use Rattle.tl_coherence.proofs.manager.Imports.{effect, answer_of, pending, held, block_at, is_acquire, is_grant}
@@ -22,9 +22,9 @@ use Rattle.tl_rules.specs.statement.History.{asks_for}
 use Rattle.tl_manager.specs.statement.Handing.{grant, is_granted_data}
 use Rattle.tl_manager.specs.statement.Holders as holders
 use Rattle.tl_manager.specs.statement.Service.{Service}
-use Rattle.tl_manager.proofs.LinkHistories.{sent-keeps}
-use Rattle.tl_manager.proofs.Performed.{performed-serving}
-use Rattle.tl_manager.proofs.Recording.{cap-gives}
+use Rattle.tl_manager.proofs.pending.LinkHistories.{sent-keeps}
+use Rattle.tl_manager.proofs.pending.Performed.{performed-serving}
+use Rattle.tl_manager.proofs.blocks.Recording.{cap-gives}
 use Rattle.tl_coherence.specs.protocol.Protocol.{performed_block}
 use Rattle.tl_coherence.proofs.manager.Accounts.{IsTraced}
 use Rattle.tl_coherence.proofs.manager.Traces.{traced-at}
@@ -80,7 +80,8 @@ traced-answered {w} {X} config request c k n f m s u memory e blocks is known =
     traced-at n request request s u e.trace after (record {
       other_blocks = λ i ne. blocks i ∙ set-other n i new s.block ne;
       other_requests = λ i ne. refl;
-      recorded_here = λ d. recorded_same d n ∙ known.recorded_is d n ∙ sym (ap (λ (b : Block X). (b.pair d).recorded) here);
+      recorded_here = λ d. recorded_same d n ∙ known.recorded_is d n ∙ sym
+          (ap (λ (b : Block X). (b.pair d).recorded) here);
       recorded_else = λ d i ne. recorded_same d i;
       probes_here = λ d. missing_same d n ∙ known.probes d n ∙ sym
           (ap (λ (b : Block X). not (is_unprobed (b.pair d).probing)) here);

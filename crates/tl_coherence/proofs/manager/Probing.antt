@@ -17,9 +17,9 @@ use Rattle.tl_rules.specs.statement.Admission.{sent}
 use Rattle.tl_manager.specs.statement.Handing.{probe_beat, probe_of_block}
 use Rattle.tl_manager.specs.statement.Holders as holders
 use Rattle.tl_manager.specs.statement.Service.{Service}
-use Rattle.tl_manager.proofs.Probed.{probes-keep}
-use Rattle.tl_manager.proofs.Probes.{probes-within, probes-beyond, services-probes}
-use Rattle.tl_manager.proofs.Probing.{missing-own_b, missing-else_b, request_of-b}
+use Rattle.tl_manager.proofs.pending.Probed.{probes-keep}
+use Rattle.tl_manager.proofs.pending.Probes.{probes-within, probes-beyond, services-probes}
+use Rattle.tl_manager.proofs.pending.Probing.{missing-own_b, missing-else_b, request_of-b}
 use Rattle.tl_coherence.specs.protocol.Phase.{ProbeSent}
 use Rattle.tl_coherence.specs.protocol.PhaseSteps.{after_served}
 use Rattle.tl_coherence.specs.protocol.Protocol.{served_pair, served_block}
@@ -72,7 +72,8 @@ traced-probing {w} {X} config request c k n own source j m s u e blocks is known
           ∙ sym (ap (λ (b : Block X). service_now b) here ∙ ap
           (λ (r : MessageA w). Some (record { tracker = tracker; link = link_of c; request = r }))
           (set-same n m request));
-      serving_else = λ i ne. ap (service_of_block i) (services-probes n j asked_clients t) ∙ serving-others config c k n i m
+      serving_else = λ i ne. ap (service_of_block i) (services-probes n j asked_clients t) ∙ serving-others config c k n
+          i m
           e is.comes is.last is.for.2 ne;
       request_here = rw (here, set-same n m request) is.for;
       asked_here = λ r src o l f. asked_now r src o l (ap (λ (b : Block X). b.service) (sym here) ∙ f);

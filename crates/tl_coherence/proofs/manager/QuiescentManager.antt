@@ -1,5 +1,5 @@
--- Beats and answers after which the manager's end says the same of all but what is recorded and which ProbeAcks are
--- missing.
+-- Beats and answers after which the manager's end says the same of all but what is recorded and which
+-- ProbeAcks are missing.
 use Rattle.tl_coherence.proofs.manager.Imports.{IsWidth, BeatC, Link, D, MessageA, MessageD, unfinished, Perm, Trace}
 use Rattle.tl_coherence.proofs.manager.Imports.{on_link, ends, block_at, is_grant, is_probe_ack, is_release}
 use Rattle.tl_coherence.proofs.manager.Imports.{is_release_ack, pending, probe_of, reported, request_of, held}
@@ -17,10 +17,10 @@ use Rattle.std.proofs.lemmas.Bool.{cases_eq, eqb-true, ne_eqb}
 use Rattle.tl_beat.specs.declared.beat.Beat.TheVariants as beat
 use Rattle.tl_beat.specs.declared.channel.Channel.TheVariants as channel
 use Rattle.tl_params.specs.declared.key.Key.TheVariants as key
-use Rattle.tl_manager.proofs.Accesses.{services-release_ack}
-use Rattle.tl_manager.proofs.Handed.{recorded-taken}
-use Rattle.tl_manager.proofs.LinkHistories.{pending-closed}
-use Rattle.tl_manager.proofs.Probing.{services-c, burst-c, probe_of-c, request_of-c}
+use Rattle.tl_manager.proofs.pending.Accesses.{services-release_ack}
+use Rattle.tl_manager.proofs.pending.Handed.{recorded-taken}
+use Rattle.tl_manager.proofs.pending.LinkHistories.{pending-closed}
+use Rattle.tl_manager.proofs.pending.Probing.{services-c, burst-c, probe_of-c, request_of-c}
 use Rattle.tl_coherence.proofs.queues.Tokens.{same_number, set-same, set-other}
 
 -- ---- the manager's end

@@ -55,8 +55,8 @@ handed-answered {w} config log mail request s sys c source k is asked comes last
 
 -- ---- a Grant
 
--- who is granted a block is recorded with what it is given, so that nobody else has it to write: the memory is its
--- truth
+-- who is granted a block is recorded with what it is given, so that nobody else has it to write: the
+-- memory is its truth
 pub memory-granted : (caching : ℕ → Bool) (q : ℕ) (d : Bool) (k : Cap) (new : Block (List ℕ)) → IsWell caching new
     → new.service ≡ GrantSent q d k
     → (new.pair q).recorded ≡ cap_right k → same_perm (cap_right k) perm.None ≡ false

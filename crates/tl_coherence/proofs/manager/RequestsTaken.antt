@@ -21,7 +21,7 @@ use Rattle.tl_params.specs.declared.perm.Perm.TheVariants as perm
 use Rattle.tl_client.specs.statement.Send.{acquisition}
 use Rattle.tl_manager.specs.statement.Holders as holders
 use Rattle.tl_manager.specs.statement.Service.{is_in_service}
-use Rattle.tl_manager.proofs.Events.{reaction-unprobed, reaction-intent}
+use Rattle.tl_manager.proofs.calls.Events.{reaction-unprobed, reaction-intent}
 use Rattle.tl_coherence.specs.refinement.AbstractStep.{probes_some, access_taken, request_taken, acquire_taken}
 use Rattle.tl_coherence.specs.protocol.Invariant.{cap_asked}
 use Rattle.tl_coherence.specs.protocol.Phase.{AcquirePhase, AcquireOpen}

@@ -16,7 +16,7 @@ use Rattle.tl_client.specs.declared.operation.Op.TheVariants as op
 use Rattle.tl_client.specs.declared.reply.Reply.TheVariants as reply
 use Rattle.tl_client.specs.statement.Ask.{copy_stored, is_word, whole_grow}
 use Rattle.tl_client.specs.statement.Send.{access}
-use Rattle.tl_client.proofs.Stores.{word_room}
+use Rattle.tl_client.proofs.caching_client.Stores.{word_room}
 use Rattle.tl_coherence.specs.refinement.MemoryRelation.{op_of}
 use Rattle.tl_coherence.specs.refinement.AbstractStep.{asked}
 use Rattle.tl_coherence.specs.protocol.Invariant.{acquires_of, IsInvariant}
@@ -37,8 +37,8 @@ use Rattle.tl_coherence.proofs.queues.Perms.{trunk-some}
 
 -- ---- Acquires of other sources
 
--- what other sources acquire is as before, where one client's part of a block changes, and it acquires the block with
--- no other source
+-- what other sources acquire is as before, where one client's part of a block changes, and it acquires
+-- the block with no other source
 pub acquires-else : (c n source : ℕ) (new : Block (List ℕ)) (p : ClientBlock) (s s' : State (List ℕ))
     → ((i : ℕ) → s'.block i ≡ set n new s.block i) → ((d : ℕ) → new.pair d ≡ set c p (s.block n).pair d)
     → ((d : ℕ) → (d ≡ c → ⊥) → new.waiting d ≡ (s.block n).waiting d)

@@ -33,7 +33,7 @@ use Rattle.tl_coherence.proofs.memory.BesideAsked.{acquires-else}
 use Rattle.tl_coherence.proofs.memory.BesideTaken.{IsPerformed, beside-performed, memory-unprobed, memory-reported}
 use Rattle.tl_coherence.proofs.memory.BesideTaken.{intent-reply}
 use Rattle.tl_coherence.proofs.memory.OneMemory.{block-besides}
-use Rattle.tl_manager.proofs.Blocks.{block-put}
+use Rattle.tl_manager.proofs.blocks.Blocks.{block-put}
 use Rattle.tl_coherence.proofs.queues.Tokens.{same_number, set-same, set-other, set-part}
 use Rattle.tl_coherence.proofs.protocol.BothParts.{is_of-is, acquires_of-is}
 use Rattle.tl_coherence.proofs.queues.Codes.{low_cap}

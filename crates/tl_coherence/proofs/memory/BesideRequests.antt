@@ -1,5 +1,5 @@
--- The one-memory machine beside the protocol after a beat of a request is taken: an access that is answered is
--- performed.
+-- The one-memory machine beside the protocol after a beat of a request is taken: an access that is
+-- answered is performed.
 use Rattle.tl_coherence.proofs.memory.Imports.{Message, MessageA, Config, Cap, block_at, Memory, effect, cap_probed}
 use Rattle.tl_coherence.proofs.memory.Imports.{IsAccess, MemoryRelation, AbstractState, bytes_at, some_below, Log}
 use Rattle.tl_coherence.proofs.memory.Imports.{Machine, Requests, AcquireOpen, Block, is_probed, accesses_answered}
@@ -14,13 +14,13 @@ use Rattle.tl_rules.specs.declared.answer.Answer.TheVariants as answer
 use Rattle.std.specs.Prelude.{if◌then◌else◌}
 use Rattle.tl_rules.specs.statement.Conformance.{Trace}
 use Rattle.tl_rules.specs.statement.Effect.{answer_of}
-use Rattle.tl_client.proofs.HeldAfter.{same_block}
+use Rattle.tl_client.proofs.endpoint.HeldAfter.{same_block}
 use Rattle.tl_manager.specs.statement.Handing.{Handed, Reaction, probes, access_answer, grant_opcode, is_granted_data}
 use Rattle.tl_manager.specs.statement.Handing.{grant}
 use Rattle.tl_manager.specs.statement.Holders.{recorded, probed}
 use Rattle.tl_manager.specs.statement.Service.{Service, is_access_answer}
 use Rattle.tl_manager.specs.statement.Reaction.{reaction}
-use Rattle.tl_manager.proofs.Events.{performed-acquire}
+use Rattle.tl_manager.proofs.calls.Events.{performed-acquire}
 use Rattle.tl_coherence.specs.refinement.AbstractStep.{probes_some, request_taken, kind_taken}
 use Rattle.tl_coherence.specs.protocol.Invariant.{cap_asked}
 use Rattle.tl_coherence.specs.statement.Machine.{Performs}

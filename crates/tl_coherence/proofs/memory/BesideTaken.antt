@@ -1,5 +1,5 @@
--- The one-memory machine beside the protocol, after a message that is taken: which accesses are performed, and which
--- operation ends.
+-- The one-memory machine beside the protocol, after a message that is taken: which accesses are
+-- performed, and which operation ends.
 use Rattle.tl_coherence.proofs.memory.Imports.{OpA, Message, MessageA, Config, Cap, Memory, IsBlock, effect, block_at}
 use Rattle.tl_coherence.proofs.memory.Imports.{same_perm, cap_probed, IsAccess, MemoryRelation, some_below, bytes_at}
 use Rattle.tl_coherence.proofs.memory.Imports.{performs, Machine, Open, Requests, with_memory, ClientBlock, Block}
@@ -24,7 +24,7 @@ use Rattle.tl_client.specs.declared.operation.Op.TheVariants as op
 use Rattle.tl_client.specs.statement.Send.{sourced}
 use Rattle.tl_manager.specs.statement.Handing.{access_answer}
 use Rattle.tl_manager.specs.statement.Offer.{level_of}
-use Rattle.tl_manager.proofs.Filled.{length-bytes}
+use Rattle.tl_manager.proofs.messages.Filled.{length-bytes}
 use Rattle.tl_coherence.specs.refinement.MemoryRelation.{IsReach, Answers}
 use Rattle.tl_coherence.specs.refinement.AbstractStep.{answers}
 use Rattle.tl_coherence.specs.protocol.Invariant.{IsWell}

@@ -13,7 +13,7 @@ use Rattle.tl_rules.specs.statement.Effect as memory
 use Rattle.tl_client.specs.declared.operation.Op.TheVariants as op
 use Rattle.tl_client.specs.declared.reply.Reply.TheVariants as reply
 use Rattle.tl_client.specs.statement.EndpointInvariant.{holds}
-use Rattle.tl_client.proofs.HeldAfter.{swapped}
+use Rattle.tl_client.proofs.endpoint.HeldAfter.{swapped}
 use Rattle.tl_coherence.specs.declared.event.Event.{Event}
 use Rattle.tl_coherence.specs.declared.event.Event.TheVariants.{Ask, Deliver}
 use Rattle.tl_coherence.specs.declared.event.Outcome.{Outcome}

@@ -15,13 +15,13 @@ use Rattle.tl_rules.proofs.Blocks.{effect_elsewhere}
 use Rattle.tl_rules.proofs.Legal.{access_at_uh}
 use Rattle.tl_client.specs.statement.Ask.{copy_stored}
 use Rattle.tl_client.specs.statement.Send.{sourced}
-use Rattle.tl_client.proofs.Stores.{stored-inside, stored-outside, length-stored}
+use Rattle.tl_client.proofs.caching_client.Stores.{stored-inside, stored-outside, length-stored}
 use Rattle.tl_manager.specs.code.Kept.{illegal_message_at}
 use Rattle.tl_manager.specs.statement.Reaction.{with_block}
-use Rattle.tl_manager.proofs.Written.{bytes_are}
+use Rattle.tl_manager.proofs.blocks.Written.{bytes_are}
 use Rattle.tl_coherence.specs.statement.Machine.{with_number}
 use Rattle.tl_coherence.proofs.manager.Memories.{performed-block, performed-reply, byte_in}
-use Rattle.tl_manager.proofs.Memories.{access_code}
+use Rattle.tl_manager.proofs.blocks.Memories.{access_code}
 
 -- ---- a block's bytes, as a list and by their places
 

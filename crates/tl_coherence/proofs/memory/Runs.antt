@@ -10,11 +10,11 @@ use Rattle.tl_client.specs.declared.verdict.Verdict.TheVariants as verdict
 use Rattle.tl_client.specs.statement.Endpoint.{EndConfig}
 use Rattle.tl_client.specs.statement.Endpoint as client
 use Rattle.tl_client.specs.statement.Offer.{is_stalled, offered}
-use Rattle.tl_client.proofs.Stalls.{stalls-offered}
+use Rattle.tl_client.proofs.endpoint.Stalls.{stalls-offered}
 use Rattle.tl_manager.specs.code.Kept as kept
 use Rattle.tl_manager.specs.statement.End as manager_end
 use Rattle.tl_manager.specs.statement.Offer as manager
-use Rattle.tl_manager.proofs.Stalls.{stalls-answered}
+use Rattle.tl_manager.proofs.judging.Stalls.{stalls-answered}
 use Rattle.tl_coherence.specs.statement.Delivery.{is_stall}
 use Rattle.tl_coherence.specs.statement.Headline.{Continues}
 use Rattle.tl_coherence.specs.statement.Machine.{Run}

@@ -1,5 +1,5 @@
--- What is open after a client is asked: an operation that starts opens a request or a Release, with a source that was
--- free.
+-- What is open after a client is asked: an operation that starts opens a request or a Release, with a
+-- source that was free.
 use Rattle.tl_coherence.proofs.outstanding.Imports.{Config, block_at, EndConfig, AbstractState, starts_request}
 use Rattle.tl_coherence.proofs.outstanding.Imports.{starts_release, Log, is_used, is_let, State, SourceState}
 use Rattle.tl_coherence.proofs.outstanding.Imports.{SourceFree, Asked, Acquires, packet, System, terms_at, Request}
@@ -20,8 +20,8 @@ use Rattle.tl_client.specs.declared.reply.Reply.TheVariants as reply
 use Rattle.tl_client.specs.statement.Ask as ask
 use Rattle.tl_client.specs.statement.Ask.{done, load, store, free_request, free_release, source_or_0}
 use Rattle.tl_client.specs.statement.Endpoint.{Endpoint, held_at}
-use Rattle.tl_client.proofs.Cases.{NotBusy, asked-cases}
-use Rattle.tl_client.proofs.Free.{least_free-some}
+use Rattle.tl_client.proofs.endpoint.Cases.{NotBusy, asked-cases}
+use Rattle.tl_client.proofs.pending.Free.{least_free-some}
 use Rattle.tl_coherence.specs.declared.event.Event.TheVariants.{Ask}
 use Rattle.tl_coherence.specs.declared.event.Outcome.TheVariants as outcome
 use Rattle.tl_coherence.specs.statement.Delivery.{sources_of}
@@ -133,7 +133,8 @@ module _ {w : ℕ} (config : Config) (c : ℕ) (h : AbstractState w) where
       done-opens : (o : Op w) → NotBusy terms o e → IsAskable (is_caching config) c o (done terms o e).reply h
           → IsOpenAfter o (done terms o e).reply
       done-opens (op.Load address size) free may = load-opens address size (held_at e (block_at address)) e
-      done-opens (op.Store address size value) free may = store-opens address size value (held_at e (block_at address)) e
+      done-opens (op.Store address size value) free may = store-opens address size value (held_at e (block_at address))
+          e
       done-opens (op.Acquire n g) free may =
           acquire-asked config h.state c n (source_or_0 (free_request terms e.past)) false g _ few
           (own_source _ (least_free-some (λ s. pending (RequestSource s) e.past) 0 terms.sources free.b1).1) may.1

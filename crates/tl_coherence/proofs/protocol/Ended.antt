@@ -27,8 +27,8 @@ use Rattle.tl_coherence.proofs.queues.Perms.{nothing_below, not_out}
 
 -- ---- the block
 
--- c's ProbeAck is the last one that an access of q waits for, and the access leaves the bytes as they are, or probed
--- all
+-- c's ProbeAck is the last one that an access of q waits for, and the access leaves the bytes as they
+-- are, or probed all
 pub record IsLastOf {X : Type 0} (c q : ℕ) (r : Report) (f : X → X) (source : ℕ) (k : Cap) (b : Block X) : Type 0 where
   pub waits : b.service ≡ Waits q false source k
   pub answered : (b.pair c).probing ≡ ProbeAnswered r

@@ -31,7 +31,7 @@ use Rattle.tl_client.specs.declared.reply.Reply.{Reply}
 use Rattle.tl_client.specs.declared.reply.Reply.TheVariants as reply
 use Rattle.tl_client.specs.statement.Ask.{copy_stored, whole_grow}
 use Rattle.tl_manager.specs.statement.Holders.{cap_probed}
-use Rattle.tl_manager.proofs.Written.{bytes_are}
+use Rattle.tl_manager.proofs.blocks.Written.{bytes_are}
 use Rattle.tl_coherence.specs.refinement.AbstractStep.{AbstractState, with_state, asked, some_below, bytes_at, performs}
 use Rattle.tl_coherence.specs.refinement.AbstractStep.{probes_some, access_taken, request_taken, is_unheld, gift}
 use Rattle.tl_coherence.specs.refinement.AbstractStep.{acquire_taken, granted_after, last_taken, ack_taken, is_whole}

@@ -17,7 +17,7 @@ use Rattle.tl_rules.specs.statement.History.{block_at, is_acquire}
 use Rattle.tl_client.specs.statement.Requests.{open_beat}
 use Rattle.tl_client.specs.statement.EndpointInvariant.{acquires}
 use Rattle.tl_client.specs.statement.Send.{acquisition}
-use Rattle.tl_client.proofs.HeldAfter.{same_block}
+use Rattle.tl_client.proofs.endpoint.HeldAfter.{same_block}
 use Rattle.tl_manager.specs.code.Kept.{illegal_message_at}
 use Rattle.tl_manager.specs.statement.Offer.{level_of}
 use Rattle.tl_coherence.specs.refinement.Carried.{IsCarried}

@@ -256,8 +256,8 @@ queued-by false None (Pushes k n) render x queue q after r rest fits e f taken =
 queued-by false (Some m) Stays render x queue q after r rest fits e f taken = absurd fits
 queued-by false (Some m) (Pops k n) render x queue q after r rest fits e f taken = absurd fits
 
--- The whole after the last beat of the first message on channel ch of client c's link was taken, and messages were
--- handed out.
+-- The whole after the last beat of the first message on channel ch of client c's link was taken, and
+-- messages were handed out.
 pub record IsTaken {w : ℕ} (c : ℕ) (ch : Channel) (x : Beat w) (queue : List (Beat w)) (pushes : ℕ → Channel
     → Option (Message w)) (sys sys' : System w) : Type 0 where
   pub first : sys.channels c ch ≡ x ∷ queue

@@ -244,7 +244,8 @@ module _ {w : ℕ} (config : Config) (caching : ℕ → Bool) (n : ℕ) (moves :
       uses-else q j unlike here d i = go (cases_eq d q) (cases_eq i j)
         where
           other : (d ≡ q → i ≡ j → ⊥) → owed' d i ≤ owed d i
-          other ne = use-stays config caching n moves mail mail' s s' showing c ch rest rest' popped size answer block d i
+          other ne = use-stays config caching n moves mail mail' s s' showing c ch rest rest' popped size answer block d
+              i
               (unlike d i ne)
 
           go : (d ≡ q) ⊎ (d ≡ q → ⊥) → (i ≡ j) ⊎ (i ≡ j → ⊥) → owed' d i ≤ owed d i
@@ -266,7 +267,8 @@ module _ {w : ℕ} (config : Config) (caching : ℕ → Bool) (n : ℕ) (moves :
           go (inl e) (inr ne) = other (λ g f. ne f)
 
       lets-same : ((d i : ℕ) → s'.lets d i ≡ s.lets d i) → (d i : ℕ) → due' d i ≤ due d i
-      lets-same same d i = let-all config caching n moves mail mail' s s' showing c ch rest rest' popped size answer block
+      lets-same same d i = let-all config caching n moves mail mail' s s' showing c ch rest rest' popped size answer
+          block
           d i (same d i)
 
       uses-same : ((d i : ℕ) → s'.uses d i ≡ s.uses d i) → (d i : ℕ) → owed' d i ≤ owed d i
@@ -277,7 +279,8 @@ module _ {w : ℕ} (config : Config) (caching : ℕ → Bool) (n : ℕ) (moves :
       pub request-falls : (q j : ℕ) → (s.uses q j ≡ SourceFree → ⊥)
           → ((d i : ℕ) → (d ≡ q → i ≡ j → ⊥) → s'.uses d i ≡ s.uses d i) → ((d i : ℕ) → s'.lets d i ≡ s.lets d i)
           → ((d : ℕ) → length (s'.link d).e ≤ length (s.link d).e) → owed' q j + 1 ≤ owed q j
-          → rank config size (beats_left mail' s' rest') answer s' + 1 ≤ rank config size (beats_left mail s rest) answer
+          → rank config size (beats_left mail' s' rest') answer s' + 1 ≤ rank config size (beats_left mail s rest)
+          answer
           s
       request-falls q j used unlike lets acks less =
           use-falls config size (beats_left mail s rest) (beats_left mail' s' rest') answer answer s s' q j
@@ -288,7 +291,8 @@ module _ {w : ℕ} (config : Config) (caching : ℕ → Bool) (n : ℕ) (moves :
       pub release-falls : (q j m : ℕ) → s.lets q j ≡ Some m → ((d i : ℕ) → s'.uses d i ≡ s.uses d i)
           → ((d i : ℕ) → (d ≡ q → i ≡ j → ⊥) → s'.lets d i ≡ s.lets d i)
           → ((d : ℕ) → length (s'.link d).e ≤ length (s.link d).e) → due' q j + 1 ≤ due q j
-          → rank config size (beats_left mail' s' rest') answer s' + 1 ≤ rank config size (beats_left mail s rest) answer
+          → rank config size (beats_left mail' s' rest') answer s' + 1 ≤ rank config size (beats_left mail s rest)
+          answer
           s
       release-falls q j m is uses unlike acks less =
           let-falls config size (beats_left mail s rest) (beats_left mail' s' rest') answer answer s s' q j
@@ -299,7 +303,8 @@ module _ {w : ℕ} (config : Config) (caching : ℕ → Bool) (n : ℕ) (moves :
       pub acknowledged-falls : (q : ℕ) → q < length config.clients.items → ((d i : ℕ) → s'.uses d i ≡ s.uses d i)
           → ((d i : ℕ) → s'.lets d i ≡ s.lets d i)
           → ((d : ℕ) → length (s'.link d).e ≤ length (s.link d).e) → length (s'.link q).e + 1 ≤ length (s.link q).e
-          → rank config size (beats_left mail' s' rest') answer s' + 1 ≤ rank config size (beats_left mail s rest) answer
+          → rank config size (beats_left mail' s' rest') answer s' + 1 ≤ rank config size (beats_left mail s rest)
+          answer
           s
       acknowledged-falls q lt uses lets acks less =
           ack-falls config size (beats_left mail s rest) (beats_left mail' s' rest') answer answer s s' q lt
@@ -310,7 +315,8 @@ module _ {w : ℕ} (config : Config) (caching : ℕ → Bool) (n : ℕ) (moves :
           → ((d i : ℕ) → (d ≡ q → i ≡ j → ⊥) → s'.uses d i ≡ s.uses d i) → ((d i : ℕ) → s'.lets d i ≡ s.lets d i)
           → ((d : ℕ) → (d ≡ q → ⊥) → length (s'.link d).e ≤ length (s.link d).e)
           → length (s'.link q).e ≡ length (s.link q).e + 1 → owed' q j + 2 ≤ owed q j
-          → rank config size (beats_left mail' s' rest') answer s' + 1 ≤ rank config size (beats_left mail s rest) answer
+          → rank config size (beats_left mail' s' rest') answer s' + 1 ≤ rank config size (beats_left mail s rest)
+          answer
           s
       granted-falls q j used unlike lets acks more less =
           grant-falls config size (beats_left mail s rest) (beats_left mail' s' rest') answer answer s s' q j

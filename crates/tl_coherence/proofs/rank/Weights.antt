@@ -1,5 +1,5 @@
--- What is owed for each open request is at most 33 beats and those of a block, for each Release one and those of a
--- block.
+-- What is owed for each open request is at most 33 beats and those of a block, for each Release one
+-- and those of a block.
 use Rattle.tl_coherence.proofs.rank.Imports.{Config, sources_of, IsInvariant, View, Idle, Own, Other, Granting}
 use Rattle.tl_coherence.proofs.rank.Imports.{Acknowledging, GrantedOther, ProbePhase, NoProbe, ProbeSent, ProbeAnswered}
 use Rattle.tl_coherence.proofs.rank.Imports.{Left, pair_weight, probes_weight, acquire_weight, letting_weight}

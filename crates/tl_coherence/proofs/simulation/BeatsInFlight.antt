@@ -1,5 +1,5 @@
--- Each beat on a channel is sound, and has the lanes of its width: of those that stay, and of those that are handed
--- out.
+-- Each beat on a channel is sound, and has the lanes of its width: of those that stay, and of those
+-- that are handed out.
 use Rattle.tl_coherence.proofs.simulation.Imports.{IsWidth, Beat, Channel, Message, beats_of, Config, Report, Rule}
 use Rattle.tl_coherence.proofs.simulation.Imports.{unfinished, block_at, Op, Verdict, IsTypedOp, EndConfig, Offered}
 use Rattle.tl_coherence.proofs.simulation.Imports.{System, same_channel, channel_of_message, terms_at, with_channel}
@@ -32,8 +32,8 @@ use Rattle.tl_client.specs.declared.verdict.Verdict.TheVariants as verdict
 use Rattle.tl_client.specs.statement.Ask.{asked, done, load, store, free_release, source_or_0}
 use Rattle.tl_client.specs.statement.Endpoint.{Endpoint, copy_at, held_at, with_past}
 use Rattle.tl_client.specs.statement.Offer.{taken, ended, responded, silent, report_for}
-use Rattle.tl_client.proofs.Cases.{NotBusy, asked-cases, probe_ack-cases}
-use Rattle.tl_client.proofs.HeldAfter.{same_block}
+use Rattle.tl_client.proofs.endpoint.Cases.{NotBusy, asked-cases, probe_ack-cases}
+use Rattle.tl_client.proofs.endpoint.HeldAfter.{same_block}
 use Rattle.tl_rules.specs.statement.Legality.{beats_from, illegal}
 use Rattle.tl_rules.specs.laws.Typed as rules
 use Rattle.tl_rules.specs.laws.Typed.{HasBlock}
@@ -45,7 +45,7 @@ use Rattle.tl_manager.specs.statement.Handing.{Handed}
 use Rattle.tl_manager.specs.code.Kept as manager
 use Rattle.tl_manager.specs.code.Kept.{Each, illegal_at, IsClean, IsFilled, AreLawful}
 use Rattle.tl_manager.specs.statement.Offer.{level_of}
-use Rattle.tl_manager.proofs.Lawful.{IsHandable, no_bit}
+use Rattle.tl_manager.proofs.messages.Lawful.{IsHandable, no_bit}
 use Rattle.tl_coherence.specs.statement.System.{with_message}
 use Rattle.tl_coherence.specs.refinement.SimulationRelation.{AreLanes}
 use Rattle.tl_coherence.proofs.queues.Tokens.{same_number}

@@ -11,7 +11,7 @@ use Rattle.tl_params.specs.declared.key.Key.TheVariants.{RequestSource, ReleaseS
 use Rattle.tl_rules.specs.statement.Legality.{is_one_of}
 use Rattle.tl_manager.specs.code.Kept as kept
 use Rattle.tl_manager.specs.statement.Service.{service_of_block, trackers_of}
-use Rattle.tl_manager.proofs.Serving.{tracker_among}
+use Rattle.tl_manager.proofs.services.Serving.{tracker_among}
 use Rattle.tl_coherence.specs.statement.Delivery.{sources_of}
 use Rattle.tl_coherence.specs.protocol.Invariant.{tracks_with, is_busy}
 use Rattle.tl_coherence.specs.refinement.ManagerRelation.{client_in, service_with}

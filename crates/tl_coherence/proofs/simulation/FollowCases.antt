@@ -1,5 +1,5 @@
--- What the protocol does at an event of the world: nothing, what a client is asked for, or the first token of a
--- channel.
+-- What the protocol does at an event of the world: nothing, what a client is asked for, or the first
+-- token of a channel.
 use Rattle.tl_coherence.proofs.simulation.Imports.{IsWidth, Beat, Link, Channel, MessageA, unfinished, Config, Op}
 use Rattle.tl_coherence.proofs.simulation.Imports.{EndConfig, Deliver, is_moving, AbstractState, asked, kind_taken, Log}
 use Rattle.tl_coherence.proofs.simulation.Imports.{receiver, State, packet, on, packets_on, AccessMessages, stepped}

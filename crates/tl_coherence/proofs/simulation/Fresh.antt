@@ -10,9 +10,9 @@ use Rattle.tl_rules.specs.statement.Conformance.{on_link}
 use Rattle.tl_rules.specs.statement.Effect.{bytes_from, IsBlock}
 use Rattle.tl_rules.specs.statement.History.{held}
 use Rattle.tl_client.specs.statement.Endpoint.{zeros}
-use Rattle.tl_client.proofs.Accounted.{accounted-fresh}
-use Rattle.tl_client.proofs.KeptOffered.{kept-fresh}
-use Rattle.tl_manager.proofs.Keeping.{fresh-kept}
+use Rattle.tl_client.proofs.pending.Accounted.{accounted-fresh}
+use Rattle.tl_client.proofs.pending.KeptOffered.{kept-fresh}
+use Rattle.tl_manager.proofs.calls.Keeping.{fresh-kept}
 use Rattle.tl_coherence.specs.refinement.Carried.{IsCarried}
 use Rattle.tl_coherence.specs.statement.Flow.{flow}
 use Rattle.tl_coherence.specs.refinement.AbstractStep.{first_block, first_link, first_state, first_abstract_state}

@@ -17,14 +17,14 @@ use Rattle.tl_client.specs.declared.verdict.Verdict.TheVariants as verdict
 use Rattle.tl_client.specs.statement.Endpoint as client
 use Rattle.tl_client.specs.statement.EndpointInvariant as client_kept
 use Rattle.tl_client.specs.statement.Offer as offer
-use Rattle.tl_client.proofs.Outstanding.{unfinished-offered}
+use Rattle.tl_client.proofs.endpoint.Outstanding.{unfinished-offered}
 use Rattle.tl_manager.specs.laws.After.{is_of_clients, taken_after}
 use Rattle.tl_manager.specs.statement.Handing.{Handed}
 use Rattle.tl_manager.specs.code.Kept as manager
 use Rattle.tl_manager.specs.statement.Reaction as manager_reaction
 use Rattle.tl_manager.specs.statement.End as manager_end
 use Rattle.tl_manager.specs.statement.Offer as manager_offer
-use Rattle.tl_manager.proofs.Afterwards as manager_after
+use Rattle.tl_manager.proofs.pending.Afterwards as manager_after
 use Rattle.tl_coherence.specs.declared.event.Outcome.TheVariants as outcome
 use Rattle.tl_coherence.specs.refinement.Carried.{IsCarried}
 use Rattle.tl_coherence.specs.refinement.PacketMessages.{messages_on}

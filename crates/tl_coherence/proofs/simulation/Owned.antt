@@ -9,9 +9,9 @@ use Rattle.tl_params.specs.declared.key.Key.TheVariants.{RequestSource, ReleaseS
 use Rattle.tl_client.specs.statement.Endpoint.{Endpoint, fresh}
 use Rattle.tl_client.specs.laws.Inside.{IsInside}
 use Rattle.tl_client.specs.statement.EndpointInvariant.{IsEndpointInvariant}
-use Rattle.tl_client.proofs.Inside.{inside-fresh, inside-asked, inside-offered}
-use Rattle.tl_client.proofs.KeptAsked.{kept-asked}
-use Rattle.tl_client.proofs.KeptOffered.{kept-fresh, kept-offered}
+use Rattle.tl_client.proofs.endpoint.Inside.{inside-fresh, inside-asked, inside-offered}
+use Rattle.tl_client.proofs.pending.KeptAsked.{kept-asked}
+use Rattle.tl_client.proofs.pending.KeptOffered.{kept-fresh, kept-offered}
 use Rattle.tl_coherence.specs.statement.Delivery.{capacity, sources_of}
 use Rattle.tl_coherence.proofs.simulation.Bounded.{IsOwn, matched-bounded}
 use Rattle.tl_coherence.proofs.queues.Ends.{AreKept, ends-kept}

@@ -19,8 +19,8 @@ use Rattle.tl_client.specs.declared.reply.Reply.{Reply}
 use Rattle.tl_client.specs.declared.reply.Reply.TheVariants as reply
 use Rattle.tl_client.specs.statement.Ask.{copy_stored, is_word}
 use Rattle.tl_client.specs.statement.Send.{access}
-use Rattle.tl_client.proofs.Stores.{word_room, length-stored}
-use Rattle.tl_manager.proofs.Filled.{length-bytes}
+use Rattle.tl_client.proofs.caching_client.Stores.{word_room, length-stored}
+use Rattle.tl_manager.proofs.messages.Filled.{length-bytes}
 use Rattle.tl_coherence.specs.refinement.AbstractStep.{performs, access_taken, request_taken, acquire_taken}
 use Rattle.tl_coherence.specs.refinement.AbstractStep.{granted_after, last_taken, is_whole, taken_by_client}
 use Rattle.tl_coherence.specs.protocol.Invariant.{is_asked}

@@ -17,14 +17,14 @@ use Rattle.tl_client.specs.statement.Endpoint.{zeros, copy_at}
 use Rattle.tl_client.specs.statement.EndpointInvariant.{holds}
 use Rattle.tl_client.specs.statement.Offer as offer
 use Rattle.tl_client.specs.laws.Sound.{IsSoundIfAny, IsSoundAnswer}
-use Rattle.tl_client.proofs.Cases.{offered-cases}
-use Rattle.tl_client.proofs.Sound.{asked-sound, offered-sound}
+use Rattle.tl_client.proofs.endpoint.Cases.{offered-cases}
+use Rattle.tl_client.proofs.messages.Sound.{asked-sound, offered-sound}
 use Rattle.tl_manager.specs.code.Kept as manager
 use Rattle.tl_manager.specs.code.Kept.{Each}
 use Rattle.tl_manager.specs.statement.Reaction as manager_reaction
 use Rattle.tl_manager.specs.statement.End as manager_end
 use Rattle.tl_manager.specs.statement.Offer as manager_offer
-use Rattle.tl_manager.proofs.Reactions.{reaction_handable}
+use Rattle.tl_manager.proofs.calls.Reactions.{reaction_handable}
 use Rattle.tl_coherence.specs.declared.event.Event.{Event}
 use Rattle.tl_coherence.specs.declared.event.Event.TheVariants.{Ask}
 use Rattle.tl_coherence.specs.statement.Headline.{IsTyped}

@@ -13,7 +13,7 @@ use Rattle.tl_params.specs.declared.level.Level.{Level}
 use Rattle.tl_manager.specs.code.Kept as kept
 use Rattle.tl_manager.specs.statement.Service.{service_of_block}
 use Rattle.tl_manager.specs.statement.Offer.{level_of}
-use Rattle.tl_manager.proofs.Granted.{of_served}
+use Rattle.tl_manager.proofs.pending.Granted.{of_served}
 use Rattle.tl_coherence.specs.protocol.Invariant.{resting}
 use Rattle.tl_coherence.specs.refinement.ManagerRelation.{client_in, service_with}
 use Rattle.tl_coherence.specs.protocol.Phase.{Own, Other, Granting, Acknowledging, GrantedOther}

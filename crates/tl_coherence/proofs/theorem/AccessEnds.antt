@@ -34,7 +34,7 @@ use Rattle.tl_client.specs.statement.Send.{sourced}
 use Rattle.tl_manager.specs.statement.Handing.{access_answer, no_payload}
 use Rattle.tl_manager.specs.code.Kept.{illegal_message_at}
 use Rattle.tl_manager.specs.statement.Offer.{level_of}
-use Rattle.tl_manager.proofs.Filled.{data_room, payload-long, payload-zero, room_in_beats}
+use Rattle.tl_manager.proofs.messages.Filled.{data_room, payload-long, payload-zero, room_in_beats}
 use Rattle.tl_coherence.specs.refinement.MemoryRelation.{Answers, IsOpened, IsReach}
 use Rattle.tl_coherence.specs.statement.Machine.{Requests, finish_with}
 use Rattle.tl_coherence.specs.protocol.Protocol.{Replied}

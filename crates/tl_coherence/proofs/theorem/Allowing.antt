@@ -16,7 +16,7 @@ use Rattle.tl_params.specs.declared.perm.Perm.TheVariants as perm
 use Rattle.tl_params.specs.statement.Param.{cap_right}
 use Rattle.tl_rules.specs.statement.History.{capped}
 use Rattle.tl_client.specs.declared.verdict.Finish.TheVariants as finish
-use Rattle.tl_manager.proofs.Recording.{cap-gives}
+use Rattle.tl_manager.proofs.blocks.Recording.{cap-gives}
 use Rattle.tl_coherence.specs.refinement.MemoryRelation.{IsLet, op_of}
 use Rattle.tl_coherence.specs.statement.Machine.{EndsOp, Open, Releases, cap_named}
 use Rattle.tl_coherence.specs.protocol.Phase.{grant_fits}

@@ -15,7 +15,7 @@ use Rattle.tl_client.specs.declared.verdict.Verdict.{Verdict}
 use Rattle.tl_client.specs.statement.Endpoint.{EndConfig}
 use Rattle.tl_manager.specs.code.Kept as manager
 use Rattle.tl_manager.specs.statement.Reaction.{reaction}
-use Rattle.tl_manager.proofs.Events.{reaction-ack}
+use Rattle.tl_manager.proofs.calls.Events.{reaction-ack}
 use Rattle.tl_coherence.specs.statement.Draining.{is_moving}
 use Rattle.tl_coherence.specs.statement.Machine.{Performs, moved}
 use Rattle.tl_coherence.specs.statement.OneMemory.{performing, accesses_answered}

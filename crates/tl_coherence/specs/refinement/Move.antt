@@ -30,8 +30,8 @@ IsMoved Stays xs ys = ys ≡ xs
 IsMoved (Pushes k n) xs ys = ys ≡ xs ++ packet k n ∷ []
 IsMoved (Pops k n) xs ys = xs ≡ packet k n ∷ ys
 
--- the token of kind k and number n is there before and after the move as these tests say, and no other number of the
--- kind moves
+-- the token of kind k and number n is there before and after the move as these tests say, and no other
+-- number of the kind moves
 abbrev pub agrees : Move → Kind → ℕ → Bool → Bool → Bool
 agrees Stays k n before after = beq before after
 agrees (Pushes j i) k n before after = if same_kind j k then (i == n) && (not before && after) else beq before after

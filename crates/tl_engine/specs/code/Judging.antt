@@ -9,28 +9,36 @@ use Rattle.tl_engine.specs.statement.Fault.{fault_text}
 -- the line has its text, and the handler knows one line more
 abbrev pub GoesOn : {H : Type 0} → (H → List (List ℕ) → List ℕ → Type 0) → H → H → List ℕ → List ℕ → List ℕ → Type 0
 GoesOn knows old new line was is =
-    (lines : List (List ℕ)) (before : List ℕ) → knows old lines (before ++ was) → knows new (lines ++ line ∷ []) (before ++ is)
+    (lines : List (List ℕ)) (before : List ℕ) → knows old lines (before ++ was)
+    → knows new (lines ++ line ∷ []) (before ++ is)
 
 -- the line is at fault, and the fault's text is the last, whatever follows the line
-abbrev pub Stops : {H : Type 0} → (H → List (List ℕ) → List ℕ → Type 0) → (List (List ℕ) → List ℕ → Status → Type 0) → H → List ℕ → List ℕ → List ℕ → Fault → Type 0
+abbrev pub Stops : {H : Type 0} → (H → List (List ℕ) → List ℕ → Type 0) → (List (List ℕ) → List ℕ → Status → Type 0) → H
+    → List ℕ → List ℕ → List ℕ → Fault → Type 0
 Stops knows tells handler line was is fault =
     (lines : List (List ℕ)) (before : List ℕ) → knows handler lines (before ++ was)
-    → (more : List (List ℕ)) → tells (lines ++ line ∷ more) (before ++ (is ++ fault_text (length lines + 1) fault)) Broken
+    → (more : List (List ℕ)) → tells (lines ++ line ∷ more) (before ++ (is ++ fault_text (length lines + 1) fault))
+    Broken
 
 -- what `handler` answered for a line
-abbrev pub Judges : {H : Type 0} → (H → List (List ℕ) → List ℕ → Type 0) → (List (List ℕ) → List ℕ → Status → Type 0) → H → H → List ℕ → List ℕ → List ℕ → Option Fault → Type 0
+abbrev pub Judges : {H : Type 0} → (H → List (List ℕ) → List ℕ → Type 0) → (List (List ℕ) → List ℕ → Status → Type 0)
+    → H → H → List ℕ → List ℕ → List ℕ → Option Fault → Type 0
 Judges knows tells old new line was is None = GoesOn knows old new line was is
 Judges knows tells old new line was is (Some fault) = Stops knows tells old line was is fault
 
 -- what `finish` answered at the end of an input of this many lines
-abbrev pub Finishes : {H : Type 0} → (H → List (List ℕ) → List ℕ → Type 0) → (List (List ℕ) → List ℕ → Status → Type 0) → H → ℕ → List ℕ → List ℕ → Option Fault → Type 0
+abbrev pub Finishes : {H : Type 0} → (H → List (List ℕ) → List ℕ → Type 0) → (List (List ℕ) → List ℕ → Status → Type 0)
+    → H → ℕ → List ℕ → List ℕ → Option Fault → Type 0
 Finishes knows tells handler count was is None =
-    (lines : List (List ℕ)) (before : List ℕ) → knows handler lines (before ++ was) → count ≡ length lines → tells lines (before ++ is) Clean
+    (lines : List (List ℕ)) (before : List ℕ) → knows handler lines (before ++ was) → count ≡ length lines
+    → tells lines (before ++ is) Clean
 Finishes knows tells handler count was is (Some fault) =
-    (lines : List (List ℕ)) (before : List ℕ) → knows handler lines (before ++ was) → count ≡ length lines → tells lines (before ++ (is ++ fault_text (length lines + 1) fault)) Broken
+    (lines : List (List ℕ)) (before : List ℕ) → knows handler lines (before ++ was) → count ≡ length lines
+    → tells lines (before ++ (is ++ fault_text (length lines + 1) fault)) Broken
 
 -- whatever lines follow those that a handler knows, they have a text
-abbrev pub IsTotal : {H : Type 0} → (H → List (List ℕ) → List ℕ → Type 0) → (List (List ℕ) → List ℕ → Status → Type 0) → Type 0
+abbrev pub IsTotal : {H : Type 0} → (H → List (List ℕ) → List ℕ → Type 0) → (List (List ℕ) → List ℕ → Status → Type 0)
+    → Type 0
 IsTotal {H} knows tells =
     (handler : H) (lines : List (List ℕ)) (text : List ℕ) → knows handler lines text
     → (more : List (List ℕ)) → (rest : List ℕ) × (status : Status) × tells (lines ++ more) (text ++ rest) status

@@ -13,31 +13,37 @@ use Rattle.tl_engine.specs.declared.fault.Fault.TheVariants.{Event as NoEvent}
 use Rattle.tl_engine.specs.declared.run_lines.RunLines.{RunLines}
 use Rattle.tl_engine.specs.declared.run_lines.RunLines.TheVariants.{Waiting, Four, Eight, Sixteen}
 use Rattle.tl_engine.specs.declared.status.Status.{Status}
-use Rattle.tl_engine.specs.statement.Played.{HeadsSchedule, Played, PlayedAfter, Plays, deliveries_text, event_text, outcome_after}
+use Rattle.tl_engine.specs.statement.Played.{HeadsSchedule, Played, PlayedAfter, Plays, deliveries_text, event_text}
+use Rattle.tl_engine.specs.statement.Played.{outcome_after}
 use Rattle.tl_engine.specs.code.PlayableWorld.{Contained, Reaches}
 
 -- An event has happened to a world, and what came of it stands behind the text.
 abbrev pub Happens : {w : ℕ} → Bool → Contained w → Contained w → Event w → List ℕ → List ℕ → Type 0
 Happens {w} trace old new event was is =
     (config : Config) (log : Log w) → Reaches config old log
-    → (is ≡ was ++ event_text trace event (outcome_after config log event)) × Reaches config new ((event, outcome_after config log event) ∷ log)
+    → (is ≡ was ++ event_text trace event (outcome_after config log event))
+    × Reaches config new ((event, outcome_after config log event) ∷ log)
 
 -- What is outstanding was delivered, each delivery the next one, and the text has what came of each.
 abbrev pub Drains : {w : ℕ} → Bool → Contained w → Contained w → List ℕ → List ℕ → ℕ → Type 0
 Drains {w} trace old new was is n =
     (config : Config) (log : Log w) → Reaches config old log
-    → IsDrained config log n × (is ≡ was ++ deliveries_text trace config n log) × Reaches config new (drained config n log)
+    → IsDrained config log n × (is ≡ was ++ deliveries_text trace config n log)
+    × Reaches config new (drained config n log)
 
 -- What is said was played.
 abbrev pub PlaysOn : {w : ℕ} → Bool → Contained w → Contained w → Line w → List ℕ → List ℕ → Type 0
 PlaysOn {w} trace old new said was is =
     (config : Config) (log : Log w) → Reaches config old log
-    → (text : List ℕ) × (grown : Log w) × Plays trace config log said text grown × (is ≡ was ++ text) × Reaches config new grown
+    → (text : List ℕ) × (grown : Log w) × Plays trace config log said text grown × (is ≡ was ++ text)
+    × Reaches config new grown
 
 -- A line was played, or it is at fault.
 abbrev pub PlaysLine : {w : ℕ} → Bool → Contained w → Contained w → List ℕ → List ℕ → List ℕ → Option Fault → Type 0
-PlaysLine {w} trace old new line was is None = (said : Line w) × SpellsLine line said × PlaysOn trace old new said was is
-PlaysLine {w} trace old new line was is (Some fault) = ((said : Line w) → ¬ SpellsLine line said) × (fault ≡ NoEvent (event_fault line)) × (is ≡ was)
+PlaysLine {w} trace old new line was is None = (said : Line w) × SpellsLine line said × PlaysOn trace old new said was
+    is
+PlaysLine {w} trace old new line was is (Some fault) = ((said : Line w) → ¬ SpellsLine line said)
+    × (fault ≡ NoEvent (event_fault line)) × (is ≡ was)
 
 -- These lines, a header and what has happened, are played with this text so far, so that what follows is
 -- played behind it.
@@ -45,7 +51,9 @@ pub record KnowsPlay {w : ℕ} (trace : Bool) (world : Contained w) (lines : Lis
   pub config : Config
   pub log : Log w
   pub reached : Reaches config world log
-  pub before : (more : List (List ℕ)) (rest : List ℕ) (status : Status) → PlayedAfter trace config (length lines + 1) log more rest status → Played trace (lines ++ more) (text ++ rest) status
+  pub before : (more : List (List ℕ)) (rest : List ℕ) (status : Status)
+      → PlayedAfter trace config (length lines + 1) log more rest status
+      → Played trace (lines ++ more) (text ++ rest) status
 
 -- the number that stands for a trace
 abbrev pub is_trace : ℕ → Bool
@@ -58,8 +66,8 @@ KnowsSchedule {n} (Four world) lines text = KnowsPlay (is_trace n) world lines t
 KnowsSchedule {n} (Eight world) lines text = KnowsPlay (is_trace n) world lines text
 KnowsSchedule {n} (Sixteen world) lines text = KnowsPlay (is_trace n) world lines text
 
--- what the first line begins: a handler that knows the header, whose text was appended, or none where it spells
--- no header
+-- what the first line begins: a handler that knows the header, whose text was appended, or none where
+-- it spells no header
 abbrev pub Opens : {n : ℕ} → List ℕ → List ℕ → List ℕ → Option (RunLines n) → Type 0
 Opens line was is None = ((version : Version) (config : Config) → ¬ HeadsSchedule line version config) × (is ≡ was)
 Opens {n} line was is (Some run_lines) = (text : List ℕ) × (is ≡ was ++ text) × KnowsSchedule run_lines (line ∷ []) text

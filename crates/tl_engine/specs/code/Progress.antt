@@ -24,7 +24,8 @@ abbrev pub lines_judged : {H : Type 0} → Lines H → ℕ
 lines_judged state = state.count
 
 -- after these bytes, none of whose lines was at fault, this text has been appended
-pub record Progress {H : Type 0} (knows : H → List (List ℕ) → List ℕ → Type 0) (state : Lines H) (read text : List ℕ) : Type 0 where
+pub record Progress {H : Type 0} (knows : H → List (List ℕ) → List ℕ → Type 0) (state : Lines H)
+    (read text : List ℕ) : Type 0 where
   pub lines : List (List ℕ)
   pub known : knows state.handler lines text
   pub counted : lines_judged state ≡ length lines
@@ -36,22 +37,27 @@ pub record Progress {H : Type 0} (knows : H → List (List ℕ) → List ℕ →
   pub rest : (front : List ℕ) × (read ≡ front ++ state.begun.items) × AreWhole front
 
 -- the line with this number is at fault, and the text is the last, whatever follows the line
-abbrev pub StopsAt : {H : Type 0} → (H → List (List ℕ) → List ℕ → Type 0) → (List (List ℕ) → List ℕ → Status → Type 0) → H → ℕ → List ℕ → List ℕ → List ℕ → Type 0
+abbrev pub StopsAt : {H : Type 0} → (H → List (List ℕ) → List ℕ → Type 0) → (List (List ℕ) → List ℕ → Status → Type 0)
+    → H → ℕ → List ℕ → List ℕ → List ℕ → Type 0
 StopsAt knows tells handler count line was is =
     (lines : List (List ℕ)) (before : List ℕ) → knows handler lines (before ++ was) → count ≡ length lines
     → (more : List (List ℕ)) → tells (lines ++ line ∷ more) (before ++ is) Broken
 
 -- a line was judged, and counted if it is good
-abbrev pub CountsLine : {H : Type 0} → (H → List (List ℕ) → List ℕ → Type 0) → (List (List ℕ) → List ℕ → Status → Type 0) → H → H → ℕ → ℕ → List ℕ → List ℕ → List ℕ → Status → Type 0
-CountsLine knows tells old new count_old count_new line was is Clean = GoesOn knows old new line was is × (count_new ≡ count_old + 1)
+abbrev pub CountsLine : {H : Type 0} → (H → List (List ℕ) → List ℕ → Type 0)
+    → (List (List ℕ) → List ℕ → Status → Type 0) → H → H → ℕ → ℕ → List ℕ → List ℕ → List ℕ → Status → Type 0
+CountsLine knows tells old new count_old count_new line was is Clean = GoesOn knows old new line was is
+    × (count_new ≡ count_old + 1)
 CountsLine knows tells old new count_old count_new line was is Broken = StopsAt knows tells old count_old line was is
 
 -- a piece of the input was judged, up to the first line at fault
-abbrev pub Feeds : {H : Type 0} → (H → List (List ℕ) → List ℕ → Type 0) → (List (List ℕ) → List ℕ → Status → Type 0) → Lines H → Lines H → List ℕ → List ℕ → List ℕ → Status → Type 0
+abbrev pub Feeds : {H : Type 0} → (H → List (List ℕ) → List ℕ → Type 0) → (List (List ℕ) → List ℕ → Status → Type 0)
+    → Lines H → Lines H → List ℕ → List ℕ → List ℕ → Status → Type 0
 Feeds knows tells old new piece was is Clean =
     (read before : List ℕ) → Progress knows old read (before ++ was) → Progress knows new (read ++ piece) (before ++ is)
 Feeds knows tells old new piece was is Broken =
-    (read before : List ℕ) → Progress knows old read (before ++ was) → (more : List ℕ) → tells (lines_of ((read ++ piece) ++ more)) (before ++ is) Broken
+    (read before : List ℕ) → Progress knows old read (before ++ was) → (more : List ℕ)
+    → tells (lines_of ((read ++ piece) ++ more)) (before ++ is) Broken
 
 -- The line at fault is the rest behind the last LF of the input: it has no LF and fewer than 256 bytes,
 -- so that what follows could mend it, or it isn't there.
@@ -67,11 +73,13 @@ pub record StopsAtRest (read text : List ℕ) : Type 0 where
   pub says : text ≡ before ++ fault_text (ended_lines read + 1) fault
 
 -- the end of the input was judged
-abbrev pub FinishesInput : {H : Type 0} → (H → List (List ℕ) → List ℕ → Type 0) → (List (List ℕ) → List ℕ → Status → Type 0) → Lines H → List ℕ → List ℕ → Status → Type 0
+abbrev pub FinishesInput : {H : Type 0} → (H → List (List ℕ) → List ℕ → Type 0)
+    → (List (List ℕ) → List ℕ → Status → Type 0) → Lines H → List ℕ → List ℕ → Status → Type 0
 FinishesInput knows tells state was is Clean =
     (read before : List ℕ) → Progress knows state read (before ++ was) → tells (lines_of read) (before ++ is) Clean
 FinishesInput knows tells state was is Broken =
-    (read before : List ℕ) → Progress knows state read (before ++ was) → tells (lines_of read) (before ++ is) Broken × StopsAtRest read (before ++ is)
+    (read before : List ℕ) → Progress knows state read (before ++ was) → tells (lines_of read) (before ++ is) Broken
+    × StopsAtRest read (before ++ is)
 
 -- lines are given up for want of memory, or for want of a number after 2^64 - 1 lines
 abbrev pub GivesUp : ℕ → ToolFault → Type 0

@@ -9,17 +9,21 @@ use Rattle.tl_engine.specs.code.Parts.{AppendsPart}
 use Rattle.tl_engine.specs.code.Progress.{Progress, StopsAtRest}
 
 -- a piece was judged, and this was written for it
-abbrev pub Passes : {H : Type 0} → (H → List (List ℕ) → List ℕ → Type 0) → (List (List ℕ) → List ℕ → Status → Type 0) → Lines H → Lines H → List ℕ → List ℕ → Status → Type 0
+abbrev pub Passes : {H : Type 0} → (H → List (List ℕ) → List ℕ → Type 0) → (List (List ℕ) → List ℕ → Status → Type 0)
+    → Lines H → Lines H → List ℕ → List ℕ → Status → Type 0
 Passes knows tells old new piece said Clean =
     (read before : List ℕ) → Progress knows old read before → Progress knows new (read ++ piece) (before ++ said)
 Passes knows tells old new piece said Broken =
-    (read before : List ℕ) → Progress knows old read before → (more : List ℕ) → tells (lines_of ((read ++ piece) ++ more)) (before ++ said) Broken
+    (read before : List ℕ) → Progress knows old read before → (more : List ℕ)
+    → tells (lines_of ((read ++ piece) ++ more)) (before ++ said) Broken
 
 -- a piece was given up, and a beginning of what was to be written for it was written
-abbrev pub FailsAfter : {H : Type 0} → (H → List (List ℕ) → List ℕ → Type 0) → (List (List ℕ) → List ℕ → Status → Type 0) → Lines H → List ℕ → Option (List ℕ) → Option (List ℕ) → Type 0
+abbrev pub FailsAfter : {H : Type 0} → (H → List (List ℕ) → List ℕ → Type 0)
+    → (List (List ℕ) → List ℕ → Status → Type 0) → Lines H → List ℕ → Option (List ℕ) → Option (List ℕ) → Type 0
 FailsAfter knows tells state piece held holds =
     (read before : List ℕ) → Progress knows state read before
-    → (text : List ℕ) × (status : Status) × tells (lines_of (read ++ piece)) (before ++ text) status × AppendsPart held holds text
+    → (text : List ℕ) × (status : Status) × tells (lines_of (read ++ piece)) (before ++ text) status
+    × AppendsPart held holds text
 
 -- a run stops at the end of its input, or at a line at fault that no continuation can mend
 abbrev pub EndsAs : (List (List ℕ) → List ℕ → Status → Type 0) → Option (List ℕ) → List ℕ → List ℕ → Status → Type 0
@@ -28,11 +32,15 @@ EndsAs tells left read text Broken =
     ((more : List ℕ) → tells (lines_of (read ++ more)) text Broken) ⊎ (IsAtEnd left × StopsAtRest read text)
 
 -- a run wrote the text of what it had read
-abbrev pub RunsTo : (List (List ℕ) → List ℕ → Status → Type 0) → Option (List ℕ) → Option (List ℕ) → Option (List ℕ) → Option (List ℕ) → Status → Type 0
+abbrev pub RunsTo : (List (List ℕ) → List ℕ → Status → Type 0) → Option (List ℕ) → Option (List ℕ) → Option (List ℕ)
+    → Option (List ℕ) → Status → Type 0
 RunsTo tells had left held holds status =
-    (read text : List ℕ) × Consumes had left read × Appends held holds text × tells (lines_of read) text status × EndsAs tells left read text status
+    (read text : List ℕ) × Consumes had left read × Appends held holds text × tells (lines_of read) text status
+    × EndsAs tells left read text status
 
 -- a run that was given up wrote a beginning of the text of what it had read
-abbrev pub FailsAt : (List (List ℕ) → List ℕ → Status → Type 0) → Option (List ℕ) → Option (List ℕ) → Option (List ℕ) → Option (List ℕ) → Type 0
+abbrev pub FailsAt : (List (List ℕ) → List ℕ → Status → Type 0) → Option (List ℕ) → Option (List ℕ) → Option (List ℕ)
+    → Option (List ℕ) → Type 0
 FailsAt tells had left held holds =
-    (read text : List ℕ) × (status : Status) × Consumes had left read × tells (lines_of read) text status × AppendsPart held holds text
+    (read text : List ℕ) × (status : Status) × Consumes had left read × tells (lines_of read) text status
+    × AppendsPart held holds text

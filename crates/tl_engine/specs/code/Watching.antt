@@ -34,7 +34,8 @@ pub record KnowsTrace {w : ℕ} (m : Monitor w) (lines : List (List ℕ)) (text 
   pub trace : Trace w
   pub known : Knows m levels profile trace false
   pub counted : length lines ≡ length trace + 1
-  pub before : (more : List (List ℕ)) (rest : List ℕ) (status : Status) → JudgedAfter levels profile trace more rest status → Judged (lines ++ more) (text ++ rest) status
+  pub before : (more : List (List ℕ)) (rest : List ℕ) (status : Status)
+      → JudgedAfter levels profile trace more rest status → Judged (lines ++ more) (text ++ rest) status
 
 -- after these lines, of which none was at fault, this text has been appended
 abbrev pub KnowsLines : MonitorLines → List (List ℕ) → List ℕ → Type 0

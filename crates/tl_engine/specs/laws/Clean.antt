@@ -19,4 +19,5 @@ IsClean trace = (n : ℕ) × (length (lines_of trace) ≡ n + 1) × text_told Mo
 abbrev pub IsCleanUpTo : List ℕ → Status → Type 0
 IsCleanUpTo text Clean = IsClean text
 IsCleanUpTo text Broken =
-    (text ≡ fault_text 1 Header) ⊎ ((trace : List ℕ) × (n : ℕ) × (fault : EventFault) × (text ≡ trace ++ fault_text n (Event fault)) × IsClean trace)
+    (text ≡ fault_text 1 Header) ⊎ ((trace : List ℕ) × (n : ℕ) × (fault : EventFault)
+    × (text ≡ trace ++ fault_text n (Event fault)) × IsClean trace)

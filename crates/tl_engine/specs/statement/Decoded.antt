@@ -15,7 +15,8 @@ use Rattle.tl_explain.specs.statement.Text.{text_of}
 unfoldable pub Decodes : ℕ → ℕ → List (List ℕ) → List ℕ → Status → Type 0
 Decodes w n [] text status = (text ≡ []) × (status ≡ Clean)
 Decodes w n (line ∷ lines) text status =
-    ((link : Link) × (beat : Beat w) × (rest : List ℕ) × Spells line link beat × (text ≡ text_of link beat ++ rest) × Decodes w (n + 1) lines rest status)
+    ((link : Link) × (beat : Beat w) × (rest : List ℕ) × Spells line link beat × (text ≡ text_of link beat ++ rest)
+    × Decodes w (n + 1) lines rest status)
     ⊎ ((fault : LineFault) × (line_fault w line ≡ Some fault) × (text ≡ fault_text n (Line fault)) × (status ≡ Broken))
 
 -- the lines of a whole input
@@ -25,7 +26,8 @@ DecodesTo w lines text status = Decodes w 1 lines text status
 -- the lines before have no fault and this text, so that what follows decodes behind it
 abbrev pub DecodesBefore : ℕ → List (List ℕ) → List ℕ → Type 0
 DecodesBefore w lines text =
-    (more : List (List ℕ)) (rest : List ℕ) (status : Status) → Decodes w (length lines + 1) more rest status → Decodes w 1 (lines ++ more) (text ++ rest) status
+    (more : List (List ℕ)) (rest : List ℕ) (status : Status) → Decodes w (length lines + 1) more rest status
+    → Decodes w 1 (lines ++ more) (text ++ rest) status
 
 -- a beat holds 4, 8 or 16 bytes
 abbrev pub is_width : ℕ → Bool

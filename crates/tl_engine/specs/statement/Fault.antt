@@ -26,3 +26,7 @@ open_fault_text name = codes "tltool: cannot open " ++ name ++ codes "\n"
 -- the line for standard error where a file changed between its two readings
 abbrev pub changed_text : List ℕ → List ℕ
 changed_text name = codes "tltool: " ++ name ++ codes " changed while it was read\n"
+
+-- the line for standard error where a file can be read once alone, as a pipe
+abbrev pub once_text : List ℕ → List ℕ
+once_text name = codes "tltool: " ++ name ++ codes " can't be read twice, as explain does: write it to a file\n"

@@ -43,5 +43,7 @@ JudgedAfter {w} levels p t (line ∷ lines) text status =
 unfoldable pub Judged : List (List ℕ) → List ℕ → Status → Type 0
 Judged [] text status = (text ≡ fault_text 1 Header) × (status ≡ Broken)
 Judged (line ∷ lines) text status =
-    ((width : Width) × (p : Profile) × (levels : List Level) × SpellsHeader line width p levels × JudgedAfter {w = bytes_of width} levels p [] lines text status)
-    ⊎ (((width : Width) (p : Profile) (levels : List Level) → ¬ SpellsHeader line width p levels) × (text ≡ fault_text 1 Header) × (status ≡ Broken))
+    ((width : Width) × (p : Profile) × (levels : List Level) × SpellsHeader line width p levels
+    × JudgedAfter {w = bytes_of width} levels p [] lines text status)
+    ⊎ (((width : Width) (p : Profile) (levels : List Level) → ¬ SpellsHeader line width p levels)
+    × (text ≡ fault_text 1 Header) × (status ≡ Broken))

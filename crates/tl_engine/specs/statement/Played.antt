@@ -1,5 +1,6 @@
 -- What a schedule is played as.
-use Rattle.std.specs.Prelude.{◌≡◌, ◌⊎◌, ℕ, zero, suc, ◌+◌, Bool, true, false, List, [], ◌∷◌, ◌++◌, map, Option, Some, None}
+use Rattle.std.specs.Prelude.{◌≡◌, ◌⊎◌, ℕ, zero, suc, ◌+◌, Bool, true, false, List, [], ◌∷◌, ◌++◌, map, Option, Some}
+use Rattle.std.specs.Prelude.{None}
 use Rattle.tl_beat.specs.declared.beat.Link.{Link}
 use Rattle.tl_beat.specs.declared.channel.Channel.{Channel}
 use Rattle.tl_params.specs.declared.config.ClientConfig.{ClientConfig}
@@ -39,7 +40,8 @@ event_text true event outcome = trace_text event outcome
 -- that of a delivery, if one is made
 abbrev pub delivery_text : {w : ℕ} → Bool → Config → Log w → Option (Link × Channel) → List ℕ
 delivery_text trace config log None = []
-delivery_text trace config log (Some d) = event_text trace (Deliver d.0 d.1) (outcome_after config log (Deliver d.0 d.1))
+delivery_text trace config log (Some d) =
+    event_text trace (Deliver d.0 d.1) (outcome_after config log (Deliver d.0 d.1))
 
 -- that of n deliveries at most, each the next one
 unfoldable pub deliveries_text : {w : ℕ} → Bool → Config → ℕ → Log w → List ℕ
@@ -65,18 +67,22 @@ header_text true version clients = header_line version (map (λ client. client.l
 -- After what has happened, a line that says this is played so: the text is written, and the log has grown.
 abbrev pub Plays : {w : ℕ} → Bool → Config → Log w → Line w → List ℕ → Log w → Type 0
 Plays trace config log (line_of.Event event) text grown =
-    (text ≡ event_text trace event (outcome_after config log event)) × (grown ≡ (event, outcome_after config log event) ∷ log)
+    (text ≡ event_text trace event (outcome_after config log event))
+    × (grown ≡ (event, outcome_after config log event) ∷ log)
 Plays trace config log line_of.Drain text grown =
-    (n : ℕ) × IsDrained config log n × (text ≡ deliveries_text trace config n log ++ number_text trace n) × (grown ≡ drained config n log)
+    (n : ℕ) × IsDrained config log n × (text ≡ deliveries_text trace config n log ++ number_text trace n)
+    × (grown ≡ drained config n log)
 
 -- These lines, of which the first has the number n, are played so after what has happened, up to the first
 -- that says nothing: `line N X` ends the text, whatever follows it.
 unfoldable pub PlayedAfter : {w : ℕ} → Bool → Config → ℕ → Log w → List (List ℕ) → List ℕ → Status → Type 0
 PlayedAfter trace config n log [] text status = (text ≡ []) × (status ≡ Clean)
 PlayedAfter {w} trace config n log (line ∷ lines) text status =
-    ((said : Line w) × (first rest : List ℕ) × (grown : Log w) × SpellsLine line said × Plays trace config log said first grown
+    ((said : Line w) × (first rest : List ℕ) × (grown : Log w) × SpellsLine line said
+    × Plays trace config log said first grown
     × (text ≡ first ++ rest) × PlayedAfter trace config (n + 1) grown lines rest status)
-    ⊎ (((said : Line w) → ¬ SpellsLine line said) × (text ≡ fault_text n (NoEvent (event_fault line))) × (status ≡ Broken))
+    ⊎ (((said : Line w) → ¬ SpellsLine line said) × (text ≡ fault_text n (NoEvent (event_fault line)))
+    × (status ≡ Broken))
 
 -- the line is that of a header of this version, which names this configuration
 pub record HeadsSchedule (line : List ℕ) (version : Version) (config : Config) : Type 0 where
@@ -88,6 +94,8 @@ pub record HeadsSchedule (line : List ℕ) (version : Version) (config : Config)
 unfoldable pub Played : Bool → List (List ℕ) → List ℕ → Status → Type 0
 Played trace [] text status = (text ≡ fault_text 1 Header) × (status ≡ Broken)
 Played trace (line ∷ lines) text status =
-    ((version : Version) × (config : Config) × (rest : List ℕ) × HeadsSchedule line version config × (text ≡ header_text trace version config.clients.items ++ rest)
+    ((version : Version) × (config : Config) × (rest : List ℕ) × HeadsSchedule line version config
+    × (text ≡ header_text trace version config.clients.items ++ rest)
     × PlayedAfter {w = bytes_of (width_of version)} trace config 2 [] lines rest status)
-    ⊎ (((version : Version) (config : Config) → ¬ HeadsSchedule line version config) × (text ≡ fault_text 1 Header) × (status ≡ Broken))
+    ⊎ (((version : Version) (config : Config) → ¬ HeadsSchedule line version config) × (text ≡ fault_text 1 Header)
+    × (status ≡ Broken))

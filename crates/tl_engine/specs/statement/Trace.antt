@@ -32,4 +32,5 @@ pub record SpellsHeader (line : List ℕ) (width : Width) (profile : Profile) (l
 -- the header names these
 abbrev pub IsHeader : Option Header → Width → Profile → List Level → Type 0
 IsHeader None width profile levels = ⊥
-IsHeader (Some header) width profile levels = (header.width ≡ width) × (header.profile ≡ profile) × (header.levels.items ≡ levels)
+IsHeader (Some header) width profile levels = (header.width ≡ width) × (header.profile ≡ profile)
+    × (header.levels.items ≡ levels)

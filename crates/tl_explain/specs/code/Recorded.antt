@@ -7,17 +7,16 @@ use Rattle.tl_beat.specs.declared.beat.BeatC.{BeatC}
 use Rattle.tl_beat.specs.declared.beat.Link.{Link}
 use Rattle.tl_beat.specs.declared.channel.Channel.{Channel}
 use Rattle.tl_beat.specs.declared.channel.Channel.TheVariants as channel
-use Rattle.tl_burst.specs.statement.Messages.{History, burst_length, on, unfinished}
+use Rattle.tl_burst.specs.statement.Messages.{History, burst_length, unfinished}
 use Rattle.tl_params.specs.declared.key.Key.{Key}
 use Rattle.tl_params.specs.declared.key.Key.TheVariants.{RequestSource, ReleaseSource, AcquireOf, ReleaseOf, GrantSink, GrantAckOf, ProbeOf}
 use Rattle.tl_rules.specs.statement.Conformance.{Trace, on_link}
 use Rattle.tl_rules.specs.statement.History.{begins, ends, block_at, is_acquire, is_grant, is_probe, is_probe_ack, is_release, is_release_ack, request_of, release_of}
 use Rattle.tl_monitor.specs.code.Count.{at}
-use Rattle.tl_explain.specs.declared.told.Mention.{Mention}
 use Rattle.tl_explain.specs.declared.told.Told.{Told}
-use Rattle.tl_monitor.specs.code.Control.{control_of}
-use Rattle.tl_monitor.specs.declared.control.Control.{Control}
-use Rattle.tl_monitor.specs.declared.control.Control.TheVariants as control
+use Rattle.tl_beat.specs.statement.Control.{control_of}
+use Rattle.tl_beat.specs.declared.control.Control.{Control}
+use Rattle.tl_beat.specs.declared.control.Control.TheVariants as control
 use Rattle.tl_explain.specs.declared.turn.Turn.{Turn}
 use Rattle.tl_explain.specs.declared.bursts.Begun.{Begun}
 use Rattle.tl_explain.specs.declared.bursts.Bursts.{Bursts}
@@ -26,7 +25,7 @@ use Rattle.tl_explain.specs.declared.turns.Moment.{Moment}
 use Rattle.tl_explain.specs.declared.turns.Subject.{Subject}
 use Rattle.tl_explain.specs.declared.turns.Turns.{Turns}
 use Rattle.tl_explain.specs.declared.recorder.Recorder.{Recorder}
-use Rattle.tl_explain.specs.statement.Evidence.{told, is_open, last_opening, last_closing, last_saying, burst_opening}
+use Rattle.tl_explain.specs.statement.Evidence.{told, is_open, last_opening, last_closing, last_saying, burst_opening, mention_of}
 
 -- ---- bursts
 
@@ -146,10 +145,6 @@ sink_in None = None
 sink_in (Some m) = sink_by m.mention.control
 
 -- the message that opened the key, where none has closed it
-abbrev pub mention_of : Option Told → Option Mention
-mention_of None = None
-mention_of (Some m) = Some m.mention
-
 abbrev pub open_message : Turn → Option Told
 open_message turn = if is_open (mention_of turn.opening) (mention_of turn.closing) then turn.opening else None
 

@@ -1,5 +1,6 @@
 -- What a verdict rests on: the messages of a trace that opened and closed a key, and the one that left what is held.
-use Rattle.std.specs.Prelude.{ℕ, Bool, true, false, List, [], ◌∷◌, ◌==◌, ◌&&◌, ◌+◌, if◌then◌else◌, length, nat_le, Option, Some, None, is_some}
+use Rattle.std.specs.Prelude.{ℕ, Bool, true, false, [], ◌∷◌, ◌==◌, ◌&&◌, ◌+◌, if◌then◌else◌, length, nat_le}
+use Rattle.std.specs.Prelude.{Option, Some, None, is_some}
 use Rattle.tl_beat.specs.declared.beat.Beat.{Beat}
 use Rattle.tl_beat.specs.declared.beat.Link.{Link}
 use Rattle.tl_beat.specs.declared.channel.Channel.{Channel}
@@ -10,18 +11,30 @@ use Rattle.tl_params.specs.declared.perm.Perm.{Perm}
 use Rattle.tl_params.specs.declared.perm.Perm.TheVariants as perm
 use Rattle.tl_rules.specs.statement.Conformance.{Trace, on_link}
 use Rattle.tl_rules.specs.statement.History.{begins, ends, opens, closes, says_held, reported, capped}
-use Rattle.tl_monitor.specs.code.Control.{control_of}
-use Rattle.tl_monitor.specs.declared.control.Control.{Control}
-use Rattle.tl_monitor.specs.declared.control.Control.TheVariants as control
+use Rattle.tl_beat.specs.statement.Control.{control_of}
+use Rattle.tl_beat.specs.declared.control.Control.{Control}
+use Rattle.tl_beat.specs.declared.control.Control.TheVariants as control
 use Rattle.tl_explain.specs.declared.told.Mention.{Mention}
+use Rattle.tl_explain.specs.declared.told.Told.{Told}
 
--- A beat by its control fields, with the number of its line. Lines count from 1, the header's, so that the line behind the beats of t, the
+-- A beat by its control fields, with the number of its line. Lines count from 1, the header's, so that the line behind
+-- the beats of t, the
 -- newest of which is first, is this.
 abbrev pub next_line : {w : ℕ} → Trace w → ℕ
 next_line t = length t + 2
 
 abbrev pub told : {w : ℕ} → Link × Beat w → Trace w → Mention
 told x t = record { line = next_line t; control = control_of x.1 }
+
+-- the last beat that is such a one behind those before it
+unfoldable pub last_where : {w : ℕ} → (Link × Beat w → Trace w → Bool) → Trace w → Option Mention
+last_where is [] = None
+last_where is (x ∷ t) = if is x t then Some (told x t) else last_where is t
+
+-- what is told of, without its spelling
+abbrev pub mention_of : Option Told → Option Mention
+mention_of None = None
+mention_of (Some m) = Some m.mention
 
 -- ---- the last message of link n that opened a key, and the last that closed it
 
@@ -31,13 +44,11 @@ is_opening n k x t = (x.0.0 == n) && (begins x.1 (on_link n t) && opens k x.1 (o
 abbrev pub is_closing : {w : ℕ} → ℕ → Key → Link × Beat w → Trace w → Bool
 is_closing n k x t = (x.0.0 == n) && (ends x.1 (on_link n t) && closes k x.1 (on_link n t))
 
-unfoldable pub last_opening : {w : ℕ} → ℕ → Key → Trace w → Option (Mention)
-last_opening n k [] = None
-last_opening n k (x ∷ t) = if is_opening n k x t then Some (told x t) else last_opening n k t
+abbrev pub last_opening : {w : ℕ} → ℕ → Key → Trace w → Option Mention
+last_opening n k t = last_where (is_opening n k) t
 
-unfoldable pub last_closing : {w : ℕ} → ℕ → Key → Trace w → Option (Mention)
-last_closing n k [] = None
-last_closing n k (x ∷ t) = if is_closing n k x t then Some (told x t) else last_closing n k t
+abbrev pub last_closing : {w : ℕ} → ℕ → Key → Trace w → Option Mention
+last_closing n k t = last_where (is_closing n k) t
 
 -- the opening isn't answered: no closing stands behind it
 abbrev pub is_open : Option (Mention) → Option (Mention) → Bool
@@ -50,9 +61,8 @@ is_open (Some opening) (Some closing) = nat_le closing.line opening.line
 abbrev pub is_saying : {w : ℕ} → ℕ → ℕ → Link × Beat w → Trace w → Bool
 is_saying n k x t = (x.0.0 == n) && (ends x.1 (on_link n t) && is_some (says_held k x.1 (on_link n t)))
 
-unfoldable pub last_saying : {w : ℕ} → ℕ → ℕ → Trace w → Option (Mention)
-last_saying n k [] = None
-last_saying n k (x ∷ t) = if is_saying n k x t then Some (told x t) else last_saying n k t
+abbrev pub last_saying : {w : ℕ} → ℕ → ℕ → Trace w → Option Mention
+last_saying n k t = last_where (is_saying n k) t
 
 -- what a Grant, ProbeAck or Release leaves
 abbrev pub left_by : Control → Perm
@@ -70,5 +80,6 @@ unfoldable pub burst_opening : {w : ℕ} → ℕ → Channel → Trace w → Opt
 burst_opening n ch [] = None
 burst_opening n ch (x ∷ t) =
     if (x.0.0 == n) && on ch x.1
-    then (if is_empty (unfinished ch (on_link n (x ∷ t))) then None else if is_empty (unfinished ch (on_link n t)) then Some (told x t) else burst_opening n ch t)
+    then (if is_empty (unfinished ch (on_link n (x ∷ t))) then None else if is_empty (unfinished ch (on_link n t)) then
+    Some (told x t) else burst_opening n ch t)
     else burst_opening n ch t

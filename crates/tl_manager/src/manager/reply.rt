@@ -16,12 +16,13 @@ use tl_beat::beat::Link;
 use tl_beat::opcode::{OpA, OpB, OpD};
 use tl_burst::message::{Message, MessageA, MessageB, MessageD};
 use tl_rules::answer::Answer;
+use tl_rules::config::MOST_CLIENTS;
 use tl_rules::param::{Cap, Grow};
 use tl_rules::perm::Perm;
 use tl_rules::profile::Profile;
 
 /// Messages, each with the link on which it is handed out, in order.
-pub type Handed<const W: usize> = ArrayVec<(Link, Message<W>), 16>;
+pub type Handed<const W: usize> = ArrayVec<(Link, Message<W>), MOST_CLIENTS>;
 
 /// What is handed out for a beat: seldom more than one message.
 #[derive(Clone, Copy, Debug, PartialEq, Eq)]

@@ -1,5 +1,6 @@
 -- What a table of blocks says of each.
-use Rattle.std.specs.Prelude.{ℕ, ◌+◌, ◌%◌, ◌<◌, ◌≡◌, Bool, true, false, List, [], map, Option, Some, None, is_some, slice_index_or, slice_set}
+use Rattle.std.specs.Prelude.{ℕ, ◌+◌, ◌%◌, ◌<◌, ◌≡◌, Bool, true, false, List, [], map, Option, Some, None, is_some}
+use Rattle.std.specs.Prelude.{slice_index_or, slice_set}
 use Rattle.std.specs.BTreeMap.{BTreeMap, is_at}
 use Rattle.std.specs.Map.{lookup, set_value}
 use Rattle.std.specs.Ordering.{nat_cmp}
@@ -34,7 +35,8 @@ is_held perm.Trunk = true
 
 -- how many keys of a block are pending, and one more where it is held
 unfoldable pub open_of : Block → ℕ
-open_of b = one_if (is_held b.held) + one_if b.acquire + one_if b.release + one_if (is_some b.probe) + one_if (is_some b.grant)
+open_of b = one_if (is_held b.held) + one_if b.acquire + one_if b.release + one_if (is_some b.probe) + one_if
+    (is_some b.grant)
 
 -- something is seen of block k where it stands in the entries, and then something is open or held of it
 abbrev pub IsValue : List (ℕ × Block) → ℕ → Option Block → Type 0

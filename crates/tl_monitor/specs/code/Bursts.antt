@@ -1,10 +1,11 @@
 -- What a table of unfinished bursts says of each channel.
-use Rattle.std.specs.Prelude.{ℕ, Bool, List, [], ◌∷◌, ◌+◌, ◌-◌, ◌==◌, ◌≡◌, ◌<◌, if◌then◌else◌, length, nat_le, Option, Some, None}
+use Rattle.std.specs.Prelude.{ℕ, Bool, List, [], ◌∷◌, ◌+◌, ◌-◌, ◌==◌, ◌≡◌, ◌<◌, if◌then◌else◌, length, nat_le, Option}
+use Rattle.std.specs.Prelude.{Some, None}
 use Rattle.tl_beat.specs.declared.beat.Beat.{Beat}
 use Rattle.tl_beat.specs.declared.channel.Channel.{Channel}
 use Rattle.tl_beat.specs.declared.channel.Channel.TheVariants as channel
 use Rattle.tl_burst.specs.statement.Messages.{burst_length, on}
-use Rattle.tl_monitor.specs.code.Control.{control_of}
+use Rattle.tl_beat.specs.statement.Control.{control_of}
 use Rattle.tl_monitor.specs.declared.bursts.Unfinished.{Unfinished}
 use Rattle.tl_monitor.specs.declared.bursts.Bursts.{Bursts}
 
@@ -19,7 +20,8 @@ burst_on b channel.E = b.e
 abbrev pub IsOf : {w : ℕ} → Option Unfinished → List (Beat w) → Type 0
 IsOf {w} None beats = beats ≡ []
 IsOf {w} (Some u) beats =
-    (x : Beat w) × (earlier : List (Beat w)) × (beats ≡ x ∷ earlier) × (u.control ≡ control_of x) × (length beats + u.left ≡ burst_length x)
+    (x : Beat w) × (earlier : List (Beat w)) × (beats ≡ x ∷ earlier) × (u.control ≡ control_of x)
+    × (length beats + u.left ≡ burst_length x)
     × (0 < u.left)
 
 -- the beat is the last one of its burst

@@ -1,5 +1,6 @@
 -- What the tables of a link say, and what they say with one more beat.
-use Rattle.std.specs.Prelude.{ℕ, Bool, false, ◌==◌, ◌≡◌, ◌<◌, ◌+◌, ◌^◌, ◌&&◌, ◌||◌, if◌then◌else◌, Option, Some, None, is_some, is_none}
+use Rattle.std.specs.Prelude.{ℕ, Bool, false, ◌==◌, ◌≡◌, ◌<◌, ◌+◌, ◌^◌, ◌&&◌, ◌||◌, if◌then◌else◌, Option, Some, None}
+use Rattle.std.specs.Prelude.{is_some, is_none}
 use Rattle.tl_beat.specs.declared.beat.Beat.{Beat}
 use Rattle.tl_beat.specs.declared.beat.Beat.TheVariants as beat
 use Rattle.tl_beat.specs.declared.channel.Channel.{Channel}
@@ -35,7 +36,8 @@ touched first last (beat.B x) k = if first && is_probe x.opcode then Some (block
 touched first last (beat.C x) k = if first || last then Some (block_at x.address) else None
 touched first last (beat.D x) k =
     if first || last
-    then (if is_release_ack x.opcode then block_of_release (at k.releases x.source) else if is_grant x.opcode then block_of_request (at k.requests x.source) else None)
+    then (if is_release_ack x.opcode then block_of_release (at k.releases x.source) else if is_grant x.opcode then
+    block_of_request (at k.requests x.source) else None)
     else None
 touched first last (beat.E x) k = at k.sinks x.sink
 
@@ -52,12 +54,16 @@ sink_with first last _ block s b = b
 -- these are the tables with one more beat
 pub record IsNext {w : ℕ} (old : LinkState) (x : Beat w) (new : LinkState) : Type 0 where
   pub bursts_are : (ch : Channel) → burst_on new.bursts ch ≡ burst_with ch x (burst_on old.bursts ch)
-  pub requests_are : (s : ℕ) → at new.requests s ≡ request_next (is_first x old) (completes x old) x s (at old.requests s)
-  pub releases_are : (s : ℕ) → at new.releases s ≡ release_next (is_first x old) (completes x old) x s (at old.releases s)
+  pub requests_are : (s : ℕ) → at new.requests s ≡ request_next (is_first x old) (completes x old) x s
+      (at old.requests s)
+  pub releases_are : (s : ℕ) → at new.releases s ≡ release_next (is_first x old) (completes x old) x s
+      (at old.releases s)
   pub sinks_are : (s : ℕ)
-      → at new.sinks s ≡ sink_with (is_first x old) (completes x old) x (touched (is_first x old) (completes x old) x old) s (at old.sinks s)
+      → at new.sinks s ≡ sink_with (is_first x old) (completes x old) x
+      (touched (is_first x old) (completes x old) x old) s (at old.sinks s)
   pub blocks_are : (b : ℕ) → block_in new.blocks b
-      ≡ (if is_block b (touched (is_first x old) (completes x old) x old) then block_next (is_first x old) (completes x old) x (block_in old.blocks b) else block_in old.blocks b)
+      ≡ (if is_block b (touched (is_first x old) (completes x old) x old) then block_next (is_first x old)
+      (completes x old) x (block_in old.blocks b) else block_in old.blocks b)
 
 -- a beat of a block of which nothing was open or held, and then something is
 pub record IsNew {w : ℕ} (old : LinkState) (x : Beat w) (b : ℕ) : Type 0 where
@@ -77,5 +83,6 @@ pub record IsEmpty (k : LinkState) : Type 0 where
 -- how much is kept
 abbrev pub entries_in : LinkState → ℕ
 entries_in k =
-    count_below 256 (λ s. is_some (at k.requests s)) + count_below 256 (λ s. is_some (at k.releases s)) + count_below 256 (λ s. is_some (at k.sinks s))
+    count_below 256 (λ s. is_some (at k.requests s)) + count_below 256 (λ s. is_some (at k.releases s)) + count_below
+    256 (λ s. is_some (at k.sinks s))
     + sum_below (2 ^ 32) (λ b. open_of (block_in k.blocks b))

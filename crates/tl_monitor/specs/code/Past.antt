@@ -1,8 +1,8 @@
 -- What an unfinished burst comes as.
 use Rattle.std.specs.Prelude.{ℕ, Bool, false, ◌==◌, ◌&&◌, Option, Some, None}
 use Rattle.tl_rules.specs.statement.History.{is_release, is_grant}
-use Rattle.tl_monitor.specs.declared.control.Control.{Control}
-use Rattle.tl_monitor.specs.declared.control.Control.TheVariants.{A, C, D}
+use Rattle.tl_beat.specs.declared.control.Control.{Control}
+use Rattle.tl_beat.specs.declared.control.Control.TheVariants.{A, C, D}
 use Rattle.tl_monitor.specs.declared.bursts.Unfinished.{Unfinished}
 
 abbrev pub of_request : ℕ → Control → Bool

@@ -1,16 +1,21 @@
 -- What a monitor knows of the trace that it was given.
-use Rattle.std.specs.Prelude.{ℕ, Bool, true, false, List, [], ◌∷◌, ◌≡◌, ◌<◌, ◌≤◌, if◌then◌else◌, length, nat_lt, slice_index_or, Option, Some, None, Result, Ok, Err, ⊤}
+use Rattle.std.specs.Prelude.{ℕ, Bool, true, false, List, [], ◌∷◌, ◌≡◌, ◌<◌, ◌≤◌, if◌then◌else◌, length, nat_lt}
+use Rattle.std.specs.Prelude.{slice_index_or, Option, Some, None, Result, Ok, Err, ⊤}
 use Rattle.tl_beat.specs.declared.beat.Beat.{Beat}
 use Rattle.tl_beat.specs.declared.beat.Link.{Link}
 use Rattle.tl_params.specs.declared.level.Level.{Level}
+use Rattle.tl_params.specs.declared.perm.Perm.{Perm}
+use Rattle.tl_params.specs.declared.perm.Perm.TheVariants as perm
 use Rattle.tl_params.specs.declared.profile.Profile.{Profile}
 use Rattle.tl_params.specs.declared.rule.Rule.{Rule}
 use Rattle.tl_params.specs.statement.Config.{IsCount}
 use Rattle.tl_rules.specs.statement.Conformance.{Trace, on_link, broken_on_link, first_fault}
+use Rattle.tl_rules.specs.statement.History.{begins, held}
+use Rattle.tl_burst.specs.statement.Messages.{History}
 use Rattle.tl_rules.specs.code.Open.{open_request}
 use Rattle.tl_rules.specs.declared.past.Request.{Request}
 use Rattle.tl_monitor.specs.declared.link_state.LinkState.{LinkState}
-use Rattle.tl_monitor.specs.code.LinkState.{IsEmpty}
+use Rattle.tl_monitor.specs.code.LinkState.{is_block, IsEmpty}
 use Rattle.tl_monitor.specs.code.Keeps.{Keeps}
 use Rattle.tl_monitor.specs.declared.monitor.Monitor.{Monitor}
 use Rattle.tl_monitor.specs.declared.fault.MonitorFault.{MonitorFault}
@@ -20,15 +25,28 @@ use Rattle.tl_monitor.specs.declared.fault.TraceFault.TheVariants as trace
 
 -- The monitor has these levels and this profile, and keeps of each link what was recorded there, the
 -- newest first. It is closed where a beat was refused by a rule.
-pub record Knows {w : ℕ} (m : Monitor w) (levels : List Level) (p : Profile) (t : Trace w) (closed : Bool) : Type 0 where
-  pub levels_are : m.levels.items ≡ levels
-  pub profile_is : m.profile ≡ p
-  pub closed_is : m.closed ≡ closed
-  pub links_are : (n : ℕ) (d : LinkState) → n < length levels → Keeps (slice_index_or m.links.items n d) (on_link n t)
+pub record Knows {w : ℕ} (m : Monitor w) (levels : List Level) (p : Profile) (t : Trace w) (closed : Bool) : Type 0
+  where
+    pub levels_are : m.levels.items ≡ levels
+    pub profile_is : m.profile ≡ p
+    pub closed_is : m.closed ≡ closed
+    pub links_are : (n : ℕ) (d : LinkState) → n < length levels → Keeps (slice_index_or m.links.items n d) (on_link n t)
 
 -- the request with this source that is pending and complete on a link; none on a link without a level
 abbrev pub request_on : {w : ℕ} → List Level → Link → ℕ → Trace w → Option Request
 request_on levels link source t = if nat_lt link.0 (length levels) then open_request source (on_link link.0 t) else None
+
+-- what is held of a block on a link; nothing on a link without a level
+abbrev pub held_on : {w : ℕ} → List Level → Link → ℕ → Trace w → Perm
+held_on levels link block t = if nat_lt link.0 (length levels) then held block (on_link link.0 t) else perm.None
+
+-- the beat begins a message on its link; none on a link without a level
+abbrev pub begins_on : {w : ℕ} → List Level → Link → Beat w → Trace w → Bool
+begins_on levels link x t = if nat_lt link.0 (length levels) then begins x (on_link link.0 t) else false
+
+-- of each block but this one as much is held with the beat as before it
+abbrev pub LeavesOthers : {w : ℕ} → Option ℕ → Beat w → History w → Type 0
+LeavesOthers block x t = (b : ℕ) → is_block b block ≡ false → held b (x ∷ t) ≡ held b t
 
 -- this many links of which nothing is kept
 pub record AllEmpty (count : ℕ) (links : List LinkState) : Type 0 where
@@ -74,7 +92,8 @@ closed_after (Err e) = true
 -- the answer to a trace: its first fault, want of memory aside
 abbrev pub AnswersTrace : {w : ℕ} → List Level → Profile → Trace w → Result ⊤ TraceFault → Type 0
 AnswersTrace levels p beats (Ok u) = IsCount (length levels) × (first_fault levels p beats ≡ None)
-AnswersTrace levels p beats (Err (trace.At i rule)) = IsCount (length levels) × (first_fault levels p beats ≡ Some (i, rule))
+AnswersTrace levels p beats (Err (trace.At i rule)) = IsCount (length levels)
+    × (first_fault levels p beats ≡ Some (i, rule))
 AnswersTrace levels p beats (Err trace.Levels) = ¬ IsCount (length levels)
 AnswersTrace levels p beats (Err trace.Memory) = IsCount (length levels)
 

@@ -1,6 +1,7 @@
 -- What headers name alike, read from left to right, as the code goes; only private clauses cite this.
 use denote.Ref.{Bor}
-use Rattle.std.specs.Prelude.{◌≡◌, ℕ, zero, suc, List, [], ◌∷◌, option_and_then, Option, Some, None, ◌==◌, ◌&&◌, if◌then◌else◌}
+use Rattle.std.specs.Prelude.{◌≡◌, ℕ, zero, suc, List, [], ◌∷◌, option_and_then, Option, Some, None, ◌==◌, ◌&&◌}
+use Rattle.std.specs.Prelude.{if◌then◌else◌}
 use Rattle.arrayvec.specs.ArrayVec.{ArrayVec}
 use Rattle.tl_params.specs.declared.header.Version.{Version}
 use Rattle.tl_params.specs.declared.header.Version.TheVariants.{First, Second, Third}
@@ -22,13 +23,15 @@ abbrev pub width_at : List ℕ → Option (Width × List ℕ)
 width_at [] = None
 width_at (a ∷ []) = if a == 52 then Some (Four, []) else if a == 56 then Some (Eight, []) else None
 width_at (a ∷ b ∷ rest) =
-    if a == 52 then Some (Four, b ∷ rest) else if a == 56 then Some (Eight, b ∷ rest) else if (a == 49) && (b == 54) then Some (Sixteen, rest) else None
+    if a == 52 then Some (Four, b ∷ rest) else if a == 56 then Some (Eight, b ∷ rest) else if (a == 49) && (b == 54)
+    then Some (Sixteen, rest) else None
 
 -- a profile at the front, behind a space
 abbrev pub profile_at : List ℕ → Option (Profile × List ℕ)
 profile_at [] = None
 profile_at (a ∷ []) = None
-profile_at (a ∷ b ∷ rest) = if (a == 32) && (b == 49) then Some (profile.One, rest) else if (a == 32) && (b == 50) then Some (profile.Two, rest) else None
+profile_at (a ∷ b ∷ rest) = if (a == 32) && (b == 49) then Some (profile.One, rest) else if (a == 32) && (b == 50) then
+    Some (profile.Two, rest) else None
 
 abbrev pub with_profile : Width → Option (Profile × List ℕ) → Option (Version × List ℕ)
 with_profile width None = None
@@ -76,7 +79,8 @@ onto x (Some xs) = Some (x ∷ xs)
 -- at most n of what a reader finds at the front, up to a line feed at the end
 unfoldable pub up_to : {A : Type 0} → (List ℕ → Option (A × List ℕ)) → ℕ → List ℕ → Option (List A)
 up_to read zero bytes = if is_end bytes then Some [] else None
-up_to read (suc n) bytes = if is_end bytes then Some [] else option_and_then (λ x. onto x.0 (up_to read n x.1)) (read bytes)
+up_to read (suc n) bytes = if is_end bytes then Some [] else option_and_then (λ x. onto x.0 (up_to read n x.1))
+    (read bytes)
 
 -- those that were returned are those that reading gives
 abbrev pub GivesAll : {A : Type 0} → Option (ArrayVec A) → Option (List A) → Type 0

@@ -10,8 +10,10 @@ use Rattle.tl_beat.specs.statement.First.{first_if}
 use Rattle.tl_params.specs.declared.level.Level.{Level}
 use Rattle.tl_params.specs.declared.rule.Rule.{Rule}
 use Rattle.tl_params.specs.declared.rule.Rule.TheVariants.{L1, L2, L3, L4, L5, L6, L7}
-use Rattle.tl_rules.specs.statement.Legality.{a_of_level, d_of_level, has_transfers, is_forwarded, answers_forwarded, a_has_param, c_has_param, d_has_param, c_has_source}
-use Rattle.tl_rules.specs.statement.Legality.{d_has_sink, a_has_size, d_has_size, is_aligned, a_has_mask, is_full_mask, may_be_denied}
+use Rattle.tl_rules.specs.statement.Legality.{a_of_level, d_of_level, has_transfers, is_forwarded, answers_forwarded}
+use Rattle.tl_rules.specs.statement.Legality.{a_has_param, c_has_param, d_has_param, c_has_source}
+use Rattle.tl_rules.specs.statement.Legality.{d_has_sink, a_has_size, d_has_size, is_aligned, a_has_mask, is_full_mask}
+use Rattle.tl_rules.specs.statement.Legality.{may_be_denied}
 use Rattle.tl_params.specs.statement.Param.{cap_of}
 
 abbrev pub a_control : ℕ → Level → OpA → ℕ → ℕ → ℕ → Option Rule

@@ -13,7 +13,8 @@ use Rattle.tl_rules.specs.statement.Conformance.{comes_in_request, comes_in_rele
 
 abbrev pub request_fields : {w : ℕ} → Option (BeatA w) → Option Request
 request_fields None = None
-request_fields (Some x) = Some (record { opcode = x.opcode; param = x.param; size = x.size; block = block_at x.address })
+request_fields (Some x) =
+    Some (record { opcode = x.opcode; param = x.param; size = x.size; block = block_at x.address })
 
 abbrev pub release_size : {w : ℕ} → Option (BeatC w) → Option ℕ
 release_size None = None
@@ -25,11 +26,13 @@ probe_fields (Some x) = Some (record { opcode = x.opcode; param = x.param })
 
 -- the request with this source that is pending and complete
 abbrev pub open_request : {w : ℕ} → ℕ → History w → Option Request
-open_request s t = if pending (RequestSource s) t && not (comes_in_request s (unfinished channel.A t)) then request_fields (request_of s t) else None
+open_request s t = if pending (RequestSource s) t && not (comes_in_request s (unfinished channel.A t)) then
+    request_fields (request_of s t) else None
 
 -- the size of the Release with this source that is pending and complete
 abbrev pub open_release : {w : ℕ} → ℕ → History w → Option ℕ
-open_release s t = if pending (ReleaseSource s) t && not (comes_in_release s (unfinished channel.C t)) then release_size (release_of s t) else None
+open_release s t = if pending (ReleaseSource s) t && not (comes_in_release s (unfinished channel.C t)) then release_size
+    (release_of s t) else None
 
 -- the Probe of the block that is pending
 abbrev pub open_probe : {w : ℕ} → ℕ → History w → Option Probe

@@ -9,7 +9,8 @@ use Rattle.tl_params.specs.declared.perm.Perm.TheVariants as perm
 use Rattle.tl_rules.specs.declared.past.Request.{Request}
 use Rattle.tl_rules.specs.declared.table.Release.{Release}
 use Rattle.tl_rules.specs.declared.table.Block.{Block}
-use Rattle.tl_rules.specs.statement.History.{block_at, is_acquire, is_probe, is_probe_ack, is_release, is_grant, is_release_ack, asks_for, releases, is_sink}
+use Rattle.tl_rules.specs.statement.History.{block_at, is_acquire, is_probe, is_probe_ack, is_release, is_grant}
+use Rattle.tl_rules.specs.statement.History.{is_release_ack, asks_for, releases, is_sink}
 use Rattle.tl_rules.specs.statement.History.{request_of, release_of, grant_sink, pending, held, reported, capped}
 use Rattle.tl_rules.specs.code.Open.{request_fields, open_probe}
 
@@ -50,7 +51,8 @@ request_next first last (beat.D x) s r = if last && (not (is_release_ack x.opcod
 request_next first last _ s r = r
 
 abbrev pub release_next : {w : ℕ} → Bool → Bool → Beat w → ℕ → Option Release → Option Release
-release_next first last (beat.C x) s r = if first && (is_release x.opcode && (x.source == s)) then release_fields (Some x) else r
+release_next first last (beat.C x) s r = if first && (is_release x.opcode && (x.source == s)) then release_fields
+    (Some x) else r
 release_next first last (beat.D x) s r = if last && (is_release_ack x.opcode && (x.source == s)) then None else r
 release_next first last _ s r = r
 
@@ -102,5 +104,6 @@ abbrev pub bears_on : {w : ℕ} → ℕ → Beat w → History w → Bool
 bears_on k (beat.A x) t = block_at x.address == k
 bears_on k (beat.B x) t = block_at x.address == k
 bears_on k (beat.C x) t = block_at x.address == k
-bears_on k (beat.D x) t = if is_release_ack x.opcode then releases k (release_of x.source t) else asks_for k (request_of x.source t)
+bears_on k (beat.D x) t = if is_release_ack x.opcode then releases k (release_of x.source t) else asks_for k
+    (request_of x.source t)
 bears_on k (beat.E x) t = is_sink x.sink (grant_sink k t)

@@ -9,7 +9,8 @@ use Rattle.tl_burst.specs.statement.Burst.{beat_of, a_beat_of, b_beat_of, c_beat
 use Rattle.tl_burst.specs.statement.Messages.{History}
 use Rattle.tl_params.specs.declared.key.Key.{Key}
 use Rattle.tl_params.specs.declared.perm.Perm.{Perm}
-use Rattle.tl_rules.specs.statement.History.{block_at, is_probe, is_release, is_grant, asks_for, request_of, grant_sink, opens, closes, pending, says_held, held}
+use Rattle.tl_rules.specs.statement.History.{block_at, is_probe, is_release, is_grant, asks_for, request_of, grant_sink}
+use Rattle.tl_rules.specs.statement.History.{opens, closes, pending, says_held, held}
 
 -- whether the key is pending
 abbrev pub pending_with : {w : ℕ} → Key → Message w → History w → Bool
@@ -36,7 +37,8 @@ probe_with k _ p = p
 
 -- the sink of the last Grant of the block, whose request is one of this history
 abbrev pub sink_with : {w : ℕ} → ℕ → Message w → History w → Option ℕ
-sink_with k (message.D m) t = if is_grant m.opcode && asks_for k (request_of m.source t) then Some m.sink else grant_sink k t
+sink_with k (message.D m) t = if is_grant m.opcode && asks_for k (request_of m.source t) then Some m.sink else
+    grant_sink k t
 sink_with k _ t = grant_sink k t
 
 -- ---- where there may be no message

@@ -1,5 +1,6 @@
 -- What the two ends of a link share: what was handed out, the A rules, and the data of a message.
-use Rattle.std.specs.Prelude.{ℕ, Bool, false, List, [], ◌∷◌, ◌++◌, ◌||◌, ◌-◌, length, nat_le, replicate, unwrap_or, Option, Some, None}
+use Rattle.std.specs.Prelude.{ℕ, Bool, false, List, [], ◌∷◌, ◌++◌, ◌||◌, ◌-◌, length, nat_le, replicate, unwrap_or}
+use Rattle.std.specs.Prelude.{Option, Some, None}
 use Rattle.tl_beat.specs.declared.beat.Beat.{Beat}
 use Rattle.tl_beat.specs.declared.beat.Beat.TheVariants as beat
 use Rattle.tl_burst.specs.declared.message.Message.{Message}

@@ -1,6 +1,7 @@
 -- The order of messages on a link: the H rules, which judge a message at its first beat against the
 -- history of its link, and all rules together over a link and over a recorded trace.
-use Rattle.std.specs.Prelude.{ℕ, Bool, true, false, not, List, [], ◌∷◌, ◌==◌, ◌&&◌, ◌||◌, if◌then◌else◌, length, Option, Some, None, is_none, slice_get}
+use Rattle.std.specs.Prelude.{ℕ, Bool, true, false, not, List, [], ◌∷◌, ◌==◌, ◌&&◌, ◌||◌, if◌then◌else◌, length, Option}
+use Rattle.std.specs.Prelude.{Some, None, is_none, slice_get}
 use Rattle.tl_beat.specs.declared.beat.Beat.{Beat}
 use Rattle.tl_beat.specs.declared.beat.Beat.TheVariants as beat
 use Rattle.tl_beat.specs.declared.beat.BeatA.{BeatA}
@@ -25,9 +26,12 @@ use Rattle.tl_params.specs.declared.perm.Perm.TheVariants as perm
 use Rattle.tl_params.specs.declared.profile.Profile.{Profile}
 use Rattle.tl_params.specs.declared.profile.Profile.TheVariants as profile
 use Rattle.tl_params.specs.declared.rule.Rule.{Rule}
-use Rattle.tl_params.specs.declared.rule.Rule.TheVariants.{L1, S1, H1, H2, H3, H4, H5, H6, H7, H8, H9, H10, H11, H12, H13}
-use Rattle.tl_rules.specs.statement.History.{begins, block_at, is_acquire, is_probe, is_probe_ack, is_release, is_grant, is_release_ack, request_of, release_of, probe_of, held, pending}
-use Rattle.tl_params.specs.declared.key.Key.TheVariants.{RequestSource, ReleaseSource, AcquireOf, ReleaseOf, GrantSink, GrantAckOf, ProbeOf}
+use Rattle.tl_params.specs.declared.rule.Rule.TheVariants.{L1, S1, H1, H2, H3, H4, H5, H6, H7, H8, H9, H10, H11, H12}
+use Rattle.tl_params.specs.declared.rule.Rule.TheVariants.{H13}
+use Rattle.tl_rules.specs.statement.History.{begins, block_at, is_acquire, is_probe, is_probe_ack, is_release, is_grant}
+use Rattle.tl_rules.specs.statement.History.{is_release_ack, request_of, release_of, probe_of, held, pending}
+use Rattle.tl_params.specs.declared.key.Key.TheVariants.{RequestSource, ReleaseSource, AcquireOf, ReleaseOf, GrantSink}
+use Rattle.tl_params.specs.declared.key.Key.TheVariants.{GrantAckOf, ProbeOf}
 use Rattle.tl_rules.specs.statement.Legality.{illegal}
 use Rattle.tl_params.specs.declared.param.Cap.{Cap}
 use Rattle.tl_params.specs.declared.param.Cap.TheVariants as cap
@@ -84,7 +88,8 @@ abbrev pub has_request : {w : ℕ} → BeatD w → History w → Bool
 has_request x t =
     if is_release_ack x.opcode
     then pending (ReleaseSource x.source) t && not (comes_in_release x.source (unfinished channel.C t))
-    else pending (RequestSource x.source) t && (not (comes_in_request x.source (unfinished channel.A t)) && admits x.opcode (request_of x.source t))
+    else pending (RequestSource x.source) t && (not (comes_in_request x.source (unfinished channel.A t)) && admits
+    x.opcode (request_of x.source t))
 
 -- the size of a request that is pending
 abbrev pub size_of_request : {w : ℕ} → Option (BeatA w) → ℕ
@@ -98,7 +103,8 @@ size_of_release (Some x) = x.size
 
 -- the size of the request that x answers
 abbrev pub size_asked : {w : ℕ} → BeatD w → History w → ℕ
-size_asked x t = if is_release_ack x.opcode then size_of_release (release_of x.source t) else size_of_request (request_of x.source t)
+size_asked x t = if is_release_ack x.opcode then size_of_release (release_of x.source t) else size_of_request
+    (request_of x.source t)
 
 -- ---- permissions
 
@@ -113,7 +119,8 @@ fits_grow profile.Two a.AcquireBlock param given =
     if param == grow_code grow.NtoB
     then (given == cap_code cap.ToT) || (given == cap_code cap.ToB)
     else given == cap_code cap.ToT
-fits_grow _ opcode param given = if param == grow_code grow.NtoB then given == cap_code cap.ToB else given == cap_code cap.ToT
+fits_grow _ opcode param given = if param == grow_code grow.NtoB then given == cap_code cap.ToB else given == cap_code
+    cap.ToT
 
 -- the opcode is Grant, which gives a permission without data
 abbrev pub is_grant_without_data : OpD → Bool
@@ -131,7 +138,8 @@ abbrev pub misgrants : {w : ℕ} → Profile → BeatD w → Option (BeatA w) �
 misgrants p x None t = false
 misgrants p x (Some r) t =
     not (fits_grow p r.opcode r.param x.param)
-    || ((is_grant_without_data x.opcode && (is_acquire_block r.opcode && not (same_perm (held (block_at r.address) t) perm.Branch)))
+    || ((is_grant_without_data
+    x.opcode && (is_acquire_block r.opcode && not (same_perm (held (block_at r.address) t) perm.Branch)))
     || pending (ProbeOf (block_at r.address)) t)
 
 -- the opcode is ProbeBlock, which wants the data of a dirty copy
@@ -167,13 +175,15 @@ prunes_from (Some prune) p = same_perm (prune_left prune) p
 abbrev pub broken_a : {w : ℕ} → BeatA w → History w → Option Rule
 broken_a x t =
     first_if (pending (RequestSource x.source) t) H1
-    (first_if (is_acquire x.opcode && (pending (AcquireOf (block_at x.address)) t || pending (ReleaseOf (block_at x.address)) t)) H4
+    (first_if (is_acquire x.opcode && (pending (AcquireOf (block_at x.address)) t || pending
+    (ReleaseOf (block_at x.address)) t)) H4
     (first_if (is_acquire x.opcode && not (grows_from x.param (held (block_at x.address) t))) H5 None))
 
 -- H9: a Probe of a block of which a Probe or a GrantAck is pending
 abbrev pub broken_b : {w : ℕ} → BeatB w → History w → Option Rule
 broken_b x t =
-    first_if (is_probe x.opcode && (pending (ProbeOf (block_at x.address)) t || pending (GrantAckOf (block_at x.address)) t)) H9 None
+    first_if (is_probe x.opcode && (pending (ProbeOf (block_at x.address)) t || pending
+    (GrantAckOf (block_at x.address)) t)) H9 None
 
 -- the first of H1 and H13 that a Release breaks: its source isn't free; an Acquire or Release of
 -- its block is pending, or the prune doesn't start from the permission held
@@ -181,13 +191,15 @@ abbrev pub broken_release : {w : ℕ} → BeatC w → History w → Option Rule
 broken_release x t =
     first_if (pending (ReleaseSource x.source) t) H1
     (first_if (pending (AcquireOf (block_at x.address)) t
-    || (pending (ReleaseOf (block_at x.address)) t || not (prunes_from (prune_of x.param) (held (block_at x.address) t)))) H13 None)
+    || (pending (ReleaseOf (block_at x.address)) t || not
+    (prunes_from (prune_of x.param) (held (block_at x.address) t)))) H13 None)
 
 -- the first of H10, H11 and H12 that a ProbeAck breaks: it answers no Probe of the block that is
 -- pending; a Release of the block is pending; its report doesn't follow from cap and permission
 abbrev pub broken_probe_ack : {w : ℕ} → BeatC w → History w → Option Rule
 broken_probe_ack x t =
-    first_if (not (pending (ProbeOf (block_at x.address)) t) || answers_wrong_probe x (probe_of (block_at x.address) t)) H10
+    first_if (not (pending (ProbeOf (block_at x.address)) t) || answers_wrong_probe x (probe_of (block_at x.address) t))
+    H10
     (first_if (pending (ReleaseOf (block_at x.address)) t) H11
     (first_if (misreports x (probe_of (block_at x.address) t) (held (block_at x.address) t)) H12 None))
 

@@ -1,6 +1,8 @@
 -- What a request does to a memory, and what it is answered.
-use Rattle.std.specs.Prelude.{ℕ, zero, suc, ◌+◌, ◌-◌, ◌*◌, ◌/◌, ◌%◌, ◌^◌, ◌<◌, ◌≡◌, nat_lt, min, max, ℤ, pos, ◌-ℤ◌, int_lt, bit_xor, bit_or, bit_and}
-use Rattle.std.specs.Prelude.{if◌then◌else◌, List, [], ◌∷◌, ◌++◌, length, replicate, slice_index, Option, Some, None, unwrap_or}
+use Rattle.std.specs.Prelude.{ℕ, zero, suc, ◌+◌, ◌-◌, ◌*◌, ◌/◌, ◌%◌, ◌^◌, ◌<◌, ◌≡◌, nat_lt, min, max, ℤ, pos, ◌-ℤ◌}
+use Rattle.std.specs.Prelude.{int_lt, bit_xor, bit_or, bit_and}
+use Rattle.std.specs.Prelude.{if◌then◌else◌, List, [], ◌∷◌, ◌++◌, length, replicate, slice_index, Option, Some, None}
+use Rattle.std.specs.Prelude.{unwrap_or}
 use Rattle.tl_beat.specs.declared.opcode.OpA.{OpA}
 use Rattle.tl_beat.specs.declared.opcode.OpA.TheVariants as a
 use Rattle.tl_burst.specs.declared.message.MessageA.{MessageA}
@@ -72,18 +74,23 @@ operand_of {w} m address = slice_index m.payload (address - w * (m.address / w))
 
 -- the number that an atomic stores, given what it makes of the old value and the operand
 abbrev pub number_stored : {w : ℕ} → MessageA w → (ℕ → ℕ → ℕ) → Memory → ℕ
-number_stored m result memory = result (number_from memory m.address (byte_count m)) (number_from (operand_of m) m.address (byte_count m))
+number_stored m result memory = result (number_from memory m.address (byte_count m))
+    (number_from (operand_of m) m.address (byte_count m))
 
 -- the memory with this number in place of the bytes that the request reaches
 abbrev pub with_number : {w : ℕ} → MessageA w → ℕ → Memory → Memory
-with_number m n memory address = if reaches m.address m.size address then byte_of n (address - m.address) else memory address
+with_number m n memory address = if reaches m.address m.size address then byte_of n (address - m.address) else memory
+    address
 
 -- the memory after a request
 abbrev pub after : {w : ℕ} → OpA → MessageA w → Memory → Memory
 after a.PutFullData m memory = λ address. unwrap_or (byte_at 0 (message.A m) address) (memory address)
 after a.PutPartialData m memory = λ address. unwrap_or (byte_at 0 (message.A m) address) (memory address)
-after a.ArithmeticData m memory = with_number m (number_stored m (by_param (λ o. arithmetic_result o (8 * byte_count m)) (arithmetic_of m.param)) memory) memory
-after a.LogicalData m memory = with_number m (number_stored m (by_param logical_result (logical_of m.param)) memory) memory
+after a.ArithmeticData m memory =
+    with_number m (number_stored m (by_param (λ o. arithmetic_result o (8 * byte_count m)) (arithmetic_of m.param))
+    memory) memory
+after a.LogicalData m memory = with_number m (number_stored m (by_param logical_result (logical_of m.param)) memory)
+    memory
 after _ m memory = memory
 
 -- what a request is answered

@@ -1,5 +1,6 @@
 -- What the history of a link says: what began and is complete, what is pending, and what is held.
-use Rattle.std.specs.Prelude.{ℕ, Bool, true, false, not, [], ◌∷◌, ◌==◌, ◌&&◌, ◌||◌, ◌/◌, if◌then◌else◌, Option, Some, None, unwrap_or, option_map}
+use Rattle.std.specs.Prelude.{ℕ, Bool, true, false, not, [], ◌∷◌, ◌==◌, ◌&&◌, ◌||◌, ◌/◌, if◌then◌else◌, Option, Some}
+use Rattle.std.specs.Prelude.{None, unwrap_or, option_map}
 use Rattle.tl_beat.specs.declared.beat.Beat.{Beat}
 use Rattle.tl_beat.specs.declared.beat.Beat.TheVariants as beat
 use Rattle.tl_beat.specs.declared.beat.BeatA.{BeatA}
@@ -17,7 +18,8 @@ use Rattle.tl_beat.specs.declared.opcode.OpD.TheVariants as d
 use Rattle.tl_burst.specs.statement.Messages.{History, channel_of, unfinished}
 use Rattle.tl_burst.specs.statement.Part.{is_empty, completes}
 use Rattle.tl_params.specs.declared.key.Key.{Key}
-use Rattle.tl_params.specs.declared.key.Key.TheVariants.{RequestSource, ReleaseSource, AcquireOf, ReleaseOf, GrantSink, GrantAckOf, ProbeOf}
+use Rattle.tl_params.specs.declared.key.Key.TheVariants.{RequestSource, ReleaseSource, AcquireOf, ReleaseOf, GrantSink}
+use Rattle.tl_params.specs.declared.key.Key.TheVariants.{GrantAckOf, ProbeOf}
 use Rattle.tl_params.specs.declared.perm.Perm.{Perm}
 use Rattle.tl_params.specs.declared.perm.Perm.TheVariants as perm
 use Rattle.tl_params.specs.statement.Param.{cap_of, cap_right, report_named, report_right}
@@ -85,13 +87,15 @@ request_of s (_ ∷ t) = request_of s t
 -- the last Release that began in t with this source
 unfoldable pub release_of : {w : ℕ} → ℕ → History w → Option (BeatC w)
 release_of s [] = None
-release_of s (beat.C x ∷ t) = if begins (beat.C x) t && (is_release x.opcode && (x.source == s)) then Some x else release_of s t
+release_of s (beat.C x ∷ t) = if begins (beat.C x) t && (is_release x.opcode && (x.source == s)) then Some x else
+    release_of s t
 release_of s (_ ∷ t) = release_of s t
 
 -- the last Probe of the block that began in t
 unfoldable pub probe_of : {w : ℕ} → ℕ → History w → Option (BeatB w)
 probe_of k [] = None
-probe_of k (beat.B x ∷ t) = if begins (beat.B x) t && (is_probe x.opcode && (block_at x.address == k)) then Some x else probe_of k t
+probe_of k (beat.B x ∷ t) = if begins (beat.B x) t && (is_probe x.opcode && (block_at x.address == k)) then Some x else
+    probe_of k t
 probe_of k (_ ∷ t) = probe_of k t
 
 -- the request, where there is one, is for an address of this block
@@ -162,7 +166,8 @@ capped param = unwrap_or (option_map cap_right (cap_of param)) perm.None
 
 -- a message that is complete with this beat after t says so of the block
 abbrev pub says_held : {w : ℕ} → ℕ → Beat w → History w → Option Perm
-says_held k (beat.C x) t = if (is_probe_ack x.opcode || is_release x.opcode) && (block_at x.address == k) then Some (reported x.param) else None
+says_held k (beat.C x) t = if (is_probe_ack x.opcode || is_release x.opcode) && (block_at x.address == k) then Some
+    (reported x.param) else None
 says_held k (beat.D x) t = if grants k x t then Some (capped x.param) else None
 says_held k _ t = None
 

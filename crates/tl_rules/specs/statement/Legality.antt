@@ -1,5 +1,6 @@
 -- Legality: the L rules, which judge a beat by the level of its link and its channel alone.
-use Rattle.std.specs.Prelude.{ℕ, zero, suc, Bool, true, false, not, List, [], ◌∷◌, ◌==◌, ◌&&◌, ◌||◌, ◌+◌, ◌%◌, ◌^◌, nat_lt, nat_le, if◌then◌else◌, Option, None, is_some}
+use Rattle.std.specs.Prelude.{ℕ, zero, suc, Bool, true, false, not, List, [], ◌∷◌, ◌==◌, ◌&&◌, ◌||◌, ◌+◌, ◌%◌, ◌^◌}
+use Rattle.std.specs.Prelude.{nat_lt, nat_le, if◌then◌else◌, Option, None, is_some}
 use Rattle.std.specs.Bool.{beq}
 use Rattle.std.specs.Option.{option_or}
 use Rattle.tl_beat.specs.declared.channel.Channel.{Channel}
@@ -24,7 +25,8 @@ use Rattle.tl_params.specs.declared.param.Prune.TheVariants as prune
 use Rattle.tl_params.specs.declared.param.Report.TheVariants as report
 use Rattle.tl_params.specs.declared.rule.Rule.{Rule}
 use Rattle.tl_params.specs.declared.rule.Rule.TheVariants.{L1, L2, L3, L4, L5, L6, L7}
-use Rattle.tl_params.specs.statement.Param.{grow_of, cap_of, prune_of, prune_code, report_named, report_code, arithmetic_of, logical_of, intent_of}
+use Rattle.tl_params.specs.statement.Param.{grow_of, cap_of, prune_of, prune_code, report_named, report_code}
+use Rattle.tl_params.specs.statement.Param.{arithmetic_of, logical_of, intent_of}
 
 -- ---- L1: the opcodes of a level
 
@@ -108,7 +110,8 @@ a_has_param a.AcquirePerm param = is_some (grow_of param)
 -- from Trunk
 abbrev pub c_has_param : OpC → ℕ → Bool
 c_has_param c.ProbeAck param = is_some (report_named param)
-c_has_param c.ProbeAckData param = is_one_of param (report_code report.TtoB ∷ report_code report.TtoN ∷ report_code report.TtoT ∷ [])
+c_has_param c.ProbeAckData param =
+    is_one_of param (report_code report.TtoB ∷ report_code report.TtoN ∷ report_code report.TtoT ∷ [])
 c_has_param c.Release param = is_some (prune_of param)
 c_has_param c.ReleaseData param = is_one_of param (prune_code prune.TtoB ∷ prune_code prune.TtoN ∷ [])
 c_has_param _ param = param == 0
@@ -232,7 +235,8 @@ abbrev pub breaks_l6 : {w : ℕ} → Beat w → Bool
 breaks_l6 (beat.A x) = x.corrupt && not (a_carries_data x.opcode)
 breaks_l6 (beat.B x) = x.corrupt && not (b_carries_data x.opcode)
 breaks_l6 (beat.C x) = x.corrupt && not (c_carries_data x.opcode)
-breaks_l6 (beat.D x) = (x.corrupt && not (d_carries_data x.opcode)) || (x.denied && not (may_be_denied x.opcode x.corrupt))
+breaks_l6 (beat.D x) = (x.corrupt && not (d_carries_data x.opcode))
+    || (x.denied && not (may_be_denied x.opcode x.corrupt))
 breaks_l6 (beat.E x) = false
 
 -- ---- the first rule

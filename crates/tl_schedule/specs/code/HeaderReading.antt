@@ -1,5 +1,6 @@
 -- The header of a schedule read from left to right, as the code goes; only private clauses cite this.
-use Rattle.std.specs.Prelude.{◌≡◌, ℕ, ◌+◌, ◌*◌, ◌-◌, List, [], ◌∷◌, Bool, false, Option, Some, None, ◌==◌, ◌&&◌, nat_le, if◌then◌else◌}
+use Rattle.std.specs.Prelude.{◌≡◌, ℕ, ◌+◌, ◌*◌, ◌-◌, List, [], ◌∷◌, Bool, false, Option, Some, None, ◌==◌, ◌&&◌, nat_le}
+use Rattle.std.specs.Prelude.{if◌then◌else◌}
 use Rattle.tl_params.specs.declared.config.ClientConfig.{ClientConfig}
 use Rattle.tl_params.specs.declared.header.Version.{Version}
 use Rattle.tl_params.specs.declared.level.Level.{Level}
@@ -59,12 +60,14 @@ pub record Named : Type 0 where
 
 abbrev pub some_clients : Version → ℕ → ℕ → List ClientConfig → Option Named
 some_clients version blocks trackers [] = None
-some_clients version blocks trackers (client ∷ clients) = Some (record { version = version; blocks = blocks; trackers = trackers; clients = client ∷ clients })
+some_clients version blocks trackers (client ∷ clients) =
+    Some (record { version = version; blocks = blocks; trackers = trackers; clients = client ∷ clients })
 
 -- what follows the first word
 abbrev pub named_at : List ℕ → Option Named
 named_at bytes =
-    version_at bytes >>= λ v. byte_at 32 v.1 >>= λ s. number_at 1024 s >>= λ b. byte_at 32 b.1 >>= λ t. number_at 8 t >>= λ n.
+    version_at bytes >>= λ v. byte_at 32 v.1 >>= λ s. number_at 1024 s >>= λ b. byte_at 32 b.1 >>= λ t. number_at 8 t
+    >>= λ n.
     clients_at 16 n.1 >>= some_clients v.0 b.0 n.0
 
 -- a whole header
@@ -72,7 +75,13 @@ abbrev pub header_at : List ℕ → Option Named
 header_at line = after_word schedule_word line >>= named_at
 
 abbrev pub named_by : Schedule → Named
-named_by s = record { version = s.version; blocks = s.config.blocks; trackers = s.config.trackers; clients = s.config.clients.items }
+named_by s = record {
+  version = s.version;
+  blocks = s.config.blocks;
+  trackers = s.config.trackers;
+  clients =
+      s.config.clients.items;
+}
 
 -- the header that was returned is the one that reading gives
 abbrev pub GivesSchedule : Option Schedule → Option Named → Type 0

@@ -35,7 +35,8 @@ with_name name all field = find (λ x. bytes_eq field (name x)) all
 
 abbrev pub words : List Word
 words =
-    word.Load ∷ word.Store ∷ word.Acquire ∷ word.Whole ∷ word.Release ∷ word.Get ∷ word.Put ∷ word.Part ∷ word.Arith ∷ word.Logic ∷ word.Hint
+    word.Load ∷ word.Store ∷ word.Acquire ∷ word.Whole ∷ word.Release ∷ word.Get ∷ word.Put ∷ word.Part ∷ word.Arith
+    ∷ word.Logic ∷ word.Hint
     ∷ word.Deliver ∷ []
 
 abbrev pub word_in : List ℕ → Option Word

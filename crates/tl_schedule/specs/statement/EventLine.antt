@@ -1,5 +1,6 @@
 -- The line of an event in a schedule.
-use Rattle.std.specs.Prelude.{◌≡◌, ◌≤◌, ◌<◌, ℕ, ◌-◌, ◌*◌, ◌/◌, ◌%◌, ◌^◌, List, [], ◌∷◌, ◌++◌, length, take, replicate, codes, All, nat_lt, not, ◌||◌, if◌then◌else◌, ⊤}
+use Rattle.std.specs.Prelude.{◌≡◌, ◌≤◌, ◌<◌, ℕ, ◌-◌, ◌*◌, ◌/◌, ◌%◌, ◌^◌, List, [], ◌∷◌, ◌++◌, length, take, replicate}
+use Rattle.std.specs.Prelude.{codes, All, nat_lt, not, ◌||◌, if◌then◌else◌, ⊤}
 use Rattle.std.specs.Io.BufRead.{ends_with_byte}
 use Rattle.tl_beat.specs.declared.channel.Channel.{Channel}
 use Rattle.tl_beat.specs.declared.opcode.OpA.{OpA}
@@ -72,11 +73,13 @@ asked_fields w size (Hint intent) = intent_name intent ∷ []
 -- the fields of a line, where beats have w bytes
 abbrev pub said_fields : ℕ → Said → List (List ℕ)
 said_fields w (Load client size address) = digits 2 client ∷ codes "load" ∷ digits 1 size ∷ digits 8 address ∷ []
-said_fields w (Store client size address value) = digits 2 client ∷ codes "store" ∷ digits 1 size ∷ digits 8 address ∷ digits (2 * 2 ^ size) value ∷ []
+said_fields w (Store client size address value) = digits 2 client ∷ codes "store" ∷ digits 1 size ∷ digits 8
+    address ∷ digits (2 * 2 ^ size) value ∷ []
 said_fields w (Acquire client block grow) = digits 2 client ∷ codes "acquire" ∷ digits 3 block ∷ grow_name grow ∷ []
 said_fields w (Whole client block bytes) = digits 2 client ∷ codes "whole" ∷ digits 3 block ∷ lane_digits bytes ∷ []
 said_fields w (Release client block prune) = digits 2 client ∷ codes "release" ∷ digits 3 block ∷ prune_name prune ∷ []
-said_fields w (Access client size address asked) = digits 2 client ∷ asked_name asked ∷ digits 1 size ∷ digits 8 address ∷ asked_fields w size asked
+said_fields w (Access client size address asked) = digits 2 client ∷ asked_name asked ∷ digits 1 size ∷ digits 8
+    address ∷ asked_fields w size asked
 said_fields w (Deliver link channel) = digits 2 link ∷ codes "deliver" ∷ letter channel ∷ []
 
 -- the one line of what is said: its fields with a space between each two, and a line feed
@@ -109,7 +112,8 @@ AskedFits w size (Hint intent) = ⊤
 -- each part has room in its field: sizes are 3 at most of a Load or Store, and else 6
 abbrev pub Fits : ℕ → Said → Type 0
 Fits w (Load client size address) = HasRoom 2 client × (size ≤ 3) × HasRoom 8 address
-Fits w (Store client size address value) = HasRoom 2 client × (size ≤ 3) × HasRoom 8 address × HasRoom (2 * 2 ^ size) value
+Fits w (Store client size address value) = HasRoom 2 client × (size ≤ 3) × HasRoom 8 address
+    × HasRoom (2 * 2 ^ size) value
 Fits w (Acquire client block grow) = HasRoom 2 client × HasRoom 3 block
 Fits w (Whole client block bytes) = HasRoom 2 client × HasRoom 3 block × AreBytes 64 bytes
 Fits w (Release client block prune) = HasRoom 2 client × HasRoom 3 block
@@ -194,7 +198,8 @@ event_of (Store client size address value) fits = event.Ask client (op.Store add
 event_of (Acquire client block grow) fits = event.Ask client (op.Acquire block grow)
 event_of (Whole client block bytes) fits = event.Ask client (op.AcquireWhole block bytes)
 event_of (Release client block prune) fits = event.Ask client (op.Release block prune)
-event_of (Access client size address asked) fits = event.Ask client (op.Access (message.A (message_of size address asked fits.1)))
+event_of (Access client size address asked) fits =
+    event.Ask client (op.Access (message.A (message_of size address asked fits.1)))
 event_of (Deliver link channel) fits = event.Deliver (record { 0 = link }) channel
 
 -- the line says this event

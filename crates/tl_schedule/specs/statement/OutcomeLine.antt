@@ -79,7 +79,8 @@ outcome_text event (outcome.Replied reply) = reply_text (asked_size event) reply
 outcome_text event outcome.Empty = codes "empty"
 outcome_text event outcome.Stalled = codes "stalled"
 outcome_text event (outcome.Moved beat) = spaced (fields_of (link_of event) beat)
-outcome_text event (outcome.Done beat source finish) = spaced (fields_of (link_of event) beat) ++ done_text source finish
+outcome_text event (outcome.Done beat source finish) = spaced (fields_of (link_of event) beat) ++ done_text source
+    finish
 outcome_text event outcome.NoSuchClient = codes "no client"
 
 -- the one line of what comes of an event

@@ -11,7 +11,8 @@ use Rattle.tl_schedule.specs.declared.header.Schedule.{Schedule}
 -- each client behind a space: its level and how many sources it has
 abbrev pub clients_text : List ClientConfig → List ℕ
 clients_text [] = []
-clients_text (client ∷ clients) = codes " " ++ level_text client.level ++ codes ":" ++ decimal client.sources ++ clients_text clients
+clients_text (client ∷ clients) = codes " " ++ level_text client.level ++ codes ":" ++ decimal
+    client.sources ++ clients_text clients
 
 -- the word at the front of a schedule
 abbrev pub schedule_word : List ℕ
@@ -20,10 +21,12 @@ schedule_word = codes "tlsched "
 -- the one line of a header
 abbrev pub schedule_line : Version → ℕ → ℕ → List ClientConfig → List ℕ
 schedule_line version blocks trackers clients =
-    schedule_word ++ version_text version ++ codes " " ++ decimal blocks ++ codes " " ++ decimal trackers ++ clients_text clients ++ codes "\n"
+    schedule_word ++ version_text version ++ codes " " ++ decimal blocks ++ codes " " ++ decimal
+    trackers ++ clients_text clients ++ codes "\n"
 
 -- the line is that of a header that names these, within their limits
-pub record SpellsSchedule (line : List ℕ) (version : Version) (blocks trackers : ℕ) (clients : List ClientConfig) : Type 0 where
+pub record SpellsSchedule (line : List ℕ) (version : Version) (blocks trackers : ℕ) (clients : List ClientConfig) : Type
+    0 where
   pub is_line : line ≡ schedule_line version blocks trackers clients
   pub blocks_fit : IsTrue (blocks_fit blocks)
   pub trackers_fit : IsTrue (trackers_fit trackers)
@@ -34,4 +37,5 @@ pub record SpellsSchedule (line : List ℕ) (version : Version) (blocks trackers
 abbrev pub IsSchedule : Option Schedule → Version → ℕ → ℕ → List ClientConfig → Type 0
 IsSchedule None version blocks trackers clients = ⊥
 IsSchedule (Some s) version blocks trackers clients =
-    (s.version ≡ version) × (s.config.blocks ≡ blocks) × (s.config.trackers ≡ trackers) × (s.config.clients.items ≡ clients)
+    (s.version ≡ version) × (s.config.blocks ≡ blocks) × (s.config.trackers ≡ trackers)
+    × (s.config.clients.items ≡ clients)

@@ -17,16 +17,6 @@ pub struct Offered<const W: usize> {
     pub beat: Beat<W>,
 }
 
-fn channel_of<const W: usize>(beat: &Beat<W>) -> Channel {
-    match beat {
-        Beat::A(_) => Channel::A,
-        Beat::B(_) => Channel::B,
-        Beat::C(_) => Channel::C,
-        Beat::D(_) => Channel::D,
-        Beat::E(_) => Channel::E,
-    }
-}
-
 /// The beat of a beat line, on its channel, or on another one that stands before it, as in `on E 00 ..`.
 pub fn offered_by<const W: usize>(line: &str) -> Option<Offered<W>>
     requires { IsWidth W }
@@ -34,7 +24,7 @@ pub fn offered_by<const W: usize>(line: &str) -> Option<Offered<W>>
     match line.strip_prefix("on ") {
         None => {
             let (link, beat) = read_line(line.as_bytes()).ok()?;
-            let channel = channel_of(&beat);
+            let channel = beat.channel();
             Some(Offered {
                 link,
                 channel,

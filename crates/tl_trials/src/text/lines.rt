@@ -31,16 +31,6 @@ fn tell_beat<const W: usize>(line: &[u8], out: &mut Vec<u8>) -> io::Result<()>
     Ok(())
 }
 
-fn channel_of<const W: usize>(beat: &Beat<W>) -> Channel {
-    match beat {
-        Beat::A(_) => Channel::A,
-        Beat::B(_) => Channel::B,
-        Beat::C(_) => Channel::C,
-        Beat::D(_) => Channel::D,
-        Beat::E(_) => Channel::E,
-    }
-}
-
 /// The rule that a beat breaks on a link of this level, or that it is legal.
 fn tell_rule<const W: usize>(level: Level, line: &[u8], out: &mut Vec<u8>) -> io::Result<()>
     requires { IsWidth W }
@@ -49,7 +39,7 @@ fn tell_rule<const W: usize>(level: Level, line: &[u8], out: &mut Vec<u8>) -> io
     let Ok((_, beat)) = read else {
         return Err(io::Error::from(ErrorKind::InvalidData));
     };
-    match check_beat(level, channel_of(&beat), &beat) {
+    match check_beat(level, beat.channel(), &beat) {
         Ok(()) => writeln!(out, "legal"),
         Err(rule) => writeln!(out, "{}", rule.name()),
     }

@@ -22,21 +22,26 @@ clients_of config = length config.clients.items
 
 -- The parts hold what the configured whole is: each client knows its end, the manager knows its own, and the
 -- channels, made for as many beats as they can ever hold, carry the same beats.
-pub record Holds {w : ℕ} {A M : Type 0} (knows : A → client.Endpoint w → Type 0) (terms : A → EndConfig) (perm_of : M → ℕ → ℕ → Perm) (config : Config) (network : Network w A M) (s : System w) : Type 0 where
+pub record Holds {w : ℕ} {A M : Type 0} (knows : A → client.Endpoint w → Type 0) (terms : A → EndConfig) (perm_of : M
+    → ℕ → ℕ → Perm) (config : Config) (network : Network w A M) (s : System w) : Type 0 where
   pub one_client_each : length network.clients.items ≡ clients_of config
   pub clients : (k : ℕ) (d : A) → k < clients_of config → knows (slice_index_or network.clients.items k d) (s.clients k)
-  pub terms_are : (k : ℕ) (d : A) → k < clients_of config → terms_at config k ≡ Some (terms (slice_index_or network.clients.items k d))
+  pub terms_are : (k : ℕ) (d : A) → k < clients_of config
+      → terms_at config k ≡ Some (terms (slice_index_or network.clients.items k d))
   pub manager : Knows perm_of network.manager config s.manager
   pub channels : Carries (clients_of config) network.rings s
   pub room : (k : ℕ) (ch : Channel) (d : Ring w) → k < clients_of config →
-      (slice_index_or network.rings.all.items (place k ch) d).beats.capacity ≡ capacity (64 / w) (sources_of (terms_at config k)) config.trackers ch
+      (slice_index_or network.rings.all.items (place k ch) d).beats.capacity ≡ capacity (64 / w)
+      (sources_of (terms_at config k)) config.trackers ch
 
 -- no channel holds more beats than it is made for
 abbrev pub HasRoom : {w : ℕ} → Config → System w → Type 0
-HasRoom {w} config s = (k : ℕ) (ch : Channel) → length (s.channels k ch) ≤ capacity (64 / w) (sources_of (terms_at config k)) config.trackers ch
+HasRoom {w} config s = (k : ℕ) (ch : Channel)
+    → length (s.channels k ch) ≤ capacity (64 / w) (sources_of (terms_at config k)) config.trackers ch
 
 -- The outcome is the one that comes of the event, and the new parts hold the whole afterwards.
-pub record IsStepped {w : ℕ} {A M : Type 0} (knows : A → client.Endpoint w → Type 0) (terms : A → EndConfig) (perm_of : M → ℕ → ℕ → Perm) (config : Config)
+pub record IsStepped {w : ℕ} {A M : Type 0} (knows : A → client.Endpoint w → Type 0) (terms : A → EndConfig)
+    (perm_of : M → ℕ → ℕ → Perm) (config : Config)
     (old new : Network w A M) (event : Event w) (outcome : Outcome w) (s : System w) : Type 0 where
   pub outcome_is : outcome ≡ (stepped config event s).outcome
   pub holds : Holds knows terms perm_of config new (stepped config event s).after

@@ -1,5 +1,6 @@
 -- The state of a world is determined by the log of its events and outcomes.
-use Rattle.std.specs.Prelude.{ℕ, List, [], ◌∷◌, ◌≡◌, ◌<◌, ◌≤◌, ◌/◌, ◌⊎◌, if◌then◌else◌, nat_lt, max, length, slice_index_or, Option, Some, None, Result, Ok, Err}
+use Rattle.std.specs.Prelude.{ℕ, List, [], ◌∷◌, ◌≡◌, ◌<◌, ◌≤◌, ◌/◌, ◌⊎◌, if◌then◌else◌, nat_lt, max, length}
+use Rattle.std.specs.Prelude.{slice_index_or, Option, Some, None, Result, Ok, Err}
 use Rattle.tl_beat.specs.declared.channel.Channel.{Channel}
 use Rattle.tl_params.specs.declared.config.Config.{Config}
 use Rattle.tl_params.specs.declared.config.NewFault.{NewFault}
@@ -24,49 +25,62 @@ use Rattle.tl_coherence.specs.statement.System.{System, terms_at}
 -- the greatest number of beats that ever stood in a channel
 unfoldable pub deepest : {w : ℕ} → Config → Log w → ℕ → Channel → ℕ
 deepest config [] link ch = 0
-deepest config (x ∷ log) link ch = max (deepest config log link ch) (length ((system_after config (x ∷ log)).channels link ch))
+deepest config (x ∷ log) link ch =
+    max (deepest config log link ch) (length ((system_after config (x ∷ log)).channels link ch))
 
 -- The log is one of a configuration within its limits, and the contents are what the whole is after it.
-pub record IsReached {w : ℕ} {A M : Type 0} (knows : A → Endpoint w → Type 0) (terms : A → EndConfig) (perm_of : M → ℕ → ℕ → Perm) (config : Config) (state : WorldState w A M) (log : Log w) : Type 0 where
+pub record IsReached {w : ℕ} {A M : Type 0} (knows : A → Endpoint w → Type 0) (terms : A → EndConfig) (perm_of : M → ℕ
+    → ℕ → Perm) (config : Config) (state : WorldState w A M) (log : Log w) : Type 0 where
   pub given : IsGiven config log
   pub holds : Holds knows terms perm_of config state.network (system_after config log)
   pub requests_are : state.outstanding.requests ≡ requests log
   pub releases_are : state.outstanding.releases ≡ releases log
-  pub depths : (k : ℕ) (ch : Channel) (d : Ring w) → k < clients_of config → (slice_index_or state.network.rings.all.items (place k ch) d).deepest ≡ deepest config log k ch
+  pub depths : (k : ℕ) (ch : Channel) (d : Ring w) → k < clients_of config
+      → (slice_index_or state.network.rings.all.items (place k ch) d).deepest ≡ deepest config log k ch
   -- the outcomes are a run of the one-memory machine, copies are coherent, no beat was refused, and nothing is stuck
   pub sound : IsSound config log
   -- channels lose nothing and keep order
   pub carried : (link : ℕ) (ch : Channel) → IsFifo (system_after config log) log link ch
   -- and none ever held more than it is made for
-  pub shallow : (link : ℕ) (ch : Channel) → deepest config log link ch ≤ capacity (64 / w) (sources_of (terms_at config link)) config.trackers ch
+  pub shallow : (link : ℕ) (ch : Channel)
+      → deepest config log link ch ≤ capacity (64 / w) (sources_of (terms_at config link)) config.trackers ch
 
 -- some configuration and log reach these contents
-unfoldable pub IsWorld : {w : ℕ} {A M : Type 0} → (A → Endpoint w → Type 0) → (A → EndConfig) → (M → ℕ → ℕ → Perm) → WorldState w A M → Type 0
-IsWorld {w} knows terms perm_of state = (config : Config) × (log : Log w) × IsReached knows terms perm_of config state log
+unfoldable pub IsWorld : {w : ℕ} {A M : Type 0} → (A → Endpoint w → Type 0) → (A → EndConfig) → (M → ℕ → ℕ → Perm)
+    → WorldState w A M → Type 0
+IsWorld {w} knows terms perm_of state = (config : Config) × (log : Log w) × IsReached knows terms perm_of config state
+    log
 
 -- the first limit that is broken, or want of memory
 abbrev pub IsFault : Config → NewFault → Type 0
 IsFault config fault = (config_fault config ≡ Some fault) ⊎ ((config_fault config ≡ None) × (fault ≡ Memory))
 
 -- A new world is reached by nothing. There is none for the first limit that is broken, or for want of memory.
-abbrev pub IsNewWorld : {w : ℕ} {A M : Type 0} → (A → Endpoint w → Type 0) → (A → EndConfig) → (M → ℕ → ℕ → Perm) → Config → Result (WorldState w A M) NewFault → Type 0
+abbrev pub IsNewWorld : {w : ℕ} {A M : Type 0} → (A → Endpoint w → Type 0) → (A → EndConfig) → (M → ℕ → ℕ → Perm)
+    → Config → Result (WorldState w A M) NewFault → Type 0
 IsNewWorld knows terms perm_of config (Ok state) = IsReached knows terms perm_of config state []
 IsNewWorld knows terms perm_of config (Err fault) = IsFault config fault
 
 -- Where there is a world the events have happened, with these outcomes. Otherwise the outcomes are as they were.
-abbrev pub IsReplayed : {w : ℕ} {A M : Type 0} → (A → Endpoint w → Type 0) → (A → EndConfig) → (M → ℕ → ℕ → Perm) → Config → List (Event w) → List (Outcome w)
+abbrev pub IsReplayed : {w : ℕ} {A M : Type 0} → (A → Endpoint w → Type 0) → (A → EndConfig) → (M → ℕ → ℕ → Perm)
+    → Config → List (Event w) → List (Outcome w)
     → List (Outcome w) → Result (WorldState w A M) NewFault → Type 0
-IsReplayed knows terms perm_of config events old new (Ok state) = IsReached knows terms perm_of config state (logged events new [])
-IsReplayed knows terms perm_of config events old new (Err fault) = IsNewWorld knows terms perm_of config (Err fault) × (new ≡ old)
+IsReplayed knows terms perm_of config events old new (Ok state) =
+    IsReached knows terms perm_of config state (logged events new [])
+IsReplayed knows terms perm_of config events old new (Err fault) = IsNewWorld knows terms perm_of config (Err fault)
+    × (new ≡ old)
 
 -- the clients are as the configuration says, and nothing has happened to them
-pub record AreReady {w : ℕ} {A : Type 0} (knows : A → Endpoint w → Type 0) (terms : A → EndConfig) (config : Config) (clients : List A) : Type 0 where
+pub record AreReady {w : ℕ} {A : Type 0} (knows : A → Endpoint w → Type 0) (terms : A → EndConfig) (config : Config)
+    (clients : List A) : Type 0 where
   pub one_each : length clients ≡ clients_of config
   pub fresh : (k : ℕ) (d : A) → k < clients_of config → knows (slice_index_or clients k d) client.fresh
-  pub terms_are : (k : ℕ) (d : A) → k < clients_of config → terms_at config k ≡ Some (terms (slice_index_or clients k d))
+  pub terms_are : (k : ℕ) (d : A) → k < clients_of config
+      → terms_at config k ≡ Some (terms (slice_index_or clients k d))
 
 -- the directory covers blocks and clients, and nothing is recorded
-pub record IsEmpty {M : Type 0} (perm_of : M → ℕ → ℕ → Perm) (blocks_of clients_in : M → ℕ) (config : Config) (directory : M) : Type 0 where
+pub record IsEmpty {M : Type 0} (perm_of : M → ℕ → ℕ → Perm) (blocks_of clients_in : M → ℕ) (config : Config)
+    (directory : M) : Type 0 where
   pub nothing : (block client : ℕ) → perm_of directory block client ≡ perm.None
   pub blocks : config.blocks ≤ blocks_of directory
   pub clients : clients_of config ≤ clients_in directory
@@ -75,7 +89,8 @@ pub record IsEmpty {M : Type 0} (perm_of : M → ℕ → ℕ → Perm) (blocks_o
 
 -- the permission that a client holds of a block: none where there is no such client
 abbrev pub held_by : {w : ℕ} → Config → ℕ → ℕ → System w → Perm
-held_by config client block s = if nat_lt client (clients_of config) then held_at (s.clients client) block else perm.None
+held_by config client block s = if nat_lt client (clients_of config) then held_at (s.clients client) block else
+    perm.None
 
 -- the bytes of a client's copy of a block: none where it has none, or there is no such client
 abbrev pub copy_by : {w : ℕ} → Config → ℕ → ℕ → System w → Option (List ℕ)

@@ -4,4 +4,6 @@ use Rattle.tl_beat.proofs.write.append_c.Goals as goal
 
 pub returns-clause-text : goal.returns-clause-text
 unfolding spaced
-returns-clause-text g c = rw (c.append_tail.ensures.text, c.append_number.ensures.text, c.append_head.ensures.text, c.code.ensures) (simp append_assoc)
+returns-clause-text g c =
+    rw (c.append_tail.ensures.text, c.append_number.ensures.text, c.append_head.ensures.text, c.code.ensures)
+    (simp append_assoc)

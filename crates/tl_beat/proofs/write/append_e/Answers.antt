@@ -5,4 +5,12 @@ use Rattle.tl_beat.proofs.write.append_e.Goals as goal
 pub returns-clause-text : goal.returns-clause-text
 unfolding spaced
 returns-clause-text g c =
-    rw (c.append_number.ensures.text, c.from-2.ensures, c.push-2.ensures.items, c.push.ensures.items, c.append_digits.ensures.text, c.from.ensures, c.requires) (simp append_assoc)
+    rw (
+      c.append_number.ensures.text,
+      c.from-2.ensures,
+      c.push-2.ensures.items,
+      c.push.ensures.items,
+      c.append_digits.ensures.text,
+      c.from.ensures,
+      c.requires,
+    ) (simp append_assoc)

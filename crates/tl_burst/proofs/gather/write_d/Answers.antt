@@ -3,5 +3,6 @@ use Rattle.tl_burst.proofs.gather.write_d.Goals as goal
 
 pub returns-clause-here : goal.returns-clause-here
 returns-clause-here g c =
-    d_beat_here (record c.args.m.now { payload = c.write_lanes.new.payload; corrupt = c.with_corrupt-m.result }) c.args.i c.args.x.now c.requires.same
+    d_beat_here (record c.args.m.now { payload = c.write_lanes.new.payload; corrupt = c.with_corrupt-m.result })
+    c.args.i c.args.x.now c.requires.same
     c.write_lanes.ensures.here c.with_corrupt-m.ensures.here

@@ -1,4 +1,4 @@
-use Rattle.tl_client.proofs.Clean.{is_clean-from_blank}
+use Rattle.tl_client.proofs.messages.Clean.{is_clean-from_blank}
 use Rattle.tl_client.proofs.access.is_clean.Goals as goal
 
 pub returns-then-access-eq0 : goal.returns-then-access-eq0

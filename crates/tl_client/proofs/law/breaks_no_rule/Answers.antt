@@ -1,4 +1,4 @@
-use Rattle.tl_client.proofs.InOrder.{asked-legal, offered-legal}
+use Rattle.tl_client.proofs.messages.InOrder.{asked-legal, offered-legal}
 use Rattle.tl_client.proofs.law.breaks_no_rule.Goals as goal
 
 pub returns-clause-asked : goal.returns-clause-asked

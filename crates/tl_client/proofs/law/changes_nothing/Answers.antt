@@ -1,4 +1,4 @@
-use Rattle.tl_client.proofs.Calls.{busy-asked, miss-asked, load-asked, stall-offered, refusal-offered}
+use Rattle.tl_client.proofs.messages.Calls.{busy-asked, miss-asked, load-asked, stall-offered, refusal-offered}
 use Rattle.tl_client.proofs.law.changes_nothing.Goals as goal
 
 pub returns-clause-busy : goal.returns-clause-busy

@@ -1,5 +1,5 @@
-use Rattle.tl_client.proofs.AfterAsked.{copies-asked, waiting-asked}
-use Rattle.tl_client.proofs.AfterOffered.{copies-offered, waiting-offered}
+use Rattle.tl_client.proofs.endpoint.AfterAsked.{copies-asked, waiting-asked}
+use Rattle.tl_client.proofs.endpoint.AfterOffered.{copies-offered, waiting-offered}
 use Rattle.tl_client.proofs.law.copies_after_calls.Goals as goal
 
 pub returns-clause-asked : goal.returns-clause-asked

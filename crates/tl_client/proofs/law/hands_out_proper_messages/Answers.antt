@@ -1,4 +1,4 @@
-use Rattle.tl_client.proofs.Proper.{asked-proper, offered-proper}
+use Rattle.tl_client.proofs.messages.Proper.{asked-proper, offered-proper}
 use Rattle.tl_client.proofs.law.hands_out_proper_messages.Goals as goal
 
 pub returns-clause-asked : goal.returns-clause-asked

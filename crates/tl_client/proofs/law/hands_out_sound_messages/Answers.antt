@@ -1,4 +1,4 @@
-use Rattle.tl_client.proofs.Sound.{asked-sound, offered-sound}
+use Rattle.tl_client.proofs.messages.Sound.{asked-sound, offered-sound}
 use Rattle.tl_client.proofs.law.hands_out_sound_messages.Goals as goal
 
 pub returns-clause-asked : goal.returns-clause-asked

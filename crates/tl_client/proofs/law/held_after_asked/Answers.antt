@@ -1,4 +1,4 @@
-use Rattle.tl_client.proofs.HeldAfter.{held-asked}
+use Rattle.tl_client.proofs.endpoint.HeldAfter.{held-asked}
 use Rattle.tl_client.proofs.law.held_after_asked.Goals as goal
 
 pub returns : goal.returns

@@ -1,4 +1,4 @@
-use Rattle.tl_client.proofs.HeldAfter.{held-offered}
+use Rattle.tl_client.proofs.endpoint.HeldAfter.{held-offered}
 use Rattle.tl_client.proofs.law.held_after_offered.Goals as goal
 
 pub returns : goal.returns

@@ -1,5 +1,5 @@
-use Rattle.tl_client.proofs.KeptAsked.{kept-asked}
-use Rattle.tl_client.proofs.KeptOffered.{kept-fresh, kept-offered}
+use Rattle.tl_client.proofs.pending.KeptAsked.{kept-asked}
+use Rattle.tl_client.proofs.pending.KeptOffered.{kept-fresh, kept-offered}
 use Rattle.tl_client.proofs.law.keeps.Goals as goal
 
 pub returns-clause-fresh : goal.returns-clause-fresh

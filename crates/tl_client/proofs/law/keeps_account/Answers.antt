@@ -1,4 +1,4 @@
-use Rattle.tl_client.proofs.Accounted.{accounted-fresh, accounted-asked, accounted-offered}
+use Rattle.tl_client.proofs.pending.Accounted.{accounted-fresh, accounted-asked, accounted-offered}
 use Rattle.tl_client.proofs.law.keeps_account.Goals as goal
 
 pub returns-clause-fresh : goal.returns-clause-fresh

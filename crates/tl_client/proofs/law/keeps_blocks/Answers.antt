@@ -1,4 +1,4 @@
-use Rattle.tl_client.proofs.Bytes.{bytes-fresh, bytes-asked, bytes-offered}
+use Rattle.tl_client.proofs.messages.Bytes.{bytes-fresh, bytes-asked, bytes-offered}
 use Rattle.tl_client.proofs.law.keeps_blocks.Goals as goal
 
 pub returns-clause-fresh : goal.returns-clause-fresh

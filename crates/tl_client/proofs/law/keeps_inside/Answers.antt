@@ -1,4 +1,4 @@
-use Rattle.tl_client.proofs.Inside.{inside-fresh, inside-asked, inside-offered}
+use Rattle.tl_client.proofs.endpoint.Inside.{inside-fresh, inside-asked, inside-offered}
 use Rattle.tl_client.proofs.law.keeps_inside.Goals as goal
 
 pub returns-clause-fresh : goal.returns-clause-fresh

@@ -1,4 +1,4 @@
-use Rattle.tl_client.proofs.Open.{open-asked, open_release-asked, open-offered, open_release-offered}
+use Rattle.tl_client.proofs.pending.Open.{open-asked, open_release-asked, open-offered, open_release-offered}
 use Rattle.tl_client.proofs.law.open_after_calls.Goals as goal
 
 pub returns-clause-asked : goal.returns-clause-asked

@@ -1,4 +1,4 @@
-use Rattle.tl_client.proofs.Outstanding.{unfinished-asked, pending-asked, request-asked, release-asked}
+use Rattle.tl_client.proofs.endpoint.Outstanding.{unfinished-asked, pending-asked, request-asked, release-asked}
 use Rattle.tl_client.proofs.law.pending_after_asked.Goals as goal
 
 pub returns-clause-unfinished : goal.returns-clause-unfinished

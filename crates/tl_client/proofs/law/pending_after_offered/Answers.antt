@@ -1,4 +1,4 @@
-use Rattle.tl_client.proofs.Outstanding.{unfinished-offered, pending-offered, request-offered, release-offered}
+use Rattle.tl_client.proofs.endpoint.Outstanding.{unfinished-offered, pending-offered, request-offered, release-offered}
 use Rattle.tl_client.proofs.law.pending_after_offered.Goals as goal
 
 pub returns-clause-unfinished : goal.returns-clause-unfinished

@@ -1,4 +1,4 @@
-use Rattle.tl_client.proofs.Calls.{load-reply, store-reply}
+use Rattle.tl_client.proofs.messages.Calls.{load-reply, store-reply}
 use Rattle.tl_client.proofs.law.reads_its_copy.Goals as goal
 
 pub returns-clause-load : goal.returns-clause-load

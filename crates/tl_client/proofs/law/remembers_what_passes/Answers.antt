@@ -1,5 +1,5 @@
-use Rattle.tl_client.proofs.AfterAsked.{past-asked, closed-asked}
-use Rattle.tl_client.proofs.AfterOffered.{past-offered, closed-offered}
+use Rattle.tl_client.proofs.endpoint.AfterAsked.{past-asked, closed-asked}
+use Rattle.tl_client.proofs.endpoint.AfterOffered.{past-offered, closed-offered}
 use Rattle.tl_client.proofs.law.remembers_what_passes.Goals as goal
 
 pub returns-clause-asked : goal.returns-clause-asked

@@ -1,4 +1,4 @@
-use Rattle.tl_client.proofs.Stalls.{stalls-offered}
+use Rattle.tl_client.proofs.endpoint.Stalls.{stalls-offered}
 use Rattle.tl_client.proofs.law.stalls_as_answered.Goals as goal
 
 pub returns : goal.returns

@@ -1,4 +1,4 @@
-use Rattle.tl_client.proofs.KeptAsked.{started-below}
+use Rattle.tl_client.proofs.pending.KeptAsked.{started-below}
 use Rattle.tl_client.proofs.law.starts_with_own_sources.Goals as goal
 
 pub returns : goal.returns

@@ -1,5 +1,5 @@
 use Rattle.std.proofs.Common.{inl, inr}
-use Rattle.tl_client.proofs.Stores.{word_room, length-stored, stored-inside, stored-outside}
+use Rattle.tl_client.proofs.caching_client.Stores.{word_room, length-stored, stored-inside, stored-outside}
 use Rattle.tl_client.proofs.law.stores_its_bytes.Goals as goal
 
 pub returns-clause-long : goal.returns-clause-long

@@ -1,5 +1,5 @@
-use Rattle.tl_client.proofs.Calls.{never_stalls_d}
-use Rattle.tl_client.proofs.Cases.{takes}
+use Rattle.tl_client.proofs.messages.Calls.{never_stalls_d}
+use Rattle.tl_client.proofs.endpoint.Cases.{takes}
 use Rattle.tl_client.proofs.law.takes_what_is_lawful.Goals as goal
 
 pub returns-clause-taken : goal.returns-clause-taken

@@ -1,4 +1,4 @@
-use Rattle.tl_client.proofs.Requests.{started_with}
+use Rattle.tl_client.proofs.messages.Requests.{started_with}
 use Rattle.tl_client.proofs.request.start.Goals as goal
 
 pub returns-clause-answer : goal.returns-clause-answer

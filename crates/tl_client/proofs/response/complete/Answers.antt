@@ -1,4 +1,4 @@
-use Rattle.tl_client.proofs.Responses.{completes-of}
+use Rattle.tl_client.proofs.messages.Responses.{completes-of}
 use Rattle.tl_client.proofs.response.complete.Goals as goal
 
 pub returns-in-Some-clause-response : goal.returns-in-Some-clause-response

@@ -2,7 +2,8 @@ use Rattle.std.proofs.Common.{rules, ap, []}
 use Rattle.std.specs.Prelude.{Ok}
 use Rattle.std.proofs.KnownBytes.{Appends-nil, Consumes-nil, Keeps-refl}
 use Rattle.std.proofs.lemmas.Result.{err_from_is_err_and}
-use Rattle.tl_engine.proofs.Runs.{fails_at_start, fails_reading, fails_passing, ends_broken, goes_on, closed_ok, closed_err}
+use Rattle.tl_engine.proofs.Runs.{fails_at_start, fails_reading, fails_passing, ends_broken, goes_on, closed_ok}
+use Rattle.tl_engine.proofs.Runs.{closed_err}
 use Rattle.tl_engine.proofs.engine.handle_input.Goals as goal
 
 pub returns-in_err-chunk-clause-err : goal.returns-in_err-chunk-clause-err
@@ -20,26 +21,31 @@ loop-init g c = record {
 pub returns-in_err-count-clause-err : goal.returns-in_err-count-clause-err
 returns-in_err-count-clause-err g c =
     let p = err_from_is_err_and c.from_residual-in_err-count.result c.from_residual-in_err-count.ensures.1 in
-    rw p.1 (fails_reading g.H.LineHandler.knows g.H.LineHandler.tells _ _ _ _ _ c.loop.invariant.so_far c.requires.total _ c.in_err-count.ensures.err)
+    rw p.1 (fails_reading g.H.LineHandler.knows g.H.LineHandler.tells _ _ _ _ _ c.loop.invariant.so_far c.requires.total
+    _ c.in_err-count.ensures.err)
 
 pub returns-then-count-eq0-clause-ok : goal.returns-then-count-eq0-clause-ok
 returns-then-count-eq0-clause-ok g c =
-    closed_ok g.H.LineHandler.knows g.H.LineHandler.tells _ _ _ _ _ c.loop.invariant.so_far _ _ _ _ _ c.if-count-eq0.true c.in_ok-count.ensures.ok
+    closed_ok g.H.LineHandler.knows g.H.LineHandler.tells _ _ _ _ _ c.loop.invariant.so_far _ _ _ _ _
+    c.if-count-eq0.true c.in_ok-count.ensures.ok
     (c.in_ok-count.ensures.end (ap Ok c.if-count-eq0.true)) c.close.ensures.ok
 
 pub returns-then-count-eq0-clause-err : goal.returns-then-count-eq0-clause-err
 returns-then-count-eq0-clause-err g c =
-    closed_err g.H.LineHandler.knows g.H.LineHandler.tells _ _ _ _ _ c.loop.invariant.so_far _ _ _ _ _ c.if-count-eq0.true c.in_ok-count.ensures.ok c.close.ensures.err
+    closed_err g.H.LineHandler.knows g.H.LineHandler.tells _ _ _ _ _ c.loop.invariant.so_far _ _ _ _ _
+    c.if-count-eq0.true c.in_ok-count.ensures.ok c.close.ensures.err
 
 pub returns-in_err-pass-clause-err : goal.returns-in_err-pass-clause-err
 returns-in_err-pass-clause-err g c =
     let p = err_from_is_err_and c.from_residual-in_err-pass.result c.from_residual-in_err-pass.ensures.1 in
-    rw p.1 (fails_passing g.H.LineHandler.knows g.H.LineHandler.tells _ _ _ _ _ c.loop.invariant.so_far _ _ _ c.in_ok-count.ensures.ok (rw c.deref.ensures.value at c.in_err-pass.ensures.err))
+    rw p.1 (fails_passing g.H.LineHandler.knows g.H.LineHandler.tells _ _ _ _ _ c.loop.invariant.so_far _ _ _
+    c.in_ok-count.ensures.ok (rw c.deref.ensures.value at c.in_err-pass.ensures.err))
 
 pub returns-in-Broken-clause-ok : goal.returns-in-Broken-clause-ok
 returns-in-Broken-clause-ok g c =
     let (said, written, broken) = rw (c.deref.ensures.value, c.in-Broken.is) at c.in_ok-pass.ensures.ok in
-    ends_broken g.H.LineHandler.knows g.H.LineHandler.tells _ _ _ _ _ c.loop.invariant.so_far _ _ _ said c.pass.new.lines c.in_ok-count.ensures.ok written broken
+    ends_broken g.H.LineHandler.knows g.H.LineHandler.tells _ _ _ _ _ c.loop.invariant.so_far _ _ _ said
+    c.pass.new.lines c.in_ok-count.ensures.ok written broken
 
 pub loop-preserved : goal.loop-preserved
 loop-preserved g c = record {
@@ -47,8 +53,10 @@ loop-preserved g c = record {
   room = search rules;
   so_far =
       let (said, written, clean) = rw (c.deref.ensures.value, c.in-Clean.is) at c.in_ok-pass.ensures.ok in
-      goes_on g.H.LineHandler.knows g.H.LineHandler.tells _ _ _ _ _ c.loop.invariant.so_far _ _ _ said _ c.in_ok-count.ensures.ok written clean;
+      goes_on g.H.LineHandler.knows g.H.LineHandler.tells _ _ _ _ _ c.loop.invariant.so_far _ _ _ said _
+      c.in_ok-count.ensures.ok written clean;
 }
 
 pub returns-clause-err : goal.returns-clause-err
-returns-clause-err g c = fails_reading g.H.LineHandler.knows g.H.LineHandler.tells _ _ _ _ _ c.loop.invariant.so_far c.requires.total _ (Keeps-refl _)
+returns-clause-err g c = fails_reading g.H.LineHandler.knows g.H.LineHandler.tells _ _ _ _ _ c.loop.invariant.so_far
+    c.requires.total _ (Keeps-refl _)

@@ -8,5 +8,6 @@ invariant-loop g l = record {
   empty : l.out.items ≡ [];
   room : 0 < length l.chunk.items;
   so_far : (read text : List ℕ) × Consumes (g.R.Read.remaining l.fn.reader) (g.R.Read.remaining l.reader) read
-      × Appends (g.W.Write.contents l.fn.writer) (g.W.Write.contents l.writer) text × Progress g.H.LineHandler.knows l.lines read text;
+      × Appends (g.W.Write.contents l.fn.writer) (g.W.Write.contents l.writer) text × Progress g.H.LineHandler.knows
+      l.lines read text;
 }

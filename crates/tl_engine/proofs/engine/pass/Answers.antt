@@ -10,5 +10,6 @@ returns-in_err-status-clause-err g c =
 pub returns-in_err-write_all-clause-err : goal.returns-in_err-write_all-clause-err
 returns-in_err-write_all-clause-err g c =
     let p = err_from_is_err_and c.from_residual-in_err-write_all.result c.from_residual-in_err-write_all.ensures.1 in
-    rw p.1 (fails_written g.H.LineHandler.knows g.H.LineHandler.tells c.requires.total _ _ c.feed.new.self _ c.feed.new.out.items _ _
+    rw p.1 (fails_written g.H.LineHandler.knows g.H.LineHandler.tells c.requires.total _ _ c.feed.new.self _
+    c.feed.new.out.items _ _
     (rw c.requires.empty at c.in_ok-status.ensures.feeds) (rw c.deref.ensures.value at c.in_err-write_all.ensures.err))

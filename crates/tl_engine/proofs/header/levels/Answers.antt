@@ -7,10 +7,12 @@ use Rattle.tl_engine.proofs.header.levels.Goals as goal
 pub returns-in_err-level : goal.returns-in_err-level
 returns-in_err-level c =
     let none : c.from_residual.result ≡ None = search rules in
-    rw none (none-is level_at _ _ _ _ c.loop-rest.invariant.few c.loop-rest.invariant.same (search rules) (level_unread _ c.in_err-level.ensures))
+    rw none (none-is level_at _ _ _ _ c.loop-rest.invariant.few c.loop-rest.invariant.same (search rules)
+    (level_unread _ c.in_err-level.ensures))
 
 pub returns-then-is_err : goal.returns-then-is_err
-returns-then-is_err c = too_many level_at _ _ _ _ c.loop-rest.invariant.few c.loop-rest.invariant.same (search rules) (search rules)
+returns-then-is_err c = too_many level_at _ _ _ _ c.loop-rest.invariant.few c.loop-rest.invariant.same (search rules)
+    (search rules)
 
 pub loop-rest-preserved : goal.loop-rest-preserved
 loop-rest-preserved c =
@@ -19,7 +21,8 @@ loop-rest-preserved c =
     let room : length done < 16 = search rules in
     rw pushed (record {
       few = omega (arith, length-append done (c.in_ok-level.level ∷ []));
-      same = next-is level_at _ _ _ _ c.loop-rest.invariant.few c.loop-rest.invariant.same _ _ (search rules) (level_read _ _ _ c.in_ok-level.ensures) room;
+      same = next-is level_at _ _ _ _ c.loop-rest.invariant.few c.loop-rest.invariant.same _ _ (search rules)
+          (level_read _ _ _ c.in_ok-level.ensures) room;
     })
 
 pub returns : goal.returns

@@ -11,7 +11,10 @@ loop-done-preserved g c = record {
 }
 
 pub returns-in-Err-clause-err : goal.returns-in-Err-clause-err
-returns-in-Err-clause-err g c = part_of _ _ c.loop-done.done _ (Appends-kept _ _ _ _ c.loop-done.invariant.written c.in-Err.ensures.bytes)
+returns-in-Err-clause-err g c =
+    part_of _ _ c.loop-done.done _ (Appends-kept _ _ _ _ c.loop-done.invariant.written c.in-Err.ensures.bytes)
 
 pub returns-then-n-eq0-clause-err : goal.returns-then-n-eq0-clause-err
-returns-then-n-eq0-clause-err g c = part_of _ _ (c.loop-done.done + c.in-Ok.n) _ (rw take-add (Appends-trans _ _ _ _ _ c.loop-done.invariant.written (rw take_rest at c.in-Ok.ensures.bytes)))
+returns-then-n-eq0-clause-err g c =
+    part_of _ _ (c.loop-done.done + c.in-Ok.n) _
+    (rw take-add (Appends-trans _ _ _ _ _ c.loop-done.invariant.written (rw take_rest at c.in-Ok.ensures.bytes)))

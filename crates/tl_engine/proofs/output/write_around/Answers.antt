@@ -12,17 +12,23 @@ returns-in_err-write_all-clause-err g c =
 
 pub returns-in_err-write_all-2-clause-err : goal.returns-in_err-write_all-2-clause-err
 returns-in_err-write_all-2-clause-err g c =
-    let p = err_from_is_err_and c.from_residual-in_err-write_all-2.result c.from_residual-in_err-write_all-2.ensures.1 in
-    rw p.1 (part_more _ _ _ c.args.front.now c.args.name.now c.args.back.now _ c.in_ok-write_all.ensures.ok (rw c.as_bytes.ensures.value at c.in_err-write_all-2.ensures.err) (simp append_assoc))
+    let p = err_from_is_err_and c.from_residual-in_err-write_all-2.result c.from_residual-in_err-write_all-2.ensures.1
+    in
+    rw p.1 (part_more _ _ _ c.args.front.now c.args.name.now c.args.back.now _ c.in_ok-write_all.ensures.ok
+    (rw c.as_bytes.ensures.value at c.in_err-write_all-2.ensures.err) (simp append_assoc))
 
 pub returns-in_err-write_all-3-clause-err : goal.returns-in_err-write_all-3-clause-err
 returns-in_err-write_all-3-clause-err g c =
-    let p = err_from_is_err_and c.from_residual-in_err-write_all-3.result c.from_residual-in_err-write_all-3.ensures.1 in
+    let p = err_from_is_err_and c.from_residual-in_err-write_all-3.result c.from_residual-in_err-write_all-3.ensures.1
+    in
     rw p.1 (part_more _ _ _ (c.args.front.now ++ c.args.name.now) c.args.back.now [] _
-    (Appends-trans _ _ _ _ _ c.in_ok-write_all.ensures.ok (rw c.as_bytes.ensures.value at c.in_ok-write_all-2.ensures.ok)) c.in_err-write_all-3.ensures.err (simp (append_assoc, append-nil)))
+    (Appends-trans _ _ _ _ _ c.in_ok-write_all.ensures.ok
+    (rw c.as_bytes.ensures.value at c.in_ok-write_all-2.ensures.ok)) c.in_err-write_all-3.ensures.err
+    (simp (append_assoc, append-nil)))
 
 pub returns-clause-ok : goal.returns-clause-ok
 returns-clause-ok g c =
     Appends-trans _ _ _ (c.args.front.now ++ c.args.name.now) _
-    (Appends-trans _ _ _ _ _ c.in_ok-write_all.ensures.ok (rw c.as_bytes.ensures.value at c.in_ok-write_all-2.ensures.ok))
+    (Appends-trans _ _ _ _ _ c.in_ok-write_all.ensures.ok
+    (rw c.as_bytes.ensures.value at c.in_ok-write_all-2.ensures.ok))
     c.in_ok-write_all-3.ensures.ok

@@ -11,19 +11,22 @@ loop-count-init g c = λ config log r. delivered-none c.args.trace config log c.
 pub play_event-requires : goal.play_event-requires
 play_event-requires g c =
     let (config, log, reached) = c.requires.playable in
-    let playable : IsPlayable c.loop-count.world = (config, drained config c.loop-count.count log, (c.loop-count.invariant config log reached).reached) in
+    let playable : IsPlayable c.loop-count.world =
+    (config, drained config c.loop-count.count log, (c.loop-count.invariant config log reached).reached) in
     search (rules, playable)
 
 pub loop-count-preserved : goal.loop-count-preserved
 loop-count-preserved g c = λ config log r.
     let so_far = c.loop-count.invariant config log r in
-    delivered-more c.args.trace config log c.loop-count.world _ _ c.loop-count.out.items _ c.loop-count.count c.in-Some.link c.in-Some.channel so_far
+    delivered-more c.args.trace config log c.loop-count.world _ _ c.loop-count.out.items _ c.loop-count.count
+    c.in-Some.link c.in-Some.channel so_far
     (search (rules, c.in-Some.ensures.next config _ so_far.reached)) c.in_ok-play_event-in-Some.ensures.happens
 
 pub returns-in-None-clause-drains : goal.returns-in-None-clause-drains
 returns-in-None-clause-drains g c = λ config log r.
     let so_far = c.loop-count.invariant config log r in
-    drains-all c.args.trace config log _ _ _ c.loop-count.count r.given so_far (inl (sym (c.in-None.ensures.next config _ so_far.reached)))
+    drains-all c.args.trace config log _ _ _ c.loop-count.count r.given so_far
+    (inl (sym (c.in-None.ensures.next config _ so_far.reached)))
 
 pub returns-clause-drains : goal.returns-clause-drains
 returns-clause-drains g c = λ config log r.

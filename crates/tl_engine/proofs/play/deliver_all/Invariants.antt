@@ -5,4 +5,5 @@ use Rattle.tl_engine.proofs.Played.{Delivered}
 use Rattle.tl_engine.proofs.play.deliver_all.Given as goal
 
 abbrev pub invariant-loop-count : goal.invariant-loop-count
-invariant-loop-count g l = (config : Config) (log : Log g.row.W) → Reaches config l.initial.world log → Delivered l.trace config log l.world l.initial.out.items l.out.items l.count
+invariant-loop-count g l = (config : Config) (log : Log g.row.W) → Reaches config l.initial.world log
+    → Delivered l.trace config log l.world l.initial.out.items l.out.items l.count

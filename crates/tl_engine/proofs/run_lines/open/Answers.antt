@@ -4,7 +4,8 @@ use Rattle.tl_engine.specs.statement.Played.{header_text}
 use Rattle.tl_engine.specs.code.Playing.{is_trace}
 use Rattle.tl_engine.proofs.Playing.{header-plays}
 use Rattle.tl_engine.proofs.run_lines.open.Goals as goal
-use Rattle.tl_engine.proofs.run_lines.open.Goals.{in-Four+in_ok-new-in-Four, in-Eight+in_ok-new-in-Eight, in-Sixteen+in_ok-new-in-Sixteen}
+use Rattle.tl_engine.proofs.run_lines.open.Goals.{in-Four+in_ok-new-in-Four, in-Eight+in_ok-new-in-Eight}
+use Rattle.tl_engine.proofs.run_lines.open.Goals.{in-Sixteen+in_ok-new-in-Sixteen}
 
 pub returns : goal.returns
 returns g c =

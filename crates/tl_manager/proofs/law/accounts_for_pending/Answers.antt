@@ -1,4 +1,4 @@
-use Rattle.tl_manager.proofs.Sources.{source-pending, sink-pending}
+use Rattle.tl_manager.proofs.pending.Sources.{source-pending, sink-pending}
 use Rattle.tl_manager.proofs.law.accounts_for_pending.Goals as goal
 
 pub returns-clause-source : goal.returns-clause-source

@@ -1,5 +1,5 @@
 use Rattle.tl_rules.proofs.Payload.{payload-c}
-use Rattle.tl_manager.proofs.Assembled.{request-again}
+use Rattle.tl_manager.proofs.messages.Assembled.{request-again}
 use Rattle.tl_manager.proofs.law.assembles_messages.Goals as goal
 
 pub returns-clause-request : goal.returns-clause-request

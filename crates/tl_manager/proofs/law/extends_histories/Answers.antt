@@ -1,4 +1,4 @@
-use Rattle.tl_manager.proofs.Afterwards.{history-offered, unfinished-offered, missing-offered}
+use Rattle.tl_manager.proofs.pending.Afterwards.{history-offered, unfinished-offered, missing-offered}
 use Rattle.tl_manager.proofs.law.extends_histories.Goals as goal
 
 pub returns-clause-history : goal.returns-clause-history

@@ -1,4 +1,4 @@
-use Rattle.tl_manager.proofs.Clients.{among-where, rising-where, nobody-where, unheld-where}
+use Rattle.tl_manager.proofs.words_of_clients.Clients.{among-where, rising-where, nobody-where, unheld-where}
 use Rattle.tl_manager.specs.statement.Holders.{is_missing}
 use Rattle.tl_manager.proofs.law.finds_clients.Goals as goal
 

@@ -1,4 +1,4 @@
-use Rattle.tl_manager.proofs.Memories.{memory-elsewhere, refusal-closes, stall-keeps}
+use Rattle.tl_manager.proofs.blocks.Memories.{memory-elsewhere, refusal-closes, stall-keeps}
 use Rattle.tl_manager.proofs.law.keeps_the_rest.Goals as goal
 
 pub returns-clause-memory : goal.returns-clause-memory

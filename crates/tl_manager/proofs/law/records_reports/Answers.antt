@@ -1,4 +1,4 @@
-use Rattle.tl_manager.proofs.Keeping.{recorded-offered}
+use Rattle.tl_manager.proofs.calls.Keeping.{recorded-offered}
 use Rattle.tl_manager.proofs.law.records_reports.Goals as goal
 
 pub returns : goal.returns

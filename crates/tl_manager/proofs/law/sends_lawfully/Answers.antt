@@ -1,4 +1,4 @@
-use Rattle.tl_manager.proofs.Keeping.{fresh-kept, kept-offered, lawful}
+use Rattle.tl_manager.proofs.calls.Keeping.{fresh-kept, kept-offered, lawful}
 use Rattle.tl_manager.proofs.law.sends_lawfully.Goals as goal
 
 pub returns-clause-fresh : goal.returns-clause-fresh

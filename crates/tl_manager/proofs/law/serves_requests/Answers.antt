@@ -1,4 +1,4 @@
-use Rattle.tl_manager.proofs.Ended.{services-offered}
+use Rattle.tl_manager.proofs.services.Ended.{services-offered}
 use Rattle.tl_manager.proofs.law.serves_requests.Goals as goal
 
 pub returns : goal.returns

@@ -1,6 +1,6 @@
 use Rattle.std.proofs.Common.{refl}
 use Rattle.tl_beat.specs.declared.beat.Beat.TheVariants.{C, E}
-use Rattle.tl_manager.proofs.Stalls.{stalls-answered, never-stalled}
+use Rattle.tl_manager.proofs.judging.Stalls.{stalls-answered, never-stalled}
 use Rattle.tl_manager.proofs.law.stalls_requests.Goals as goal
 
 pub returns-clause-answered : goal.returns-clause-answered

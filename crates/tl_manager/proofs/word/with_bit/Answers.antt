@@ -1,6 +1,6 @@
 use Rattle.std.specs.Int.{w16}
 use Rattle.std.proofs.lemmas.Nat.Bits.{bit_at_set_same, bit_at_set_other, bit_at_clear_same}
-use Rattle.tl_manager.proofs.WordBits.{clear_other}
+use Rattle.tl_manager.proofs.words_of_clients.WordBits.{clear_other}
 use Rattle.tl_manager.proofs.word.with_bit.Goals as goal
 
 pub returns-then-is_set-clause-here : goal.returns-then-is_set-clause-here

@@ -17,4 +17,5 @@ returns-in-Some-clause-changed c = λ k.
 pub returns-in-Ok-clause-changed : goal.returns-in-Ok-clause-changed
 returns-in-Ok-clause-changed c = λ k.
     let here : Some c.args.value ≡ value_found c.insert.new.self.entries c.args.block = sym c.in-Ok.ensures.updates.1 in
-    ap (λ es. value_in es k) (value-same c.insert.new.self.entries c.args.block (Some c.args.value) here) ∙ grind (arith, common_steps, c.in-Ok.ensures.updates.0 k)
+    ap (λ es. value_in es k) (value-same c.insert.new.self.entries c.args.block (Some c.args.value) here) ∙ grind
+    (arith, common_steps, c.in-Ok.ensures.updates.0 k)

@@ -8,5 +8,6 @@ abbrev pub invariant-loop-i : goal.invariant-loop-i
 invariant-loop-i g l = record {
   counted : IsCount (length l.levels);
   known : Knows l.monitor l.levels l.fn.profile (reverse (take l.i l.trace)) false;
-  same : fault_from l.levels l.fn.profile [] l.trace ≡ fault_from l.levels l.fn.profile (reverse (take l.i l.trace)) (drop l.i l.trace);
+  same : fault_from l.levels l.fn.profile [] l.trace ≡ fault_from l.levels l.fn.profile (reverse (take l.i l.trace))
+      (drop l.i l.trace);
 }

@@ -5,4 +5,5 @@ pub returns-clause-later : goal.returns-clause-later
 returns-clause-later g c = λ profile m i t rest. later-legal profile m i t rest
 
 pub returns-clause-message : goal.returns-clause-message
-returns-clause-message g c = λ level profile m i t lawful order none lt. message-legal level profile m i t lawful order none lt
+returns-clause-message g c = λ level profile m i t lawful order none lt. message-legal level profile m i t lawful order
+    none lt

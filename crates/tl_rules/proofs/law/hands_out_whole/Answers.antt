@@ -1,5 +1,6 @@
 use Rattle.tl_burst.proofs.Splitting.{beats-positive}
-use Rattle.tl_rules.proofs.Handed.{unfinished-whole, pending-whole, held-whole, request_of-whole, release_of-whole, probe_of-whole, grant_sink-whole}
+use Rattle.tl_rules.proofs.Handed.{unfinished-whole, pending-whole, held-whole, request_of-whole, release_of-whole}
+use Rattle.tl_rules.proofs.Handed.{probe_of-whole, grant_sink-whole}
 use Rattle.tl_rules.proofs.law.hands_out_whole.Goals as goal
 
 pub returns-clause-unfinished : goal.returns-clause-unfinished

@@ -7,6 +7,8 @@ pub returns : goal.returns
 returns g c = λ lane lt.
     let few = (width-bounds g.row.W c.requires.width).1 in
     elim c.if-bytes.branch [
-      | then-bytes w ↦ all_lanes g.row.W c.args.size c.args.address lane c.if-bytes.first w.first-is few c.requires.small w.if-bytes.true lt
-      | else-bytes w ↦ some_lanes g.row.W c.args.size c.args.address lane c.if-bytes.first w.first-is few c.requires.small w.if-bytes.false lt
+      | then-bytes w ↦ all_lanes g.row.W c.args.size c.args.address lane c.if-bytes.first w.first-is few
+          c.requires.small w.if-bytes.true lt
+      | else-bytes w ↦ some_lanes g.row.W c.args.size c.args.address lane c.if-bytes.first w.first-is few
+          c.requires.small w.if-bytes.false lt
     ]

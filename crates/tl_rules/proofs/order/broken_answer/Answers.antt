@@ -11,12 +11,21 @@ returns-then-not-answers g c = λ t k.
 pub returns-then-x-request : goal.returns-then-x-request
 returns-then-x-request g c = λ t k.
     sym (answered c.args.x.now t c.args.profile c.in-Some.request c.requires (c.in-Some.ensures t k)
-    ∙ rw (sym c.answers.ensures ∙ c.if-not-answers.false, ne_eqb c.args.x.now.size c.in-Some.request.size c.if-x-request.true) refl)
+    ∙ rw (
+      sym c.answers.ensures ∙ c.if-not-answers.false,
+      ne_eqb c.args.x.now.size c.in-Some.request.size
+          c.if-x-request.true,
+    ) refl)
 
 pub returns-then-not-is_grant : goal.returns-then-not-is_grant
 returns-then-not-is_grant g c = λ t k.
     sym (answered c.args.x.now t c.args.profile c.in-Some.request c.requires (c.in-Some.ensures t k)
-    ∙ rw (sym c.answers.ensures ∙ c.if-not-answers.false, eq-eqb c.args.x.now.size c.in-Some.request.size c.if-x-request.false, sym c.is_grant.ensures ∙ c.if-not-is_grant.true) refl)
+    ∙ rw (
+      sym c.answers.ensures ∙ c.if-not-answers.false,
+      eq-eqb c.args.x.now.size c.in-Some.request.size
+          c.if-x-request.false,
+      sym c.is_grant.ensures ∙ c.if-not-is_grant.true,
+    ) refl)
 
 pub returns-then-misgrants : goal.returns-then-misgrants
 returns-then-misgrants g c = λ t k.

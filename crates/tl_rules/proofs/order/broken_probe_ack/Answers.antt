@@ -3,7 +3,8 @@ use Rattle.tl_rules.proofs.Open.{no-probe, probed}
 use Rattle.tl_rules.proofs.order.broken_probe_ack.Goals as goal
 
 pub returns-in_default : goal.returns-in_default
-returns-in_default g c = λ t k. no-probe c.args.x.now _ t c.block_at-block.ensures (sym c.in_default.is ∙ c.probe.ensures t k)
+returns-in_default g c = λ t k. no-probe c.args.x.now _ t c.block_at-block.ensures
+    (sym c.in_default.is ∙ c.probe.ensures t k)
 
 pub returns-then-not-is_report : goal.returns-then-not-is_report
 returns-then-not-is_report g c = λ t k.

@@ -9,16 +9,21 @@ loop-i-init c = record { read = data-init c.args.count c.args.field.now (search 
 pub returns-in_err-byte : goal.returns-in_err-byte
 returns-in_err-byte c =
     let none : c.from_residual.result ≡ None = search rules in
-    none ∙ sym (data-fails c.args.count c.loop-i.i c.loop-i.bytes c.args.field.now c.loop-i.rest.now (omega arith) c.loop-i.invariant.read (search rules))
+    none ∙ sym (data-fails c.args.count c.loop-i.i c.loop-i.bytes c.args.field.now c.loop-i.rest.now (omega arith)
+    c.loop-i.invariant.read (search rules))
 
 pub loop-i-preserved : goal.loop-i-preserved
 loop-i-preserved c = record {
-  read = data-step c.args.count c.loop-i.i c.in_ok-byte.byte c.loop-i.bytes c.args.field.now c.loop-i.rest.now c.in_ok-byte.after.now (omega arith) c.loop-i.invariant.read (search rules);
+  read = data-step c.args.count c.loop-i.i c.in_ok-byte.byte c.loop-i.bytes c.args.field.now c.loop-i.rest.now
+      c.in_ok-byte.after.now (omega arith) c.loop-i.invariant.read (search rules);
   len = length-set _ _ _ ∙ c.loop-i.invariant.len;
 }
 
 pub returns-then-not-is_empty : goal.returns-then-not-is_empty
-returns-then-not-is_empty c = sym (data-left c.args.count c.loop-i.i c.loop-i.bytes c.args.field.now c.loop-i.rest.now (omega arith) c.loop-i.invariant.read c.if-not-is_empty.ensures)
+returns-then-not-is_empty c =
+    sym (data-left c.args.count c.loop-i.i c.loop-i.bytes c.args.field.now c.loop-i.rest.now (omega arith)
+    c.loop-i.invariant.read c.if-not-is_empty.ensures)
 
 pub returns : goal.returns
-returns c = sym (data-done c.args.count c.loop-i.i c.loop-i.bytes c.args.field.now c.loop-i.rest.now (omega arith) c.loop-i.invariant.read c.if-not-is_empty.ensures)
+returns c = sym (data-done c.args.count c.loop-i.i c.loop-i.bytes c.args.field.now c.loop-i.rest.now (omega arith)
+    c.loop-i.invariant.read c.if-not-is_empty.ensures)

@@ -6,10 +6,12 @@ use Rattle.tl_schedule.proofs.header.clients.Goals as goal
 pub returns-in_err-client : goal.returns-in_err-client
 returns-in_err-client c =
     let none : c.from_residual.result ≡ None = search rules in
-    rw none (none-is client_at _ _ _ _ c.loop-rest.invariant.few c.loop-rest.invariant.same (search rules) (search rules))
+    rw none (none-is client_at _ _ _ _ c.loop-rest.invariant.few c.loop-rest.invariant.same (search rules)
+    (search rules))
 
 pub returns-then-is_err : goal.returns-then-is_err
-returns-then-is_err c = too_many client_at _ _ _ _ c.loop-rest.invariant.few c.loop-rest.invariant.same (search rules) (search rules)
+returns-then-is_err c = too_many client_at _ _ _ _ c.loop-rest.invariant.few c.loop-rest.invariant.same (search rules)
+    (search rules)
 
 pub loop-rest-preserved : goal.loop-rest-preserved
 loop-rest-preserved c =
@@ -18,7 +20,8 @@ loop-rest-preserved c =
     let room : length done < 16 = search rules in
     rw pushed (record {
       few = omega (arith, length-append done (c.in_ok-client.client ∷ []));
-      same = next-is client_at _ _ _ _ c.loop-rest.invariant.few c.loop-rest.invariant.same _ _ (search rules) (search rules) room;
+      same = next-is client_at _ _ _ _ c.loop-rest.invariant.few c.loop-rest.invariant.same _ _ (search rules)
+          (search rules) room;
     })
 
 pub returns : goal.returns

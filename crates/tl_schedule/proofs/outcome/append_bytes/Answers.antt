@@ -8,4 +8,5 @@ loop-i-init c = append-none c.args.bytes.now c.args.out.now.items
 pub loop-i-preserved : goal.loop-i-preserved
 loop-i-preserved c =
     let appended : c.extend_from_slice.new.self.items ≡ c.loop-i.out.items ++ c.pair.result = search rules in
-    rw appended (append-step c.loop-i.i c.args.bytes.now c.args.out.now.items c.loop-i.out.items c.pair.result (search rules) (search rules) c.loop-i.invariant)
+    rw appended (append-step c.loop-i.i c.args.bytes.now c.args.out.now.items c.loop-i.out.items c.pair.result
+    (search rules) (search rules) c.loop-i.invariant)

@@ -1,9 +1,11 @@
-use Rattle.std.proofs.Common.{ap, ap₂, refl, sym, codes, Bool, true, false, inl, inr, ◌≡◌, ◌∙◌, List, map, subst, Result, Ok, Err}
+use Rattle.std.proofs.Common.{ap, ap₂, refl, sym, codes, Bool, true, false, inl, inr, ◌≡◌, ◌∙◌, List, map, subst}
+use Rattle.std.proofs.Common.{Result, Ok, Err}
 use Rattle.std.specs.Prelude.{IfErr, Option, Some, None, option_map, Box, if◌then◌else◌}
 use Rattle.std.specs.Result.{IsErrAnd}
 use Rattle.std.specs.Box.{box_value}
 use Rattle.std.specs.String.{string_bytes}
-use Rattle.clap.specs.Words.{App, Row, Text, is_simple, kind_of, subcommand_of, subcommand_rows_of, rows_of, found_of, subcommand_rows}
+use Rattle.clap.specs.Words.{App, Row, Text, is_simple, kind_of, subcommand_of, subcommand_rows_of, rows_of, found_of}
+use Rattle.clap.specs.Words.{subcommand_rows}
 use Rattle.clap.specs.Matches.{subcommand_name_of}
 use Rattle.clap.specs.declared.parser.matches.ArgMatches.{ArgMatches}
 use Rattle.clap.specs.declared.parser.matches.ArgMatches.TheViews.{out-ArgMatches, out-SubCommand}
@@ -22,23 +24,27 @@ simple : is_simple tool_of ≡ true
 unfolding clap_on_literals
 simple = refl
 
-both_parts : (o : Option (Text × List Row)) (n : Text) (r : List Row) → Some n ≡ option_map (λ p. p.0) o → Some r ≡ option_map (λ p. p.1) o → o ≡ Some (n, r)
+both_parts : (o : Option (Text × List Row)) (n : Text) (r : List Row) → Some n ≡ option_map (λ p. p.0) o
+    → Some r ≡ option_map (λ p. p.1) o → o ≡ Some (n, r)
 both_parts None n r a b = absurd cc
 both_parts (Some p) n r a b = ap₂ (λ x y. Some (x, y)) (some_is a) (some_is b)
   where
     some_is : {A : Type 0} {x y : A} → Some x ≡ Some y → y ≡ x
     some_is e = cc
 
-names_are : {Z : Type 0} (o : Option (Box SubCommand Z)) → option_map (λ b. (out-SubCommand (box_value b)).name.now) o ≡ option_map (λ p. p.0) (subcommand_rows o)
+names_are : {Z : Type 0} (o : Option (Box SubCommand Z)) → option_map (λ b. (out-SubCommand (box_value b)).name.now)
+    o ≡ option_map (λ p. p.0) (subcommand_rows o)
 names_are None = refl
 names_are (Some b) = refl
 
-refusal : (texts : List Text) (memory : Bool) (e : Error) → AreRefused texts → IsRefusal texts (if memory then words.Memory else words.Usage e)
+refusal : (texts : List Text) (memory : Bool) (e : Error) → AreRefused texts
+    → IsRefusal texts (if memory then words.Memory else words.Usage e)
 refusal texts true e is = tt
 refusal texts false e is = is
 
 -- words that `clap` refuses for another reason than want of memory are those that it doesn't take
-unparsed : (texts : List Text) (e : Error) → (takes tool_of texts ≡ true → is_want_of_memory (kind_of e) ≡ true) → IsRefusal texts (words_fault e)
+unparsed : (texts : List Text) (e : Error) → (takes tool_of texts ≡ true → is_want_of_memory (kind_of e) ≡ true)
+    → IsRefusal texts (words_fault e)
 unparsed texts e passes = go (takes tool_of texts) refl
   where
     go : (b : Bool) → takes tool_of texts ≡ b → IsRefusal texts (words_fault e)
@@ -46,17 +52,22 @@ unparsed texts e passes = go (takes tool_of texts) refl
     go false is = refusal texts (is_want_of_memory (kind_of e)) e (inl is)
 
 -- the same words name the same command
-named_alike : (name : Text) {a b c x y z : Option Text} → a ≡ x → b ≡ y → c ≡ z → command_named name x y z ≡ command_named name a b c
+named_alike : (name : Text) {a b c x y z : Option Text} → a ≡ x → b ≡ y → c ≡ z
+    → command_named name x y z ≡ command_named name a b c
 named_alike name p q r = cc
 
 -- the subcommand with its entries that `clap` found
-chosen : (texts : List Text) (a : App) (m : ArgMatches) (name : Text) (rows : List Row) → a ≡ tool_of → subcommand_rows_of m ≡ subcommand_of a texts
-    → Some name ≡ subcommand_name_of m → Some rows ≡ option_map (λ p. p.1) (subcommand_rows_of m) → subcommand_of tool_of texts ≡ Some (name, rows)
+chosen : (texts : List Text) (a : App) (m : ArgMatches) (name : Text) (rows : List Row) → a ≡ tool_of
+    → subcommand_rows_of m ≡ subcommand_of a texts
+    → Some name ≡ subcommand_name_of m → Some rows ≡ option_map (λ p. p.1) (subcommand_rows_of m)
+    → subcommand_of tool_of texts ≡ Some (name, rows)
 chosen texts a m name rows is found named entered =
-    ap (λ (x : App). subcommand_of x texts) (sym is) ∙ sym found ∙ both_parts (subcommand_rows_of m) name rows (named ∙ names_are (out-ArgMatches m).subcommand) entered
+    ap (λ (x : App). subcommand_of x texts) (sym is) ∙ sym found ∙ both_parts (subcommand_rows_of m) name rows
+    (named ∙ names_are (out-ArgMatches m).subcommand) entered
 
 -- what a conversion answers is what it was given
-converted : {A : Type 0} (texts : List Text) (r : Result A WordsFault) (fault : WordsFault) → IsErrAnd r (λ f. f ≡ fault) → IsRefusal texts fault → IfErr r (IsRefusal texts)
+converted : {A : Type 0} (texts : List Text) (r : Result A WordsFault) (fault : WordsFault)
+    → IsErrAnd r (λ f. f ≡ fault) → IsRefusal texts fault → IfErr r (IsRefusal texts)
 converted texts (Ok x) fault h is = tt
 converted texts (Err f) fault h is = subst (IsRefusal texts) (sym h) is
 
@@ -67,28 +78,36 @@ returns-clause-given c =
     let h = c.in_ok-matches.ensures.ok.2 (ap is_simple c.in_ok-tool.ensures ∙ simple) in (
       c.in-Some.name.now,
       rows,
-      chosen texts _ c.in_ok-matches.matches c.in-Some.name.now rows c.in_ok-tool.ensures h.1 c.in-Some.ensures.name c.in-Some.ensures.rows,
+      chosen texts _ c.in_ok-matches.matches c.in-Some.name.now rows c.in_ok-tool.ensures h.1 c.in-Some.ensures.name
+          c.in-Some.ensures.rows,
       named_alike c.in-Some.name.now
           (c.get_str-width.ensures ∙ first_value-rows (found_of c.in-Some.found.now) (codes "width"))
           (c.get_str-trace.ensures ∙ first_value-rows (found_of c.in-Some.found.now) (codes "trace"))
-          (c.get_str-name_of_file.ensures ∙ first_value-rows (found_of c.in-Some.found.now) (codes "FILE")) ∙ sym c.in-Some-command_named.ensures,
-      c.in_ok-file.ensures ∙ c.get_str-name_of_file.ensures ∙ first_value-rows (found_of c.in-Some.found.now) (codes "FILE"),
+          (c.get_str-name_of_file.ensures ∙ first_value-rows (found_of c.in-Some.found.now) (codes "FILE")) ∙ sym
+          c.in-Some-command_named.ensures,
+      c.in_ok-file.ensures ∙ c.get_str-name_of_file.ensures ∙ first_value-rows (found_of c.in-Some.found.now)
+          (codes "FILE"),
     )
 
 pub returns-in_err-matches-clause-refused : goal.returns-in_err-matches-clause-refused
 returns-in_err-matches-clause-refused c =
     let texts = map string_bytes c.args.words.now in
-    converted texts c.from_residual-in_err-matches.result (words_fault c.in_err-matches.field-0.0) c.from_residual-in_err-matches.ensures.1
-    (unparsed texts c.in_err-matches.field-0.0 (λ is. ap is_want_of_memory (c.in_err-matches.ensures.passes (ap (λ (a : App). takes a texts) c.in_ok-tool.ensures ∙ is))))
+    converted texts c.from_residual-in_err-matches.result (words_fault c.in_err-matches.field-0.0)
+    c.from_residual-in_err-matches.ensures.1
+    (unparsed texts c.in_err-matches.field-0.0
+    (λ is. ap is_want_of_memory
+    (c.in_err-matches.ensures.passes (ap (λ (a : App). takes a texts) c.in_ok-tool.ensures ∙ is))))
 
 pub returns-in_default-command_named-clause-refused : goal.returns-in_default-command_named-clause-refused
 returns-in_default-command_named-clause-refused c =
     let texts = map string_bytes c.args.words.now in
     let rows = rows_of (found_of c.in-Some.found.now) in
     let h = c.in_ok-matches.ensures.ok.2 (ap is_simple c.in_ok-tool.ensures ∙ simple) in
-    let is = chosen texts _ c.in_ok-matches.matches c.in-Some.name.now rows c.in_ok-tool.ensures h.1 c.in-Some.ensures.name c.in-Some.ensures.rows in
+    let is = chosen texts _ c.in_ok-matches.matches c.in-Some.name.now rows c.in_ok-tool.ensures h.1
+    c.in-Some.ensures.name c.in-Some.ensures.rows in
     inr (ap command_given is
     ∙ named_alike c.in-Some.name.now
     (c.get_str-width.ensures ∙ first_value-rows (found_of c.in-Some.found.now) (codes "width"))
     (c.get_str-trace.ensures ∙ first_value-rows (found_of c.in-Some.found.now) (codes "trace"))
-    (c.get_str-name_of_file.ensures ∙ first_value-rows (found_of c.in-Some.found.now) (codes "FILE")) ∙ sym c.in_default-command_named.ensures)
+    (c.get_str-name_of_file.ensures ∙ first_value-rows (found_of c.in-Some.found.now) (codes "FILE")) ∙ sym
+    c.in_default-command_named.ensures)

@@ -12,7 +12,8 @@ pub loop-i-preserved : goal.loop-i-preserved
 loop-i-preserved g c = record {
   capacity = search rules;
   items = λ room.
-      pushed c.args.message.now c.loop-i.i c.loop-i.beats.capacity c.args.beats.now.items c.loop-i.beats.items c.push_back.new.self c.beat_at.result
+      pushed c.args.message.now c.loop-i.i c.loop-i.beats.capacity c.args.beats.now.items c.loop-i.beats.items
+      c.push_back.new.self c.beat_at.result
       (search rules) c.beat_at.ensures.beat (search rules)
       (c.loop-i.invariant.items room) (omega (arith, room, c.loop-i.invariant.capacity));
 }

@@ -6,5 +6,6 @@ use Rattle.tl_world.proofs.ring.push_beats.Given as goal
 abbrev pub invariant-loop-i : goal.invariant-loop-i
 invariant-loop-i g l = record {
   capacity : l.beats.capacity ≡ l.fn.beats.capacity;
-  items : length l.fn.beats.items + Burst.beats_of l.message ≤ l.fn.beats.capacity → l.beats.items ≡ l.fn.beats.items ++ beats_from l.message 0 l.i;
+  items : length l.fn.beats.items + Burst.beats_of l.message ≤ l.fn.beats.capacity
+      → l.beats.items ≡ l.fn.beats.items ++ beats_from l.message 0 l.i;
 }

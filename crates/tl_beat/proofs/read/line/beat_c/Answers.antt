@@ -4,7 +4,8 @@ use Rattle.tl_beat.proofs.read.line.beat_c.Goals as goal
 
 pub returns-then-is_some-carries_data : goal.returns-then-is_some-carries_data
 returns-then-is_some-carries_data g c =
-    made_c-err g.row.W c.in_ok-opcode.opcode c.args.head.opcode c.args.head.param c.in_ok-param.param _ _ _ _ _ c.is_some.result c.carries_data.result
+    made_c-err g.row.W c.in_ok-opcode.opcode c.args.head.opcode c.args.head.param c.in_ok-param.param _ _ _ _ _
+    c.is_some.result c.carries_data.result
     (search rules) (search rules) c.is_some.ensures c.carries_data.ensures c.if-is_some-carries_data.true
 
 pub returns : goal.returns

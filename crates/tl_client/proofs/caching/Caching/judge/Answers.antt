@@ -1,6 +1,6 @@
 use Rattle.std.proofs.Common.{sym, ◌∙◌}
 use Rattle.std.proofs.lemmas.Result.{err_from_is_err_and}
-use Rattle.tl_client.proofs.CachingJudged.{refused_alone, passes_alone, stalled, refused_order}
+use Rattle.tl_client.proofs.caching_client.Judged.{refused_alone, passes_alone, stalled, refused_order}
 use Rattle.tl_client.proofs.caching.Caching.judge.Goals as goal
 
 pub returns-in_err-check_alone-clause-judged : goal.returns-in_err-check_alone-clause-judged

@@ -1,6 +1,6 @@
 use Rattle.std.proofs.Common.{refl}
 use Rattle.tl_params.proofs.Refusals.{none_broken}
-use Rattle.tl_client.proofs.CachingNew.{knows-new}
+use Rattle.tl_client.proofs.caching_client.New.{knows-new}
 use Rattle.tl_client.proofs.caching.Caching.new.Goals as goal
 
 pub returns : goal.returns

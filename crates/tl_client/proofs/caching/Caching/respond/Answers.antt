@@ -1,5 +1,5 @@
 use Rattle.std.proofs.Common.{refl, ◌∙◌}
-use Rattle.tl_client.proofs.Responses.{ends-from, nothing_left}
+use Rattle.tl_client.proofs.messages.Responses.{ends-from, nothing_left}
 use Rattle.tl_client.proofs.caching.Caching.respond.Goals as goal
 
 pub returns-in-Some-clause-ends : goal.returns-in-Some-clause-ends

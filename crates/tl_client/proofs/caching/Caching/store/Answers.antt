@@ -1,5 +1,5 @@
 use Rattle.std.proofs.Common.{rules, refl}
-use Rattle.tl_client.proofs.CachingStore.{written, does-stored}
+use Rattle.tl_client.proofs.caching_client.Store.{written, does-stored}
 use Rattle.tl_client.proofs.caching.Caching.store.Goals as goal
 
 pub returns : goal.returns

@@ -1,5 +1,5 @@
 use Rattle.std.proofs.Common.{rules}
-use Rattle.tl_client.proofs.CachingPast.{waits_known}
+use Rattle.tl_client.proofs.caching_client.Past.{waits_known}
 use Rattle.tl_client.proofs.caching.Caching.waits.Goals as goal
 
 pub returns-then-is_probe : goal.returns-then-is_probe

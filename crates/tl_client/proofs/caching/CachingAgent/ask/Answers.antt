@@ -1,6 +1,6 @@
 use Rattle.std.proofs.Common.{refl, sym}
-use Rattle.tl_client.proofs.CachingAnswers.{asked-busy}
-use Rattle.tl_client.proofs.CachingAsked.{answers-asked, knows-asked}
+use Rattle.tl_client.proofs.caching_client.Answered.{asked-busy}
+use Rattle.tl_client.proofs.caching_client.Asked.{answers-asked, knows-asked}
 use Rattle.tl_client.proofs.caching.CachingAgent.ask.Goals as goal
 
 pub returns-in-Some-clause-reply : goal.returns-in-Some-clause-reply

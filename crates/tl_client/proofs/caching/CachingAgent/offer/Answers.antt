@@ -1,6 +1,6 @@
 use Rattle.std.proofs.Common.{rules, sym}
 use Rattle.tl_client.specs.code.KnowsCaching.{terms_of}
-use Rattle.tl_client.proofs.CachingJudged.{knows-took, lawful}
+use Rattle.tl_client.proofs.caching_client.Judged.{knows-took, lawful}
 use Rattle.tl_client.proofs.caching.CachingAgent.offer.Goals as goal
 
 pub returns-in-Ok-false-clause-answer : goal.returns-in-Ok-false-clause-answer

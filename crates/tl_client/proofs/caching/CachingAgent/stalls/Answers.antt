@@ -1,5 +1,5 @@
 use Rattle.std.proofs.Common.{rules, sym, ◌∙◌}
-use Rattle.tl_client.proofs.CachingJudged.{stalls-waiting, stalls-moving}
+use Rattle.tl_client.proofs.caching_client.Judged.{stalls-waiting, stalls-moving}
 use Rattle.tl_client.proofs.caching.CachingAgent.stalls.Goals as goal
 
 pub returns-then-waits : goal.returns-then-waits

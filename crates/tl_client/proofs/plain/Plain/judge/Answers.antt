@@ -1,4 +1,4 @@
-use Rattle.tl_client.proofs.PlainCalls.{takeable_response}
+use Rattle.tl_client.proofs.plain_client.Calls.{takeable_response}
 use Rattle.tl_client.proofs.plain.Plain.judge.Goals as goal
 
 pub returns-in_ok-check_beat-in-D-D-clause-takeable : goal.returns-in_ok-check_beat-in-D-D-clause-takeable

@@ -1,5 +1,5 @@
 use Rattle.std.proofs.Common.{sym, ◌∙◌}
-use Rattle.tl_client.proofs.PlainPast.{refused_in_order, judged_by_bits}
+use Rattle.tl_client.proofs.plain_client.Past.{refused_in_order, judged_by_bits}
 use Rattle.tl_client.proofs.plain.Plain.judge_order.Goals as goal
 
 pub returns-in-Some-clause-rule : goal.returns-in-Some-clause-rule

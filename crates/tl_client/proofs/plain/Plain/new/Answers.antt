@@ -1,6 +1,6 @@
 use Rattle.std.proofs.Common.{refl}
 use Rattle.tl_params.proofs.Refusals.{none_broken}
-use Rattle.tl_client.proofs.PlainAsks.{knows-fresh}
+use Rattle.tl_client.proofs.plain_client.Asks.{knows-fresh}
 use Rattle.tl_client.proofs.plain.Plain.new.Goals as goal
 
 pub returns : goal.returns

@@ -1,6 +1,6 @@
 use Rattle.std.proofs.Common.{refl, ap, rules}
 use Rattle.tl_client.specs.code.KnowsPlain.{terms_of}
-use Rattle.tl_client.proofs.PlainAsks.{asks_access, asked-alone, asked-started, begun-answer, knows-begun}
+use Rattle.tl_client.proofs.plain_client.Asks.{asks_access, asked-alone, asked-started, begun-answer, knows-begun}
 use Rattle.tl_client.proofs.plain.PlainAgent.ask.Goals as goal
 
 pub returns-in-Some-clause-reply : goal.returns-in-Some-clause-reply

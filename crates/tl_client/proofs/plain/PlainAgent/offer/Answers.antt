@@ -1,5 +1,5 @@
 use Rattle.std.proofs.Common.{refl, rules}
-use Rattle.tl_client.proofs.PlainOffers.{offered-refused, offered-taken, knows-refused, knows-taken}
+use Rattle.tl_client.proofs.plain_client.Offers.{offered-refused, offered-taken, knows-refused, knows-taken}
 use Rattle.tl_client.proofs.plain.PlainAgent.offer.Goals as goal
 
 pub returns-in-Err-clause-answer : goal.returns-in-Err-clause-answer

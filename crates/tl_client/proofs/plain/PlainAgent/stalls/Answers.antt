@@ -1,6 +1,6 @@
 use Rattle.std.proofs.Common.{sym}
 use Rattle.tl_client.specs.code.KnowsPlain.{terms_of}
-use Rattle.tl_client.proofs.PlainOffers.{stalls-plain}
+use Rattle.tl_client.proofs.plain_client.Offers.{stalls-plain}
 use Rattle.tl_client.proofs.plain.PlainAgent.stalls.Goals as goal
 
 pub returns : goal.returns

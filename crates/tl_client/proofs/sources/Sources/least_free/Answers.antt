@@ -1,6 +1,6 @@
 use Rattle.std.proofs.Common.{rules, ◌≡◌, ◌+◌, ◌-◌, suc, sym, ◌∙◌, is_some, arith, true, false}
 use Rattle.tl_client.specs.code.Sources.{open_at}
-use Rattle.tl_client.proofs.Free.{free_later, free_here, free_nowhere}
+use Rattle.tl_client.proofs.pending.Free.{free_later, free_here, free_nowhere}
 use Rattle.tl_client.proofs.sources.Sources.least_free.Goals as goal
 
 pub returns-then-is_none-clause-least : goal.returns-then-is_none-clause-least

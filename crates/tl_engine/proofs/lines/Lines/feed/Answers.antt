@@ -10,15 +10,22 @@ loop-line-init g c = ([], refl, λ read before p. rw append-nil p)
 pub returns-in-Broken-clause-feeds : goal.returns-in-Broken-clause-feeds
 returns-in-Broken-clause-feeds g c =
     let so_far = c.loop-line.invariant in
-    feeds_until g.H.LineHandler.knows g.H.LineHandler.tells _ _ c.take_line.new.self so_far.0 c.in-Some.line.now c.in-Some.after.now c.loop-line.rest.now _ _ _ _ so_far.1
+    feeds_until g.H.LineHandler.knows g.H.LineHandler.tells _ _ c.take_line.new.self so_far.0 c.in-Some.line.now
+    c.in-Some.after.now c.loop-line.rest.now _ _ _ _ so_far.1
     c.in-Some.ensures.1 so_far.2 (rw c.in-Broken.is at c.in_ok-take_line.ensures.feeds)
 
 pub loop-line-preserved : goal.loop-line-preserved
 loop-line-preserved g c =
     let so_far = c.loop-line.invariant in
     let cut : (so_far.0 ++ c.in-Some.line.now) ++ c.in-Some.after.now ≡ c.args.piece.now =
-    append_assoc so_far.0 c.in-Some.line.now c.in-Some.after.now ∙ ap (λ (rest : List ℕ). so_far.0 ++ rest) c.in-Some.ensures.1 ∙ so_far.1 in
-    (so_far.0 ++ c.in-Some.line.now, cut, feeds_then g.H.LineHandler.knows g.H.LineHandler.tells _ _ _ so_far.0 c.in-Some.line.now _ _ _ _ refl so_far.2 (rw c.in-Clean.is at c.in_ok-take_line.ensures.feeds))
+    append_assoc so_far.0 c.in-Some.line.now c.in-Some.after.now ∙ ap (λ (rest : List ℕ). so_far.0 ++ rest)
+    c.in-Some.ensures.1 ∙ so_far.1 in (
+      so_far.0 ++ c.in-Some.line.now,
+      cut,
+      feeds_then g.H.LineHandler.knows g.H.LineHandler.tells _ _ _ so_far.0
+          c.in-Some.line.now _ _ _ _ refl so_far.2 (rw c.in-Clean.is at c.in_ok-take_line.ensures.feeds),
+    )
 
 pub returns-clause-feeds : goal.returns-clause-feeds
-returns-clause-feeds g c = feeds_last g.H.LineHandler.knows g.H.LineHandler.tells _ _ _ _ c.loop-line.invariant.0 c.loop-line.rest.now _ _ _ _ c.loop-line.invariant.1 c.loop-line.invariant.2 c.keep.ensures.feeds
+returns-clause-feeds g c = feeds_last g.H.LineHandler.knows g.H.LineHandler.tells _ _ _ _ c.loop-line.invariant.0
+    c.loop-line.rest.now _ _ _ _ c.loop-line.invariant.1 c.loop-line.invariant.2 c.keep.ensures.feeds

@@ -4,7 +4,8 @@ use Rattle.tl_engine.specs.code.Progress.{Feeds}
 use Rattle.tl_engine.proofs.lines.Lines.feed.Given as goal
 
 abbrev pub invariant-loop-line : goal.invariant-loop-line
-invariant-loop-line g l = (taken : List ℕ) × (taken ++ l.rest ≡ l.fn.piece) × Feeds g.H.LineHandler.knows g.H.LineHandler.tells l.fn.self l.self taken l.fn.out.items l.out.items Clean
+invariant-loop-line g l = (taken : List ℕ) × (taken ++ l.rest ≡ l.fn.piece)
+    × Feeds g.H.LineHandler.knows g.H.LineHandler.tells l.fn.self l.self taken l.fn.out.items l.out.items Clean
 
 abbrev pub decreases-loop-line : goal.decreases-loop-line
 decreases-loop-line g l = length l.rest

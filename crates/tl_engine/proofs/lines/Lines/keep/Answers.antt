@@ -2,7 +2,8 @@ use Rattle.std.proofs.Common.{rules, arith, ◌≤◌, ◌+◌, [], length, refl
 use Rattle.std.proofs.lemmas.List.{append-nil}
 use Rattle.tl_engine.proofs.Progress.{feeds_kept, feeds_stopped, refused}
 use Rattle.tl_engine.proofs.lines.Lines.keep.Goals as goal
-use Rattle.tl_engine.proofs.lines.Lines.keep.Goals.{then-is_err-via-then-is_err, then-is_err-via-else-is_err+then-is_full}
+use Rattle.tl_engine.proofs.lines.Lines.keep.Goals.{then-is_err-via-then-is_err}
+use Rattle.tl_engine.proofs.lines.Lines.keep.Goals.{then-is_err-via-else-is_err+then-is_full}
 
 pub returns-then-is_err-clause-feeds : goal.returns-then-is_err-clause-feeds
 returns-then-is_err-clause-feeds g c =
@@ -14,7 +15,9 @@ returns-then-is_err-clause-feeds g c =
       )
       | then-is_err-via-else-is_err+then-is_full w ↦ search rules
     ] in
-    feeds_stopped g.H.LineHandler.knows g.H.LineHandler.tells _ _ _ _ _ _ c.args.rest.now [] (sym (append-nil _)) c.requires long c.stop.ensures.broken c.stop.ensures.stops
+    feeds_stopped g.H.LineHandler.knows g.H.LineHandler.tells _ _ _ _ _ _ c.args.rest.now [] (sym (append-nil _))
+    c.requires long c.stop.ensures.broken c.stop.ensures.stops
 
 pub returns-clause-feeds : goal.returns-clause-feeds
-returns-clause-feeds g c = feeds_kept g.H.LineHandler.knows g.H.LineHandler.tells _ _ _ _ refl refl (search rules) c.requires (search rules)
+returns-clause-feeds g c = feeds_kept g.H.LineHandler.knows g.H.LineHandler.tells _ _ _ _ refl refl (search rules)
+    c.requires (search rules)

@@ -3,18 +3,23 @@ use Rattle.tl_engine.proofs.Playing.{header-opened, header-refused, judged}
 use Rattle.tl_engine.proofs.run_lines.RunLinesLineHandler.handle_line.Goals as goal
 
 pub returns-in-None : goal.returns-in-None
-returns-in-None g c = rw c.in-Waiting.is (header-refused g.row.TRACES _ c.args.line.now _ _ _ c.in-None.is c.in_ok-open-in-Waiting.ensures)
+returns-in-None g c = rw c.in-Waiting.is (header-refused g.row.TRACES _ c.args.line.now _ _ _ c.in-None.is
+    c.in_ok-open-in-Waiting.ensures)
 
 pub returns-in-Some : goal.returns-in-Some
-returns-in-Some g c = rw c.in-Waiting.is (header-opened g.row.TRACES _ c.in-Some.run_lines c.args.line.now _ _ _ c.in-Some.is c.in_ok-open-in-Waiting.ensures)
+returns-in-Some g c = rw c.in-Waiting.is (header-opened g.row.TRACES _ c.in-Some.run_lines c.args.line.now _ _ _
+    c.in-Some.is c.in_ok-open-in-Waiting.ensures)
 
 pub returns-in-Four : goal.returns-in-Four
-returns-in-Four g c = rw c.in-Four.is (judged Four (λ m lines text k. k) (λ m lines text k. k) c.in-Four.world c.play.new.self c.args.line.now _ _ c.play.result c.play.ensures)
+returns-in-Four g c = rw c.in-Four.is (judged Four (λ m lines text k. k) (λ m lines text k. k) c.in-Four.world
+    c.play.new.self c.args.line.now _ _ c.play.result c.play.ensures)
 
 pub returns-in-Eight : goal.returns-in-Eight
 returns-in-Eight g c = rw c.in-Eight.is (judged Eight (λ m lines text k. k)
-    (λ m lines text k. k) c.in-Eight.world c.play-in-Eight.new.self c.args.line.now _ _ c.play-in-Eight.result c.play-in-Eight.ensures)
+    (λ m lines text k. k) c.in-Eight.world c.play-in-Eight.new.self c.args.line.now _ _ c.play-in-Eight.result
+    c.play-in-Eight.ensures)
 
 pub returns-in-Sixteen : goal.returns-in-Sixteen
 returns-in-Sixteen g c = rw c.in-Sixteen.is (judged Sixteen (λ m lines text k. k)
-    (λ m lines text k. k) c.in-Sixteen.world c.play-in-Sixteen.new.self c.args.line.now _ _ c.play-in-Sixteen.result c.play-in-Sixteen.ensures)
+    (λ m lines text k. k) c.in-Sixteen.world c.play-in-Sixteen.new.self c.args.line.now _ _ c.play-in-Sixteen.result
+    c.play-in-Sixteen.ensures)

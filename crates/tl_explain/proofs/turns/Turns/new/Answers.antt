@@ -1,8 +1,3 @@
-use Rattle.std.proofs.Common.{◌≡◌, refl, ap, rules}
-use Rattle.std.specs.Prelude.{Option, None}
-use Rattle.tl_params.specs.declared.key.Key.{Key}
-use Rattle.tl_explain.specs.declared.turn.Turn.{Turn}
-use Rattle.tl_explain.specs.declared.told.Told.{Told}
 use Rattle.tl_explain.proofs.Follows.{no_turn, no_saying}
 use Rattle.tl_explain.proofs.turns.Turns.new.Goals as goal
 

@@ -1,4 +1,4 @@
-use Rattle.tl_manager.proofs.WordBits.{holders-bit}
+use Rattle.tl_manager.proofs.words_of_clients.WordBits.{holders-bit}
 use Rattle.tl_manager.proofs.bits.Words.holders.Goals as goal
 
 pub returns : goal.returns

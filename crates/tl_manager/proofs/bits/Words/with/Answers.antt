@@ -1,5 +1,5 @@
 use Rattle.std.proofs.Common.{rules}
-use Rattle.tl_manager.proofs.WordBits.{apart_with}
+use Rattle.tl_manager.proofs.words_of_clients.WordBits.{apart_with}
 use Rattle.tl_manager.proofs.bits.Words.with.Goals as goal
 
 pub invariant_of-result : goal.invariant_of-result

@@ -1,4 +1,4 @@
-use Rattle.tl_manager.proofs.WordBits.{without-bit}
+use Rattle.tl_manager.proofs.words_of_clients.WordBits.{without-bit}
 use Rattle.tl_manager.proofs.manager.block_state.without.Goals as goal
 
 pub returns : goal.returns

@@ -1,4 +1,4 @@
-use Rattle.tl_manager.proofs.Messages.{same-d}
+use Rattle.tl_manager.proofs.messages.Messages.{same-d}
 use Rattle.tl_manager.proofs.manager.reply.grant_with.Goals as goal
 
 pub returns : goal.returns

@@ -1,4 +1,4 @@
-use Rattle.tl_manager.proofs.Messages.{probe-made}
+use Rattle.tl_manager.proofs.messages.Messages.{probe-made}
 use Rattle.tl_manager.proofs.manager.reply.probe.Goals as goal
 
 pub returns : goal.returns

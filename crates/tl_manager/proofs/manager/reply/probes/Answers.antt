@@ -1,5 +1,5 @@
 use Rattle.std.proofs.Common.{rules, arith}
-use Rattle.tl_manager.proofs.Messages.{probes-none, probes-sent, probes-unsent}
+use Rattle.tl_manager.proofs.messages.Messages.{probes-none, probes-sent, probes-unsent}
 use Rattle.tl_manager.proofs.manager.reply.probes.Goals as goal
 
 pub loop-client-init : goal.loop-client-init

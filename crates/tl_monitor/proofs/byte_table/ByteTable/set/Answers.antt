@@ -6,8 +6,10 @@ use Rattle.tl_monitor.proofs.byte_table.ByteTable.set.Goals as goal
 
 pub overflow_sub-self : goal.overflow_sub-self
 overflow_sub-self g c =
-    let one = one-read c.self.inside.values c.from-slot.result c.from-before.result _ c.is_some.result (omega arith) c.is_some.ensures c.from-before.ensures in
-    counted-before c.self.inside.values c.from-slot.result c.self.inside.len c.from-before.result (omega arith) c.self.invariant one
+    let one = one-read c.self.inside.values c.from-slot.result c.from-before.result _ c.is_some.result (omega arith)
+    c.is_some.ensures c.from-before.ensures in
+    counted-before c.self.inside.values c.from-slot.result c.self.inside.len c.from-before.result (omega arith)
+    c.self.invariant one
 
 pub overflow_add-self : goal.overflow_add-self
 overflow_add-self g c =
@@ -17,6 +19,9 @@ overflow_add-self g c =
 
 pub invariant_of-self : goal.invariant_of-self
 invariant_of-self g c =
-    let one = one-read c.self.inside.values c.from-slot.result c.from-before.result _ c.is_some.result (omega arith) c.is_some.ensures c.from-before.ensures in
-    let after : c.from-after.result ≡ one_if (is_some c.args.value) = c.from-after.ensures ∙ byte-one c.is_some-2.result ∙ ap one_if c.is_some-2.ensures in
-    counted-set c.self.inside.values c.from-slot.result c.self.inside.len c.from-before.result c.from-after.result c.args.value (omega arith) (omega arith) c.self.invariant one after
+    let one = one-read c.self.inside.values c.from-slot.result c.from-before.result _ c.is_some.result (omega arith)
+    c.is_some.ensures c.from-before.ensures in
+    let after : c.from-after.result ≡ one_if (is_some c.args.value) =
+    c.from-after.ensures ∙ byte-one c.is_some-2.result ∙ ap one_if c.is_some-2.ensures in
+    counted-set c.self.inside.values c.from-slot.result c.self.inside.len c.from-before.result c.from-after.result
+    c.args.value (omega arith) (omega arith) c.self.invariant one after

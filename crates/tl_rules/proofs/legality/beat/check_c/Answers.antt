@@ -6,4 +6,5 @@ use Rattle.tl_rules.proofs.legality.beat.check_c.Goals as goal
 pub returns-in_err-control_of_c-clause-value : goal.returns-in_err-control_of_c-clause-value
 returns-in_err-control_of_c-clause-value g c =
     let p = err_from_is_err_and c.from_residual.result c.from_residual.ensures.1 in
-    p.1 ∙ ap Err p.2 ∙ sym (broken_first _ _ _ _ (illegal_c c.args.level c.args.beat.now) c.in_err-control_of_c.ensures.value)
+    p.1 ∙ ap Err p.2 ∙ sym (broken_first _ _ _ _ (illegal_c c.args.level c.args.beat.now)
+    c.in_err-control_of_c.ensures.value)

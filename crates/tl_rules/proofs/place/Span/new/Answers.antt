@@ -12,7 +12,11 @@ invariant_of-result g c =
     record {
       some = omega (arith, pow_pos c.args.size);
       within_block = omega (arith, room_in_block c.args.size c.args.address c.requires.small aligned);
-      within_payload = omega (arith, room_in_payload g.row.W c.args.size c.args.address c.requires.width c.requires.small aligned);
+      within_payload = omega (
+        arith,
+        room_in_payload g.row.W c.args.size c.args.address c.requires.width
+            c.requires.small aligned,
+      );
     }
 
 pub returns-clause-few : goal.returns-clause-few

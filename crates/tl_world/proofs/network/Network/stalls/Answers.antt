@@ -4,9 +4,11 @@ use Rattle.tl_world.proofs.network.Network.stalls.Goals as goal
 
 pub returns-then-is_to_client : goal.returns-then-is_to_client
 returns-then-is_to_client g c = λ config s h below.
-    moves-client g.A.Agent.represents g.A.Agent.terms g.D.Directory.perm_of config c.args.self.now s h c.args.link c.args.channel below c.args.beat.now
+    moves-client g.A.Agent.represents g.A.Agent.terms g.D.Directory.perm_of config c.args.self.now s h c.args.link
+    c.args.channel below c.args.beat.now
     c.stalls_at.result (search rules) (rw c.from.ensures at c.stalls_at.ensures.there)
 
 pub returns-else-is_to_client : goal.returns-else-is_to_client
 returns-else-is_to_client g c = λ config s h below.
-    moves-manager g.A.Agent.represents g.A.Agent.terms g.D.Directory.perm_of config c.args.self.now s h c.args.link c.args.channel below c.args.beat.now c.stalls.result (search rules) c.stalls.ensures
+    moves-manager g.A.Agent.represents g.A.Agent.terms g.D.Directory.perm_of config c.args.self.now s h c.args.link
+    c.args.channel below c.args.beat.now c.stalls.result (search rules) c.stalls.ensures

@@ -4,27 +4,35 @@ use Rattle.tl_world.proofs.network.Network.to_client.Goals as goal
 
 pub returns-in_default : goal.returns-in_default
 returns-in_default g c = λ config s h up room.
-    steps-empty g.A.Agent.represents g.A.Agent.terms g.D.Directory.perm_of config c.args.self.now s c.args.link c.args.channel h c.requires.inside c.in_default.ensures.there
+    steps-empty g.A.Agent.represents g.A.Agent.terms g.D.Directory.perm_of config c.args.self.now s c.args.link
+    c.args.channel h c.requires.inside c.in_default.ensures.there
 
 pub returns-then-stays : goal.returns-then-stays
 returns-then-stays g c = λ config s h up room.
-    steps-stayed g.A.Agent.represents g.A.Agent.terms g.D.Directory.perm_of config c.args.self.now _ s c.args.link c.args.channel c.in-Some.beat.now _ c.offer_at.result h c.requires.inside
-    (first-brought g.A.Agent.represents g.A.Agent.terms g.D.Directory.perm_of config c.args.self.now s c.args.link c.args.channel c.in-Some.beat.now h
+    steps-stayed g.A.Agent.represents g.A.Agent.terms g.D.Directory.perm_of config c.args.self.now _ s c.args.link
+    c.args.channel c.in-Some.beat.now _ c.offer_at.result h c.requires.inside
+    (first-brought g.A.Agent.represents g.A.Agent.terms g.D.Directory.perm_of config c.args.self.now s c.args.link
+    c.args.channel c.in-Some.beat.now h
     c.requires.inside c.in-Some.ensures.there) up (rw c.from.ensures at c.offer_at.ensures) refl
     c.in-Ok.verdict c.in-Ok.message (search rules) (search rules) refl
 
 pub returns-in-Err : goal.returns-in-Err
 returns-in-Err g c = λ config s h up room. rw c.refused.ensures (
-    steps-refused g.A.Agent.represents g.A.Agent.terms g.D.Directory.perm_of config c.args.self.now _ s c.args.link c.args.channel c.in-Some.beat.now _ c.offer_at.result h c.requires.inside
-    (first-brought g.A.Agent.represents g.A.Agent.terms g.D.Directory.perm_of config c.args.self.now s c.args.link c.args.channel c.in-Some.beat.now h
+    steps-refused g.A.Agent.represents g.A.Agent.terms g.D.Directory.perm_of config c.args.self.now _ s c.args.link
+    c.args.channel c.in-Some.beat.now _ c.offer_at.result h c.requires.inside
+    (first-brought g.A.Agent.represents g.A.Agent.terms g.D.Directory.perm_of config c.args.self.now s c.args.link
+    c.args.channel c.in-Some.beat.now h
     c.requires.inside c.in-Some.ensures.there) up (rw c.from.ensures at c.offer_at.ensures) refl
     c.in-Err.field-0 (search rules) refl)
 
 pub returns-else-stays : goal.returns-else-stays
 returns-else-stays g c = λ config s h up room.
     rw c.outcome_of.ensures
-    (steps-taken g.A.Agent.represents g.A.Agent.terms g.D.Directory.perm_of config c.args.self.now _ s c.args.link c.args.channel c.in-Some.beat.now _ c.offer_at.result h c.requires.inside
-    (first-brought g.A.Agent.represents g.A.Agent.terms g.D.Directory.perm_of config c.args.self.now s c.args.link c.args.channel c.in-Some.beat.now h
+    (steps-taken g.A.Agent.represents g.A.Agent.terms g.D.Directory.perm_of config c.args.self.now _ s c.args.link
+    c.args.channel c.in-Some.beat.now _ c.offer_at.result h c.requires.inside
+    (first-brought g.A.Agent.represents g.A.Agent.terms g.D.Directory.perm_of config c.args.self.now s c.args.link
+    c.args.channel c.in-Some.beat.now h
     c.requires.inside c.in-Some.ensures.there) up (rw c.from.ensures at c.offer_at.ensures) refl
     c.drop_first.new.self c.in-Ok.verdict c.in-Ok.message (search rules)
-    (search rules) c.drop_first.ensures.kept c.send_if_any.ensures.kept c.drop_first.ensures.moved c.send_if_any.ensures.moved room)
+    (search rules) c.drop_first.ensures.kept c.send_if_any.ensures.kept c.drop_first.ensures.moved
+    c.send_if_any.ensures.moved room)

@@ -6,23 +6,31 @@ use Rattle.tl_world.proofs.network.Network.to_manager.Goals as goal
 
 pub returns-in_default : goal.returns-in_default
 returns-in_default g c = λ config s h down room.
-    steps-empty g.A.Agent.represents g.A.Agent.terms g.D.Directory.perm_of config c.args.self.now s c.args.link c.args.channel h c.requires.inside c.in_default.ensures.there
+    steps-empty g.A.Agent.represents g.A.Agent.terms g.D.Directory.perm_of config c.args.self.now s c.args.link
+    c.args.channel h c.requires.inside c.in_default.ensures.there
 
 pub returns-in-Err : goal.returns-in-Err
 returns-in-Err g c = λ config s h down room. rw c.refused.ensures (
-    manager-refused g.A.Agent.represents g.A.Agent.terms g.D.Directory.perm_of config c.args.self.now _ s c.args.link c.args.channel c.in-Some.beat.now _ (sent_of c.answer.result) h c.requires.inside
-    (first-brought g.A.Agent.represents g.A.Agent.terms g.D.Directory.perm_of config c.args.self.now s c.args.link c.args.channel c.in-Some.beat.now h c.requires.inside c.in-Some.ensures.there) down refl
+    manager-refused g.A.Agent.represents g.A.Agent.terms g.D.Directory.perm_of config c.args.self.now _ s c.args.link
+    c.args.channel c.in-Some.beat.now _ (sent_of c.answer.result) h c.requires.inside
+    (first-brought g.A.Agent.represents g.A.Agent.terms g.D.Directory.perm_of config c.args.self.now s c.args.link
+    c.args.channel c.in-Some.beat.now h c.requires.inside c.in-Some.ensures.there) down refl
     c.answer.ensures.answer c.answer.ensures.after c.in-Err.field-0 (search rules) refl)
 
 pub returns-in-Ok-None : goal.returns-in-Ok-None
 returns-in-Ok-None g c = λ config s h down room.
-    manager-stayed g.A.Agent.represents g.A.Agent.terms g.D.Directory.perm_of config c.args.self.now _ s c.args.link c.args.channel c.in-Some.beat.now _ (sent_of c.answer.result) h c.requires.inside
-    (first-brought g.A.Agent.represents g.A.Agent.terms g.D.Directory.perm_of config c.args.self.now s c.args.link c.args.channel c.in-Some.beat.now h c.requires.inside c.in-Some.ensures.there) down refl
+    manager-stayed g.A.Agent.represents g.A.Agent.terms g.D.Directory.perm_of config c.args.self.now _ s c.args.link
+    c.args.channel c.in-Some.beat.now _ (sent_of c.answer.result) h c.requires.inside
+    (first-brought g.A.Agent.represents g.A.Agent.terms g.D.Directory.perm_of config c.args.self.now s c.args.link
+    c.args.channel c.in-Some.beat.now h c.requires.inside c.in-Some.ensures.there) down refl
     c.answer.ensures.answer c.answer.ensures.after (search rules) refl
 
 pub returns-in-Ok-Some : goal.returns-in-Ok-Some
 returns-in-Ok-Some g c = λ config s h down room.
-    manager-sent g.A.Agent.represents g.A.Agent.terms g.D.Directory.perm_of config c.args.self.now _ s c.args.link c.args.channel c.in-Some.beat.now _ (sent_of c.answer.result) h c.requires.inside
-    (first-brought g.A.Agent.represents g.A.Agent.terms g.D.Directory.perm_of config c.args.self.now s c.args.link c.args.channel c.in-Some.beat.now h c.requires.inside c.in-Some.ensures.there) down refl
+    manager-sent g.A.Agent.represents g.A.Agent.terms g.D.Directory.perm_of config c.args.self.now _ s c.args.link
+    c.args.channel c.in-Some.beat.now _ (sent_of c.answer.result) h c.requires.inside
+    (first-brought g.A.Agent.represents g.A.Agent.terms g.D.Directory.perm_of config c.args.self.now s c.args.link
+    c.args.channel c.in-Some.beat.now h c.requires.inside c.in-Some.ensures.there) down refl
     c.answer.ensures.answer c.answer.ensures.after c.drop_first.new.self (messages_of c.in-Ok-Some.outbox)
-    (search rules) c.drop_first.ensures.kept c.send_out.ensures.kept c.drop_first.ensures.moved c.send_out.ensures.moved room
+    (search rules) c.drop_first.ensures.kept c.send_out.ensures.kept c.drop_first.ensures.moved c.send_out.ensures.moved
+    room

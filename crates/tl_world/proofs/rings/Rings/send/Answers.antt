@@ -9,5 +9,14 @@ returns-then-at-len-clause-moved g c = λ n s carried fits.
 
 pub returns-else-at-len-clause-moved : goal.returns-else-at-len-clause-moved
 returns-else-at-len-clause-moved g c = λ n s carried fits.
-    let past : n ≤ c.args.link.0 = omega (arith, carried.five_each, c.if-at-len.false, c.len.ensures, c.place-at.ensures, number-below c.channel_of-channel.result) in
+    let past : n ≤ c.args.link.0 =
+    omega (
+      arith,
+      carried.five_each,
+      c.if-at-len.false,
+      c.len.ensures,
+      c.place-at.ensures,
+      number-below
+          c.channel_of-channel.result,
+    ) in
     moved-aside n c.args.self.now s c.args.link.0 _ _ carried past

@@ -8,4 +8,5 @@ returns-in-None-clause-moved g c = λ n s carried fits. rw c.in-None.is (moved-s
 
 pub returns-in-Some-clause-moved : goal.returns-in-Some-clause-moved
 unfolding with_messages
-returns-in-Some-clause-moved g c = λ n s carried fits. rw c.in-Some.is (c.send.ensures.moved n s carried (rw c.in-Some.is at fits))
+returns-in-Some-clause-moved g c =
+    λ n s carried fits. rw c.in-Some.is (c.send.ensures.moved n s carried (rw c.in-Some.is at fits))

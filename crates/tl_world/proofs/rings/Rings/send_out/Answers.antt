@@ -8,7 +8,9 @@ returns-in-Nothing-clause-moved g c = λ n s carried fits. rw c.in-Nothing.is (m
 
 pub returns-in-One-clause-moved : goal.returns-in-One-clause-moved
 unfolding with_messages
-returns-in-One-clause-moved g c = λ n s carried fits. rw c.in-One.is (c.send.ensures.moved n s carried (rw c.in-One.is at fits))
+returns-in-One-clause-moved g c =
+    λ n s carried fits. rw c.in-One.is (c.send.ensures.moved n s carried (rw c.in-One.is at fits))
 
 pub returns-in-Probes-clause-moved : goal.returns-in-Probes-clause-moved
-returns-in-Probes-clause-moved g c = λ n s carried fits. rw c.in-Probes.is (c.send_probes.ensures.moved n s carried (rw c.in-Probes.is at fits))
+returns-in-Probes-clause-moved g c =
+    λ n s carried fits. rw c.in-Probes.is (c.send_probes.ensures.moved n s carried (rw c.in-Probes.is at fits))

@@ -7,8 +7,10 @@ use Rattle.tl_world.proofs.world.World.drain.Given as goal
 
 abbrev pub invariant-loop-count : goal.invariant-loop-count
 invariant-loop-count g l = record {
-  reached : (config : Config) (log : Log g.row.W) → IsReached g.A.Agent.represents g.A.Agent.terms g.D.Directory.perm_of config l.fn.self log
+  reached : (config : Config) (log : Log g.row.W) → IsReached g.A.Agent.represents g.A.Agent.terms g.D.Directory.perm_of
+      config l.fn.self log
       → IsReached g.A.Agent.represents g.A.Agent.terms g.D.Directory.perm_of config l.self (drained config l.count log);
-  number : (config : Config) (log : Log g.row.W) → IsReached g.A.Agent.represents g.A.Agent.terms g.D.Directory.perm_of config l.fn.self log
+  number : (config : Config) (log : Log g.row.W) → IsReached g.A.Agent.represents g.A.Agent.terms g.D.Directory.perm_of
+      config l.fn.self log
       → length (drained config l.count log) ≡ l.count + length log;
 }

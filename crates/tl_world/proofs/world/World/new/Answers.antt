@@ -27,4 +27,5 @@ returns g c =
     c.in_ok-rings.ensures.clear refl refl
 
 pub returns-in_err-manager : goal.returns-in_err-manager
-returns-in_err-manager g c = let p = err_from_is_err_and c.from_residual.result c.from_residual.ensures.1 in rw (p.1, p.2) c.in_err-manager.ensures
+returns-in_err-manager g c = let p = err_from_is_err_and c.from_residual.result c.from_residual.ensures.1 in
+    rw (p.1, p.2) c.in_err-manager.ensures

@@ -10,8 +10,10 @@ loop-i-init g c = record { number = refl; reached = λ config log r. r }
 
 pub returns-clause-reached : goal.returns-clause-reached
 returns-clause-reached g c = λ config log r.
-    let all_events : take c.loop-i.i c.args.events.now ≡ c.args.events.now = take_all c.loop-i.i c.args.events.now (omega arith) in
-    let all_outcomes : take c.loop-i.i c.loop-i.outcomes ≡ c.loop-i.outcomes = take_all c.loop-i.i c.loop-i.outcomes (let n = c.loop-i.invariant.number in omega (arith, n)) in
+    let all_events : take c.loop-i.i c.args.events.now ≡ c.args.events.now =
+    take_all c.loop-i.i c.args.events.now (omega arith) in
+    let all_outcomes : take c.loop-i.i c.loop-i.outcomes ≡ c.loop-i.outcomes =
+    take_all c.loop-i.i c.loop-i.outcomes (let n = c.loop-i.invariant.number in omega (arith, n)) in
     rw (all_events, all_outcomes) at (c.loop-i.invariant.reached config log r)
 
 pub loop-i-preserved : goal.loop-i-preserved
@@ -20,6 +22,10 @@ loop-i-preserved g c = record {
   reached = λ config log r.
       let inside : c.loop-i.i < length c.args.events.now = c.loop-i-test.true in
       let same : length c.args.events.now ≡ length c.loop-i.outcomes = c.requires ∙ sym c.loop-i.invariant.number in
-      rw (c.set_outcome.ensures, logged-next c.args.events.now c.loop-i.outcomes c.loop-i.i c.index-events-i.result c.index-events-i.result c.step.result log inside same (search rules))
+      rw (
+        c.set_outcome.ensures,
+        logged-next c.args.events.now c.loop-i.outcomes c.loop-i.i c.index-events-i.result
+            c.index-events-i.result c.step.result log inside same (search rules),
+      )
       (c.step.ensures.reached config _ (c.loop-i.invariant.reached config log r));
 }

@@ -1,5 +1,5 @@
 use Rattle.std.proofs.Common.{rules}
-use Rattle.tl_client.proofs.CachingPast.{request_pending, release_pending, acquire_pending, release_of_pending}
+use Rattle.tl_client.proofs.caching_client.Past.{request_pending, release_pending, acquire_pending, release_of_pending}
 use Rattle.tl_client.proofs.caching.past.CachingPast.is_pending.Goals as goal
 
 pub returns-in-RequestSource : goal.returns-in-RequestSource

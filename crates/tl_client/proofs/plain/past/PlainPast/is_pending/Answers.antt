@@ -1,5 +1,5 @@
 use Rattle.std.proofs.Common.{rules}
-use Rattle.tl_client.proofs.PlainPast.{request_pending}
+use Rattle.tl_client.proofs.plain_client.Past.{request_pending}
 use Rattle.tl_client.proofs.plain.past.PlainPast.is_pending.Goals as goal
 
 pub returns-in-RequestSource : goal.returns-in-RequestSource

@@ -1,5 +1,5 @@
 use Rattle.std.proofs.Common.{refl}
-use Rattle.tl_manager.proofs.Taking.{block_state-acked}
+use Rattle.tl_manager.proofs.blocks.Taking.{block_state-acked}
 use Rattle.tl_manager.proofs.manager.block_state.BlockState.acknowledge.Goals as goal
 
 pub returns-clause-done : goal.returns-clause-done

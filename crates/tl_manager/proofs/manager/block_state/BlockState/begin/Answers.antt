@@ -2,7 +2,7 @@ use Rattle.std.proofs.Common.{refl}
 use Rattle.std.proofs.lemmas.Bool.{eq-eqb, ne_eqb}
 use Rattle.tl_manager.specs.code.Tracked.{service_with}
 use Rattle.tl_rules.specs.statement.History.{block_at}
-use Rattle.tl_manager.proofs.Beginning.{probed-word, done-unprobed, done-probed, block_state-probed}
+use Rattle.tl_manager.proofs.blocks.Beginning.{probed-word, done-unprobed, done-probed, block_state-probed}
 use Rattle.tl_manager.proofs.manager.block_state.BlockState.begin.Goals as goal
 
 pub returns-then-missing-eq0-clause-done : goal.returns-then-missing-eq0-clause-done

@@ -1,5 +1,5 @@
 use Rattle.tl_manager.specs.code.Outbox.{messages_of}
-use Rattle.tl_manager.proofs.Completed.{done-reported, done-acked}
+use Rattle.tl_manager.proofs.blocks.Completed.{done-reported, done-acked}
 use Rattle.tl_manager.proofs.manager.block_state.BlockState.complete.Goals as goal
 
 pub returns-in-C-clause-done : goal.returns-in-C-clause-done

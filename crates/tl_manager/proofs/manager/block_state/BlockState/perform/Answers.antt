@@ -1,5 +1,5 @@
 use Rattle.std.proofs.Common.{refl}
-use Rattle.tl_manager.proofs.Answering.{block_state-performed}
+use Rattle.tl_manager.proofs.blocks.Answering.{block_state-performed}
 use Rattle.tl_manager.proofs.manager.block_state.BlockState.perform.Goals as goal
 
 pub returns-clause-done : goal.returns-clause-done

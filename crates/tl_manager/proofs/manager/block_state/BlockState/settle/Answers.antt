@@ -1,8 +1,9 @@
 use Rattle.std.proofs.Common.{refl, sym, ◌∙◌}
 use Rattle.std.proofs.lemmas.Bool.{eq-eqb, ne_eqb}
 use Rattle.tl_manager.specs.code.Trackers.{tracker_at}
-use Rattle.tl_manager.proofs.Reporting.{unserved-block, report-served, granted-at, probing-at, missing-reported}
-use Rattle.tl_manager.proofs.Reporting.{missing-word, ready-settled, block_state-reported, done-settled, done-waiting}
+use Rattle.tl_manager.proofs.blocks.Reporting.{unserved-block, report-served, granted-at, probing-at, missing-reported}
+use Rattle.tl_manager.proofs.blocks.Reporting.{missing-word, ready-settled, block_state-reported, done-settled}
+use Rattle.tl_manager.proofs.blocks.Reporting.{done-waiting}
 use Rattle.tl_manager.proofs.manager.block_state.BlockState.settle.Goals as goal
 
 pub returns-in_default-clause-done : goal.returns-in_default-clause-done

@@ -1,7 +1,7 @@
 use Rattle.std.proofs.Common.{sym, ◌∙◌, ap, ◌≡◌, true, false}
 use Rattle.tl_rules.specs.statement.History.{is_release}
-use Rattle.tl_manager.proofs.Events.{memory_with}
-use Rattle.tl_manager.proofs.Taking.{block_state-written, block_state-released, is_report, done-ack}
+use Rattle.tl_manager.proofs.calls.Events.{memory_with}
+use Rattle.tl_manager.proofs.blocks.Taking.{block_state-written, block_state-released, is_report, done-ack}
 use Rattle.tl_manager.proofs.manager.block_state.BlockState.take.Goals as goal
 
 pub returns-then-is_release-clause-done : goal.returns-then-is_release-clause-done

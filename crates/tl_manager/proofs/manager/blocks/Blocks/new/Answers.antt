@@ -1,6 +1,6 @@
 use Rattle.std.proofs.Common.{rules, refl}
 use Rattle.std.specs.Prelude.{replicate}
-use Rattle.tl_manager.proofs.Blocks.{zero-blocks}
+use Rattle.tl_manager.proofs.blocks.Blocks.{zero-blocks}
 use Rattle.tl_manager.proofs.manager.blocks.Blocks.new.Goals as goal
 
 pub returns-clause-zero : goal.returns-clause-zero

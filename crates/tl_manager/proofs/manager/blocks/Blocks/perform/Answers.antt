@@ -1,7 +1,7 @@
 use Rattle.std.proofs.Common.{◌/◌}
 use Rattle.tl_burst.specs.declared.message.Message.TheVariants.{A}
 use Rattle.tl_rules.specs.statement.Effect.{effect}
-use Rattle.tl_manager.proofs.Blocks.{blocks-as}
+use Rattle.tl_manager.proofs.blocks.Blocks.{blocks-as}
 use Rattle.tl_manager.proofs.manager.blocks.Blocks.perform.Goals as goal
 
 pub returns-clause-bytes : goal.returns-clause-bytes

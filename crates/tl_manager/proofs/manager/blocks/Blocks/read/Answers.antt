@@ -1,4 +1,4 @@
-use Rattle.tl_manager.proofs.Blocks.{block-read}
+use Rattle.tl_manager.proofs.blocks.Blocks.{block-read}
 use Rattle.tl_manager.proofs.manager.blocks.Blocks.read.Goals as goal
 
 pub returns-clause-bytes : goal.returns-clause-bytes

@@ -1,5 +1,5 @@
 use Rattle.tl_manager.specs.statement.Reaction.{with_block}
-use Rattle.tl_manager.proofs.Blocks.{blocks-set, block-put, put-elsewhere}
+use Rattle.tl_manager.proofs.blocks.Blocks.{blocks-set, block-put, put-elsewhere}
 use Rattle.tl_manager.proofs.manager.blocks.Blocks.write.Goals as goal
 
 pub returns-clause-bytes : goal.returns-clause-bytes

@@ -1,5 +1,5 @@
 use Rattle.std.proofs.Common.{arith}
-use Rattle.tl_manager.proofs.Past.{held-outside}
+use Rattle.tl_manager.proofs.pending.Past.{held-outside}
 use Rattle.tl_manager.proofs.manager.link_state.LinkPastPast.held.Goals as goal
 
 pub returns-else-block-count : goal.returns-else-block-count

@@ -1,5 +1,5 @@
 use Rattle.std.proofs.Common.{sym, ◌∙◌}
-use Rattle.tl_manager.proofs.Past.{source-past, acquire-past, grant-past, probe-past, sink-past}
+use Rattle.tl_manager.proofs.pending.Past.{source-past, acquire-past, grant-past, probe-past, sink-past}
 use Rattle.tl_manager.proofs.manager.link_state.LinkPastPast.is_pending.Goals as goal
 
 pub returns-else-comes_in_request : goal.returns-else-comes_in_request

@@ -1,5 +1,5 @@
 use Rattle.std.proofs.Common.{sym, ◌∙◌}
-use Rattle.tl_manager.proofs.Past.{unprobed-past, probed-past}
+use Rattle.tl_manager.proofs.pending.Past.{unprobed-past, probed-past}
 use Rattle.tl_manager.proofs.manager.link_state.LinkPastPast.probe.Goals as goal
 
 pub returns-then-not-is_missing : goal.returns-then-not-is_missing

@@ -1,7 +1,7 @@
 use Rattle.std.proofs.Common.{sym, ◌∙◌, ap}
 use Rattle.tl_rules.specs.code.Open.{open_request}
-use Rattle.tl_manager.proofs.Looking.{request-unasked, request-asked}
-use Rattle.tl_manager.proofs.Past.{looked-past}
+use Rattle.tl_manager.proofs.pending.Looking.{request-unasked, request-asked}
+use Rattle.tl_manager.proofs.pending.Past.{looked-past}
 use Rattle.tl_manager.proofs.manager.link_state.LinkPastPast.request.Goals as goal
 
 pub returns-in-None : goal.returns-in-None

@@ -1,6 +1,6 @@
 use Rattle.std.proofs.Common.{refl, sym, ◌∙◌}
 use Rattle.tl_rules.specs.statement.Conformance.{on_link}
-use Rattle.tl_manager.proofs.Judging.{begins-so}
+use Rattle.tl_manager.proofs.judging.Judging.{begins-so}
 use Rattle.tl_manager.proofs.manager.state.ManagerState.broken.Goals as goal
 
 pub returns : goal.returns

@@ -1,5 +1,5 @@
 use Rattle.std.proofs.Common.{sym, ◌∙◌, None, Some}
-use Rattle.tl_manager.proofs.Judging.{busy-free}
+use Rattle.tl_manager.proofs.judging.Judging.{busy-free}
 use Rattle.tl_manager.proofs.manager.state.ManagerState.is_busy.Goals as goal
 
 pub returns-in-None : goal.returns-in-None

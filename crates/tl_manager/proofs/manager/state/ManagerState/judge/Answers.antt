@@ -3,7 +3,7 @@ use Rattle.std.specs.Prelude.{slice_get}
 use Rattle.std.proofs.lemmas.Result.{err_from_is_err_and}
 use Rattle.std.proofs.lemmas.Option.{slice_get_within, slice_get_read}
 use Rattle.tl_manager.specs.code.Admission.{admission_of}
-use Rattle.tl_manager.proofs.Judging.{judged-ours, judged-illegal, judged-legal, on-ok}
+use Rattle.tl_manager.proofs.judging.Judging.{judged-ours, judged-illegal, judged-legal, on-ok}
 use Rattle.tl_manager.proofs.manager.state.ManagerState.judge.Goals as goal
 
 pub returns-then-not-is_from_client-clause-judged : goal.returns-then-not-is_from_client-clause-judged

@@ -1,6 +1,6 @@
 use Rattle.std.proofs.Common.{refl}
 use Rattle.tl_params.proofs.Refusals.{none_broken}
-use Rattle.tl_manager.proofs.Making.{knows-fresh}
+use Rattle.tl_manager.proofs.calls.Making.{knows-fresh}
 use Rattle.tl_manager.proofs.manager.state.ManagerState.new.Goals as goal
 
 pub returns-clause-new : goal.returns-clause-new

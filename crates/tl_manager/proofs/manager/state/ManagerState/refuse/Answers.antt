@@ -1,7 +1,7 @@
 use Rattle.std.proofs.Common.{refl, ◌≡◌, length, arith, Some}
 use Rattle.std.specs.Prelude.{slice_get}
 use Rattle.std.proofs.lemmas.Option.{slice_get_read}
-use Rattle.tl_manager.proofs.Refusing.{knows-absent, knows-refused}
+use Rattle.tl_manager.proofs.judging.Refusing.{knows-absent, knows-refused}
 use Rattle.tl_manager.proofs.manager.state.ManagerState.refuse.Goals as goal
 
 pub returns-then-number-len-clause-knows : goal.returns-then-number-len-clause-knows

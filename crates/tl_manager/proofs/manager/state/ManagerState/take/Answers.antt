@@ -1,10 +1,10 @@
 use Rattle.std.proofs.Common.{refl, rules, ◌≡◌, length, false, Some}
 use Rattle.std.specs.Prelude.{slice_get}
 use Rattle.std.proofs.lemmas.Option.{slice_get_read}
-use Rattle.tl_manager.proofs.Carrying.{goes-on, last-is, is-complete, knows-taken}
-use Rattle.tl_manager.proofs.Completed.{done-part}
-use Rattle.tl_manager.proofs.Judged.{passed}
-use Rattle.tl_manager.proofs.Placing.{can-complete, limits}
+use Rattle.tl_manager.proofs.calls.Carrying.{goes-on, last-is, is-complete, knows-taken}
+use Rattle.tl_manager.proofs.blocks.Completed.{done-part}
+use Rattle.tl_manager.proofs.judging.Judged.{passed}
+use Rattle.tl_manager.proofs.blocks.Placing.{can-complete, limits}
 use Rattle.tl_manager.proofs.manager.state.ManagerState.take.Goals as goal
 
 pub take-requires : goal.take-requires

@@ -1,0 +1,138 @@
+-- What C is told by a client with the beats that it has still to send. Each call of a client stands on what
+-- the crate of ports says of it; bad input changes nothing.
+use Rattle.std.specs.Prelude.{ℕ, List, ◌≡◌, ◌==◌, ⊤, Option, Some, None, Result, Ok, Err, if◌then◌else◌}
+use Rattle.tl_beat.specs.declared.beat.Beat.{Beat}
+use Rattle.tl_beat.specs.declared.channel.Channel.{Channel}
+use Rattle.tl_beat.specs.declared.channel.Channel.TheVariants as channel
+use Rattle.tl_burst.specs.statement.Messages.{channel_of}
+use Rattle.tl_params.specs.declared.rule.Rule.{Rule}
+use Rattle.tl_client.specs.code.KnowsAny.{KnowsAny, any_terms}
+use Rattle.tl_client.specs.declared.operation.Op.{Op}
+use Rattle.tl_client.specs.declared.reply.Reply.{Reply}
+use Rattle.tl_client.specs.declared.verdict.Verdict.{Verdict}
+use Rattle.tl_client.specs.statement.Endpoint.{Endpoint}
+use Rattle.tl_client.specs.statement.Offer as offer
+use Rattle.tl_ports.specs.declared.client.ClientPort.{ClientPort}
+use Rattle.tl_ports.specs.statement.Client.{AskTold, OfferTold, Popped, next_beat, held_of}
+use Rattle.hefrudyl.specs.declared.answer.Answer.{Answer}
+use Rattle.hefrudyl.specs.declared.operation.Operation.{Operation}
+use Rattle.hefrudyl.specs.declared.outcome.Outcome.{Outcome}
+use Rattle.hefrudyl.specs.declared.outcome.Reception.{Reception}
+use Rattle.hefrudyl.specs.declared.picture.Picture.{Picture}
+use Rattle.hefrudyl.specs.statement.Answer.{ok, bad, broken, no_memory, nothing}
+use Rattle.hefrudyl.specs.statement.Depicted.{depicted, flag}
+use Rattle.hefrudyl.specs.statement.Operation.{asked_for}
+use Rattle.hefrudyl.specs.statement.Outcome.{outcome_of, reception_of, perm_number}
+use Rattle.hefrudyl.specs.statement.Picture.{shown}
+
+-- the channel of a code, 0 for A to 4 for E
+abbrev pub channel_at : ℕ → Option Channel
+channel_at code =
+    if code == 0 then Some channel.A else
+    if code == 1 then Some channel.B else
+    if code == 2 then Some channel.C else if code == 3 then Some channel.D else if code == 4 then Some channel.E else
+    None
+
+-- ---- operations
+
+abbrev pub ask_answer : {E : Type 0} → Result Reply E → Answer
+ask_answer (Ok reply) = ok
+ask_answer (Err error) = no_memory
+
+-- the reply, where there is one, in place of what stood there
+abbrev pub outcome_in : {E : Type 0} → Result Reply E → Outcome → Outcome
+outcome_in (Ok reply) was = outcome_of reply
+outcome_in (Err error) was = was
+
+-- the operation was asked for, and C is told the reply
+pub record IsAsked {w : ℕ} {E : Type 0} (old new : ClientPort w) (op : Op w) (was outcome : Outcome) (answer : Answer)
+    (told : Result Reply E) : Type 0 where
+  pub asks : AskTold old new op told
+  pub answers : answer ≡ ask_answer told
+  pub outcome_is : outcome ≡ outcome_in told was
+
+abbrev pub AskedFor : {w : ℕ} → ClientPort w → ClientPort w → Option (Op w) → Outcome → Outcome → Answer → Type 0
+AskedFor old new None was outcome answer = (answer ≡ bad) × (new ≡ old) × (outcome ≡ was)
+AskedFor old new (Some op) was outcome answer = (told : Result Reply ⊤) × IsAsked old new op was outcome answer told
+
+abbrev pub Asked : (w : ℕ) → ClientPort w → ClientPort w → Operation → Outcome → Outcome → Answer → Type 0
+Asked w old new x was outcome answer = AskedFor old new (asked_for w x) was outcome answer
+
+-- ---- beats
+
+abbrev pub offer_answer : {E : Type 0} → Result (Result Verdict Rule) E → Answer
+offer_answer (Ok (Ok verdict)) = ok
+offer_answer (Ok (Err rule)) = broken rule
+offer_answer (Err error) = no_memory
+
+abbrev pub reception_in : {E : Type 0} → Result (Result Verdict Rule) E → Reception → Reception
+reception_in (Ok (Ok verdict)) was = reception_of verdict
+reception_in (Ok (Err rule)) was = was
+reception_in (Err error) was = was
+
+-- the beat was offered on its channel, and C is told the verdict or the rule
+pub record IsOffered {w : ℕ} {E : Type 0} (old new : ClientPort w) (x : Beat w) (was reception : Reception)
+    (answer : Answer) (told : Result (Result Verdict Rule) E) : Type 0 where
+  pub offers : OfferTold old new (channel_of x) x told
+  pub answers : answer ≡ offer_answer told
+  pub reception_is : reception ≡ reception_in told was
+
+abbrev pub OfferedBeat : {w : ℕ} → ClientPort w → ClientPort w → Option (Beat w) → Reception → Reception → Answer
+    → Type 0
+OfferedBeat old new None was reception answer = (answer ≡ bad) × (new ≡ old) × (reception ≡ was)
+OfferedBeat old new (Some x) was reception answer =
+    (told : Result (Result Verdict Rule) ⊤) × IsOffered old new x was reception answer told
+
+abbrev pub OfferedOf : (w : ℕ) → ClientPort w → ClientPort w → Picture → Reception → Reception → Answer → Type 0
+OfferedOf w old new x was reception answer = OfferedBeat old new (shown w x) was reception answer
+
+-- whether the beat would have to wait
+abbrev pub StallsBeat : {w : ℕ} → ClientPort w → Option (Beat w) → ℕ → ℕ → Answer → Type 0
+StallsBeat port None was stalled answer = (answer ≡ bad) × (stalled ≡ was)
+StallsBeat {w} port (Some x) was stalled answer = (answer ≡ ok)
+    × ((e : Endpoint w) → KnowsAny port.client e
+    → stalled ≡ flag (offer.stalls (any_terms port.client) (channel_of x) x e))
+
+abbrev pub Stalls : (w : ℕ) → ClientPort w → Picture → ℕ → ℕ → Answer → Type 0
+Stalls w port x was stalled answer = StallsBeat port (shown w x) was stalled answer
+
+-- ---- beats to send
+
+-- the beat is shown, where there is one
+abbrev pub ShowsBeat : {w : ℕ} → Option (Beat w) → Picture → Picture → Answer → Type 0
+ShowsBeat None was picture answer = (answer ≡ nothing) × (picture ≡ was)
+ShowsBeat (Some x) was picture answer = (answer ≡ ok) × (picture ≡ depicted x)
+
+abbrev pub ShowsOn : {w : ℕ} → ClientPort w → Option Channel → Picture → Picture → Answer → Type 0
+ShowsOn port None was picture answer = (answer ≡ bad) × (picture ≡ was)
+ShowsOn port (Some ch) was picture answer = ShowsBeat (next_beat ch port) was picture answer
+
+-- the next beat to send on a channel is shown
+abbrev pub Shows : (w : ℕ) → ClientPort w → ℕ → Picture → Picture → Answer → Type 0
+Shows w port code was picture answer = ShowsOn port (channel_at code) was picture answer
+
+abbrev pub PopsOn : {w : ℕ} → ClientPort w → ClientPort w → Option Channel → Type 0
+PopsOn old new None = new ≡ old
+PopsOn old new (Some ch) = Popped ch old new
+
+-- it is shown, and is sent now
+abbrev pub Pops : (w : ℕ) → ClientPort w → ClientPort w → ℕ → Picture → Picture → Answer → Type 0
+Pops w old new code was picture answer =
+    ShowsOn old (channel_at code) was picture answer × PopsOn old new (channel_at code)
+
+-- ---- what is held
+
+abbrev pub Holds : (w : ℕ) → ClientPort w → ℕ → ℕ → Answer → Type 0
+Holds w port block perm answer =
+    (answer ≡ ok) × ((e : Endpoint w) → KnowsAny port.client e → perm ≡ perm_number (held_of block e))
+
+abbrev pub CopyTold : Option (List ℕ) → List ℕ → List ℕ → Answer → Type 0
+CopyTold None was bytes answer = (answer ≡ nothing) × (bytes ≡ was)
+CopyTold (Some copy) was bytes answer = (answer ≡ ok) × (bytes ≡ copy)
+
+abbrev pub Copies : (w : ℕ) → ClientPort w → ℕ → List ℕ → List ℕ → Answer → Type 0
+Copies w port block was bytes answer = (e : Endpoint w) → KnowsAny port.client e
+    → CopyTold (e.copies block) was bytes answer
+
+abbrev pub Closed : (w : ℕ) → ClientPort w → ℕ → Answer → Type 0
+Closed w port closed answer = (answer ≡ ok) × ((e : Endpoint w) → KnowsAny port.client e → closed ≡ flag e.closed)

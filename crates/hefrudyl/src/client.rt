@@ -1,0 +1,151 @@
+//! A client of links of any width.
+
+ghost use Rattle.std.specs.Prelude.{◌≡◌};
+ghost use Rattle.hefrudyl.specs.statement.Client.{channel_at, Asked, OfferedOf, Stalls, Shows, ShowsBeat, Pops};
+ghost use Rattle.hefrudyl.specs.statement.Client.{Holds, Copies, Closed};
+ghost use Rattle.tl_beat.specs.statement.Width.{IsWidth};
+
+use crate::answer::Answer;
+use crate::depiction::picture_of;
+use crate::operation::Operation;
+use crate::outcome::{Outcome, Reception, number_of_perm};
+use crate::picture::Picture;
+use tl_beat::beat::Beat;
+use tl_beat::channel::Channel;
+use tl_monitor::fault::MonitorFault;
+use tl_ports::client::ClientPort;
+
+/// A client of a link whose beats have 4, 8 or 16 bytes, with the beats that it has still to send.
+#[derive(Drop)]
+pub enum AnyPort {
+    Four(ClientPort<4>),
+    Eight(ClientPort<8>),
+    Sixteen(ClientPort<16>),
+}
+
+fn channel_at(code: u8) -> Option<Channel>
+    ensures { result ≡ channel_at code }
+{
+    match code {
+        0 => Some(Channel::A),
+        1 => Some(Channel::B),
+        2 => Some(Channel::C),
+        3 => Some(Channel::D),
+        4 => Some(Channel::E),
+        _ => None,
+    }
+}
+
+/// Asks for an operation.
+pub fn ask<const W: usize>(
+    port: &mut ClientPort<W>,
+    operation: &Operation,
+    outcome: &mut Outcome,
+) -> Answer
+    ensures { Asked W port.old port.new operation.now outcome.old outcome.new result }
+{
+    let Some(operation) = operation.operation() else {
+        return Answer::BAD;
+    };
+    match port.ask(operation) {
+        Err(_) => Answer::NO_MEMORY,
+        Ok(reply) => {
+            *outcome = Outcome::of(reply);
+            Answer::OK
+        }
+    }
+}
+
+/// Offers a beat.
+pub fn offer<const W: usize>(
+    port: &mut ClientPort<W>,
+    picture: &Picture,
+    reception: &mut Reception,
+) -> Answer
+    ensures { OfferedOf W port.old port.new picture.now reception.old reception.new result }
+{
+    let Some(beat) = picture.beat::<W>() else {
+        return Answer::BAD;
+    };
+    match port.offer(beat.channel(), &beat) {
+        Err(_) => Answer::NO_MEMORY,
+        Ok(Err(rule)) => Answer::of(Err(MonitorFault::Broken(rule))),
+        Ok(Ok(verdict)) => {
+            *reception = Reception::of(verdict);
+            Answer::OK
+        }
+    }
+}
+
+/// Asks whether a beat would have to wait.
+pub fn stalls<const W: usize>(port: &ClientPort<W>, picture: &Picture, stalled: &mut u8) -> Answer
+    ensures { Stalls W port.now picture.now stalled.old stalled.new result }
+{
+    let Some(beat) = picture.beat::<W>() else {
+        return Answer::BAD;
+    };
+    *stalled = u8::from(port.stalls(beat.channel(), &beat));
+    Answer::OK
+}
+
+fn show<const W: usize>(beat: Option<Beat<W>>, picture: &mut Picture) -> Answer
+    requires { IsWidth W }
+    ensures { ShowsBeat beat.entry picture.old picture.new result }
+{
+    match beat {
+        None => Answer::NOTHING,
+        Some(beat) => {
+            *picture = picture_of(&beat);
+            Answer::OK
+        }
+    }
+}
+
+/// Shows the next beat to send on a channel.
+pub fn next<const W: usize>(port: &ClientPort<W>, channel: u8, picture: &mut Picture) -> Answer
+    ensures { Shows W port.now channel picture.old picture.new result }
+{
+    match channel_at(channel) {
+        None => Answer::BAD,
+        Some(channel) => show(port.next(channel), picture),
+    }
+}
+
+/// Shows the next beat to send on a channel, which is sent now.
+pub fn pop<const W: usize>(port: &mut ClientPort<W>, channel: u8, picture: &mut Picture) -> Answer
+    ensures { Pops W port.old port.new channel picture.old picture.new result }
+{
+    match channel_at(channel) {
+        None => Answer::BAD,
+        Some(channel) => show(port.pop(channel), picture),
+    }
+}
+
+/// What is held of a block.
+pub fn held<const W: usize>(port: &ClientPort<W>, block: u16, perm: &mut u8) -> Answer
+    ensures { Holds W port.now block perm.new result }
+{
+    *perm = number_of_perm(port.held(block));
+    Answer::OK
+}
+
+/// The bytes of the copy of a block.
+pub fn copy<const W: usize>(port: &ClientPort<W>, block: u16, bytes: &mut [u8; 64]) -> Answer
+    ensures { Copies W port.now block bytes.old bytes.new result }
+{
+    match port.copy(block) {
+        None => Answer::NOTHING,
+        Some(copy) => {
+            *bytes = copy;
+            Answer::OK
+        }
+    }
+}
+
+/// Whether a beat was refused.
+pub fn closed<const W: usize>(port: &ClientPort<W>, is_closed: &mut u8) -> Answer
+    ensures { Closed W port.now is_closed.new result }
+{
+    *is_closed = u8::from(port.closed());
+    Answer::OK
+}

@@ -1,0 +1,10 @@
+pub mod Answered
+pub mod Asked
+pub mod Judged
+pub mod New
+pub mod Past
+pub mod Probed
+pub mod Responded
+pub mod Store
+pub mod Stores
+pub mod Taken

@@ -1,0 +1,10 @@
+pub mod Bytes
+pub mod BytesTaken
+pub mod Calls
+pub mod Clean
+pub mod Grants
+pub mod InOrder
+pub mod Proper
+pub mod Requests
+pub mod Responses
+pub mod Sound

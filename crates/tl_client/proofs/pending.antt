@@ -1,0 +1,12 @@
+pub mod Accounted
+pub mod AccountedResponse
+pub mod AccountedSent
+pub mod AccountedTaken
+pub mod Claims
+pub mod Free
+pub mod Kept
+pub mod KeptAsked
+pub mod KeptGranted
+pub mod KeptOffered
+pub mod Open
+pub mod Opens

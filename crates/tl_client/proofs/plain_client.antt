@@ -1,0 +1,5 @@
+pub mod Asks
+pub mod Calls
+pub mod Offers
+pub mod Past
+pub mod Rules

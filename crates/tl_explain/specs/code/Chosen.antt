@@ -1,0 +1,226 @@
+-- Which reason is chosen, by what a recorder keeps.
+use Rattle.std.specs.Prelude.{ℕ, Bool, true, false, not, ◌==◌, ◌&&◌, if◌then◌else◌, Option, Some, None, is_none}
+use Rattle.tl_beat.specs.declared.beat.Beat.{Beat}
+use Rattle.tl_beat.specs.declared.beat.Beat.TheVariants as beat
+use Rattle.tl_beat.specs.declared.beat.BeatA.{BeatA}
+use Rattle.tl_beat.specs.declared.beat.BeatB.{BeatB}
+use Rattle.tl_beat.specs.declared.beat.BeatC.{BeatC}
+use Rattle.tl_beat.specs.declared.beat.BeatD.{BeatD}
+use Rattle.tl_beat.specs.declared.beat.BeatE.{BeatE}
+use Rattle.tl_beat.specs.statement.Opcode.{c_carries_data}
+use Rattle.tl_burst.specs.statement.Messages.{channel_of}
+use Rattle.tl_params.specs.declared.key.Key.{Key}
+use Rattle.tl_params.specs.declared.key.Key.TheVariants.{RequestSource, ReleaseSource, AcquireOf, ReleaseOf, GrantSink}
+use Rattle.tl_params.specs.declared.key.Key.TheVariants.{GrantAckOf, ProbeOf}
+use Rattle.tl_params.specs.declared.perm.Perm.{Perm}
+use Rattle.tl_params.specs.declared.perm.Perm.TheVariants as perm
+use Rattle.tl_params.specs.declared.profile.Profile.{Profile}
+use Rattle.tl_params.specs.statement.Param.{cap_of, prune_of}
+use Rattle.tl_rules.specs.statement.Conformance.{answers, fits_grow, grows_from, is_acquire_block}
+use Rattle.tl_rules.specs.statement.Conformance.{is_grant_without_data, is_probe_block, is_report_at, prunes_from}
+use Rattle.tl_rules.specs.statement.Conformance.{same_perm}
+use Rattle.tl_params.specs.declared.rule.Rule.{Rule}
+use Rattle.tl_params.specs.declared.rule.Rule.TheVariants.{S1, H1, H2, H3, H4, H5, H6, H7, H8, H9, H10, H11, H12, H13}
+use Rattle.tl_rules.specs.statement.History.{block_at, is_acquire, is_grant, is_probe, is_probe_ack, is_release}
+use Rattle.tl_rules.specs.statement.History.{is_release_ack}
+use Rattle.tl_beat.specs.statement.Control.{has_control}
+use Rattle.tl_beat.specs.declared.control.Control.{Control}
+use Rattle.tl_beat.specs.declared.control.Control.TheVariants as control
+use Rattle.tl_explain.specs.declared.bursts.Begun.{Begun}
+use Rattle.tl_explain.specs.declared.reason.Held.{Held}
+use Rattle.tl_explain.specs.declared.reason.Reason.{Reason}
+use Rattle.tl_explain.specs.declared.reason.Reason.TheVariants.{Pending, Never, Closed, Unfinished, OtherKind}
+use Rattle.tl_explain.specs.declared.reason.Reason.TheVariants.{OtherSize, WrongCap, WithoutData, Probed, Holds}
+use Rattle.tl_explain.specs.declared.reason.Reason.TheVariants.{WrongProbe, Misreport, Differs}
+use Rattle.tl_explain.specs.declared.recorder.Recorder.{Recorder}
+use Rattle.tl_explain.specs.declared.told.Told.{Told}
+use Rattle.tl_explain.specs.declared.turn.Turn.{Turn}
+use Rattle.tl_explain.specs.code.Recorded.{burst_on, open_message, opens_by}
+use Rattle.tl_explain.specs.statement.Evidence.{left_of, mention_of}
+
+-- this reason, or else that
+abbrev pub first_reason : Option Reason → Option Reason → Option Reason
+first_reason None other = other
+first_reason (Some one) other = Some one
+
+-- what is held, by the message that left it
+abbrev pub held_by : Option Told → Held
+held_by said = record { perm = left_of (mention_of said); since = said }
+
+abbrev pub pending_by : Key → Option Told → Option Reason
+pending_by k None = None
+pending_by k (Some m) = Some (Pending k m)
+
+abbrev pub closed_by : Key → Told → Option Told → Option Reason
+closed_by k opening None = None
+closed_by k opening (Some closing) = Some (Closed k opening closing)
+
+abbrev pub unfinished_by : Key → Told → Option Begun → Option Reason
+unfinished_by k opening None = None
+unfinished_by k opening (Some b) =
+    if (b.first.mention.line == opening.mention.line) && opens_by k b.newest None then Some
+    (Unfinished k opening b.came) else None
+
+abbrev pub opened_by : Key → Told → Option Told → Option Told → Option Begun → Option Reason
+opened_by k opening closing None b = closed_by k opening closing
+opened_by k opening closing (Some m) b = unfinished_by k opening b
+
+abbrev pub missing_by : Key → Option Told → Option Told → Option Told → Option Begun → Option Reason
+missing_by k None closing pending b = Some (Never k)
+missing_by k (Some opening) closing pending b = opened_by k opening closing pending b
+
+-- where the key is pending, and where no complete message has it pending
+abbrev pub where_pending : Key → Turn → Option Reason
+where_pending k turn = pending_by k (open_message turn)
+
+abbrev pub where_missing : Key → Turn → Option Begun → Option Reason
+where_missing k turn b = missing_by k turn.opening turn.closing (open_message turn) b
+
+-- where what is held doesn't fit
+abbrev pub unless_held : Bool → Held → Option Reason
+unless_held true h = None
+unless_held false h = Some (Holds h)
+
+-- where the request that is pending is answered otherwise
+abbrev pub kind_in : {w : ℕ} → BeatD w → Told → Control → Option Reason
+kind_in x m (control.A r) = if answers x.opcode r.opcode then None else Some (OtherKind m)
+kind_in x m _ = None
+
+abbrev pub kind_by : {w : ℕ} → BeatD w → Option Told → Option Reason
+kind_by x None = None
+kind_by x (Some m) = kind_in x m m.mention.control
+
+-- where the request or Release that is pending has another size
+abbrev pub size_in : {w : ℕ} → BeatD w → Told → Control → Option Reason
+size_in x m (control.A r) = if x.size == r.size then None else Some (OtherSize m)
+size_in x m (control.C r) = if x.size == r.size then None else Some (OtherSize m)
+size_in x m _ = None
+
+abbrev pub size_by : {w : ℕ} → BeatD w → Option Told → Option Reason
+size_by x None = None
+size_by x (Some m) = size_in x m m.mention.control
+
+-- where a Grant isn't one for the request that is pending
+abbrev pub lacks_data : {w : ℕ} → BeatD w → Control → Perm → Bool
+lacks_data x (control.A r) p =
+    is_grant_without_data x.opcode && (is_acquire_block r.opcode && not (same_perm p perm.Branch))
+lacks_data x _ p = false
+
+abbrev pub probed_by : Told → Option Told → Option Reason
+probed_by m None = None
+probed_by m (Some probe) = Some (Probed m probe)
+
+abbrev pub grant_in : {w : ℕ} → Profile → BeatD w → Told → Control → Recorder → Option Reason
+grant_in p x m (control.A a) r =
+    if not (fits_grow p a.opcode a.param x.param) then Some (WrongCap m) else
+    if not (block_at a.address == r.subject.block) then None else
+    if is_grant_without_data
+    x.opcode && (is_acquire_block a.opcode && not (same_perm (held_by r.turns.said).perm perm.Branch))
+    then Some (WithoutData m (held_by r.turns.said))
+    else probed_by m (open_message r.turns.probe)
+grant_in p x m _ r = None
+
+abbrev pub grant_by : {w : ℕ} → Profile → BeatD w → Option Told → Recorder → Option Reason
+grant_by p x None r = None
+grant_by p x (Some m) r = grant_in p x m m.mention.control r
+
+-- where the Probe that is pending asks for no data, and is answered with some
+abbrev pub probe_in : {w : ℕ} → BeatC w → Told → Control → Option Reason
+probe_in x m (control.B y) = if c_carries_data x.opcode && not (is_probe_block y.opcode) then Some (WrongProbe m) else
+    None
+probe_in x m _ = None
+
+abbrev pub probe_by : {w : ℕ} → BeatC w → Turn → Option Told → Option Reason
+probe_by x turn None = where_missing (ProbeOf (block_at x.address)) turn None
+probe_by x turn (Some m) = probe_in x m m.mention.control
+
+-- where the report to the Probe that is pending is another
+abbrev pub report_in : {w : ℕ} → BeatC w → Told → Control → Held → Option Reason
+report_in x m (control.B y) h = if is_report_at x.param (cap_of y.param) h.perm then None else Some (Misreport m h)
+report_in x m _ h = None
+
+abbrev pub report_by : {w : ℕ} → BeatC w → Option Told → Held → Option Reason
+report_by x None h = None
+report_by x (Some m) h = report_in x m m.mention.control h
+
+-- ---- the reason of a rule, by the channel of the beat
+
+abbrev pub for_request : {w : ℕ} → Rule → BeatA w → Recorder → Option Reason
+for_request H1 x r = where_pending (RequestSource x.source) r.turns.request
+for_request H4 x r =
+    if is_acquire x.opcode
+    then first_reason (where_pending (AcquireOf (block_at x.address)) r.turns.acquire)
+    (where_pending (ReleaseOf (block_at x.address)) r.turns.release)
+    else None
+for_request H5 x r = if is_acquire x.opcode then unless_held (grows_from x.param (held_by r.turns.said).perm)
+    (held_by r.turns.said) else None
+for_request _ x r = None
+
+abbrev pub for_probe : {w : ℕ} → Rule → BeatB w → Recorder → Option Reason
+for_probe H9 x r =
+    if is_probe x.opcode
+    then first_reason (where_pending (ProbeOf (block_at x.address)) r.turns.probe)
+    (where_pending (GrantAckOf (block_at x.address)) r.turns.grant_ack)
+    else None
+for_probe _ x r = None
+
+abbrev pub for_release : {w : ℕ} → Rule → BeatC w → Recorder → Option Reason
+for_release H1 x r = where_pending (ReleaseSource x.source) r.turns.release_with_source
+for_release H13 x r =
+    first_reason (first_reason (where_pending (AcquireOf (block_at x.address)) r.turns.acquire)
+    (where_pending (ReleaseOf (block_at x.address)) r.turns.release))
+    (unless_held (prunes_from (prune_of x.param) (held_by r.turns.said).perm) (held_by r.turns.said))
+for_release _ x r = None
+
+abbrev pub for_probe_ack : {w : ℕ} → Rule → BeatC w → Recorder → Option Reason
+for_probe_ack H10 x r = probe_by x r.turns.probe (open_message r.turns.probe)
+for_probe_ack H11 x r = where_pending (ReleaseOf (block_at x.address)) r.turns.release
+for_probe_ack H12 x r = report_by x (open_message r.turns.probe) (held_by r.turns.said)
+for_probe_ack _ x r = None
+
+abbrev pub for_message_c : {w : ℕ} → Rule → BeatC w → Recorder → Option Reason
+for_message_c rule x r = if is_release x.opcode then for_release rule x r else if is_probe_ack x.opcode then
+    for_probe_ack rule x r else None
+
+abbrev pub where_unasked : {w : ℕ} → BeatD w → Recorder → Option Reason
+where_unasked x r =
+    if is_release_ack x.opcode
+    then where_missing (ReleaseSource x.source) r.turns.release_with_source r.bursts.c
+    else first_reason (where_missing (RequestSource x.source) r.turns.request r.bursts.a)
+    (kind_by x (open_message r.turns.request))
+
+abbrev pub asked_by : {w : ℕ} → BeatD w → Recorder → Option Told
+asked_by x r = if is_release_ack x.opcode then open_message r.turns.release_with_source else open_message
+    r.turns.request
+
+abbrev pub for_answer : {w : ℕ} → Profile → Rule → BeatD w → Recorder → Option Reason
+for_answer p H2 x r = where_unasked x r
+for_answer p H3 x r = size_by x (asked_by x r)
+for_answer p H6 x r = if is_grant x.opcode then grant_by p x (open_message r.turns.request) r else None
+for_answer p H7 x r = if is_grant x.opcode then where_pending (GrantSink x.sink) r.turns.sink else None
+for_answer p _ x r = None
+
+abbrev pub for_acknowledgement : Rule → BeatE → Recorder → Option Reason
+for_acknowledgement H8 x r = where_missing (GrantSink x.sink) r.turns.sink r.bursts.d
+for_acknowledgement _ x r = None
+
+abbrev pub for_message : {w : ℕ} → Profile → Rule → Beat w → Recorder → Option Reason
+for_message p rule (beat.A x) r = for_request rule x r
+for_message p rule (beat.B x) r = for_probe rule x r
+for_message p rule (beat.C x) r = for_message_c rule x r
+for_message p rule (beat.D x) r = for_answer p rule x r
+for_message p rule (beat.E x) r = for_acknowledgement rule x r
+
+-- where a beat doesn't continue the burst on its channel
+abbrev pub differs_by : {w : ℕ} → Beat w → Option Begun → Option Reason
+differs_by x None = None
+differs_by x (Some b) = if has_control x b.newest then None else Some (Differs b)
+
+abbrev pub is_of_bursts : Rule → Bool
+is_of_bursts S1 = true
+is_of_bursts _ = false
+
+abbrev pub reason_by : {w : ℕ} → Profile → Rule → Beat w → Recorder → Option Reason
+reason_by p rule x r =
+    if is_of_bursts rule then differs_by x (burst_on r.bursts (channel_of x)) else
+    if is_none (burst_on r.bursts (channel_of x)) then for_message p rule x r else None

@@ -1,0 +1,282 @@
+-- What a reason tells of a trace, and which rule a beat breaks by what is told.
+use Rattle.std.specs.Prelude.{ℕ, Bool, true, false, not, List, [], ◌∷◌, ◌≡◌, ◌==◌, ◌&&◌, ◌||◌, ⊤, length}
+use Rattle.std.specs.Prelude.{Option, Some, None, IfSome}
+use Rattle.tl_beat.specs.declared.beat.Beat.{Beat}
+use Rattle.tl_beat.specs.declared.beat.Beat.TheVariants as beat
+use Rattle.tl_beat.specs.declared.beat.Link.{Link}
+use Rattle.tl_beat.specs.declared.channel.Channel.{Channel}
+use Rattle.tl_beat.specs.declared.channel.Channel.TheVariants as channel
+use Rattle.tl_beat.specs.statement.First.{first_if}
+use Rattle.tl_beat.specs.statement.Opcode.{c_carries_data}
+use Rattle.tl_burst.specs.statement.Messages.{History, breaks_burst, channel_of, unfinished}
+use Rattle.tl_params.specs.declared.key.Key.{Key}
+use Rattle.tl_params.specs.declared.key.Key.TheVariants.{RequestSource, ReleaseSource, AcquireOf, ReleaseOf, GrantSink}
+use Rattle.tl_params.specs.declared.key.Key.TheVariants.{GrantAckOf, ProbeOf}
+use Rattle.tl_params.specs.declared.perm.Perm.{Perm}
+use Rattle.tl_params.specs.declared.perm.Perm.TheVariants as perm
+use Rattle.tl_params.specs.declared.profile.Profile.{Profile}
+use Rattle.tl_params.specs.declared.rule.Rule.{Rule}
+use Rattle.tl_params.specs.declared.rule.Rule.TheVariants.{S1, H1, H2, H3, H4, H5, H6, H7, H8, H9, H10, H11, H12, H13}
+use Rattle.tl_params.specs.statement.Param.{cap_of, prune_of}
+use Rattle.tl_rules.specs.statement.Conformance.{Trace, on_link, answers, answers_wrong_probe, comes_in_grant}
+use Rattle.tl_rules.specs.statement.Conformance.{comes_in_release, comes_in_request, fits_grow, grows_from, has_request}
+use Rattle.tl_rules.specs.statement.Conformance.{is_acquire_block, is_grant_without_data, is_probe_block, is_report_at}
+use Rattle.tl_rules.specs.statement.Conformance.{misgrants, misreports}
+use Rattle.tl_rules.specs.statement.Conformance.{prunes_from, same_perm, size_asked}
+use Rattle.tl_rules.specs.statement.History.{begins, block_at, held, is_acquire, is_grant, is_probe, is_probe_ack}
+use Rattle.tl_rules.specs.statement.History.{is_release, is_release_ack}
+use Rattle.tl_rules.specs.statement.History.{pending, probe_of, request_of}
+use Rattle.tl_beat.specs.statement.Control.{control_of, has_control}
+use Rattle.tl_beat.specs.declared.control.Control.{Control}
+use Rattle.tl_beat.specs.declared.control.Control.TheVariants as control
+use Rattle.tl_explain.specs.declared.reason.Held.{Held}
+use Rattle.tl_explain.specs.declared.reason.Reason.{Reason}
+use Rattle.tl_explain.specs.declared.reason.Reason.TheVariants.{Pending, Never, Closed, Unfinished, OtherKind}
+use Rattle.tl_explain.specs.declared.reason.Reason.TheVariants.{OtherSize, WrongCap, WithoutData, Probed, Holds}
+use Rattle.tl_explain.specs.declared.reason.Reason.TheVariants.{WrongProbe, Misreport, Differs}
+use Rattle.tl_explain.specs.declared.told.Mention.{Mention}
+use Rattle.tl_explain.specs.declared.turns.Subject.{Subject}
+use Rattle.tl_explain.specs.statement.Evidence.{mention_of}
+use Rattle.tl_explain.specs.statement.Since.{IsBurstSince, IsClosedBy, IsHeldSince, IsNeverOpened, IsPendingSince}
+
+-- ---- the rules of order, each by itself
+
+-- a beat breaks the rule of order after the history t of its link; the H rules judge a message at its first beat
+abbrev pub breaks_at_first : {w : ℕ} → Profile → Rule → Beat w → History w → Bool
+breaks_at_first p H1 (beat.A x) t = pending (RequestSource x.source) t
+breaks_at_first p H1 (beat.C x) t = is_release x.opcode && pending (ReleaseSource x.source) t
+breaks_at_first p H2 (beat.D x) t = not (has_request x t)
+breaks_at_first p H3 (beat.D x) t = not (x.size == size_asked x t)
+breaks_at_first p H4 (beat.A x) t =
+    is_acquire x.opcode && (pending (AcquireOf (block_at x.address)) t || pending (ReleaseOf (block_at x.address)) t)
+breaks_at_first p H5 (beat.A x) t = is_acquire x.opcode && not (grows_from x.param (held (block_at x.address) t))
+breaks_at_first p H6 (beat.D x) t = is_grant x.opcode && misgrants p x (request_of x.source t) t
+breaks_at_first p H7 (beat.D x) t = is_grant x.opcode && pending (GrantSink x.sink) t
+breaks_at_first p H8 (beat.E x) t = not (pending (GrantSink x.sink) t) || comes_in_grant x.sink (unfinished channel.D t)
+breaks_at_first p H9 (beat.B x) t =
+    is_probe x.opcode && (pending (ProbeOf (block_at x.address)) t || pending (GrantAckOf (block_at x.address)) t)
+breaks_at_first p H10 (beat.C x) t =
+    is_probe_ack x.opcode && (not (pending (ProbeOf (block_at x.address)) t) || answers_wrong_probe x
+    (probe_of (block_at x.address) t))
+breaks_at_first p H11 (beat.C x) t = is_probe_ack x.opcode && pending (ReleaseOf (block_at x.address)) t
+breaks_at_first p H12 (beat.C x) t = is_probe_ack x.opcode && misreports x (probe_of (block_at x.address) t)
+    (held (block_at x.address) t)
+breaks_at_first p H13 (beat.C x) t =
+    is_release x.opcode && (pending (AcquireOf (block_at x.address)) t
+    || (pending (ReleaseOf (block_at x.address)) t || not
+    (prunes_from (prune_of x.param) (held (block_at x.address) t))))
+breaks_at_first _ _ _ _ = false
+
+-- the H rules in their order
+abbrev pub order_rules : List Rule
+order_rules = H1 ∷ H2 ∷ H3 ∷ H4 ∷ H5 ∷ H6 ∷ H7 ∷ H8 ∷ H9 ∷ H10 ∷ H11 ∷ H12 ∷ H13 ∷ []
+
+-- the beat breaks the rule of order after the history t, an H rule where it begins a message and S1 where it doesn't
+abbrev pub Breaks : {w : ℕ} → Profile → Rule → Beat w → History w → Type 0
+Breaks p S1 x t = (begins x t ≡ false) × (breaks_burst x (unfinished (channel_of x) t) ≡ true)
+Breaks p rule x t = (begins x t ≡ true) × (breaks_at_first p rule x t ≡ true)
+
+-- ---- what is told of a trace
+
+-- the key that the answer of a message closes, where an answer tells of its own source or block
+abbrev pub answer_key : Control → Option Key
+answer_key (control.A x) = Some (RequestSource x.source)
+answer_key (control.B x) = Some (ProbeOf (block_at x.address))
+answer_key (control.C x) = Some (ReleaseSource x.source)
+answer_key (control.D x) = None
+answer_key (control.E sink) = None
+
+-- the message that is told of has no answer yet
+abbrev pub IsUnanswered : {w : ℕ} → ℕ → Mention → Trace w → Type 0
+IsUnanswered n m t = (k : Key) × (answer_key m.control ≡ Some k) × IsPendingSince n k m t
+
+-- the block that a message names
+abbrev pub block_named : Control → Option ℕ
+block_named (control.A x) = Some (block_at x.address)
+block_named (control.B x) = Some (block_at x.address)
+block_named (control.C x) = Some (block_at x.address)
+block_named (control.D x) = None
+block_named (control.E sink) = None
+
+-- what is told as held of the block that this message names is held by link n, and since that message
+abbrev pub IsHeldOf : {w : ℕ} → ℕ → Control → Held → Trace w → Type 0
+IsHeldOf n c h t = (k : ℕ) × (block_named c ≡ Some k) × IsHeldSince n k h.perm (mention_of h.since) t
+
+-- the channel whose messages open the key
+abbrev pub opening_channel : Key → Channel
+opening_channel (RequestSource s) = channel.A
+opening_channel (ReleaseSource s) = channel.C
+opening_channel (AcquireOf k) = channel.A
+opening_channel (ReleaseOf k) = channel.C
+opening_channel (GrantSink s) = channel.D
+opening_channel (GrantAckOf k) = channel.D
+opening_channel (ProbeOf k) = channel.B
+
+-- the unfinished burst is of a message that opens the key
+abbrev pub comes_in : {w : ℕ} → Key → List (Beat w) → Bool
+comes_in (RequestSource s) burst = comes_in_request s burst
+comes_in (ReleaseSource s) burst = comes_in_release s burst
+comes_in (GrantSink s) burst = comes_in_grant s burst
+comes_in _ burst = false
+
+-- of the message that opened the key, which is told of, so many beats have come, and not all: a burst is unfinished
+-- that began in its line, the newest beat of which opens the key as well
+abbrev pub IsUnfinished : {w : ℕ} → ℕ → Key → Mention → ℕ → Trace w → Type 0
+IsUnfinished {w} n k m came t =
+    (burst : List (Beat w)) × (first : Mention) × IsBurstSince n (opening_channel k) burst first t
+    × (first.line ≡ m.line)
+    × (came ≡ length burst) × (comes_in k burst ≡ true)
+
+-- of the burst on a channel, the first beat of which is told of, so many beats have come, this one the newest
+abbrev pub IsGoingOn : {w : ℕ} → ℕ → Channel → Mention → Control → ℕ → Trace w → Type 0
+IsGoingOn {w} n ch m c came t =
+    (newest : Beat w) × (others : List (Beat w)) × IsBurstSince n ch (newest ∷ others) m t
+    × (came ≡ length (newest ∷ others)) × (c ≡ control_of newest)
+
+-- what a reason tells is so, of the beats t before the beat x of link n
+abbrev pub IsTold : {w : ℕ} → ℕ → Beat w → Reason → Trace w → Type 0
+IsTold n x (Pending k m) t = IsPendingSince n k m.mention t
+IsTold n x (Never k) t = IsNeverOpened n k t
+IsTold n x (Closed k opening closing) t = IsClosedBy n k opening.mention closing.mention t
+IsTold n x (Unfinished k m came) t = IsPendingSince n k m.mention t × IsUnfinished n k m.mention came t
+IsTold n x (OtherKind request) t = IsUnanswered n request.mention t
+IsTold n x (OtherSize request) t = IsUnanswered n request.mention t
+IsTold n x (WrongCap request) t = IsUnanswered n request.mention t
+IsTold n x (WithoutData request h) t = IsUnanswered n request.mention t × IsHeldOf n request.mention.control h t
+IsTold n x (Probed request probe) t = IsUnanswered n request.mention t × IsUnanswered n probe.mention t
+IsTold n x (Holds h) t = IsHeldOf n (control_of x) h t
+IsTold n x (WrongProbe probe) t = IsUnanswered n probe.mention t
+IsTold n x (Misreport probe h) t = IsUnanswered n probe.mention t × IsHeldOf n probe.mention.control h t
+IsTold n x (Differs b) t = IsGoingOn n (channel_of x) b.first.mention b.newest b.came t
+
+-- the beat begins a message, where the reason is one of the order of messages
+abbrev pub is_of_messages : Reason → Bool
+is_of_messages (Differs b) = false
+is_of_messages _ = true
+
+-- the evidence: what the reason tells is so
+abbrev pub IsEvidence : {w : ℕ} → ℕ → Beat w → Reason → Trace w → Type 0
+IsEvidence n x reason t = (begins x (on_link n t) ≡ is_of_messages reason) × IsTold n x reason t
+
+-- ---- the rule that a beat breaks, by what is told and nothing else
+
+-- a key is pending that the beat wants free
+abbrev pub rule_of_pending : {w : ℕ} → Beat w → Key → Option Rule
+rule_of_pending (beat.A x) (RequestSource s) = first_if (x.source == s) H1 None
+rule_of_pending (beat.A x) (AcquireOf k) = first_if (is_acquire x.opcode && (block_at x.address == k)) H4 None
+rule_of_pending (beat.A x) (ReleaseOf k) = first_if (is_acquire x.opcode && (block_at x.address == k)) H4 None
+rule_of_pending (beat.B x) (ProbeOf k) = first_if (is_probe x.opcode && (block_at x.address == k)) H9 None
+rule_of_pending (beat.B x) (GrantAckOf k) = first_if (is_probe x.opcode && (block_at x.address == k)) H9 None
+rule_of_pending (beat.C x) (ReleaseSource s) = first_if (is_release x.opcode && (x.source == s)) H1 None
+rule_of_pending (beat.C x) (AcquireOf k) = first_if (is_release x.opcode && (block_at x.address == k)) H13 None
+rule_of_pending (beat.C x) (ReleaseOf k) =
+    first_if (is_release x.opcode && (block_at x.address == k)) H13
+    (first_if (is_probe_ack x.opcode && (block_at x.address == k)) H11 None)
+rule_of_pending (beat.D x) (GrantSink s) = first_if (is_grant x.opcode && (x.sink == s)) H7 None
+rule_of_pending _ _ = None
+
+-- no complete message has the key pending that the beat wants pending, for a ProbeAck no message at all
+abbrev pub rule_of_missing : {w : ℕ} → Beat w → Key → Option Rule
+rule_of_missing (beat.C x) (ProbeOf k) = first_if (is_probe_ack x.opcode && (block_at x.address == k)) H10 None
+rule_of_missing (beat.D x) (RequestSource s) = first_if (not (is_release_ack x.opcode) && (x.source == s)) H2 None
+rule_of_missing (beat.D x) (ReleaseSource s) = first_if (is_release_ack x.opcode && (x.source == s)) H2 None
+rule_of_missing (beat.E x) (GrantSink s) = first_if (x.sink == s) H8 None
+rule_of_missing _ _ = None
+
+-- the message that opened the key isn't complete
+abbrev pub rule_of_unfinished : {w : ℕ} → Beat w → Key → Option Rule
+rule_of_unfinished (beat.D x) k = rule_of_missing (beat.D x) k
+rule_of_unfinished {w} (beat.E x) k = rule_of_missing {w = w} (beat.E x) k
+rule_of_unfinished _ k = None
+
+-- the request is of a kind that isn't answered so
+abbrev pub rule_of_kind : {w : ℕ} → Beat w → Control → Option Rule
+rule_of_kind (beat.D x) (control.A r) =
+    first_if (not (is_release_ack x.opcode) && ((x.source == r.source) && not (answers x.opcode r.opcode))) H2 None
+rule_of_kind _ _ = None
+
+-- the request, or for a ReleaseAck the Release, has another size
+abbrev pub rule_of_size : {w : ℕ} → Beat w → Control → Option Rule
+rule_of_size (beat.D x) (control.A r) =
+    first_if (not (is_release_ack x.opcode) && ((x.source == r.source) && not (x.size == r.size))) H3 None
+rule_of_size (beat.D x) (control.C r) =
+    first_if (is_release_ack x.opcode && ((x.source == r.source) && not (x.size == r.size))) H3 None
+rule_of_size _ _ = None
+
+-- the request may not be given this cap
+abbrev pub rule_of_cap : {w : ℕ} → Profile → Beat w → Control → Option Rule
+rule_of_cap p (beat.D x) (control.A r) =
+    first_if (is_grant x.opcode && ((x.source == r.source) && not (fits_grow p r.opcode r.param x.param))) H6 None
+rule_of_cap p _ _ = None
+
+-- the request wants data, where this is held
+abbrev pub rule_of_data : {w : ℕ} → Beat w → Control → Perm → Option Rule
+rule_of_data (beat.D x) (control.A r) p =
+    first_if (is_grant_without_data
+    x.opcode && (is_acquire_block r.opcode && ((x.source == r.source) && not (same_perm p perm.Branch)))) H6 None
+rule_of_data _ _ p = None
+
+-- a Probe of the request's block is pending
+abbrev pub rule_of_probed : {w : ℕ} → Beat w → Control → Control → Option Rule
+rule_of_probed (beat.D x) (control.A r) (control.B y) =
+    first_if (is_grant x.opcode && ((x.source == r.source) && (block_at y.address == block_at r.address))) H6 None
+rule_of_probed _ _ _ = None
+
+-- what is held doesn't fit the param
+abbrev pub rule_of_held : {w : ℕ} → Beat w → Perm → Option Rule
+rule_of_held (beat.A x) p = first_if (is_acquire x.opcode && not (grows_from x.param p)) H5 None
+rule_of_held (beat.C x) p = first_if (is_release x.opcode && not (prunes_from (prune_of x.param) p)) H13 None
+rule_of_held _ p = None
+
+-- the Probe that is answered with data asks for none
+abbrev pub rule_of_probe : {w : ℕ} → Beat w → Control → Option Rule
+rule_of_probe (beat.C x) (control.B y) =
+    first_if (is_probe_ack x.opcode && ((block_at x.address == block_at y.address) && (c_carries_data x.opcode && not
+    (is_probe_block y.opcode)))) H10 None
+rule_of_probe _ _ = None
+
+-- the report to the Probe is another, where this is held
+abbrev pub rule_of_report : {w : ℕ} → Beat w → Control → Perm → Option Rule
+rule_of_report (beat.C x) (control.B y) p =
+    first_if (is_probe_ack x.opcode && ((block_at x.address == block_at y.address) && not
+    (is_report_at x.param (cap_of y.param) p))) H12 None
+rule_of_report _ _ p = None
+
+-- The rule that a beat breaks where what a reason tells is so: the beat and the reason alone say it.
+-- None where it says nothing.
+abbrev pub convicted : {w : ℕ} → Profile → Beat w → Reason → Option Rule
+convicted p x (Pending k m) = rule_of_pending x k
+convicted p x (Never k) = rule_of_missing x k
+convicted p x (Closed k opening closing) = rule_of_missing x k
+convicted p x (Unfinished k m came) = rule_of_unfinished x k
+convicted p x (OtherKind request) = rule_of_kind x request.mention.control
+convicted p x (OtherSize request) = rule_of_size x request.mention.control
+convicted p x (WrongCap request) = rule_of_cap p x request.mention.control
+convicted p x (WithoutData request h) = rule_of_data x request.mention.control h.perm
+convicted p x (Probed request probe) = rule_of_probed x request.mention.control probe.mention.control
+convicted p x (Holds h) = rule_of_held x h.perm
+convicted p x (WrongProbe probe) = rule_of_probe x probe.mention.control
+convicted p x (Misreport probe h) = rule_of_report x probe.mention.control h.perm
+convicted p x (Differs b) = first_if (not (has_control x b.newest)) S1 None
+
+-- the rules of which a reason is told wherever they are the first that a beat breaks
+abbrev pub is_always_told : Rule → Bool
+is_always_told H3 = true
+is_always_told H6 = true
+is_always_told H12 = true
+is_always_told _ = false
+
+-- ---- what is recorded for a verdict
+
+-- the subject is that of a verdict on the beat x of a link
+abbrev pub IsSubject : {w : ℕ} → Subject → Link → Beat w → Type 0
+IsSubject s link (beat.A x) = (s.link ≡ link) × (s.source ≡ x.source) × (s.block ≡ block_at x.address)
+IsSubject s link (beat.B x) = (s.link ≡ link) × (s.block ≡ block_at x.address)
+IsSubject s link (beat.C x) = (s.link ≡ link) × (s.source ≡ x.source) × (s.block ≡ block_at x.address)
+IsSubject s link (beat.D x) = (s.link ≡ link) × (s.source ≡ x.source) × (s.sink ≡ x.sink)
+IsSubject s link (beat.E x) = (s.link ≡ link) × (s.sink ≡ x.sink)
+
+-- the block of the subject is that of the request which the beat answers, where there is one
+abbrev pub HasBlockAsked : {w : ℕ} → Subject → Beat w → Trace w → Type 0
+HasBlockAsked s (beat.D x) t = IfSome (request_of x.source (on_link s.link.0 t)) (λ r. s.block ≡ block_at r.address)
+HasBlockAsked s _ t = ⊤

@@ -1,0 +1,61 @@
+-- Where in a trace a message stands that is told, and that none behind it says otherwise. Traces have the newest beat
+-- first, so that in `later ++ x ∷ earlier` the beats `later` stand behind x.
+use Rattle.std.specs.Prelude.{ℕ, Bool, true, false, List, [], ◌∷◌, ◌++◌, ◌≡◌, ◌<◌, ⊤, Option, Some, None}
+use Rattle.tl_beat.specs.declared.beat.Beat.{Beat}
+use Rattle.tl_beat.specs.declared.beat.Link.{Link}
+use Rattle.tl_beat.specs.declared.channel.Channel.{Channel}
+use Rattle.tl_burst.specs.statement.Messages.{carried_on, on, unfinished}
+use Rattle.tl_params.specs.declared.key.Key.{Key}
+use Rattle.tl_params.specs.declared.perm.Perm.{Perm}
+use Rattle.tl_params.specs.declared.perm.Perm.TheVariants as perm
+use Rattle.tl_rules.specs.statement.Conformance.{Trace, on_link}
+use Rattle.tl_rules.specs.statement.History.{begins, held}
+use Rattle.tl_explain.specs.declared.told.Mention.{Mention}
+use Rattle.tl_explain.specs.statement.Evidence.{told, is_opening, is_closing, is_saying, left_by}
+
+-- none of the beats `later`, which stand behind those of t, is such a one
+unfoldable pub HasNone : {w : ℕ} → (Link × Beat w → Trace w → Bool) → Trace w → Trace w → Type 0
+HasNone is [] t = ⊤
+HasNone is (x ∷ later) t = (is x (later ++ t) ≡ false) × HasNone is later t
+
+-- the beat that is told of is such a one, and the last: none behind it is
+abbrev pub IsLast : {w : ℕ} → (Link × Beat w → Trace w → Bool) → Mention → Trace w → Type 0
+IsLast {w} is m t =
+    (later : Trace w) × (x : Link × Beat w) × (earlier : Trace w) × (t ≡ later ++ x ∷ earlier) × (m ≡ told x earlier)
+    × (is x earlier ≡ true)
+    × HasNone is later (x ∷ earlier)
+
+-- the last such beat is the one that is told of, if there is one
+abbrev pub IsLastIfAny : {w : ℕ} → (Link × Beat w → Trace w → Bool) → Option Mention → Trace w → Type 0
+IsLastIfAny is None t = HasNone is t []
+IsLastIfAny is (Some m) t = IsLast is m t
+
+-- the message that is told of opened the key on link n, and no message behind it opens or closes it
+abbrev pub IsPendingSince : {w : ℕ} → ℕ → Key → Mention → Trace w → Type 0
+IsPendingSince {w} n k m t =
+    (later : Trace w) × (x : Link × Beat w) × (earlier : Trace w) × (t ≡ later ++ x ∷ earlier) × (m ≡ told x earlier)
+    × (is_opening n k x earlier ≡ true) × HasNone (is_opening n k) later (x ∷ earlier) × HasNone (is_closing n k) later
+    (x ∷ earlier)
+
+-- no message has opened the key on link n
+abbrev pub IsNeverOpened : {w : ℕ} → ℕ → Key → Trace w → Type 0
+IsNeverOpened n k t = HasNone (is_opening n k) t []
+
+-- the one message was the last that opened the key on link n, and the other, behind it, closed it
+abbrev pub IsClosedBy : {w : ℕ} → ℕ → Key → Mention → Mention → Trace w → Type 0
+IsClosedBy n k opening closing t = IsLast (is_opening n k) opening t × IsLast (is_closing n k) closing t
+    × (opening.line < closing.line)
+
+-- link n holds block k so, by this message, and no message behind it changes that; nothing was said of the block where
+-- there is no message
+abbrev pub IsHeldSince : {w : ℕ} → ℕ → ℕ → Perm → Option Mention → Trace w → Type 0
+IsHeldSince n k p None t = (p ≡ held k (on_link n t)) × (p ≡ perm.None) × HasNone (is_saying n k) t []
+IsHeldSince n k p (Some m) t = (p ≡ held k (on_link n t)) × (p ≡ left_by m.control) × IsLast (is_saying n k) m t
+
+-- the burst that is unfinished on a channel of link n began with the beat that is told of: these are the channel's
+-- beats from there on
+abbrev pub IsBurstSince : {w : ℕ} → ℕ → Channel → List (Beat w) → Mention → Trace w → Type 0
+IsBurstSince {w} n ch burst m t =
+    (later : Trace w) × (x : Link × Beat w) × (earlier : Trace w) × (t ≡ later ++ x ∷ earlier) × (m ≡ told x earlier)
+    × (x.0.0 ≡ n) × (on ch x.1 ≡ true) × (begins x.1 (on_link n earlier) ≡ true)
+    × (unfinished ch (on_link n t) ≡ burst) × (burst ≡ carried_on ch (on_link n later) ++ x.1 ∷ [])

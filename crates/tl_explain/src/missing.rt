@@ -1,0 +1,69 @@
+//! What is told of a key that is pending where it has to be free, or free where it has to be pending.
+
+ghost use Rattle.std.specs.Prelude.{◌≡◌};
+ghost use Rattle.tl_explain.specs.code.Chosen;
+
+use crate::bursts::Begun;
+use crate::key::opens;
+use crate::reason::{Held, Reason};
+use crate::told::Told;
+use crate::turn::Turn;
+use tl_params::key::Key;
+
+/// Where the key is pending.
+pub fn where_pending(key: Key, turn: &Turn) -> Option<Reason>
+    ensures { result ≡ Chosen.where_pending key turn.now }
+{
+    let told = turn.pending()?;
+    Some(Reason::Pending(key, told))
+}
+
+/// Where no complete message has the key pending. The burst is that which is unfinished on the
+/// channel whose messages open the key.
+pub fn where_not_pending(key: Key, turn: &Turn, burst: &Option<Begun>) -> Option<Reason>
+    ensures { result ≡ Chosen.where_missing key turn.now burst.now }
+{
+    let Some(opening) = turn.opening else {
+        return Some(Reason::Never(key));
+    };
+    match turn.pending() {
+        None => {
+            let closing = turn.closing?;
+            Some(Reason::Closed(key, opening, closing))
+        }
+        Some(_) => where_unfinished(key, opening, burst),
+    }
+}
+
+/// Where the burst is that of the message which has opened the key.
+fn where_unfinished(key: Key, opening: Told, burst: &Option<Begun>) -> Option<Reason>
+    ensures { result ≡ Chosen.unfinished_by key opening burst.now }
+{
+    let begun = (*burst)?;
+    if begun.first.mention.line == opening.mention.line && opens(key, &begun.newest, None) {
+        Some(Reason::Unfinished(key, opening, begun.came))
+    } else {
+        None
+    }
+}
+
+/// The one reason, or else the other.
+pub fn first_of(one: Option<Reason>, other: Option<Reason>) -> Option<Reason>
+    ensures { result ≡ Chosen.first_reason one other }
+{
+    match one {
+        None => other,
+        Some(reason) => Some(reason),
+    }
+}
+
+/// What is held, unless it fits.
+pub fn unless_held(fits: bool, held: Held) -> Option<Reason>
+    ensures { result ≡ Chosen.unless_held fits held }
+{
+    if fits {
+        None
+    } else {
+        Some(Reason::Holds(held))
+    }
+}

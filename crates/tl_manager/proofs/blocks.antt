@@ -1,0 +1,14 @@
+pub mod Answering
+pub mod Beginning
+pub mod Blocks
+pub mod Completed
+pub mod Entries
+pub mod Granting
+pub mod Memories
+pub mod Outside
+pub mod Placing
+pub mod Recording
+pub mod Reporting
+pub mod Taking
+pub mod Unmoved
+pub mod Written

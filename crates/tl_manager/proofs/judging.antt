@@ -1,0 +1,4 @@
+pub mod Judged
+pub mod Judging
+pub mod Refusing
+pub mod Stalls

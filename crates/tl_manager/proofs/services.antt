@@ -1,0 +1,5 @@
+pub mod Busy
+pub mod Ended
+pub mod Grants
+pub mod Serving
+pub mod Trackers

@@ -1,0 +1,5 @@
+//! Agents with what they handed out and hasn't been sent.
+#![tactic(auto)]
+
+pub mod client;
+pub mod outgoing;

@@ -1,0 +1,155 @@
+//! Draws the lines of a schedule, each by what came of those before it.
+
+ghost use Rattle.std.specs.Prelude.{◌≡◌, ◌++◌, ℕ, List, OnOk, IfOk};
+ghost use Rattle.tl_beat.specs.statement.Width.{IsWidth};
+ghost use Rattle.tl_schedule.specs.statement.EventLine.{drain_line};
+ghost use Rattle.tl_random.specs.statement.Random.{GrowsByLine};
+
+use crate::choose::{channel, request};
+use crate::draw::{below, is_one_in};
+use crate::event::event_in;
+use crate::options::Options;
+use crate::text::{append_delivery, append_request};
+use rand_core::SeedableRng;
+use rand_xoshiro::Xoshiro256PlusPlus;
+use std::alloc::{AllocError, Global};
+use tl_client::any::AnyClient;
+use tl_client::reply::Reply;
+use tl_coherence::event::Outcome;
+use tl_engine::trace_header::world_of;
+use tl_manager::bits::BitDirectory;
+use tl_params::config::Config;
+use tl_world::world::World;
+
+/// A line in so many drains the world.
+const DRAIN: u64 = 64;
+/// An event that comes to nothing is taken once in so many times.
+const IDLE: u64 = 72;
+/// How many events are tried for a line before the world is drained.
+const TRIES: u8 = 64;
+
+/// Whether nothing came of an event: it was busy, missing, stalled or empty.
+fn is_idle<const W: usize>(outcome: &Outcome<W>) -> bool {
+    match outcome {
+        Outcome::Replied { reply } => matches!(reply, Reply::Busy(_) | Reply::Miss),
+        Outcome::Empty | Outcome::Stalled | Outcome::NoSuchClient => true,
+        Outcome::Moved { .. } | Outcome::Done { .. } => false,
+    }
+}
+
+/// Whether an event is taken: where something came of it, and now and then where nothing did.
+fn takes<const W: usize>(rng: &mut Xoshiro256PlusPlus, outcome: &Outcome<W>) -> bool {
+    !is_idle(outcome) || is_one_in(rng, IDLE)
+}
+
+/// A generator, and the world in which what it drew was played.
+#[derive(Drop)]
+pub(crate) struct Generator<const W: usize> {
+    rng: Xoshiro256PlusPlus,
+    world: World<W, AnyClient<W>, BitDirectory>,
+    line: Vec<u8>,
+}
+
+/// One of the first blocks, so many of them.
+fn block_below(rng: &mut Xoshiro256PlusPlus, count: u16) -> u16 {
+    if count == 0 {
+        return 0;
+    }
+    below(rng, u64::from(count)) as u16
+}
+
+/// A block: seven times in eight one of those of which most operations speak.
+fn block(rng: &mut Xoshiro256PlusPlus, options: &Options) -> u16 {
+    if is_one_in(rng, 8) {
+        block_below(rng, options.config.blocks)
+    } else {
+        block_below(rng, options.contend)
+    }
+}
+
+/// The world that a configuration names, to which nothing has happened.
+fn fresh_world<const W: usize>(
+    alloc: Global,
+    config: &Config,
+) -> Result<World<W, AnyClient<W>, BitDirectory>, AllocError>
+    requires { IsWidth W }
+{
+    let config = Config {
+        blocks: config.blocks,
+        trackers: config.trackers,
+        clients: config.clients.clone()?,
+        profile: config.profile,
+    };
+    if config.check().is_err() {
+        return Err(AllocError);
+    }
+    world_of(alloc, config)
+}
+
+impl<const W: usize> Generator<W> {
+    /// A generator of this seed, and the world that a configuration names.
+    pub(crate) fn new(alloc: Global, seed: u64, config: &Config) -> Result<Self, AllocError>
+        requires { IsWidth W }
+    {
+        Ok(Generator {
+            rng: Xoshiro256PlusPlus::seed_from_u64(seed),
+            world: fresh_world(alloc, config)?,
+            line: Vec::new(alloc),
+        })
+    }
+
+    /// Draws a line into `line`: two times in five what a client is asked for, else a delivery.
+    fn draw_line(&mut self, options: &Options) -> Result<(), AllocError>
+        requires { IsWidth W }
+    {
+        self.line.clear();
+        let clients = options.config.clients.as_slice();
+        if clients.is_empty() {
+            return Ok(());
+        }
+        let i = below(&mut self.rng, clients.len() as u64) as usize;
+        let level = clients[i].level;
+        if below(&mut self.rng, 5) < 2 {
+            let block = block(&mut self.rng, options);
+            let held = self.world.held(i as u8, block);
+            let request = request::<W>(&mut self.rng, level, block, held);
+            append_request::<W>(&mut self.line, i as u8, &request)
+        } else {
+            let channel = channel(&mut self.rng, level);
+            append_delivery(&mut self.line, i as u8, channel)
+        }
+    }
+
+    /// Appends a line that drains the world, and drains it.
+    fn append_drain(&mut self, out: &mut Vec<u8>) -> Result<(), AllocError>
+        requires { IsWidth W }
+        ensures { OnOk result (out.new.items ≡ out.old.items ++ drain_line) }
+    {
+        self.world.drain();
+        out.extend_from_slice(b"drain\n")
+    }
+
+    /// Appends the next line: of an event of the world that the options name, or that drains it.
+    pub(crate) fn append_line(
+        &mut self,
+        options: &Options,
+        out: &mut Vec<u8>,
+    ) -> Result<(), AllocError>
+        requires { IsWidth W }
+        ensures { OnOk result (GrowsByLine W options.now.config out.old.items out.new.items) }
+    {
+        if is_one_in(&mut self.rng, DRAIN) {
+            return self.append_drain(out);
+        }
+        for _ in 0..TRIES {
+            self.draw_line(options)?;
+            if let Some(event) = event_in(&options.config, self.line.as_slice()) {
+                let outcome = self.world.step(event);
+                if takes(&mut self.rng, &outcome) {
+                    return out.extend_from_slice(self.line.as_slice());
+                }
+            }
+        }
+        self.append_drain(out)
+    }
+}

@@ -1,0 +1,143 @@
+-- What a judge's tables answer of the rules of memory.
+use Rattle.std.proofs.Common.{◌≡◌, ℕ, suc, Bool, true, false, ◌&&◌, ◌||◌, ◌<◌, List, length, refl, sym, ap, ◌∙◌, arith}
+use Rattle.std.proofs.Common.{◌+◌}
+use Rattle.std.specs.Prelude.{if◌then◌else◌, Option, Some, None, is_some, nat_lt, nat_le}
+use Rattle.std.proofs.Math.Numerals.{add-one}
+use Rattle.std.proofs.lemmas.Bool.{lt-ltb}
+use Rattle.tl_beat.specs.declared.beat.Beat.{Beat}
+use Rattle.tl_beat.specs.declared.beat.Beat.TheVariants.{A, B, C, D, E}
+use Rattle.tl_beat.specs.declared.beat.BeatD.{BeatD}
+use Rattle.tl_beat.specs.declared.beat.Link.{Link}
+use Rattle.tl_params.specs.declared.level.Level.{Level}
+use Rattle.tl_params.specs.declared.perm.Perm.{Perm}
+use Rattle.tl_params.specs.declared.perm.Perm.TheVariants as perm
+use Rattle.tl_rules.specs.code.Open.{open_request}
+use Rattle.tl_rules.specs.declared.past.Request.{Request}
+use Rattle.tl_rules.specs.statement.Conformance.{Trace, on_link}
+use Rattle.tl_rules.specs.statement.History.{begins, is_grant, held, capped}
+use Rattle.tl_monitor.specs.statement.Knows.{held_on, begins_on, request_on}
+use Rattle.tl_together.specs.statement.Coherence.{is_free, is_spared, leaves, needs, has_window, is_access_ack}
+use Rattle.tl_together.specs.statement.Coherence.{broken_grant, broken_access, broken_response, broken_memory}
+use Rattle.tl_together.specs.declared.breach.MemoryRule.{MemoryRule}
+use Rattle.tl_together.specs.declared.breach.MemoryRule.TheVariants.{M1, M4}
+use Rattle.tl_together.specs.declared.windows.Window.{Window}
+use Rattle.tl_together.specs.code.Windows.{asked_at, asked_in, last_free, last_in, window_in, KnowsWindows}
+use Rattle.tl_together.proofs.Windowed.{free_window, window-is}
+
+-- one link more
+pub free_more : {w : ℕ} (levels : List Level) (n : ℕ) (link : Link) (spared : Option ℕ) (given h : Perm) (block : ℕ)
+    (t : Trace w) (free left now : Bool)
+    → link.0 ≡ n → n < length levels → h ≡ held_on levels link block t → free ≡ is_free n spared given block t
+    → left ≡ (is_spared n spared || leaves given h)
+    → now ≡ (free && left) → now ≡ is_free (n + 1) spared given block t
+unfolding is_free
+free_more levels n link spared given h block t free left now link_is lt held_is free_is left_is now_is =
+    let here : h ≡ held block (on_link n t) = held_is ∙ rw (lt-ltb link.0 (length levels) (rw link_is lt))
+    (ap (λ m. held block (on_link m t)) link_is) in
+    now_is ∙ rw (add-one, free_is, left_is, here) refl
+
+pub free_none : {w : ℕ} (spared : Option ℕ) (given : Perm) (block : ℕ) (t : Trace w)
+    → true ≡ is_free 0 spared given block t
+unfolding is_free
+free_none spared given block t = refl
+
+pub window_free : {w : ℕ} (links n link source : ℕ) (given : Perm) (block : ℕ) (t : Trace w) (r : Bool) → links ≡ n
+    → is_some (open_request source (on_link link t)) ≡ true
+    → r ≡ is_free links None given block t → r ≡ true → true ≡ has_window n link source given block t
+window_free links n link source given block t r links_is asked r_is free =
+    sym (free_window n link source given block t asked (sym (r_is ∙ ap (λ m. is_free m None given block t) links_is)
+    ∙ free))
+
+pub window_asked : {w : ℕ} (links n link source : ℕ) (given : Perm) (block : ℕ) (t : Trace w) (r : Bool) (a last : ℕ)
+    (entries : List (ℕ × Window)) (noted : Option ℕ) → links ≡ n
+    → is_some (open_request source (on_link link t)) ≡ true
+    → r ≡ is_free links None given block t → r ≡ false → Some a ≡ noted → noted ≡ Some (asked_at link source t)
+    → last ≡ last_in given (window_in entries block)
+    → KnowsWindows entries n t → nat_le a last ≡ has_window n link source given block t
+window_asked links n link source given block t r a last entries noted links_is asked r_is closed found known last_is
+    windows =
+    let same : a ≡ asked_at link source t = of_some (found ∙ known) in
+    let gone : is_free n None given block t ≡ false = sym (r_is ∙ ap (λ m. is_free m None given block t) links_is)
+    ∙ closed in
+    let then' : last ≡ last_free n given block t = last_is ∙ windows given block gone in
+    rw (same, then') (sym (window-is n link source given block t ∙ rw asked refl))
+  where
+    of_some : {x y : ℕ} → Some x ≡ Some y → x ≡ y
+    of_some e = cc
+
+-- the response to no request
+pub no_response : {w : ℕ} (levels : List Level) (n : ℕ) (link : Link) (x : BeatD w) (t : Trace w)
+    → link.0 < length levels → None ≡ request_on levels link x.source t
+    → None ≡ broken_response n link.0 x t
+no_response levels n link x t lt none =
+    let here : open_request x.source (on_link link.0 t) ≡ None = sym (rw (lt-ltb link.0 (length levels) lt) refl) ∙ sym
+    none in
+    rw here (go (is_grant x.opcode) (is_access_ack x.opcode))
+  where
+    no : Option MemoryRule
+    no = None
+
+    go : (a b : Bool) → no ≡ (if a then no else if b then no else no)
+    go true b = refl
+    go false true = refl
+    go false false = refl
+
+pub asked_is : {w : ℕ} (levels : List Level) (link : Link) (s : ℕ) (t : Trace w) (r : Request) → link.0 < length levels
+    → Some r ≡ request_on levels link s t
+    → open_request s (on_link link.0 t) ≡ Some r
+asked_is levels link s t r lt some = sym (rw (lt-ltb link.0 (length levels) lt) refl) ∙ sym some
+
+pub grant_is : {w : ℕ} (links n link : ℕ) (x : BeatD w) (given : Perm) (asked : Request) (t : Trace w) (r : Bool)
+    → links ≡ n → given ≡ capped x.param
+    → r ≡ is_free links (Some link) given asked.block t → (b : Bool) → r ≡ b
+    → (if b then None else Some M1) ≡ broken_grant n link x (Some asked) t
+grant_is links n link x given asked t r links_is given_is r_is b e =
+    ap (λ c. if c then None else Some M1) (sym e ∙ r_is ∙ rw (links_is, given_is) refl)
+
+pub access_is : {w : ℕ} (n link : ℕ) (x : BeatD w) (given : Perm) (asked : Request) (t : Trace w) (r : Bool)
+    → given ≡ needs asked.opcode
+    → r ≡ has_window n link x.source given asked.block t → (b : Bool) → r ≡ b
+    → (if b then None else Some M4) ≡ broken_access n link x (Some asked) t
+access_is n link x given asked t r given_is r_is b e =
+    ap (λ c. if c then None else Some M4) (sym e ∙ r_is ∙ rw given_is refl)
+
+pub a_grant : {w : ℕ} (n link : ℕ) (x : BeatD w) (t : Trace w) (r : Request) (g : Bool) (o : Option MemoryRule)
+    → open_request x.source (on_link link t) ≡ Some r
+    → g ≡ is_grant x.opcode → g ≡ true → o ≡ broken_grant n link x (Some r) t → o ≡ broken_response n link x t
+a_grant n link x t r g o asked g_is yes' o_is = o_is ∙ rw (sym g_is ∙ yes', asked) refl
+
+pub an_access : {w : ℕ} (n link : ℕ) (x : BeatD w) (t : Trace w) (r : Request) (g a : Bool) (o : Option MemoryRule)
+    → open_request x.source (on_link link t) ≡ Some r
+    → g ≡ is_grant x.opcode → g ≡ false → a ≡ is_access_ack x.opcode → a ≡ true → o ≡ broken_access n link x (Some r) t
+    → o ≡ broken_response n link x t
+an_access n link x t r g a o asked g_is no' a_is yes' o_is = o_is ∙ rw (sym g_is ∙ no', sym a_is ∙ yes', asked) refl
+
+pub another : {w : ℕ} (n link : ℕ) (x : BeatD w) (t : Trace w) (g a : Bool) → g ≡ is_grant x.opcode → g ≡ false
+    → a ≡ is_access_ack x.opcode → a ≡ false
+    → None ≡ broken_response n link x t
+another n link x t g a g_is no' a_is none = rw (sym g_is ∙ no', sym a_is ∙ none) refl
+
+pub begun : {w : ℕ} (levels : List Level) (link : Link) (beat : Beat w) (x : BeatD w) (t : Trace w) (b : Bool)
+    (o : Option MemoryRule) → link.0 < length levels → beat ≡ D x
+    → b ≡ begins_on levels link beat t → b ≡ true → o ≡ broken_response (length levels) link.0 x t
+    → o ≡ broken_memory (length levels) link.0 beat t
+begun levels link beat x t b o lt is b_is yes' o_is =
+    let first : begins (D x) (on_link link.0 t) ≡ true =
+    ap (λ y. begins y (on_link link.0 t)) (sym is) ∙ sym (b_is ∙ rw (lt-ltb link.0 (length levels) lt) refl) ∙ yes' in
+    o_is ∙ rw (is, first) refl
+
+pub not_begun : {w : ℕ} (levels : List Level) (link : Link) (beat : Beat w) (x : BeatD w) (t : Trace w) (b : Bool)
+    → link.0 < length levels → beat ≡ D x
+    → b ≡ begins_on levels link beat t → b ≡ false → None ≡ broken_memory (length levels) link.0 beat t
+not_begun levels link beat x t b lt is b_is no' =
+    let first : begins (D x) (on_link link.0 t) ≡ false =
+    ap (λ y. begins y (on_link link.0 t)) (sym is) ∙ sym (b_is ∙ rw (lt-ltb link.0 (length levels) lt) refl) ∙ no' in
+    rw (is, first) refl
+
+pub no_d : {w : ℕ} (n link : ℕ) (beat : Beat w) (t : Trace w) → ((x : BeatD w) → beat ≡ D x → ⊥)
+    → None ≡ broken_memory n link beat t
+no_d n link (A x) t ne = refl
+no_d n link (B x) t ne = refl
+no_d n link (C x) t ne = refl
+no_d n link (D x) t ne = absurd (ne x refl)
+no_d n link (E x) t ne = refl

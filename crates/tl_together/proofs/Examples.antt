@@ -1,0 +1,184 @@
+-- The shortest traces that break a rule of memory, and beside each the right one.
+use Rattle.std.proofs.Common.{◌≡◌, ℕ, refl, false, List, [], ◌∷◌}
+use Rattle.std.specs.Prelude.{Some, None}
+use Rattle.tl_beat.specs.declared.beat.Beat.{Beat}
+use Rattle.tl_beat.specs.declared.beat.Beat.TheVariants as beat
+use Rattle.tl_beat.specs.declared.beat.Link.{Link}
+use Rattle.tl_beat.specs.declared.opcode.OpA.{OpA}
+use Rattle.tl_beat.specs.declared.opcode.OpA.TheVariants as a
+use Rattle.tl_beat.specs.declared.opcode.OpB.TheVariants as b
+use Rattle.tl_beat.specs.declared.opcode.OpC.TheVariants as c
+use Rattle.tl_beat.specs.declared.opcode.OpD.TheVariants as d
+use Rattle.tl_burst.specs.statement.Messages.{unfinished}
+use Rattle.tl_params.specs.declared.level.Level.{Level}
+use Rattle.tl_params.specs.declared.level.Level.TheVariants as level
+use Rattle.tl_params.specs.declared.profile.Profile.TheVariants as profile
+use Rattle.tl_params.specs.declared.rule.Rule.TheVariants.{H2}
+use Rattle.tl_rules.specs.statement.Conformance.{Trace, on_link, broken_order, broken_after}
+use Rattle.tl_rules.specs.statement.History.{request_of, release_of, probe_of, grant_sink, pending, held}
+use Rattle.tl_rules.specs.statement.Legality.{illegal, first_illegal, each_below}
+use Rattle.tl_together.specs.declared.breach.Breach.TheVariants.{OfLink, OfMemory}
+use Rattle.tl_together.specs.declared.breach.MemoryRule.TheVariants.{M1, M4}
+use Rattle.tl_together.specs.statement.Coherence.{is_free, has_window, breach_from, first_breach}
+
+-- beats of 8 bytes of block 0, on these links
+abbrev acquire_perm : ℕ → ℕ → Link × Beat 8
+acquire_perm link param = (
+  record { 0 = link },
+  beat.A (record {
+    opcode = a.AcquirePerm;
+    param = param;
+    size = 6;
+    source = 0;
+    address = 0;
+    mask = 255;
+    lanes = None;
+    corrupt = false;
+    carries = refl;
+  }),
+)
+
+abbrev grant : ℕ → ℕ → ℕ → Link × Beat 8
+grant link cap sink = (
+  record { 0 = link },
+  beat.D (record {
+    opcode = d.Grant;
+    param = cap;
+    size = 6;
+    source = 0;
+    sink = sink;
+    denied = false;
+    lanes = None;
+    corrupt = false;
+    carries = refl;
+  }),
+)
+
+abbrev grant_ack : ℕ → ℕ → Link × Beat 8
+grant_ack link sink = (record { 0 = link }, beat.E (record { sink = sink }))
+
+abbrev probe_perm : ℕ → ℕ → Link × Beat 8
+probe_perm link cap = (
+  record { 0 = link },
+  beat.B (record {
+    opcode = b.ProbePerm;
+    param = cap;
+    size = 6;
+    source = 0;
+    address = 0;
+    mask = 255;
+    lanes = None;
+    corrupt = false;
+    carries = refl;
+  }),
+)
+
+abbrev probe_ack : ℕ → ℕ → Link × Beat 8
+probe_ack link report = (
+  record { 0 = link },
+  beat.C (record {
+    opcode = c.ProbeAck;
+    param = report;
+    size = 6;
+    source = 0;
+    address = 0;
+    lanes = None;
+    corrupt = false;
+    carries = refl;
+  }),
+)
+
+abbrev get : ℕ → Link × Beat 8
+get link = (
+  record { 0 = link },
+  beat.A (record {
+    opcode = a.Get;
+    param = 0;
+    size = 3;
+    source = 1;
+    address = 0;
+    mask = 255;
+    lanes = None;
+    corrupt = false;
+    carries = refl;
+  }),
+)
+
+abbrev eight : List ℕ
+eight = 0 ∷ 0 ∷ 0 ∷ 0 ∷ 0 ∷ 0 ∷ 0 ∷ 0 ∷ []
+
+abbrev answer : ℕ → Link × Beat 8
+answer link = (
+  record { 0 = link },
+  beat.D (record {
+    opcode = d.AccessAckData;
+    param = 0;
+    size = 3;
+    source = 1;
+    sink = 0;
+    denied = false;
+    lanes = Some eight;
+    corrupt = false;
+    carries = refl;
+  }),
+)
+
+abbrev two_caches : List Level
+two_caches = level.C ∷ level.C ∷ []
+
+-- one link asks for Trunk and has it
+abbrev one_writes : Trace 8 → Trace 8
+one_writes rest = acquire_perm 0 1 ∷ grant 0 0 0 ∷ grant_ack 0 0 ∷ rest
+
+-- Trunk for both
+two_writers : first_breach two_caches profile.One (one_writes (acquire_perm 1 1 ∷ grant 1 0 1 ∷ [])) ≡ Some
+    (4, OfMemory M1)
+unfolding breach_from is_free has_window on_link unfinished request_of release_of probe_of grant_sink pending held
+    illegal first_illegal each_below broken_order broken_after
+two_writers = refl
+
+-- a copy beside Trunk
+a_reader_beside_a_writer : first_breach two_caches profile.One (one_writes (acquire_perm 1 0 ∷ grant 1 1 1 ∷ [])) ≡ Some
+    (4, OfMemory M1)
+unfolding breach_from is_free has_window on_link unfinished request_of release_of probe_of grant_sink pending held
+    illegal first_illegal each_below broken_order broken_after
+a_reader_beside_a_writer = refl
+
+-- the first has given all up
+one_after_the_other : first_breach two_caches profile.One
+    (one_writes (acquire_perm 1 1 ∷ probe_perm 0 2 ∷ probe_ack 0 1 ∷ grant 1 0 1 ∷ [])) ≡ None
+unfolding breach_from is_free has_window on_link unfinished request_of release_of probe_of grant_sink pending held
+    illegal first_illegal each_below broken_order broken_after
+one_after_the_other = refl
+
+-- the first has kept a copy, and the second has one
+two_readers : first_breach two_caches profile.One
+    (one_writes (acquire_perm 1 0 ∷ probe_perm 0 1 ∷ probe_ack 0 0 ∷ grant 1 1 1 ∷ [])) ≡ None
+unfolding breach_from is_free has_window on_link unfinished request_of release_of probe_of grant_sink pending held
+    illegal first_illegal each_below broken_order broken_after
+two_readers = refl
+
+-- a Get that is answered while another link may write
+a_get_beside_a_writer : first_breach two_caches profile.One (one_writes (get 1 ∷ answer 1 ∷ [])) ≡ Some (4, OfMemory M4)
+unfolding breach_from is_free has_window on_link unfinished request_of release_of probe_of grant_sink pending held
+    illegal first_illegal each_below broken_order broken_after
+a_get_beside_a_writer = refl
+
+-- the other has become a reader first
+a_get_after_a_probe : first_breach two_caches profile.One
+    (one_writes (get 1 ∷ probe_perm 0 1 ∷ probe_ack 0 0 ∷ answer 1 ∷ [])) ≡ None
+unfolding breach_from is_free has_window on_link unfinished request_of release_of probe_of grant_sink pending held
+    illegal first_illegal each_below broken_order broken_after
+a_get_after_a_probe = refl
+
+-- the Get was performed before the other became a writer, and its answer comes later
+a_late_answer : first_breach two_caches profile.One (get 1 ∷ one_writes (answer 1 ∷ [])) ≡ None
+unfolding breach_from is_free has_window on_link unfinished request_of release_of probe_of grant_sink pending held
+    illegal first_illegal each_below broken_order broken_after
+a_late_answer = refl
+
+-- a broken rule of the link comes first
+a_rule_of_the_link : first_breach two_caches profile.One (one_writes (grant 1 0 1 ∷ [])) ≡ Some (3, OfLink H2)
+unfolding breach_from is_free has_window on_link unfinished request_of release_of probe_of grant_sink pending held
+    illegal first_illegal each_below broken_order broken_after
+a_rule_of_the_link = refl

@@ -1,0 +1,180 @@
+-- A judge that knows one more beat.
+use Rattle.std.proofs.Common.{◌≡◌, subst, ℕ, zero, suc, Bool, true, false, ◌<◌, ◌≤◌, ◌+◌, ◌++◌, List, [], ◌∷◌, length}
+use Rattle.std.proofs.Common.{refl, sym, ap, ◌∙◌, arith, inl, inr, take, drop, reverse}
+use Rattle.std.specs.Prelude.{Option, Some, None, Err, slice_index_or}
+use Rattle.std.proofs.Math.Numerals.{add-one}
+use Rattle.std.proofs.lemmas.List.{drop_more, take_more, drop_all, reverse-append, length-reverse, length-take-le}
+use Rattle.tl_beat.specs.declared.beat.Beat.{Beat}
+use Rattle.tl_beat.specs.declared.beat.Link.{Link}
+use Rattle.tl_params.specs.declared.level.Level.{Level}
+use Rattle.tl_params.specs.declared.profile.Profile.{Profile}
+use Rattle.tl_params.specs.declared.rule.Rule.{Rule}
+use Rattle.tl_params.specs.statement.Config.{IsCount}
+use Rattle.tl_params.specs.declared.perm.Perm.TheVariants as perm
+use Rattle.tl_rules.specs.statement.Conformance.{Trace, on_link, broken_on_link}
+use Rattle.tl_rules.specs.statement.History.{pending}
+use Rattle.tl_together.specs.declared.windows.Window.{Window}
+use Rattle.tl_monitor.specs.statement.Knows as of_link
+use Rattle.tl_monitor.specs.declared.fault.MonitorFault.{MonitorFault}
+use Rattle.tl_monitor.specs.declared.fault.MonitorFault.TheVariants as monitor
+use Rattle.tl_monitor.specs.declared.monitor.Monitor.{Monitor}
+use Rattle.tl_together.specs.declared.breach.Breach.{Breach}
+use Rattle.tl_together.specs.declared.breach.Breach.TheVariants.{OfLink, OfMemory}
+use Rattle.tl_together.specs.declared.breach.MemoryRule.{MemoryRule}
+use Rattle.tl_together.specs.declared.fault.JudgeFault.{JudgeFault}
+use Rattle.tl_together.specs.declared.fault.JudgeFault.TheVariants as judge
+use Rattle.tl_together.specs.declared.judge.Judge.{Judge}
+use Rattle.tl_together.specs.statement.Coherence.{broken_memory, broken_together, first_broken, breach_from}
+use Rattle.tl_together.specs.statement.Knows.{Knows, KnowsTrace, Answers, AnswersTrace, fault_of, broken, closed_after}
+use Rattle.tl_together.specs.statement.Knows.{trace_fault_of}
+use Rattle.tl_together.specs.code.Windows.{NotesRequest, NotesWindow, KnowsAsked, KnowsWindows, closes}
+use Rattle.tl_together.specs.code.Windows.{fault_of_monitor, last_free}
+use Rattle.tl_together.proofs.Noted.{in_levels}
+
+pub open_still : {w : ℕ} (j : Judge w) (levels : List Level) (p : Profile) (t : Trace w) (closed : Bool)
+    → Knows j levels p t closed → j.closed ≡ false → KnowsTrace j levels p t
+open_still j levels p t closed k e = k.open_knows (sym k.closed_is ∙ e)
+
+-- a beat was noted, and refused for want of memory
+pub still : {w : ℕ} (j j' : Judge w) (levels : List Level) (p : Profile) (t : Trace w) (closed : Bool) (link : Link)
+    (x : Beat w) (next : ℕ) → Knows j levels p t closed
+    → j.closed ≡ false → j'.closed ≡ false → j'.links ≡ j.links → j'.moment ≡ j.moment
+    → of_link.Knows j'.monitor levels p t false
+    → NotesRequest j.monitor j.asked.items j'.asked.items link x next
+    → NotesWindow j.monitor j.links j.moment j.windows.moments.entries j'.windows.moments.entries link x
+    → Knows j' levels p t closed
+still j j' levels p t closed link x next k e e' links moment m asked windows =
+    let o = open_still j levels p t closed k e in
+    let known = asked.1 levels p t o.monitor_is o.tables_are o.asked_are in
+    let seen = windows levels p t o.monitor_is o.links_are o.moment_is o.windows_are in
+    record {
+      closed_is = e' ∙ sym e ∙ k.closed_is;
+      open_knows = λ _. record {
+        links_are = links ∙ o.links_are;
+        moment_is = moment ∙ o.moment_is;
+        monitor_is = m;
+        tables_are = asked.0 ∙ o.tables_are;
+        asked_are = known.0;
+        windows_are = seen.0;
+      };
+    }
+
+-- a beat was taken
+pub taken : {w : ℕ} (j j' : Judge w) (levels : List Level) (p : Profile) (t : Trace w) (closed : Bool) (link : Link)
+    (x : Beat w) (next : ℕ) → Knows j levels p t closed
+    → j.closed ≡ false → j'.closed ≡ false → j'.links ≡ j.links → next ≡ j.moment + 1 → j'.moment ≡ next
+    → broken_on_link levels p (link, x) t ≡ None
+    → of_link.Knows j'.monitor levels p ((link, x) ∷ t) false
+    → NotesRequest j.monitor j.asked.items j'.asked.items link x next
+    → NotesWindow j.monitor j.links j.moment j.windows.moments.entries j'.windows.moments.entries link x
+    → Knows j' levels p ((link, x) ∷ t) false
+taken j j' levels p t closed link x next k e e' links next_is moment fine m asked windows =
+    let o = open_still j levels p t closed k e in
+    let known = asked.1 levels p t o.monitor_is o.tables_are o.asked_are in
+    let seen = windows levels p t o.monitor_is o.links_are o.moment_is o.windows_are in
+    let more : next ≡ suc (length t) = next_is ∙ add-one j.moment ∙ ap suc o.moment_is in
+    record {
+      closed_is = e';
+      open_knows = λ _. record {
+        links_are = links ∙ o.links_are;
+        moment_is = moment ∙ more;
+        monitor_is = m;
+        tables_are = asked.0 ∙ o.tables_are;
+        asked_are = known.1 more fine;
+        windows_are = seen.1 fine;
+      };
+    }
+
+pub shut : {w : ℕ} (j : Judge w) (levels : List Level) (p : Profile) (t : Trace w) → j.closed ≡ true
+    → Knows j levels p t true
+shut j levels p t e = record { closed_is = e; open_knows = λ f. absurd (no f) }
+  where
+    no : true ≡ false → ⊥
+    no f = cc
+
+-- ---- answers
+
+link_fine : (o : Option Rule) → of_link.broken o ≡ None → o ≡ None
+link_fine None e = refl
+link_fine (Some r) e = absurd cc
+
+pub fine_on_link : {w : ℕ} (levels : List Level) (p : Profile) (t : Trace w) (x : Link × Beat w)
+    → of_link.fault_of levels p t false x ≡ None → broken_on_link levels p x t ≡ None
+fine_on_link levels p t x e = link_fine (broken_on_link levels p x t) e
+
+pub judged_fault : {w : ℕ} (j : Judge w) (levels : List Level) (p : Profile) (t : Trace w) (closed : Bool) (link : Link)
+    (x : Beat w) (o : Option MemoryRule) → Knows j levels p t closed
+    → j.closed ≡ false → broken_on_link levels p (link, x) t ≡ None
+    → ((levels : List Level) (p : Profile) (t : Trace w) → KnowsTrace j levels p t → link.0 < length levels
+    → o ≡ broken_memory (length levels) link.0 x t)
+    → fault_of levels p t closed (link, x) ≡ broken (first_broken None o)
+judged_fault j levels p t closed link x o k e fine memory =
+    let here = memory levels p t (open_still j levels p t closed k e) (in_levels levels p link x t fine) in
+    rw (sym k.closed_is ∙ e, fine, here) refl
+
+of_link_rule : (o : Option Rule) (m : Option MemoryRule) (fault : MonitorFault)
+    → of_link.Answers (of_link.broken o) (Err fault)
+    → Answers (broken (first_broken o m)) (Err (fault_of_monitor fault))
+of_link_rule o m monitor.Memory a = tt
+of_link_rule None m monitor.Levels a = absurd cc
+of_link_rule (Some r) m monitor.Levels a = absurd cc
+of_link_rule None m monitor.Closed a = absurd cc
+of_link_rule (Some r) m monitor.Closed a = absurd cc
+of_link_rule None m (monitor.Broken r) a = absurd cc
+of_link_rule (Some s) m (monitor.Broken r) a = ap (λ v. Some (judge.Broken (OfLink v))) (own a)
+  where
+    own : Some (monitor.Broken s) ≡ Some (monitor.Broken r) → s ≡ r
+    own e = cc
+
+pub refused : {w : ℕ} (j : Judge w) (levels : List Level) (p : Profile) (t : Trace w) (closed : Bool) (link : Link)
+    (x : Beat w) (fault : MonitorFault) (f : JudgeFault) → Knows j levels p t closed
+    → j.closed ≡ false → of_link.Answers (of_link.fault_of levels p t false (link, x)) (Err fault)
+    → f ≡ fault_of_monitor fault
+    → Answers (fault_of levels p t closed (link, x)) (Err f)
+refused j levels p t closed link x fault f k e a f_is =
+    subst (λ g. Answers (fault_of levels p t closed (link, x)) (Err g)) (sym f_is)
+    (subst (λ c. Answers (fault_of levels p t c (link, x)) (Err (fault_of_monitor fault))) (sym (sym k.closed_is ∙ e))
+    (of_link_rule (broken_on_link levels p (link, x) t) (broken_memory (length levels) link.0 x t) fault a))
+
+pub refused_knows : {w : ℕ} (j j' : Judge w) (levels : List Level) (p : Profile) (t : Trace w) (closed : Bool)
+    (link : Link) (x : Beat w) (next : ℕ) (fault : MonitorFault) (f : JudgeFault)
+    → Knows j levels p t closed → j.closed ≡ false → f ≡ fault_of_monitor fault → j'.closed ≡ closes fault
+    → j'.links ≡ j.links → j'.moment ≡ j.moment
+    → of_link.Knows j'.monitor levels p (of_link.recorded_after (Err fault) (link, x) t)
+    (of_link.closed_after (Err fault))
+    → NotesRequest j.monitor j.asked.items j'.asked.items link x next
+    → NotesWindow j.monitor j.links j.moment j.windows.moments.entries j'.windows.moments.entries link x
+    → Knows j' levels p t (closed_after closed (Err f))
+refused_knows j j' levels p t closed link x next monitor.Memory f k e f_is e' links moment m asked windows =
+    rw f_is (still j j' levels p t closed link x next k e e' links moment m asked windows)
+refused_knows j j' levels p t closed link x next monitor.Levels f k e f_is e' links moment m asked windows =
+    rw f_is (shut j' levels p t e')
+refused_knows j j' levels p t closed link x next monitor.Closed f k e f_is e' links moment m asked windows =
+    rw f_is (shut j' levels p t e')
+refused_knows j j' levels p t closed link x next (monitor.Broken r) f k e f_is e' links moment m asked windows =
+    rw f_is (shut j' levels p t e')
+
+none_yet : (w : ℕ) (entries : List (ℕ × Window)) (n : ℕ) → entries ≡ [] → KnowsWindows {w = w} entries n []
+unfolding last_free
+none_yet w entries n e perm.None b closed = rw e refl
+none_yet w entries n e perm.Branch b closed = rw e refl
+none_yet w entries n e perm.Trunk b closed = rw e refl
+
+none_asked : (w : ℕ) (tables : List (List (Option ℕ))) (n : ℕ) → KnowsAsked {w = w} tables n []
+unfolding pending on_link
+none_asked w tables n link source lt some = absurd cc
+
+pub new_knows : {w : ℕ} (j : Judge w) (levels : List Level) (p : Profile) → j.closed ≡ false → j.links ≡ length levels
+    → j.moment ≡ 0 → of_link.Knows j.monitor levels p [] false
+    → length j.asked.items ≡ length levels → j.windows.moments.entries ≡ [] → Knows j levels p [] false
+new_knows {w} j levels p e links moment m tables entries = record {
+  closed_is = e;
+  open_knows = λ _. record {
+    links_are = links;
+    moment_is = moment;
+    monitor_is = m;
+    tables_are = tables;
+    asked_are = none_asked w j.asked.items (length levels);
+    windows_are = none_yet w j.windows.moments.entries (length levels) entries;
+  };
+}

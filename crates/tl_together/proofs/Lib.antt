@@ -1,0 +1,6 @@
+pub mod Answered
+pub mod Examples
+pub mod Judging
+pub mod Noted
+pub mod Tracing
+pub mod Windowed

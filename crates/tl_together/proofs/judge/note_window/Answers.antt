@@ -1,0 +1,28 @@
+use Rattle.std.proofs.Common.{refl, sym, ap, ◌∙◌, subst}
+use Rattle.std.specs.Prelude.{if◌then◌else◌}
+use Rattle.std.proofs.lemmas.Result.{on_ok_weaker}
+use Rattle.tl_monitor.specs.statement.Knows.{LeavesOthers}
+use Rattle.tl_rules.specs.statement.Conformance.{on_link}
+use Rattle.tl_together.proofs.Noted.{notes_window, notes_no_window}
+use Rattle.tl_together.proofs.judge.note_window.Goals as goal
+
+pub returns-in_default-clause-noted : goal.returns-in_default-clause-noted
+returns-in_default-clause-noted g c =
+    notes_no_window c.args.monitor.now c.args.links c.args.moment c.args.windows.now.moments.entries c.args.link
+    c.args.beat.now
+    (λ levels p t k fine. subst (λ o. LeavesOthers o c.args.beat.now (on_link c.args.link.0 t)) c.in_default.is
+    (c.block_of.ensures levels p t _ k fine))
+
+pub returns-clause-noted : goal.returns-clause-noted
+returns-clause-noted g c =
+    on_ok_weaker c.set.result
+    (λ h. notes_window c.args.monitor.now c.args.links c.args.moment c.in-Some.block c.latest.result c.latest-2.result
+    c.args.windows.now.moments.entries _ c.args.link c.args.beat.now
+    (λ levels p t k fine. subst (λ o. LeavesOthers o c.args.beat.now (on_link c.args.link.0 t)) c.in-Some.is
+    (c.block_of.ensures levels p t _ k fine))
+    c.is_free-reading.result c.is_free-writing.result
+    c.is_free-reading.ensures c.is_free-writing.ensures
+    (c.latest.ensures ∙ ap (λ v. if c.is_free-reading.result then c.args.moment else v.reading) c.get-old.ensures)
+    (c.latest-2.ensures ∙ ap (λ v. if c.is_free-writing.result then c.args.moment else v.writing) c.get-old.ensures)
+    h)
+    c.set.ensures.changed

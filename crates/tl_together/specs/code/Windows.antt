@@ -1,0 +1,95 @@
+-- When blocks were last free, and requests complete, counted in beats, and the tables of it.
+use Rattle.std.specs.Prelude.{ℕ, zero, suc, Bool, true, false, [], ◌∷◌, ◌&&◌, ◌≡◌, ◌<◌, ◌==◌, if◌then◌else◌, List}
+use Rattle.std.specs.Prelude.{length, Option, Some, None, is_some, is_none, slice_index_or}
+use Rattle.std.specs.BTreeMap.{is_at}
+use Rattle.std.specs.Map.{lookup}
+use Rattle.std.specs.Ordering.{nat_cmp}
+use Rattle.tl_params.specs.declared.perm.Perm.{Perm}
+use Rattle.tl_params.specs.declared.perm.Perm.TheVariants as perm
+use Rattle.tl_rules.specs.code.Open.{open_request}
+use Rattle.tl_rules.specs.statement.Conformance.{Trace, on_link, broken_on_link}
+use Rattle.tl_beat.specs.declared.beat.Beat.{Beat}
+use Rattle.tl_beat.specs.declared.beat.Link.{Link}
+use Rattle.tl_params.specs.declared.level.Level.{Level}
+use Rattle.tl_params.specs.declared.profile.Profile.{Profile}
+use Rattle.tl_monitor.specs.declared.monitor.Monitor.{Monitor}
+use Rattle.tl_monitor.specs.statement.Knows.{Knows}
+use Rattle.tl_monitor.specs.code.Count.{at}
+use Rattle.tl_monitor.specs.declared.fault.MonitorFault.{MonitorFault}
+use Rattle.tl_monitor.specs.declared.fault.MonitorFault.TheVariants as monitor
+use Rattle.tl_together.specs.declared.breach.Breach.TheVariants.{OfLink}
+use Rattle.tl_together.specs.declared.fault.JudgeFault.{JudgeFault}
+use Rattle.tl_together.specs.declared.fault.JudgeFault.TheVariants as judge
+use Rattle.tl_together.specs.declared.windows.Window.{Window}
+use Rattle.tl_together.specs.statement.Coherence.{is_free}
+
+-- how many beats had been taken when the request with this source was last complete and before wasn't
+unfoldable pub asked_at : {w : ℕ} → ℕ → ℕ → Trace w → ℕ
+asked_at link source [] = 0
+asked_at link source (x ∷ t) =
+    if is_some (open_request source (on_link link (x ∷ t))) && is_none (open_request source (on_link link t)) then suc
+    (length t) else asked_at link source t
+
+-- how many beats had been taken when the block was last free for one who needs so much of it
+unfoldable pub last_free : {w : ℕ} → ℕ → Perm → ℕ → Trace w → ℕ
+last_free n given block [] = 0
+last_free n given block (x ∷ t) = if is_free n None given block (x ∷ t) then suc (length t) else last_free n given block
+    t
+
+-- ---- the tables
+
+-- when the request with this source was complete
+abbrev pub asked_in : List (List (Option ℕ)) → ℕ → ℕ → Option ℕ
+asked_in tables link source = at (slice_index_or tables link []) source
+
+abbrev pub window_or_none : Option Window → Window
+window_or_none None = record { reading = 0; writing = 0 }
+window_or_none (Some window) = window
+
+abbrev pub window_in : List (ℕ × Window) → ℕ → Window
+window_in entries block = window_or_none (lookup (is_at (nat_cmp block)) entries)
+
+-- the moment at which a block was last free for one who needs so much
+abbrev pub last_in : Perm → Window → ℕ
+last_in perm.Trunk window = window.writing
+last_in _ window = window.reading
+
+-- of each request that is pending and complete on one of n links the table has the moment
+abbrev pub KnowsAsked : {w : ℕ} → List (List (Option ℕ)) → ℕ → Trace w → Type 0
+KnowsAsked tables n t = (link source : ℕ) → link < n → is_some (open_request source (on_link link t)) ≡ true
+    → asked_in tables link source ≡ Some (asked_at link source t)
+
+-- of each block that isn't free the table has the last moment at which it was
+abbrev pub KnowsWindows : {w : ℕ} → List (ℕ × Window) → ℕ → Trace w → Type 0
+KnowsWindows entries n t = (given : Perm) (block : ℕ) → is_free n None given block t ≡ false
+    → last_in given (window_in entries block) ≡ last_free n given block t
+
+-- what a monitor's refusal is
+abbrev pub fault_of_monitor : MonitorFault → JudgeFault
+fault_of_monitor monitor.Levels = judge.Levels
+fault_of_monitor (monitor.Broken rule) = judge.Broken (OfLink rule)
+fault_of_monitor monitor.Memory = judge.Memory
+fault_of_monitor monitor.Closed = judge.Closed
+
+-- The table knows what it knew of the trace, where a beat was noted, and what there is to know of the
+-- trace with the beat, where that breaks no rule of its link.
+abbrev pub NotesRequest : {w : ℕ} → Monitor w → List (List (Option ℕ)) → List (List (Option ℕ)) → Link → Beat w → ℕ
+    → Type 0
+NotesRequest {w} m old new link x next = (length new ≡ length old)
+    × ((levels : List Level) (p : Profile) (t : Trace w) → Knows m levels p t false → length old ≡ length levels
+    → KnowsAsked old (length levels) t
+    → KnowsAsked new (length levels) t
+    × (next ≡ suc (length t) → broken_on_link levels p (link, x) t ≡ None
+    → KnowsAsked new (length levels) ((link, x) ∷ t)))
+
+abbrev pub NotesWindow : {w : ℕ} → Monitor w → ℕ → ℕ → List (ℕ × Window) → List (ℕ × Window) → Link → Beat w → Type 0
+NotesWindow {w} m links moment old new link x =
+    (levels : List Level) (p : Profile) (t : Trace w) → Knows m levels p t false → links ≡ length levels
+    → moment ≡ length t → KnowsWindows old (length levels) t
+    → KnowsWindows new (length levels) t
+    × (broken_on_link levels p (link, x) t ≡ None → KnowsWindows new (length levels) ((link, x) ∷ t))
+
+-- a monitor is closed after this refusal
+abbrev pub closes : MonitorFault → Bool
+closes monitor.Memory = false
+closes _ = true

@@ -1,0 +1,2 @@
+pub mod Coherence
+pub mod Knows

@@ -1,0 +1,119 @@
+-- What the links of a manager owe each other: the rules of memory, over the one trace of all their beats.
+use Rattle.std.specs.Prelude.{ℕ, zero, suc, Bool, true, false, not, [], ◌∷◌, ◌==◌, ◌&&◌, ◌||◌, if◌then◌else◌, List}
+use Rattle.std.specs.Prelude.{length, Option, Some, None, is_some}
+use Rattle.tl_beat.specs.declared.beat.Beat.{Beat}
+use Rattle.tl_beat.specs.declared.beat.Beat.TheVariants as beat
+use Rattle.tl_beat.specs.declared.beat.BeatD.{BeatD}
+use Rattle.tl_beat.specs.declared.beat.Link.{Link}
+use Rattle.tl_beat.specs.declared.opcode.OpA.{OpA}
+use Rattle.tl_beat.specs.declared.opcode.OpA.TheVariants as a
+use Rattle.tl_beat.specs.declared.opcode.OpD.{OpD}
+use Rattle.tl_beat.specs.declared.opcode.OpD.TheVariants as d
+use Rattle.tl_params.specs.declared.level.Level.{Level}
+use Rattle.tl_params.specs.declared.perm.Perm.{Perm}
+use Rattle.tl_params.specs.declared.perm.Perm.TheVariants as perm
+use Rattle.tl_params.specs.declared.profile.Profile.{Profile}
+use Rattle.tl_params.specs.declared.rule.Rule.{Rule}
+use Rattle.tl_rules.specs.code.Open.{open_request}
+use Rattle.tl_rules.specs.declared.past.Request.{Request}
+use Rattle.tl_rules.specs.statement.Conformance.{Trace, on_link, same_perm, broken_on_link}
+use Rattle.tl_rules.specs.statement.History.{begins, held, is_grant, capped}
+use Rattle.tl_together.specs.declared.breach.MemoryRule.{MemoryRule}
+use Rattle.tl_together.specs.declared.breach.MemoryRule.TheVariants.{M1, M4}
+use Rattle.tl_together.specs.declared.breach.Breach.{Breach}
+use Rattle.tl_together.specs.declared.breach.Breach.TheVariants.{OfLink, OfMemory}
+
+-- ---- who may hold a block beside whom
+
+-- beside one who has so much of a block, another may hold so much
+abbrev pub leaves : Perm → Perm → Bool
+leaves perm.Trunk p = same_perm p perm.None
+leaves perm.Branch p = not (same_perm p perm.Trunk)
+leaves perm.None p = true
+
+-- the link is the one that is spared, where one is
+abbrev pub is_spared : ℕ → Option ℕ → Bool
+is_spared n None = false
+is_spared n (Some own) = own == n
+
+-- After t each of the first n links, but the one that is spared, holds no more of the block than may
+-- be held beside one who has so much of it.
+unfoldable pub is_free : {w : ℕ} → ℕ → Option ℕ → Perm → ℕ → Trace w → Bool
+is_free zero spared given block t = true
+is_free (suc n) spared given block t =
+    is_free n spared given block t && (is_spared n spared || leaves given (held block (on_link n t)))
+
+-- ---- accesses
+
+-- what an access needs of its block, as one who holds it would: to read it, or to write it
+abbrev pub needs : OpA → Perm
+needs a.Get = perm.Branch
+needs a.Intent = perm.None
+needs _ = perm.Trunk
+
+-- the answer to an access that reads or writes
+abbrev pub is_access_ack : OpD → Bool
+is_access_ack d.AccessAck = true
+is_access_ack d.AccessAckData = true
+is_access_ack _ = false
+
+-- Since the request with this source, which is pending on the link, is complete there has been a moment
+-- at which the block was free for one who needs so much of it.
+unfoldable pub has_window : {w : ℕ} → ℕ → ℕ → ℕ → Perm → ℕ → Trace w → Bool
+has_window n link source given block [] = false
+has_window n link source given block (x ∷ t) =
+    is_some (open_request source (on_link link (x ∷ t))) && (is_free n None given block (x ∷ t) || has_window n link
+    source given block t)
+
+-- ---- the rules of memory
+
+-- M1, at the first beat of a Grant that answers this request: the other links hold what excludes its cap
+abbrev pub broken_grant : {w : ℕ} → ℕ → ℕ → BeatD w → Option Request → Trace w → Option MemoryRule
+broken_grant n link x None t = None
+broken_grant n link x (Some asked) t = if is_free n (Some link) (capped x.param) asked.block t then None else Some M1
+
+-- M4, at the first beat of the answer to an access: it has had no window
+abbrev pub broken_access : {w : ℕ} → ℕ → ℕ → BeatD w → Option Request → Trace w → Option MemoryRule
+broken_access n link x None t = None
+broken_access n link x (Some asked) t = if has_window n link x.source (needs asked.opcode) asked.block t then None else
+    Some M4
+
+-- the rule of memory that a response breaks which begins after t
+abbrev pub broken_response : {w : ℕ} → ℕ → ℕ → BeatD w → Trace w → Option MemoryRule
+broken_response n link x t =
+    if is_grant x.opcode then broken_grant n link x (open_request x.source (on_link link t)) t else
+    if is_access_ack x.opcode then broken_access n link x (open_request x.source (on_link link t)) t else None
+
+-- the rule of memory that a beat breaks after t, on one of n links
+abbrev pub broken_memory : {w : ℕ} → ℕ → ℕ → Beat w → Trace w → Option MemoryRule
+broken_memory n link (beat.D x) t = if begins (beat.D x) (on_link link t) then broken_response n link x t else None
+broken_memory n link _ t = None
+
+-- ---- all rules together
+
+-- what a beat breaks that breaks this rule of its link, or none, and this rule of memory, or none
+abbrev pub first_broken : Option Rule → Option MemoryRule → Option Breach
+first_broken (Some rule) memory = Some (OfLink rule)
+first_broken None (Some rule) = Some (OfMemory rule)
+first_broken None None = None
+
+-- the first rule that a beat breaks after the beats that were taken before it on all links, the newest
+-- of which is first: those of its link come first
+abbrev pub broken_together : {w : ℕ} → List Level → Profile → Link × Beat w → Trace w → Option Breach
+broken_together levels p x t = first_broken (broken_on_link levels p x t) (broken_memory (length levels) x.0.0 x.1 t)
+
+-- this fault at place i, where there is one, or the first of the rest
+abbrev pub breach_or : Option Breach → ℕ → Option (ℕ × Breach) → Option (ℕ × Breach)
+breach_or None i rest = rest
+breach_or (Some breach) i rest = Some (i, breach)
+
+-- The least place, and the rule, of a beat of the trace that breaks one: `before` has the beats so far,
+-- the newest first, and the trace those to come, the next first.
+unfoldable pub breach_from : {w : ℕ} → List Level → Profile → Trace w → Trace w → Option (ℕ × Breach)
+breach_from levels p before [] = None
+breach_from levels p before (x ∷ trace) =
+    breach_or (broken_together levels p x before) (length before) (breach_from levels p (x ∷ before) trace)
+
+-- the place of the first beat of a trace that breaks a rule, with the rule
+abbrev pub first_breach : {w : ℕ} → List Level → Profile → Trace w → Option (ℕ × Breach)
+first_breach levels p trace = breach_from levels p [] trace

@@ -1,0 +1,78 @@
+-- What a judge knows of the trace that it was given.
+use Rattle.std.specs.Prelude.{ℕ, Bool, true, false, List, [], ◌∷◌, ◌≡◌, length, Option, Some, None, Result, Ok, Err, ⊤}
+use Rattle.tl_beat.specs.declared.beat.Beat.{Beat}
+use Rattle.tl_beat.specs.declared.beat.Link.{Link}
+use Rattle.tl_params.specs.declared.level.Level.{Level}
+use Rattle.tl_params.specs.declared.profile.Profile.{Profile}
+use Rattle.tl_params.specs.statement.Config.{IsCount}
+use Rattle.tl_rules.specs.statement.Conformance.{Trace}
+use Rattle.tl_monitor.specs.statement.Knows as monitor
+use Rattle.tl_together.specs.code.Windows.{KnowsAsked, KnowsWindows}
+use Rattle.tl_together.specs.declared.breach.Breach.{Breach}
+use Rattle.tl_together.specs.declared.fault.JudgeFault.{JudgeFault}
+use Rattle.tl_together.specs.declared.fault.JudgeFault.TheVariants as judge
+use Rattle.tl_together.specs.declared.fault.TraceFault.{TraceFault}
+use Rattle.tl_together.specs.declared.fault.TraceFault.TheVariants as trace
+use Rattle.tl_together.specs.declared.judge.Judge.{Judge}
+use Rattle.tl_together.specs.statement.Coherence.{broken_together, first_breach}
+
+-- the judge has these levels and this profile, and keeps of the trace, the newest beat first, what the
+-- rules ask for
+pub record KnowsTrace {w : ℕ} (j : Judge w) (levels : List Level) (p : Profile) (t : Trace w) : Type 0 where
+  pub links_are : j.links ≡ length levels
+  pub moment_is : j.moment ≡ length t
+  pub monitor_is : monitor.Knows j.monitor levels p t false
+  pub tables_are : length j.asked.items ≡ length levels
+  pub asked_are : KnowsAsked j.asked.items (length levels) t
+  pub windows_are : KnowsWindows j.windows.moments.entries (length levels) t
+
+-- the same, where no beat was refused by a rule; it is closed where one was
+pub record Knows {w : ℕ} (j : Judge w) (levels : List Level) (p : Profile) (t : Trace w) (closed : Bool) : Type 0 where
+  pub closed_is : j.closed ≡ closed
+  pub open_knows : closed ≡ false → KnowsTrace j levels p t
+
+-- what a new judge is, or why there is none
+abbrev pub IsNew : {w : ℕ} → List Level → Profile → Result (Judge w) JudgeFault → Type 0
+IsNew levels p (Ok j) = IsCount (length levels) × Knows j levels p [] false
+IsNew levels p (Err judge.Levels) = ¬ IsCount (length levels)
+IsNew levels p (Err judge.Memory) = IsCount (length levels)
+IsNew levels p (Err _) = ⊥
+
+abbrev pub broken : Option Breach → Option JudgeFault
+broken None = None
+broken (Some breach) = Some (judge.Broken breach)
+
+-- the fault of a beat, want of memory aside: Closed after a refusal, else the first rule that it breaks
+abbrev pub fault_of : {w : ℕ} → List Level → Profile → Trace w → Bool → Link × Beat w → Option JudgeFault
+fault_of levels p t true x = Some judge.Closed
+fault_of levels p t false x = broken (broken_together levels p x t)
+
+-- the answer to a beat that has this fault, or none; for want of memory it may be refused in any case
+abbrev pub Answers : Option JudgeFault → Result ⊤ JudgeFault → Type 0
+Answers fault (Ok u) = fault ≡ None
+Answers fault (Err judge.Memory) = ⊤
+Answers fault (Err e) = fault ≡ Some e
+
+-- what is recorded after an answer
+abbrev pub recorded_after : {w : ℕ} → Result ⊤ JudgeFault → Link × Beat w → Trace w → Trace w
+recorded_after (Ok u) x t = x ∷ t
+recorded_after (Err e) x t = t
+
+-- whether the judge is closed after an answer
+abbrev pub closed_after : Bool → Result ⊤ JudgeFault → Bool
+closed_after closed (Ok u) = false
+closed_after closed (Err judge.Memory) = closed
+closed_after closed (Err e) = true
+
+-- the answer to a trace: the first beat that breaks a rule, want of memory aside
+abbrev pub AnswersTrace : {w : ℕ} → List Level → Profile → Trace w → Result ⊤ TraceFault → Type 0
+AnswersTrace levels p beats (Ok u) = IsCount (length levels) × (first_breach levels p beats ≡ None)
+AnswersTrace levels p beats (Err (trace.At i breach)) = IsCount (length levels)
+    × (first_breach levels p beats ≡ Some (i, breach))
+AnswersTrace levels p beats (Err trace.Levels) = ¬ IsCount (length levels)
+AnswersTrace levels p beats (Err trace.Memory) = IsCount (length levels)
+
+-- what the refusal of beat i is to a trace
+abbrev pub trace_fault_of : ℕ → JudgeFault → TraceFault
+trace_fault_of i (judge.Broken breach) = trace.At i breach
+trace_fault_of i _ = trace.Memory

@@ -1,0 +1,392 @@
+//! A judge of the links of a manager: what it answers to each beat.
+
+ghost use Rattle.std.specs.Prelude.{ℕ, Bool, true, false, Some, List, OnOk, OnErr, IfOk};
+ghost use Rattle.std.specs.Prelude.{length, nat_lt, if◌then◌else◌, ◌&&◌, ◌||◌, ◌==◌, ◌≡◌, ◌<◌, is_some};
+ghost use Rattle.tl_beat.specs.declared.beat.Beat.{Beat};
+ghost use Rattle.tl_beat.specs.statement.Width.{IsWidth};
+ghost use Rattle.tl_params.specs.declared.level.Level.{Level};
+ghost use Rattle.tl_params.specs.declared.profile.Profile.{Profile};
+ghost use Rattle.tl_rules.specs.code.Open.{open_request};
+ghost use Rattle.tl_rules.specs.statement.Conformance.{Trace, on_link};
+ghost use Rattle.tl_monitor.specs.statement.Knows as of_link;
+ghost use Rattle.tl_together.specs.statement.Coherence;
+ghost use Rattle.tl_together.specs.code.Windows.{asked_in, last_in, closes};
+ghost use Rattle.tl_together.specs.code.Windows.{fault_of_monitor, NotesRequest, NotesWindow};
+
+use crate::breach::{Breach, MemoryRule};
+use crate::fault::JudgeFault;
+use crate::windows::{Window, Windows};
+use std::alloc::{AllocError, Global};
+use tl_beat::beat::{Beat, BeatD, Link};
+use tl_beat::opcode::{OpA, OpD};
+use tl_monitor::byte_table::ByteTable;
+use tl_monitor::fault::MonitorFault;
+use tl_monitor::monitor::Monitor;
+use tl_rules::kind::{capped, is_grant};
+use tl_rules::level::Level;
+use tl_rules::past::Request;
+use tl_rules::perm::Perm;
+use tl_rules::profile::Profile;
+
+/// Whether another may hold so much of a block beside one who has so much of it.
+fn leaves(given: Perm, held: Perm) -> bool
+    ensures { result ≡ Coherence.leaves given held }
+{
+    match given {
+        Perm::Trunk => held == Perm::None,
+        Perm::Branch => held != Perm::Trunk,
+        Perm::None => true,
+    }
+}
+
+/// Whether a link is the one that is spared.
+fn is_spared(link: u8, spared: Option<u8>) -> bool
+    ensures { result ≡ Coherence.is_spared link spared }
+{
+    match spared {
+        None => false,
+        Some(own) => own == link,
+    }
+}
+
+/// Whether a link is spared, or leaves a block to one who has so much of it.
+fn is_left(link: u8, spared: Option<u8>, given: Perm, held: Perm) -> bool
+    ensures { result ≡ (Coherence.is_spared link spared || Coherence.leaves given held) }
+{
+    is_spared(link, spared) || leaves(given, held)
+}
+
+/// What an access needs of its block, as one who holds it would.
+fn needs(opcode: OpA) -> Perm
+    ensures { result ≡ Coherence.needs opcode }
+{
+    match opcode {
+        OpA::Get => Perm::Branch,
+        OpA::Intent => Perm::None,
+        _ => Perm::Trunk,
+    }
+}
+
+/// Whether a response answers an access that reads or writes.
+fn is_access_ack(opcode: OpD) -> bool
+    ensures { result ≡ Coherence.is_access_ack opcode }
+{
+    matches!(opcode, OpD::AccessAck | OpD::AccessAckData)
+}
+
+/// When the request with this source was complete on a link, where that was noted.
+fn asked_in(asked: &Vec<ByteTable<u64>>, link: usize, source: u8) -> Option<u64>
+    ensures { result ≡ asked_in asked.now.items link source }
+{
+    if link >= asked.len() {
+        return None;
+    }
+    asked[link].get(source)
+}
+
+/// Notes when the request with a source is complete, on a link that there is.
+fn note_asked(asked: &mut Vec<ByteTable<u64>>, link: usize, source: u8, moment: u64)
+    ensures noted { (n s : ℕ) → asked_in asked.new.items n s ≡
+        (if nat_lt link (length asked.old.items) && ((n == link) && (s == source)) then Some moment else asked_in asked.old.items n s) }
+    ensures length { length asked.new.items ≡ length asked.old.items }
+{
+    if link < asked.len() {
+        asked[link].set(source, Some(moment));
+    }
+}
+
+/// The last moment at which a block was free for one who needs so much of it.
+fn last_in(given: Perm, window: Window) -> u64
+    ensures { result ≡ last_in given window }
+{
+    match given {
+        Perm::Trunk => window.writing,
+        _ => window.reading,
+    }
+}
+
+/// Whether both are true.
+fn both(one: bool, other: bool) -> bool
+    ensures { result ≡ (one && other) }
+{
+    one && other
+}
+
+/// Whether each of so many links, but the one that is spared, leaves a block to one who has so much of it.
+fn is_free<const W: usize>(
+    monitor: &Monitor<W>,
+    links: u8,
+    spared: Option<u8>,
+    given: Perm,
+    block: u32,
+) -> bool
+    ensures { (levels : List Level) (p : Profile) (t : Trace W) →
+        of_link.Knows monitor.now levels p t false → links ≡ length levels →
+        result ≡ Coherence.is_free links spared given block t }
+{
+    let mut free = true;
+    for n in 0..links {
+        let held = monitor.held(Link(n), block);
+        free = both(free, is_left(n, spared, given, held));
+    }
+    free
+}
+
+/// Judges the beats of up to 16 links of one manager, in the order in which they were taken. It keeps
+/// what is unfinished, pending and held on each link, and when blocks were last free, and no beat.
+#[derive(Drop)]
+pub struct Judge<const W: usize> {
+    monitor: Monitor<W>,
+    links: u8,
+    closed: bool,
+    /// How many beats were taken.
+    moment: u64,
+    /// How many had been when the request with each source was complete, by link.
+    asked: Vec<ByteTable<u64>>,
+    windows: Windows,
+}
+
+/// This moment where a block is free now, or else the one before.
+fn latest(free: bool, moment: u64, before: u64) -> u64
+    ensures { result ≡ (if free then moment else before) }
+{
+    if free { moment } else { before }
+}
+
+/// Notes at which moment a request is complete that may be so with this beat. What is known of the beats
+/// so far stays known.
+fn note_request<const W: usize>(
+    asked: &mut Vec<ByteTable<u64>>,
+    monitor: &Monitor<W>,
+    link: Link,
+    beat: &Beat<W>,
+    next: u64,
+)
+    ensures { NotesRequest monitor.now asked.old.items asked.new.items link beat.now next }
+{
+    if let Beat::A(x) = beat {
+        if monitor.request(link, x.source).is_none() {
+            note_asked(asked, usize::from(link.0), x.source, next);
+        }
+    }
+}
+
+/// Notes that the block of which a beat may change what is held is free, where it is. What is known of
+/// the beats so far stays known.
+fn note_window<const W: usize>(
+    windows: &mut Windows,
+    monitor: &Monitor<W>,
+    links: u8,
+    moment: u64,
+    link: Link,
+    beat: &Beat<W>,
+) -> Result<(), AllocError>
+    ensures noted { OnOk result (NotesWindow monitor.now links moment
+        windows.old.moments.entries windows.new.moments.entries link beat.now) }
+    ensures unchanged { OnErr result (windows.new.moments.entries ≡ windows.old.moments.entries) }
+{
+    let Some(block) = monitor.block_of(link, beat) else {
+        return Ok(());
+    };
+    let old = windows.get(block);
+    let reading = is_free(monitor, links, None, Perm::Branch, block);
+    let writing = is_free(monitor, links, None, Perm::Trunk, block);
+    let window = Window {
+        reading: latest(reading, moment, old.reading),
+        writing: latest(writing, moment, old.writing),
+    };
+    windows.set(block, window)
+}
+
+/// Tables of no requests, for so many links.
+fn empty_tables(alloc: Global, count: u8) -> Result<Vec<ByteTable<u64>>, AllocError>
+    ensures { IfOk result (λ v. length v.items ≡ count) }
+{
+    let mut tables = Vec::new(alloc);
+    for _ in 0..count {
+        tables.push(ByteTable::new())?;
+    }
+    Ok(tables)
+}
+
+/// What a monitor's refusal is.
+fn of_monitor(fault: MonitorFault) -> JudgeFault
+    ensures { result ≡ fault_of_monitor fault }
+{
+    match fault {
+        MonitorFault::Levels => JudgeFault::Levels,
+        MonitorFault::Broken(rule) => JudgeFault::Broken(Breach::OfLink(rule)),
+        MonitorFault::Memory => JudgeFault::Memory,
+        MonitorFault::Closed => JudgeFault::Closed,
+    }
+}
+
+/// Whether a monitor is closed after this refusal.
+fn closes(fault: MonitorFault) -> bool
+    ensures { result ≡ closes fault }
+{
+    !matches!(fault, MonitorFault::Memory)
+}
+
+impl<const W: usize> Judge<W> {
+    ghost use Rattle.tl_together.specs.statement.Knows.{KnowsTrace, Knows, IsNew};
+    ghost use Rattle.tl_together.specs.statement.Knows.{Answers, fault_of, recorded_after, closed_after};
+
+    /// A judge of links of these levels, which has seen no beat. There are to be 1 to 16 levels.
+    pub fn new(alloc: Global, levels: &[Level], profile: Profile) -> Result<Self, JudgeFault>
+        requires { IsWidth W }
+        ensures { IsNew levels.now profile result }
+    {
+        let monitor = match Monitor::new(alloc, levels, profile) {
+            Ok(monitor) => monitor,
+            Err(MonitorFault::Levels) => return Err(JudgeFault::Levels),
+            Err(_) => return Err(JudgeFault::Memory),
+        };
+        let links = levels.len() as u8;
+        let Ok(asked) = empty_tables(alloc, links) else {
+            return Err(JudgeFault::Memory);
+        };
+        Ok(Judge {
+            monitor,
+            links,
+            closed: false,
+            moment: 0,
+            asked,
+            windows: Windows::new(alloc),
+        })
+    }
+
+    /// Whether the request with this source, which is pending on a link, has had a window.
+    fn has_window(&self, link: Link, source: u8, given: Perm, block: u32) -> bool
+        ensures { (levels : List Level) (p : Profile) (t : Trace W) →
+            KnowsTrace self.now levels p t →
+            link.0 < length levels →
+            is_some (open_request source (on_link link.0 t)) ≡ true →
+            result ≡ Coherence.has_window (length levels) link.0 source given block t }
+    {
+        if is_free(&self.monitor, self.links, None, given, block) {
+            return true;
+        }
+        match asked_in(&self.asked, usize::from(link.0), source) {
+            None => false,
+            Some(asked) => asked <= last_in(given, self.windows.get(block)),
+        }
+    }
+
+    /// M1, where a Grant breaks it that answers this request.
+    fn broken_grant(&self, link: Link, x: &BeatD<W>, asked: Request) -> Option<MemoryRule>
+        ensures { (levels : List Level) (p : Profile) (t : Trace W) →
+            KnowsTrace self.now levels p t →
+            result ≡ Coherence.broken_grant (length levels) link.0 x.now (Some asked) t }
+    {
+        if is_free(
+            &self.monitor,
+            self.links,
+            Some(link.0),
+            capped(x.param),
+            asked.block,
+        ) {
+            None
+        } else {
+            Some(MemoryRule::M1)
+        }
+    }
+
+    /// M4, where an answer to this access breaks it.
+    fn broken_access(&self, link: Link, x: &BeatD<W>, asked: Request) -> Option<MemoryRule>
+        ensures { (levels : List Level) (p : Profile) (t : Trace W) →
+            KnowsTrace self.now levels p t →
+            link.0 < length levels →
+            is_some (open_request x.now.source (on_link link.0 t)) ≡ true →
+            result ≡ Coherence.broken_access (length levels) link.0 x.now (Some asked) t }
+    {
+        if self.has_window(link, x.source, needs(asked.opcode), asked.block) {
+            None
+        } else {
+            Some(MemoryRule::M4)
+        }
+    }
+
+    /// The rule of memory that a response breaks which begins a message.
+    fn broken_response(&self, link: Link, x: &BeatD<W>) -> Option<MemoryRule>
+        ensures { (levels : List Level) (p : Profile) (t : Trace W) →
+            KnowsTrace self.now levels p t →
+            link.0 < length levels →
+            result ≡ Coherence.broken_response (length levels) link.0 x.now t }
+    {
+        let asked = self.monitor.request(link, x.source)?;
+        if is_grant(x.opcode) {
+            return self.broken_grant(link, x, asked);
+        }
+        if !is_access_ack(x.opcode) {
+            return None;
+        }
+        self.broken_access(link, x, asked)
+    }
+
+    /// The rule of memory that a beat breaks.
+    fn broken_memory(&self, link: Link, beat: &Beat<W>) -> Option<MemoryRule>
+        ensures { (levels : List Level) (p : Profile) (t : Trace W) →
+            KnowsTrace self.now levels p t →
+            link.0 < length levels →
+            result ≡ Coherence.broken_memory (length levels) link.0 beat.now t }
+    {
+        match beat {
+            Beat::D(x) => {
+                if self.monitor.begins(link, beat) {
+                    self.broken_response(link, x)
+                } else {
+                    None
+                }
+            }
+            _ => None,
+        }
+    }
+
+    /// Judges a beat of a link, and takes it where it breaks no rule. After a broken rule every call is
+    /// answered `Closed`. At `Memory` the judge knows what it knew before.
+    pub fn push(&mut self, link: Link, beat: &Beat<W>) -> Result<(), JudgeFault>
+        requires { IsWidth W }
+        ensures answer { (levels : List Level) (p : Profile) (t : Trace W) (closed : Bool) →
+            Knows self.old levels p t closed →
+            Answers (fault_of levels p t closed (link, beat.now)) result }
+        ensures knows { (levels : List Level) (p : Profile) (t : Trace W) (closed : Bool) →
+            Knows self.old levels p t closed →
+            Knows self.new levels p (recorded_after result (link, beat.now) t) (closed_after closed result) }
+    {
+        if self.closed {
+            return Err(JudgeFault::Closed);
+        }
+        let Some(next) = self.moment.checked_add(1) else {
+            return Err(JudgeFault::Memory);
+        };
+        let broken = self.broken_memory(link, beat);
+        let noted = note_window(
+            &mut self.windows,
+            &self.monitor,
+            self.links,
+            self.moment,
+            link,
+            beat,
+        );
+        let Ok(()) = noted else {
+            return Err(JudgeFault::Memory);
+        };
+        note_request(&mut self.asked, &self.monitor, link, beat, next);
+        match self.monitor.push(link, beat) {
+            Ok(()) => {}
+            Err(fault) => {
+                self.closed = closes(fault);
+                return Err(of_monitor(fault));
+            }
+        }
+        self.moment = next;
+        match broken {
+            None => Ok(()),
+            Some(rule) => {
+                self.closed = true;
+                Err(JudgeFault::Broken(Breach::OfMemory(rule)))
+            }
+        }
+    }
+}

@@ -1,0 +1,8 @@
+//! What all links of a manager carry together: the rules of memory, and a judge of recorded traces.
+#![tactic(auto)]
+
+pub mod breach;
+pub mod fault;
+pub mod judge;
+pub mod trace;
+mod windows;

@@ -1,0 +1,46 @@
+//! What a whole trace of a manager's links is judged.
+
+ghost use Rattle.tl_beat.specs.statement.Width.{IsWidth};
+ghost use Rattle.std.specs.Prelude.{◌≡◌};
+ghost use Rattle.tl_together.specs.statement.Knows.{AnswersTrace, trace_fault_of};
+
+use crate::fault::{JudgeFault, TraceFault};
+use crate::judge::Judge;
+use std::alloc::Global;
+use tl_beat::beat::{Beat, Link};
+use tl_rules::level::Level;
+use tl_rules::profile::Profile;
+
+/// The fault of a trace whose beat `i` a judge refuses, which no beat before it has closed.
+fn fault_at(i: usize, fault: JudgeFault) -> TraceFault
+    ensures { result ≡ trace_fault_of i fault }
+{
+    match fault {
+        JudgeFault::Broken(breach) => TraceFault::At(i, breach),
+        _ => TraceFault::Memory,
+    }
+}
+
+/// The first beat of a trace of all links of a manager that breaks a rule, if there is one.
+pub fn check_together<const W: usize>(
+    alloc: Global,
+    levels: &[Level],
+    profile: Profile,
+    trace: &[(Link, Beat<W>)],
+) -> Result<(), TraceFault>
+    requires { IsWidth W }
+    ensures { AnswersTrace levels.now profile trace.now result }
+{
+    let mut judge = match Judge::new(alloc, levels, profile) {
+        Ok(judge) => judge,
+        Err(JudgeFault::Levels) => return Err(TraceFault::Levels),
+        Err(_) => return Err(TraceFault::Memory),
+    };
+    for (i, (link, beat)) in trace.iter().enumerate() {
+        match judge.push(*link, beat) {
+            Ok(()) => {}
+            Err(fault) => return Err(fault_at(i, fault)),
+        }
+    }
+    Ok(())
+}

@@ -1,0 +1,118 @@
+//! What the help says behind the words of each command: its codes, its exit status, examples.
+
+/// What stands behind the options of a command: the codes that it can write, each with what it says,
+/// the exit status, and examples.
+macro_rules! outcomes {
+    ($($code:literal,)* ; $($example:literal,)*) => {
+        concat!(
+            "Codes: at the first line at fault the text is `line N X`, N its number and X one of these.\n",
+            "`tltool explain FILE` says why.\n",
+            $($code,)*
+            "\nExit status:\n",
+            "  0  no line is at fault; or help was asked for\n",
+            "  1  `line N X` was written\n",
+            "  2  the words are not of the form above\n",
+            "  3  no memory, or reading, writing or opening a file failed; a directory can be opened, but\n",
+            "     not read, and a reader of the output that goes away makes writing fail\n",
+            "\nExamples, in the folder of examples (crates/tl_examples/data):",
+            $($example,)*
+        )
+    };
+}
+
+/// Behind the commands of the program.
+pub const TOOL: &str =
+    "Codes: at the first line at fault each command writes `line N X`: N is its number, X what is
+wrong with it. `tltool explain FILE` says why, `tltool explain X` what X says, and `tltool COMMAND
+--help` which codes the command can write.
+  F1 to F6      the line spells no beat
+  F7            the first line is no header
+  F8            the line says no event (`run`)
+  L1 to L7      the beat is not a legal one by itself
+  S1            the beat does not continue its burst
+  H1 to H13     the beat breaks the order of messages
+
+Exit status:
+  0  no line is at fault; or help or the version was asked for
+  1  `line N X` was written
+  2  the words are not of the form above
+  3  no memory, or reading, writing or opening a file failed; a directory can be opened, but not
+     read, and a reader of the output that goes away makes writing fail
+
+Examples, in the folder of examples (crates/tl_examples/data):
+  printf '00 A 4 0 3 00 00000040 ff - 0\\n' | tltool decode
+  tltool monitor two_caches.trace
+  tltool explain wrong_report.trace
+  tltool explain H12
+  tail -n +2 two_caches.trace | tltool decode
+  tltool run --trace schedules/a_writer_becomes_a_reader.schedule | tltool monitor";
+
+/// Behind the options of `decode`.
+pub const DECODE: &str = outcomes!(
+    "  F1   more than 256 bytes, or the last byte isn't LF, or fewer than two fields; or the number\n",
+    "       of fields isn't the channel's\n",
+    "  F2   the second field isn't one of the letters A to E\n",
+    "  F3   a field isn't of its form: lower-case digits of the wanted number, 0 or 1, or DATA\n",
+    "  F4   the opcode isn't in use\n",
+    "  F5   the param is over 7 on A, B and C, or over 3 on D\n",
+    "  F6   digits where the opcode carries no data, or `-` where it does\n",
+    ;
+    "\n  printf '00 A 4 0 3 00 00000040 ff - 0\\n' | tltool decode",
+    "\n  tltool decode beats.txt",
+    "\n  tail -n +2 two_caches.trace | tltool decode",
+);
+
+/// Behind the options of `monitor` and `explain`.
+pub const TRACE: &str = outcomes!(
+    "  F1   more than 256 bytes, or the last byte isn't LF, or fewer than two fields; or the number\n",
+    "       of fields isn't the channel's\n",
+    "  F2   the second field isn't one of the letters A to E\n",
+    "  F3   a field isn't of its form: lower-case digits of the wanted number, 0 or 1, or DATA\n",
+    "  F4   the opcode isn't in use\n",
+    "  F5   the param is over 7 on A, B and C, or over 3 on D\n",
+    "  F6   digits where the opcode carries no data, or `-` where it does\n",
+    "  F7   the first line is no header\n",
+    "  L1   the beat isn't of the channel named, or the opcode isn't of the level, or the link has\n",
+    "       no level\n",
+    "  L2   param, or source or sink where they are fixed, isn't as the message's table has it\n",
+    "  L3   the size isn't one of the message's\n",
+    "  L4   on A, B and C, the address isn't a multiple of the size\n",
+    "  L5   on A and B, the mask isn't that of address and size\n",
+    "  L6   corrupt without data; denied on another message than AccessAck, AccessAckData, HintAck;\n",
+    "       denied without corrupt on AccessAckData\n",
+    "  L7   an access forwarded on B (opcodes 0 to 5), or its answer on C (opcodes 0 to 2), at level\n",
+    "       C: they are read and shown, and not taken\n",
+    "  S1   a beat that continues a burst differs from the burst's first beat in opcode, param,\n",
+    "       size, source, address, sink or denied\n",
+    "  H1   the source is pending in its kind\n",
+    "  H2   no complete pending request with that source may be answered so\n",
+    "  H3   the size isn't the request's\n",
+    "  H4   an Acquire or a Release of the block is pending\n",
+    "  H5   NtoB or NtoT and something is held; BtoT and Trunk is held\n",
+    "  H6   the cap isn't toB for NtoB and toT for NtoT and BtoT; or Grant without data answers an\n",
+    "       AcquireBlock and Branch isn't held; or a Probe of the block is pending\n",
+    "  H7   the sink is pending\n",
+    "  H8   no complete Grant with that sink is pending\n",
+    "  H9   a Probe or a GrantAck of the block is pending\n",
+    "  H10  no Probe of the block is pending, or ProbeAckData answers ProbePerm\n",
+    "  H11  a Release of the block is pending\n",
+    "  H12  the param isn't the report of the Probe's cap and of what is held\n",
+    "  H13  an Acquire or a Release of the block is pending, or the param's left end isn't what is\n",
+    "       held\n",
+    ;
+    "\n  tltool monitor two_caches.trace",
+    "\n  tltool explain wrong_report.trace",
+    "\n  tltool explain H12",
+    "\n  tltool run --trace schedules/a_writer_becomes_a_reader.schedule | tltool monitor",
+);
+
+/// Behind the options of `run`.
+pub const RUN: &str = outcomes!(
+    "  F1   more than 256 bytes, or the last byte isn't LF, or fewer than two fields; or the number\n",
+    "       of fields isn't the channel's\n",
+    "  F7   the first line is no header\n",
+    "  F8   the line of a schedule says no event\n",
+    ;
+    "\n  tltool run schedules/a_part_of_a_word.schedule",
+    "\n  tltool run --trace schedules/a_writer_becomes_a_reader.schedule | tltool monitor",
+);

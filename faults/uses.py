@@ -1,0 +1,147 @@
+#!/usr/bin/env python3
+"""uses.py TOOL DATA: tries wrong uses of TOOL in a copy of the folder DATA, each by its exit status and what it writes.
+
+A row is a line of the shell, its status, and what is written to standard output and standard error, whole or, where it ends
+in '..', its beginning. What is wanted is from docs/FORMATS.md, its table of slips, and README's table of statuses; what
+stands behind `error:` is clap's. Ends with 'uses: N passed, M failed'."""
+import os
+import pathlib
+import shutil
+import subprocess
+import sys
+import tempfile
+
+HEAD = "tail -n +2 two_caches.trace | head -1"
+F1, F2, F3, F7, F8 = ("line {} %s\n" % it for it in ("F1", "F2", "F3", "F7", "F8"))
+PROBED = (
+    "printf '%s\\n' 'tltrace 1 C' '00 A 7 1 6 00 00000000 ff - 0' '00 B 6 2 6 00 00000000 ff - 0' '00 D 4 0 6 00 00 0 - 0'"
+)
+PROBED_TOLD = """  4: 00 D Grant
+  the request, of line 2:
+  2: 00 A AcquirePerm
+  a Probe of block 00000000 is pending since line 3:
+  3: 00 B ProbeBlock
+"""
+ROWS = [
+    # words
+    ("tltool", 2, "", "error: .."),
+    ("tltool moniter two_caches.trace", 2, "", "error: unrecognized subcommand 'moniter'.."),
+    ("tltool Monitor two_caches.trace", 2, "", "error: unrecognized subcommand 'Monitor'.."),
+    ("tltool two_caches.trace", 2, "", "error: unrecognized subcommand 'two_caches.trace'.."),
+    ("tltool version", 2, "", "error: unrecognized subcommand 'version'.."),
+    ("tltool --version", 0, "tltool 1.0.0\nproved with ..", ""),
+    ("tltool -V", 0, "tltool ..", ""),
+    ("tltool --help", 0, "..", ""),
+    ("tltool -h", 0, "..", ""),
+    ("tltool help", 0, "..", ""),
+    ("tltool help monitor", 0, "..", ""),
+    ("tltool help nothing", 2, "", "error: ..",),
+    ("tltool decode --help", 0, "..", ""),
+    ("tltool monitor -h", 0, "..", ""),
+    ("tltool explain --help", 0, "..", ""),
+    ("tltool run --help", 0, "..", ""),
+    ("tltool explain", 2, "", "error: .."),
+    ("tltool monitor two_caches.trace wrong_report.trace", 2, "", "error: unexpected argument 'wrong_report.trace' found.."),
+    ("tltool decode a b", 2, "", "error: unexpected argument 'b' found.."),
+    ("tltool decode --width 32 beats.txt", 2, "", "error: invalid value '32' for '--width <BYTES>': a beat carries 4, 8 or 16 bytes\n.."),
+    ("tltool decode --width 0x8 beats.txt", 2, "", "error: invalid value '0x8' for '--width <BYTES>': a beat carries 4, 8 or 16 bytes\n.."),
+    ("tltool decode --width", 2, "", "error: .."),
+    ("tltool monitor --width 4 two_caches.trace", 2, "", "error: unexpected argument '--width' found.."),
+    ("tltool monitor --verbose two_caches.trace", 2, "", "error: unexpected argument '--verbose' found.."),
+    ("tltool run --trace=x", 2, "", "error: .."),
+    ("tltool run --trace --trace", 2, "", "error: .."),
+    ("tltool decode --version", 2, "", "error: unexpected argument '--version' found.."),
+    # words that fit
+    ("echo '00 A 4 0 2 00 00000040 f - 0' | tltool decode --width 4", 0, "00 A Get 0 size=2 source=00 address=00000040 mask=f data=- corrupt=0\n", ""),
+    ("echo '00 A 4 0 2 00 00000040 000f - 0' | tltool decode --width=16", 0, "00 A Get 0 size=2 source=00 address=00000040 mask=000f data=- corrupt=0\n", ""),
+    ("tltool decode <beats.txt | cmp - <(tltool decode beats.txt)", 0, "", ""),
+    ("tltool monitor two_caches.trace", 0, "clean 29\n", ""),
+    ("tltool run --trace schedules/a_writer_becomes_a_reader.schedule | tltool monitor", 0, "clean ..", ""),
+    ("tltool run schedules/nothing_happens.schedule", 0, "..", ""),
+    ("tltool explain wrong_report.trace", 1, "line ..", ""),
+    ("tltool explain H12", 0, "H12 (ProbeAck, ProbeAckData): ..", ""),
+    # a Grant of a block that is probed: the request and the Probe are told
+    (f"{PROBED} >probed.trace; tltool explain probed.trace | grep -o '^  [a-z].*line .*\\|^  [0-9]*: .. . [A-Za-z]*'", 0, PROBED_TOLD, ""),
+    # files and devices
+    ("tltool monitor nope.trace", 3, "", "tltool: cannot open nope.trace\n"),
+    ("tltool decode nope.txt", 3, "", "tltool: cannot open nope.txt\n"),
+    ("tltool run nope.schedule", 3, "", "tltool: cannot open nope.schedule\n"),
+    ("tltool explain nope.trace", 3, "", "tltool: cannot open nope.trace\n"),
+    ("tltool explain h12", 3, "", "tltool: cannot open h12\n"),
+    ("tltool explain H14", 3, "", "tltool: cannot open H14\n"),
+    ("tltool monitor -", 3, "", "tltool: cannot open -\n"),
+    ("tltool monitor ''", 3, "", "tltool: cannot open \n"),
+    ("tltool monitor rules", 3, "", "tltool: read failed\n"),
+    ("tltool decode <&-", 3, "", "tltool: read failed\n"),
+    ("tltool decode beats.txt >/dev/full", 3, "", "tltool: write failed\n"),
+    ("tltool --help >/dev/full", 3, "", "tltool: write failed\n"),
+    ("tltool monitor $'\\xff.trace'", 3, "", "tltool: no memory\n"),
+    ("mkfifo pipe; cat two_caches.trace >pipe & tltool monitor pipe", 0, "clean 29\n", ""),
+    ("mkfifo once; (timeout 5 cat two_caches.trace >once &); tltool explain once", 3, "", "tltool: once can't be read twice, as explain does: write it to a file\n"),
+    ("cat two_caches.trace | tltool explain /dev/stdin", 3, "", "tltool: /dev/stdin can't be read twice, as explain does: write it to a file\n"),
+    ("tltool monitor /dev/stdin <two_caches.trace", 0, "clean 29\n", ""),
+    # the first line
+    ("tltool monitor </dev/null", 1, F7.format(1), ""),
+    ("tltool run </dev/null", 1, F7.format(1), ""),
+    ("tltool decode </dev/null", 0, "", ""),
+    ("sed 's/$/\\r/' two_caches.trace | tltool monitor", 1, F7.format(1), ""),
+    ("sed 's/$/\\r/' beats.txt | tltool decode", 1, F3.format(1), ""),
+    ("(printf '\\xef\\xbb\\xbf'; cat two_caches.trace) | tltool monitor", 1, F7.format(1), ""),
+    ("(printf '\\xef\\xbb\\xbf'; cat beats.txt) | tltool decode", 1, F3.format(1), ""),
+    ("gzip -c two_caches.trace | tltool monitor", 1, F7.format(1), ""),
+    ("iconv -t UTF-16 two_caches.trace | tltool monitor", 1, F7.format(1), ""),
+    ("tltool monitor schedules/nothing_happens.schedule", 1, F7.format(1), ""),
+    ("tltool run two_caches.trace", 1, F7.format(1), ""),
+    ("tltool monitor beats.txt", 1, F7.format(1), ""),
+    ("tltool decode two_caches.trace", 1, F2.format(1), ""),
+    ("tltool decode schedules/nothing_happens.schedule", 1, F2.format(1), ""),
+    ("printf 'tltrace 1 C' | tltool monitor", 1, F7.format(1), ""),
+    ("printf 'tltrace 1 C\\n' | tltool monitor", 0, "clean 0\n", ""),
+    *((f"printf 'tltrace {it}\\n' | tltool monitor", 1, F7.format(1), "") for it in (
+        "1 c", "1 TL-C", "1 C,C", "1", "1 C ", "1  C", "01 C", "4 8 C", "2 C", "2 32 C", "2 08 C", "3 8 3 C", "1" + 17 * " C",
+    )),
+    ("printf 'TLTRACE 1 C\\n' | tltool monitor", 1, F7.format(1), ""),
+    *((f"printf 'tlsched {it}\\n' | tltool run", 1, F7.format(1), "") for it in (
+        "1 1 0 C:1", "1 0 1 C:1", "1 1025 1 C:1", "1 1 9 C:1", "1 1 1 C", "1 1 1 C:9", "1 1 1 C:0", "1 1 1", "1 1 1" + 17 * " C:1", "2 1 1 C:1",
+    )),
+    # lines
+    ("head -c 100000 /dev/zero | tr '\\0' a | tltool decode", 1, F1.format(1), ""),
+    ("(cat two_caches.trace; echo) | tltool monitor", 1, F1.format(31), ""),
+    ("(cat two_caches.trace; printf '00 E 00') | tltool monitor", 1, F1.format(31), ""),
+    ("(head -1 two_caches.trace; echo '# start') | tltool monitor", 1, F2.format(2), ""),
+    (f"({HEAD}; {HEAD} | sed 's/$/ # request/') | tltool decode", 1, "..", ""),
+    (f"{HEAD} | sed 's/$/ # request/' | tltool decode", 1, F1.format(1), ""),
+    (f"{HEAD} | sed 's/$/ /' | tltool decode", 1, F1.format(1), ""),
+    (f"{HEAD} | tr ' ' '\\t' | tltool decode", 1, F1.format(1), ""),
+    (f"{HEAD} | sed 's/ A / a /' | tltool decode", 1, F2.format(1), ""),
+    (f"{HEAD} | sed 's/^00/0/' | tltool decode", 1, F3.format(1), ""),
+    (f"{HEAD} | sed 's/ ff / FF /' | tltool decode", 1, F3.format(1), ""),
+    ("echo '00 A 8 0 3 00 00000040 ff - 0' | tltool decode", 1, "line 1 F4\n", ""),
+    ("echo '00 A 4 8 3 00 00000040 ff - 0' | tltool decode", 1, "line 1 F5\n", ""),
+    ("echo '00 A 4 0 3 00 00000040 ff 0000000000000000 0' | tltool decode", 1, "line 1 F6\n", ""),
+    ("(cat two_caches.trace; echo '02 E 00') | tltool monitor", 1, "line 31 L1\n", ""),
+    *((f"printf 'tlsched 1 1 1 C:1\\n{it}\\n' | tltool run", 1, F8.format(2), "") for it in ("Acquire", "Drain", "# x", "drain ")),
+]
+
+
+def fits(wanted, written):
+    return written.startswith(wanted[:-2]) if wanted.endswith("..") else written == wanted
+
+
+def main():
+    tool, data = (pathlib.Path(it).resolve() for it in sys.argv[1:3])
+    failed = 0
+    with tempfile.TemporaryDirectory() as room:
+        place = shutil.copytree(data, pathlib.Path(room) / "data")
+        environment = {**os.environ, "PATH": f"{tool.parent}:{os.environ['PATH']}"}
+        for command, status, out, err in ROWS:
+            ran = subprocess.run(["bash", "-c", command], cwd=place, env=environment, capture_output=True, timeout=60)
+            written = [it.decode(errors="replace") for it in (ran.stdout, ran.stderr)]
+            if (ran.returncode, fits(out, written[0]), fits(err, written[1])) != (status, True, True):
+                failed += 1
+                print(f"{command}: status {ran.returncode}, {written}; wanted {status}, {[out, err]}")
+    print(f"uses: {len(ROWS) - failed} passed, {failed} failed")
+    return 1 if failed else 0
+
+
+sys.exit(main())

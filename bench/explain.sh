@@ -23,12 +23,12 @@ gets() {
 # seconds and kilobytes of the best of three runs
 best() {
     for _ in 1 2 3; do
-        /usr/bin/time -f '%U %M' "$tool" "$1" "$trace" 2>&1 >/dev/null | tail -n 1
+        /usr/bin/time -f '%U s %M KB' "$tool" "$1" "$trace" 2>&1 >/dev/null | tail -n 1
     done | sort -n | head -n 1
 }
 
 compare() {
-    printf '%s: monitor %s s KB, explain %s s KB\n' "$1" "$(best monitor)" "$(best explain)"
+    printf '%s: monitor %s, explain %s\n' "$1" "$(best monitor)" "$(best explain)"
 }
 
 gets "$lines" >"$trace"

@@ -157,8 +157,12 @@ class _Answer(ctypes.Structure):
     _fields_ = [("code", ctypes.c_uint8), ("rule", ctypes.c_uint8)]
 
 
-class _Monitor(ctypes.Structure):
+class _Handle(ctypes.Structure):
     _fields_ = [("at", ctypes.c_void_p), ("full", ctypes.c_uint8)]
+
+
+class _Monitor(_Handle):
+    """A handle of `tl_monitor`."""
 
 
 class _Operation(ctypes.Structure):
@@ -189,8 +193,8 @@ class _Reception(ctypes.Structure):
     ]
 
 
-class _Client(ctypes.Structure):
-    _fields_ = [("at", ctypes.c_void_p), ("full", ctypes.c_uint8)]
+class _Client(_Handle):
+    """A handle of `tl_client`."""
 
 
 def _load():

@@ -1,6 +1,6 @@
 //! Explains what a recorded trace is judged, by reading it twice.
 
-ghost use Rattle.std.specs.Prelude.{◌≡◌, ◌≢◌, ◌++◌, ℕ, List, IfErr, IfOk, Ok};
+ghost use Rattle.std.specs.Prelude.{◌≡◌, ◌≢◌, ◌++◌, ℕ, List, Err, IfErr, IfOk, Ok};
 ghost use Rattle.std.specs.Io.KnownBytes.{Appends, Consumes};
 ghost use Rattle.tl_beat.specs.statement.Width.{IsWidth};
 ghost use Rattle.tl_engine.specs.code.Lines.{lines_of};
@@ -68,6 +68,8 @@ impl From<io::Error> for ExplainFault {
 fn in_memory(outcome: Result<Status, ToolFault>) -> Result<Status, ToolFault>
     ensures ok { IfOk result (λ status. outcome ≡ Ok status) }
     ensures fault { IfErr result (λ fault. fault ≢ ToolFault.Write) }
+    ensures done { IfOk outcome (λ status. result ≡ Ok status) }
+    ensures other { IfErr outcome (λ fault. fault ≢ ToolFault.Write → result ≡ Err fault) }
 {
     match outcome {
         Err(ToolFault::Write) => Err(ToolFault::Memory),

@@ -89,11 +89,24 @@ def icarus(name, top, sources, *flags):
     return built
 
 
+def with_library(name, sources, cpp, *flags):
+    """The example with a checker on each link, and what else stands on the library."""
+    extra = files(cpp) + [LIBRARY, "-CFLAGS", "-I" + os.path.join(HERE, "include")]
+    sources = SV + ["sv/tl_link_checker.sv"] + sources + EXAMPLE
+    return verilator(name, "bench_recorded", sources, "-DCHECKED", *flags, *extra)
+
+
 def checked(count=0):
     """The example with a checker on each link."""
-    sources = SV + ["sv/tl_link_checker.sv"] + EXAMPLE
-    extra = [os.path.join(HERE, "sv/tl_checker_dpi.cpp"), LIBRARY, "-CFLAGS", "-I" + os.path.join(HERE, "include")]
-    return verilator(f"checked{count}", "bench_recorded", sources, "-DCHECKED", f"-DCOUNT={count}", *extra)
+    return with_library(f"checked{count}", [], ["sv/tl_checker_dpi.cpp"], f"-DCOUNT={count}")
+
+
+def proved(width=8):
+    """The example under the proved manager, with a proved client in place of the second cache, and a checker on each
+    link."""
+    return with_library(f"proved{width}", ["sv/tl_proved_manager.sv", "sv/tl_proved_client.sv"],
+                        ["sv/tl_checker_dpi.cpp", "sv/tl_agents_dpi.cpp"], "-DPROVED", "-DCOUNT=0",
+                        f"-DWIDTH={width}")
 
 
 def recorded():
@@ -272,6 +285,17 @@ def a_client_from_c_under_the_sanitizers():
 
 
 @test
+def a_manager_from_c():
+    want("0 failures" in run([compiled("test_manager", "gcc", "tests/test_manager.c", "-std=c11")]), "test_manager.c")
+
+
+@test
+def a_manager_from_c_under_the_sanitizers():
+    built = compiled("test_manager_san", "gcc", "tests/test_manager.c", "-std=c11", *SANITIZERS)
+    want("0 failures" in run([built]), "test_manager.c")
+
+
+@test
 def the_library_from_cpp_under_the_sanitizers():
     want("0 failures" in run([compiled("test_cpp_san", "g++", "tests/test_monitor.cpp", "-std=c++17", *SANITIZERS)]), "test_monitor.cpp")
 
@@ -293,6 +317,8 @@ def the_headers_and_pythons_numbers_are_the_librarys():
     header = dict(enumerators("include/hefrudyl.h", r"\bTL_([A-Z_]+) = (\d)"))
     for code in module.Code:
         want(int(header[code.name]) == code, code.name)
+        want(module.error_text(code) != "", f"{code.name} has no text")
+    want(module.error_text(len(module.Code)) == "", "a text beyond the codes")
     for level in module.Level:
         want(int(header[level.name]) == level, level.name)
     for channel in module.Channel:
@@ -331,7 +357,8 @@ def a_client_from_python():
 def the_headers_structs_are_pythons():
     module = python_module()
     structs = [("tl_" + name.lower(), getattr(module, "_" + name))
-               for name in ("Beat", "Answer", "Monitor", "Client", "Operation", "Outcome", "Reception")]
+               for name in ("Beat", "Answer", "Monitor", "Client", "Operation", "Outcome", "Reception", "Manager")]
+    structs.append(("tl_link_config", module._LinkConfig))
     source = path("layout.c")
     with open(source, "w") as text:
         text.write('#include <hefrudyl.h>\n#include <stdio.h>\nint main(void) {\n')
@@ -386,9 +413,11 @@ def python_judges_traces_as_the_command_does():
             profile = int(header[3])
         levels = [module.Level[level] for level in header[2 + int(header[1]) - 1:]]
         told = f"clean {len(lines) - 1}"
-        with module.Monitor(levels, width, profile) as monitor:
+        with module.Monitor(levels, width, profile) as monitor, module.Monitor(levels, width, profile) as reader:
             for number, line in enumerate(lines[1:], 2):
                 verdict = monitor.push(*beat_of(module, line))
+                read = reader.push_line(line.encode() + b"\n")
+                want(verdict == read, f"{name}: line {number} as a beat and as a line")
                 if not verdict:
                     told = f"line {number} {verdict.rule}"
                     break
@@ -403,6 +432,13 @@ def python_refuses_what_does_not_fit():
         try:
             module.Monitor(levels, width)
             want(False, f"{levels} {width} made a monitor")
+        except ValueError:
+            pass
+    one = [(module.Level.C, 1)]
+    for links, blocks, trackers in (([], 4, 1), ([(module.Level.C, 9)], 4, 1), ([(3, 1)], 4, 1), (one, 0, 1), (one, 4, 9)):
+        try:
+            module.Manager(links, blocks, trackers)
+            want(False, f"{links} {blocks} {trackers} made a manager")
         except ValueError:
             pass
     with module.Monitor([module.Level.C]) as monitor:
@@ -515,15 +551,68 @@ def open_fields_are_written_as_a_trace_fixes_them():
         ], "\n".join(beat_lines(name)))
 
 
+# ---- the proved manager
+
+
+def proved_manager_agrees(width):
+    for seed in (1, 2, 3):
+        told = run([proved(width), f"+seed={seed}", "+cycles=20000"])
+        want("agree" in told and "faults: 0" in told and "refused: 0" in told, told)
+
+
+@test
+def a_cache_and_a_device_under_the_proved_manager_at_width_4():
+    proved_manager_agrees(4)
+
+
+@test
+def a_cache_and_a_device_under_the_proved_manager_at_width_8():
+    proved_manager_agrees(8)
+
+
+@test
+def a_cache_and_a_device_under_the_proved_manager_at_width_16():
+    proved_manager_agrees(16)
+
+
+@test
+def each_bug_is_found_under_the_proved_manager():
+    for bug, (rule, own) in BUGS.items():
+        told = run([proved(), "+seed=1", "+cycles=20000", f"+bug={bug}"], status=None)
+        if rule is None:
+            want("faults: 0" in told and own in told, f"bug {bug}: {told}")
+        else:
+            want(f"tl_link_checker: link 0 breaks {rule}: " in told and "agree" not in told, f"bug {bug}: {told}")
+
+
+# ---- Python as cocotb would drive it
+
+
+@test
+def coroutines_drive_the_agents_a_clock_at_a_time():
+    beside = {"HEFRUDYL_LIBRARY": path("libhefrudyl.so"), "PYTHONPATH": os.path.join(HERE, "python")}
+    told = run([sys.executable, os.path.join(HERE, "tests/test_clocked.py")], env={**os.environ, **beside})
+    want(told.strip().endswith("0 failures"), told)
+
+
 # ---- a long run
+
+
+def ten_million_cycles(built):
+    for seed in (11, 12):
+        told = run([built, f"+seed={seed}", "+cycles=5000000"])
+        want("agree" in told and "faults: 0" in told, told)
+        print(f"        seed {seed}: {next(line for line in told.splitlines() if 'agree' in line)}")
 
 
 @test
 def ten_million_cycles_long():
-    for seed in (11, 12):
-        told = run([checked(), f"+seed={seed}", "+cycles=5000000"])
-        want("agree" in told and "faults: 0" in told, told)
-        print(f"        seed {seed}: {told.splitlines()[1]}")
+    ten_million_cycles(checked())
+
+
+@test
+def ten_million_cycles_under_the_proved_manager_long():
+    ten_million_cycles(proved())
 
 
 # ---- the run

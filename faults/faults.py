@@ -23,6 +23,7 @@ COMMANDS = [
     "explain H12",
     "run schedules/a_writer_becomes_a_reader.schedule",
     "run --trace schedules/sixteen_readers_and_a_put.schedule",
+    "random --seed 1 --events 40",
 ]
 # What fails, the library that makes it fail, and what the command says of it.
 MEMORY = ("REFUSE", "refuse", "tltool: no memory\n")

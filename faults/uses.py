@@ -22,6 +22,9 @@ PROBED_TOLD = """  4: 00 D Grant
   a Probe of block 00000000 is pending since line 3:
   3: 00 B ProbeBlock
 """
+# What the options of `random` take.
+NUMBER = "a number from 0 to 18446744073709551615"
+LIST = "1 to 16 clients with commas between them, each UL, UH or C with its number of sources from 1 to 8, as C:2,C:2,UH:1"
 ROWS = [
     # words
     ("tltool", 2, "", "error: .."),
@@ -51,6 +54,37 @@ ROWS = [
     ("tltool run --trace=x", 2, "", "error: .."),
     ("tltool run --trace --trace", 2, "", "error: .."),
     ("tltool decode --version", 2, "", "error: unexpected argument '--version' found.."),
+    # words of a random schedule
+    ("tltool random", 2, "", "error: the following required arguments were not provided:\n  --seed <N>.."),
+    ("tltool random 1", 2, "", "error: unexpected argument '1' found.."),
+    ("tltool random --seed", 2, "", "error: .."),
+    ("tltool random --seed 1 --seed 2", 2, "", "error: .."),
+    *((f"tltool random --seed {it}", 2, "", f"error: invalid value '{it}' for '--seed <N>': {NUMBER}, without leading zeros\n..") for it in (
+        "one", "0x1", "01", "+1", "1.5", "18446744073709551616",
+    )),
+    *((f"tltool random --seed 1 {it}", 2, "", f"error: invalid value '{it.split()[1]}' for '{it.split()[0]} {wanted}\n..") for it, wanted in (
+        ("--events 1e3", f"<N>': {NUMBER}, without leading zeros"),
+        ("--blocks 0", "<N>': a number from 1 to 1024"),
+        ("--blocks 1025", "<N>': a number from 1 to 1024"),
+        ("--trackers 9", "<N>': a number from 1 to 8"),
+        ("--contend 3", "<N>': a number from 1 to the number of blocks"),
+        ("--contend 0", "<N>': a number from 1 to the number of blocks"),
+        ("--width 32", "<BYTES>': a beat carries 4, 8 or 16 bytes"),
+        ("--profile 3", "<P>': 1 or 2"),
+        *((f"--clients {it}", f"<LIST>': {LIST}") for it in ("C", "C:0", "C:9", "c:2", "C:2,", ",C:2", "C:2/C:2", "C:02", "TL-C:2", ",".join(17 * ["C:1"]))),
+    )),
+    ("tltool random --seed 1 --clients ''", 2, "", f"error: invalid value '' for '--clients <LIST>': {LIST}\n.."),
+    ("tltool random --seed 1 --clients 'C:2 C:2'", 2, "", f"error: invalid value 'C:2 C:2' for '--clients <LIST>': {LIST}\n.."),
+    ("tltool random --help", 0, "..", ""),
+    ("tltool random --seed 1 --events 0", 0, "tlsched 1 2 2 C:2 C:2 C:2 UH:1\ndrain\n", ""),
+    ("tltool random --events 0 --blocks 1024 --seed=18446744073709551615", 0, "tlsched 1 1024 2 C:2 C:2 C:2 UH:1\ndrain\n", ""),
+    ("tltool random --seed 1 --events 0 --width 16 --clients UL:1,UH:8 --blocks 1 --trackers 8", 0, "tlsched 2 16 1 8 UL:1 UH:8\ndrain\n", ""),
+    ("tltool random --seed 1 --events 0 --profile 2", 0, "tlsched 3 8 2 2 2 C:2 C:2 C:2 UH:1\ndrain\n", ""),
+    ("tltool random --seed 1 | wc -l", 0, "1002\n", ""),
+    ("cmp <(tltool random --seed 7) <(tltool random --seed 7)", 0, "", ""),
+    ("cmp -s <(tltool random --seed 7) <(tltool random --seed 8)", 1, "", ""),
+    ("tltool random --seed 1 | tltool run --trace | tltool monitor", 0, "clean ..", ""),
+    ("tltool random --seed 1 >/dev/full", 3, "", "tltool: write failed\n"),
     # words that fit
     ("echo '00 A 4 0 2 00 00000040 f - 0' | tltool decode --width 4", 0, "00 A Get 0 size=2 source=00 address=00000040 mask=f data=- corrupt=0\n", ""),
     ("echo '00 A 4 0 2 00 00000040 000f - 0' | tltool decode --width=16", 0, "00 A Get 0 size=2 source=00 address=00000040 mask=000f data=- corrupt=0\n", ""),

@@ -1,5 +1,6 @@
 #!/usr/bin/env python3
-"""wrap.py FILE..: breaks the lines of .antt files that have more than 120 columns, at the outermost joint of the sentence.
+"""wrap.py FILE..: breaks the lines of definitions, proofs and clauses (.antt, .rt) that have more than 120 columns, at the
+outermost joint of the sentence.
 Behind it `rt fmt` in the crate's folder lays out what was broken, and `rt check` says that it means what it did."""
 import re
 import sys
@@ -31,13 +32,16 @@ def spaces(text):
 def cost(text, at, depth):
     """What a break at this space costs: least where it is outermost, at a joint, and far to the right."""
     before, after = text[:at].rsplit(" ", 1)[-1], text[at + 1 :].split(" ", 1)[0]
-    kind = 5
-    if before in ("=", "in") or after == "→":
+    clause = name.endswith(".rt")
+    kind = 9 if clause else 5
+    if after == "}":
+        kind = 99
+    elif before in ("=", "in") or (before if clause else after) == "→":
         kind = 0
     elif after in ("×", "⊎"):
         kind = 2
     elif after in ("≡", "∙"):
-        kind = 6
+        kind = 3 if clause else 6
     elif after in ("++", "&&", "||", "+", "∷"):
         kind = 7
     elif before in JOINTS + OPENERS or after in [*JOINTS, "=", ":", "as"]:
@@ -67,9 +71,10 @@ def sentence(line):
 
 def comment(line):
     """A comment in several lines."""
-    head = line[: len(line) - len(line.lstrip())] + "--"
+    mark = re.match(r"--|//[/!]?", line.lstrip())[0]
+    head = line[: len(line) - len(line.lstrip())] + mark
     found, now = [], head
-    for word in line.strip()[2:].split():
+    for word in line.strip()[len(mark):].split():
         if len(now) + 1 + len(word) > LIMIT:
             found.append(now)
             now = head
@@ -79,22 +84,34 @@ def comment(line):
 
 def imports(line):
     """A `use` of many names as several of fewer, since `rt fmt` gives each name of a broken one a line of its own."""
-    head, items = line.rstrip().removesuffix("}").split("{", 1)
-    found, now = [], []
-    for item in items.split(", "):
-        if now and len(head) + len(", ".join([*now, item])) + 2 > LIMIT:
-            found.append(now)
-            now = []
-        now.append(item)
-    return [head + "{" + ", ".join(it) + "}" for it in [*found, now]]
+    tail = "};" if line.rstrip().endswith("};") else "}"
+    tail = "};" if line.rstrip().endswith("};") else "}"
+    head, items = line.rstrip().removesuffix(tail).split("{", 1)
+    head += "{"
+    found = split(items.split(", "), LIMIT - len(head) - len(tail))
+    for narrower in range(LIMIT - len(head) - len(tail), 0, -1):
+        if len(again := split(items.split(", "), narrower)) > len(found):
+            break
+        found = again
+    return [head + ", ".join(it) + tail for it in found]
+
+
+def split(items, width):
+    """Names in as few lists as have at most so many characters each."""
+    found = [[]]
+    for item in items:
+        if found[-1] and len(", ".join([*found[-1], item])) > width:
+            found.append([])
+        found[-1].append(item)
+    return found
 
 
 def wrapped(line):
     if len(line) <= LIMIT:
         return [line]
-    if line.lstrip().startswith("--"):
+    if line.lstrip().startswith(("--", "//")):
         return comment(line)
-    if re.match(r"(unfoldable )?(pub )?use [^{]*\.\{", line):
+    if re.match(r"\s*(unfoldable |ghost )?(pub )?use [^{]*\.\{", line):
         return imports(line)
     return sentence(line)
 

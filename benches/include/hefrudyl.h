@@ -1,4 +1,4 @@
-/* Hefrudyl for C and C++: the proved link monitor and the proved clients. docs/BENCHES.md says what is proved, and what a
+/* Hefrudyl for C and C++: the proved link monitor, clients and manager. docs/BENCHES.md says what is proved, and what a
    program that calls it must see to: a handle is used by one call at a time. */
 #ifndef HEFRUDYL_H
 #define HEFRUDYL_H
@@ -78,6 +78,13 @@ tl_answer tl_monitor_new(tl_monitor *monitor, const uint8_t *levels, size_t link
 
 /* Judges a beat of a link, 0 to 15, after the earlier beats of that link. */
 tl_answer tl_monitor_push(tl_monitor *monitor, uint8_t link, const tl_beat *beat);
+
+/* Judges the beat of a line of a trace, which ends in a line feed (docs/FORMATS.md). A line that spells
+   no beat is TL_BAD_ARGUMENT. */
+tl_answer tl_monitor_push_line(tl_monitor *monitor, const uint8_t *line, size_t length);
+
+/* Tells how many keys are pending on a link, and how many blocks are held there, together. */
+tl_answer tl_monitor_entries(tl_monitor *monitor, uint8_t link, uint64_t *entries);
 
 /* Frees what the handle holds. It holds nothing then. */
 void tl_monitor_free(tl_monitor *monitor);
@@ -174,8 +181,48 @@ tl_answer tl_client_closed(tl_client *client, uint8_t *closed);
 /* Frees what the handle holds. It holds nothing then. */
 void tl_client_free(tl_client *client);
 
+/* The link of a manager's client: its level (enum tl_level), and how many sources it has, 1 to 8. */
+typedef struct tl_link_config {
+  uint8_t level;
+  uint8_t sources;
+} tl_link_config;
+
+/* A handle, as that of a monitor. */
+typedef struct tl_manager {
+  void *at;
+  uint8_t full;
+} tl_manager;
+
+/* Makes a manager of 1 to 16 links on 1 to 1,024 blocks, with 1 to 8 trackers, of beats of 4, 8 or 16
+   bytes, under profile 1 or 2, behind a handle that holds nothing. Its memory is zero. */
+tl_answer tl_manager_new(tl_manager *manager, const tl_link_config *links, size_t count, uint16_t blocks,
+                         uint8_t trackers, uint8_t width, uint8_t profile);
+
+/* Offers a beat of channel A, C or E of a link, 0 to 15, and tells by 1 that it was taken, by 0 that it
+   has to wait. Where it breaks a rule the answer is TL_BROKEN with that rule, and the link is closed. */
+tl_answer tl_manager_offer(tl_manager *manager, uint8_t link, const tl_beat *beat, uint8_t *taken);
+
+/* Tells by 1 that the beat would have to wait, else 0. */
+tl_answer tl_manager_stalls(tl_manager *manager, uint8_t link, const tl_beat *beat, uint8_t *stalled);
+
+/* Shows the next beat to send on a channel (enum tl_channel) of a link: TL_NOTHING where none waits. */
+tl_answer tl_manager_next(tl_manager *manager, uint8_t link, uint8_t channel, tl_beat *beat);
+
+/* The same, and the beat is sent now: the next call shows the one behind it. */
+tl_answer tl_manager_pop(tl_manager *manager, uint8_t link, uint8_t channel, tl_beat *beat);
+
+/* Tells by 1 that the link takes no beats, since one was refused or there is no such link, else 0. */
+tl_answer tl_manager_closed(tl_manager *manager, uint8_t link, uint8_t *closed);
+
+/* Frees what the handle holds. It holds nothing then. */
+void tl_manager_free(tl_manager *manager);
+
 /* Writes the name of a rule, and returns how many letters it has, at most 3. */
 size_t tl_rule_name(uint8_t rule, uint8_t *into, size_t room);
+
+/* Writes as much of the text of a code (enum tl_code) as there is room for, and returns how many bytes
+   that is. 128 are enough for each. */
+size_t tl_error_text(uint8_t code, uint8_t *into, size_t room);
 
 #ifdef __cplusplus
 }

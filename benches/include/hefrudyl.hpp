@@ -19,6 +19,13 @@ inline std::string rule_name(std::uint8_t rule) {
   return std::string(reinterpret_cast<char *>(letters), count);
 }
 
+/// The text of a code.
+inline std::string error_text(std::uint8_t code) {
+  std::uint8_t text[128];
+  std::size_t count = tl_error_text(code, text, sizeof text);
+  return std::string(reinterpret_cast<char *>(text), count);
+}
+
 /// A monitor of links. It may be moved, and not copied.
 class Monitor {
 public:
@@ -41,6 +48,14 @@ public:
   tl_answer push(std::uint8_t link, const tl_beat &beat) {
     return tl_monitor_push(&handle, link, &beat);
   }
+
+  /// Judges the beat of a line of a trace, its line feed included.
+  tl_answer push_line(const std::string &line) {
+    return tl_monitor_push_line(&handle, reinterpret_cast<const std::uint8_t *>(line.data()), line.size());
+  }
+
+  /// How many keys are pending on a link, and how many blocks are held there, together.
+  tl_answer entries(std::uint8_t link, std::uint64_t &count) { return tl_monitor_entries(&handle, link, &count); }
 
 private:
   tl_monitor handle = {};
@@ -90,6 +105,49 @@ public:
 
 private:
   tl_client handle = {};
+};
+
+/// A manager of links, with the beats that it has still to send. It may be moved, and not copied.
+class Manager {
+public:
+  explicit Manager(const std::vector<tl_link_config> &links, std::uint16_t blocks, std::uint8_t trackers = 8,
+                   std::uint8_t width = 8, std::uint8_t profile = 1) {
+    tl_answer answer = tl_manager_new(&handle, links.data(), links.size(), blocks, trackers, width, profile);
+    if (answer.code == TL_NO_MEMORY) throw std::bad_alloc();
+    if (answer.code != TL_OK) throw std::invalid_argument("hefrudyl: links, blocks, trackers, width or profile");
+  }
+  Manager(Manager &&other) noexcept : handle(other.handle) { other.handle = {}; }
+  Manager &operator=(Manager &&other) noexcept {
+    std::swap(handle, other.handle);
+    return *this;
+  }
+  Manager(const Manager &) = delete;
+  Manager &operator=(const Manager &) = delete;
+  ~Manager() { tl_manager_free(&handle); }
+
+  /// Offers a beat of channel A, C or E of a link.
+  tl_answer offer(std::uint8_t link, const tl_beat &beat, std::uint8_t &taken) {
+    return tl_manager_offer(&handle, link, &beat, &taken);
+  }
+
+  /// Whether a beat would have to wait.
+  tl_answer stalls(std::uint8_t link, const tl_beat &beat, std::uint8_t &stalled) {
+    return tl_manager_stalls(&handle, link, &beat, &stalled);
+  }
+
+  /// The next beat to send on a channel of a link; with `pop` it is sent now.
+  tl_answer next(std::uint8_t link, std::uint8_t channel, tl_beat &beat) {
+    return tl_manager_next(&handle, link, channel, &beat);
+  }
+  tl_answer pop(std::uint8_t link, std::uint8_t channel, tl_beat &beat) {
+    return tl_manager_pop(&handle, link, channel, &beat);
+  }
+
+  /// Whether a link takes no beats.
+  tl_answer closed(std::uint8_t link, std::uint8_t &is_closed) { return tl_manager_closed(&handle, link, &is_closed); }
+
+private:
+  tl_manager handle = {};
 };
 
 }  // namespace hefrudyl

@@ -1,4 +1,4 @@
-"""Hefrudyl for Python: the proved link monitor and clients over ctypes, for cocotb and for notebooks.
+"""Hefrudyl for Python: the proved link monitor, clients and manager over ctypes, for cocotb and for notebooks.
 
     from hefrudyl import Beat, Channel, Level, Monitor
 
@@ -127,6 +127,16 @@ class Received:
 
 
 @dataclasses.dataclass(frozen=True)
+class Admitted:
+    """What a manager answers to a beat: where `code` is BROKEN the rule by which it is refused, else whether it was
+    taken; one that wasn't has to wait."""
+
+    code: Code
+    rule: str
+    taken: bool
+
+
+@dataclasses.dataclass(frozen=True)
 class Verdict:
     """What a monitor says of a beat: `rule` is the name of the rule that it breaks, or empty."""
 
@@ -197,6 +207,14 @@ class _Client(_Handle):
     """A handle of `tl_client`."""
 
 
+class _LinkConfig(ctypes.Structure):
+    _fields_ = [("level", ctypes.c_uint8), ("sources", ctypes.c_uint8)]
+
+
+class _Manager(_Handle):
+    """A handle of `tl_manager`."""
+
+
 def _load():
     here = os.path.join(os.path.dirname(os.path.abspath(__file__)), "libhefrudyl.so")
     name = os.environ.get("HEFRUDYL_LIBRARY") or (here if os.path.exists(here) else "libhefrudyl.so")
@@ -206,6 +224,10 @@ def _load():
     library.tl_monitor_new.argtypes = [handle, ctypes.c_char_p, ctypes.c_size_t, ctypes.c_uint8, ctypes.c_uint8]
     library.tl_monitor_push.restype = _Answer
     library.tl_monitor_push.argtypes = [handle, ctypes.c_uint8, ctypes.POINTER(_Beat)]
+    library.tl_monitor_push_line.restype = _Answer
+    library.tl_monitor_push_line.argtypes = [handle, ctypes.c_char_p, ctypes.c_size_t]
+    library.tl_monitor_entries.restype = _Answer
+    library.tl_monitor_entries.argtypes = [handle, ctypes.c_uint8, ctypes.POINTER(ctypes.c_uint64)]
     library.tl_monitor_free.restype = None
     library.tl_monitor_free.argtypes = [handle]
     client, flag = ctypes.POINTER(_Client), ctypes.POINTER(ctypes.c_uint8)
@@ -225,19 +247,42 @@ def _load():
         call.restype, call.argtypes = _Answer, [client, *arguments]
     library.tl_client_free.restype = None
     library.tl_client_free.argtypes = [client]
-    library.tl_rule_name.restype = ctypes.c_size_t
-    library.tl_rule_name.argtypes = [ctypes.c_uint8, ctypes.c_char_p, ctypes.c_size_t]
+    manager, link = ctypes.POINTER(_Manager), ctypes.c_uint8
+    for name, arguments in (
+        ("new", [ctypes.POINTER(_LinkConfig), ctypes.c_size_t, ctypes.c_uint16, ctypes.c_uint8, ctypes.c_uint8,
+                 ctypes.c_uint8]),
+        ("offer", [link, beat, flag]),
+        ("stalls", [link, beat, flag]),
+        ("next", [link, ctypes.c_uint8, beat]),
+        ("pop", [link, ctypes.c_uint8, beat]),
+        ("closed", [link, flag]),
+    ):
+        call = getattr(library, "tl_manager_" + name)
+        call.restype, call.argtypes = _Answer, [manager, *arguments]
+    library.tl_manager_free.restype = None
+    library.tl_manager_free.argtypes = [manager]
+    for call in (library.tl_rule_name, library.tl_error_text):
+        call.restype, call.argtypes = ctypes.c_size_t, [ctypes.c_uint8, ctypes.c_char_p, ctypes.c_size_t]
     return library
 
 
 _library = _load()
 
 
+def _written(call, number):
+    text = ctypes.create_string_buffer(128)
+    count = call(number, text, 128)
+    return text.raw[:count].decode()
+
+
 def rule_name(number):
     """The name of a rule; empty for a number that no rule has."""
-    name = ctypes.create_string_buffer(3)
-    count = _library.tl_rule_name(number, name, 3)
-    return name.raw[:count].decode()
+    return _written(_library.tl_rule_name, number)
+
+
+def error_text(code):
+    """The text of a code; empty for a number that is none."""
+    return _written(_library.tl_error_text, code)
 
 
 def _field(value, name, limit):
@@ -256,27 +301,38 @@ def _struct(beat):
     return shown
 
 
-class Monitor:
-    """A monitor of 1 to 16 links of these levels, of beats of `width` bytes, under profile 1 or 2."""
+def _taken(answer, what):
+    if answer.code == Code.NO_MEMORY:
+        raise MemoryError(f"hefrudyl: no memory for {what}")
+    if answer.code == Code.BAD_ARGUMENT:
+        raise ValueError(f"hefrudyl: {what} is out of range, or what is asked was closed")
+    return Code(answer.code)
 
-    def __init__(self, levels, width=8, profile=1):
-        self._handle = _Monitor()
-        codes = bytes(_field(level, "a level", 256) for level in levels)
-        answer = _library.tl_monitor_new(self._handle, codes, len(codes), _field(width, "width", 256),
-                                         _field(profile, "profile", 256))
-        if answer.code == Code.NO_MEMORY:
-            raise MemoryError("hefrudyl: no memory for a monitor")
-        if answer.code != Code.OK:
-            raise ValueError("hefrudyl: levels, width or profile")
 
-    def push(self, link, beat):
-        """Judges a beat of a link, after the earlier beats of that link."""
-        answer = _library.tl_monitor_push(self._handle, _field(link, "link", 256), _struct(beat))
-        return Verdict(Code(answer.code), rule_name(answer.rule))
+class _Agent:
+    """What has a handle, is used by `with`, and shows beats of its width."""
+
+    def __init__(self, handle, free, width):
+        self._handle, self._free, self._width = handle, free, width
+
+    def _shown(self, call, *place):
+        """The beat that a call shows, or None. Its data are zeros where it carries none."""
+        shown = _Beat()
+        if _taken(call(self._handle, *place, shown), "link or channel") == Code.NOTHING:
+            return None
+        fields = {name: getattr(shown, name) for name, _ in _Beat._fields_[1:]}
+        return Beat(**{**fields, "channel": Channel(shown.channel), "corrupt": shown.corrupt == 1,
+                       "denied": shown.denied == 1, "data": bytes(shown.lanes)[: self._width]})
+
+    def _told(self, call, *given):
+        """The number that a call tells."""
+        told = ctypes.c_uint8()
+        _taken(call(self._handle, *given, told), "what is asked for")
+        return told.value
 
     def close(self):
-        """Frees the monitor. What is pushed then is a bad argument."""
-        _library.tl_monitor_free(self._handle)
+        """Frees it. What it is asked for then is a bad argument."""
+        self._free(self._handle)
 
     def __enter__(self):
         return self
@@ -289,20 +345,37 @@ class Monitor:
             self.close()
 
 
-def _taken(answer, what):
-    if answer.code == Code.NO_MEMORY:
-        raise MemoryError(f"hefrudyl: no memory for {what}")
-    if answer.code == Code.BAD_ARGUMENT:
-        raise ValueError(f"hefrudyl: {what} is out of range, or the client is closed")
-    return Code(answer.code)
+class Monitor(_Agent):
+    """A monitor of 1 to 16 links of these levels, of beats of `width` bytes, under profile 1 or 2."""
+
+    def __init__(self, levels, width=8, profile=1):
+        super().__init__(_Monitor(), _library.tl_monitor_free, width)
+        codes = bytes(_field(level, "a level", 256) for level in levels)
+        _taken(_library.tl_monitor_new(self._handle, codes, len(codes), _field(width, "width", 256),
+                                       _field(profile, "profile", 256)), "levels, width or profile")
+
+    def push(self, link, beat):
+        """Judges a beat of a link, after the earlier beats of that link."""
+        answer = _library.tl_monitor_push(self._handle, _field(link, "link", 256), _struct(beat))
+        return Verdict(Code(answer.code), rule_name(answer.rule))
+
+    def push_line(self, line):
+        """Judges the beat of a line of a trace, as bytes with the line feed."""
+        answer = _library.tl_monitor_push_line(self._handle, line, len(line))
+        return Verdict(Code(answer.code), rule_name(answer.rule))
+
+    def entries(self, link):
+        """How many keys are pending on a link, and how many blocks are held there, together."""
+        told = ctypes.c_uint64()
+        _taken(_library.tl_monitor_entries(self._handle, _field(link, "link", 256), told), "the link")
+        return told.value
 
 
-class Client:
+class Client(_Agent):
     """A client of a level on a link of beats of `width` bytes, with the beats that it has still to send."""
 
     def __init__(self, level, blocks, sources=1, width=8, profile=1):
-        self._handle = _Client()
-        self._width = width
+        super().__init__(_Client(), _library.tl_client_free, width)
         _taken(_library.tl_client_new(self._handle, _field(level, "level", 256), _field(blocks, "blocks", 1 << 16),
                                       _field(sources, "sources", 256), _field(width, "width", 256),
                                       _field(profile, "profile", 256)), "level, blocks, sources, width or profile")
@@ -326,31 +399,19 @@ class Client:
 
     def stalls(self, beat):
         """Whether a beat would have to wait."""
-        told = ctypes.c_uint8()
-        _taken(_library.tl_client_stalls(self._handle, _struct(beat), told), "the beat")
-        return told.value == 1
-
-    def _shown(self, call, channel):
-        shown = _Beat()
-        if _taken(call(self._handle, _field(channel, "channel", 256), shown), "the channel") == Code.NOTHING:
-            return None
-        fields = {name: getattr(shown, name) for name, _ in _Beat._fields_[1:]}
-        return Beat(**{**fields, "channel": Channel(shown.channel), "corrupt": shown.corrupt == 1,
-                       "data": bytes(shown.lanes)[: self._width]})
+        return self._told(_library.tl_client_stalls, _struct(beat)) == 1
 
     def next(self, channel):
         """The next beat to send on a channel, or None. Its data are zeros where it carries none."""
-        return self._shown(_library.tl_client_next, channel)
+        return self._shown(_library.tl_client_next, _field(channel, "channel", 256))
 
     def pop(self, channel):
         """The same, and the beat is sent now."""
-        return self._shown(_library.tl_client_pop, channel)
+        return self._shown(_library.tl_client_pop, _field(channel, "channel", 256))
 
     def held(self, block):
         """What is held of a block."""
-        told = ctypes.c_uint8()
-        _taken(_library.tl_client_held(self._handle, _field(block, "block", 1 << 16), told), "the block")
-        return Perm(told.value)
+        return Perm(self._told(_library.tl_client_held, _field(block, "block", 1 << 16)))
 
     def copy(self, block):
         """The 64 bytes of the copy of a block, or None."""
@@ -360,20 +421,39 @@ class Client:
 
     def closed(self):
         """Whether a beat was refused."""
+        return self._told(_library.tl_client_closed) == 1
+
+
+class Manager(_Agent):
+    """A manager of links, each with its level and how many sources its client has, on so many blocks."""
+
+    def __init__(self, links, blocks, trackers=8, width=8, profile=1):
+        super().__init__(_Manager(), _library.tl_manager_free, width)
+        configs = (_LinkConfig * max(len(links), 1))()
+        for config, (level, sources) in zip(configs, links):
+            config.level, config.sources = _field(level, "a level", 256), _field(sources, "sources", 256)
+        _taken(_library.tl_manager_new(self._handle, configs, len(links), _field(blocks, "blocks", 1 << 16),
+                                       _field(trackers, "trackers", 256), _field(width, "width", 256),
+                                       _field(profile, "profile", 256)), "links, blocks, trackers, width or profile")
+
+    def offer(self, link, beat):
+        """Offers a beat of channel A, C or E of a link."""
         told = ctypes.c_uint8()
-        _taken(_library.tl_client_closed(self._handle, told), "the client")
-        return told.value == 1
+        answer = _library.tl_manager_offer(self._handle, _field(link, "link", 256), _struct(beat), told)
+        return Admitted(_taken(answer, "the link or the beat"), rule_name(answer.rule), told.value == 1)
 
-    def close(self):
-        """Frees the client. What is asked for then is a bad argument."""
-        _library.tl_client_free(self._handle)
+    def stalls(self, link, beat):
+        """Whether a beat of a link would have to wait."""
+        return self._told(_library.tl_manager_stalls, _field(link, "link", 256), _struct(beat)) == 1
 
-    def __enter__(self):
-        return self
+    def next(self, link, channel):
+        """The next beat to send on a channel of a link, or None. Its data are zeros where it carries none."""
+        return self._shown(_library.tl_manager_next, _field(link, "link", 256), _field(channel, "channel", 256))
 
-    def __exit__(self, *_):
-        self.close()
+    def pop(self, link, channel):
+        """The same, and the beat is sent now."""
+        return self._shown(_library.tl_manager_pop, _field(link, "link", 256), _field(channel, "channel", 256))
 
-    def __del__(self):
-        if hasattr(self, "_handle"):
-            self.close()
+    def closed(self, link):
+        """Whether a link takes no beats: one was refused, or there is no such link."""
+        return self._told(_library.tl_manager_closed, _field(link, "link", 256)) == 1

@@ -1,10 +1,8 @@
 // The DPI side of tl_link_checker: one proved monitor for each checker. Nothing is judged here: the
 // words of a beat are put into a tl_beat, and what the library answers is handed back.
-#include <hefrudyl.hpp>
+#include "tl_dpi.hpp"
 
 #include <cstdio>
-#include <cstring>
-#include <svdpi.h>
 
 extern "C" void *tl_checker_open(int level, int width, int profile) {
   try {
@@ -16,19 +14,11 @@ extern "C" void *tl_checker_open(int level, int width, int profile) {
   }
 }
 
-// `fields` has channel, opcode, param, size, source, sink, denied and corrupt, a byte each from the
-// lowest on; the answer is the code, and 256 times the number of the rule.
+// The answer is the code, and 256 times the number of the rule.
 extern "C" int tl_checker_push(void *checker, long long fields, int address, int mask,
                                const svBitVecVal *lanes) {
-  tl_beat beat = {};
-  for (int word = 0; word < 4; word++)
-    for (int i = 0; i < 4; i++) beat.lanes[4 * word + i] = static_cast<std::uint8_t>(lanes[word] >> (8 * i));
-  beat.address = static_cast<std::uint32_t>(address);
-  beat.mask = static_cast<std::uint16_t>(mask);
-  std::uint8_t *field = &beat.channel;
-  for (int i = 0; i < 8; i++) field[i] = static_cast<std::uint8_t>(fields >> (8 * i));
-  tl_answer answer = static_cast<hefrudyl::Monitor *>(checker)->push(0, beat);
-  return answer.code + 256 * answer.rule;
+  return tl_dpi::number_of(
+      static_cast<hefrudyl::Monitor *>(checker)->push(0, tl_dpi::beat_of(fields, address, mask, lanes)));
 }
 
 extern "C" const char *tl_checker_rule(int rule) {

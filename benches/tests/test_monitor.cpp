@@ -1,4 +1,4 @@
-// The C++ header: a monitor and a client are moved, freed once, and refuse what can't be made.
+// The C++ header: a monitor, a client and a manager are moved, freed once, and refuse what can't be made.
 #include <hefrudyl.hpp>
 
 #include <cstdio>
@@ -29,6 +29,25 @@ int main() {
   tl_beat sent = {};
   right = right && client.pop(TL_CHANNEL_A, sent).code == TL_OK && sent.opcode == TL_A_AcquireBlock;
   right = right && client.next(TL_CHANNEL_A, sent).code == TL_NOTHING;
+  hefrudyl::Manager moved({{TL_C, 1}, {TL_UL, 1}}, 4);
+  hefrudyl::Manager manager(std::move(moved));
+  std::uint8_t told = 9;
+  right = right && moved.offer(0, sent, told).code == TL_BAD_ARGUMENT && told == 9;
+  right = right && manager.stalls(0, sent, told).code == TL_OK && told == 0;
+  right = right && manager.offer(0, sent, told).code == TL_OK && told == 1;
+  right = right && manager.next(1, TL_CHANNEL_D, sent).code == TL_NOTHING;
+  right = right && manager.pop(0, TL_CHANNEL_D, sent).code == TL_OK && sent.opcode == TL_D_GrantData;
+  right = right && manager.closed(0, told).code == TL_OK && told == 0;
+  try {
+    hefrudyl::Manager none({}, 4);
+    right = false;
+  } catch (const std::invalid_argument &) {
+  }
+  hefrudyl::Monitor reader({TL_C});
+  std::uint64_t entries = 9;
+  right = right && reader.push_line("00 A 4 0 3 00 00000000 ff - 0\n").code == TL_OK;
+  right = right && reader.entries(0, entries).code == TL_OK && entries == 1;
+  right = right && hefrudyl::error_text(reader.push_line("00 A\n").code).find("out of range") != std::string::npos;
   std::printf("%d failures\n", right ? 0 : 1);
   return right ? 0 : 1;
 }

@@ -3,11 +3,15 @@ _tltool() {
     local current=${COMP_WORDS[COMP_CWORD]} previous=${COMP_WORDS[COMP_CWORD-1]} options=
     COMPREPLY=()
     if ((COMP_CWORD == 1)); then
-        COMPREPLY=($(compgen -W 'decode monitor explain run help --help --version -h -V' -- "$current"))
+        COMPREPLY=($(compgen -W 'decode monitor explain run random help --help --version -h -V' -- "$current"))
         return
     fi
     if [[ $previous == --width ]]; then
         COMPREPLY=($(compgen -W '4 8 16' -- "$current"))
+        return
+    fi
+    if [[ $previous == --profile ]]; then
+        COMPREPLY=($(compgen -W '1 2' -- "$current"))
         return
     fi
     case ${COMP_WORDS[1]} in
@@ -15,9 +19,10 @@ _tltool() {
     monitor) options='--help -h' ;;
     explain) options='--help -h' ;;
     run) options='--trace --help -h' ;;
-    help) COMPREPLY=($(compgen -W 'decode monitor explain run' -- "$current")); return ;;
+    random) options='--seed --events --contend --clients --blocks --trackers --width --profile --help -h' ;;
+    help) COMPREPLY=($(compgen -W 'decode monitor explain run random' -- "$current")); return ;;
     esac
-    if [[ $current == -* ]]; then
+    if [[ $current == -* || ${COMP_WORDS[1]} == random ]]; then
         COMPREPLY=($(compgen -W "$options" -- "$current"))
     else
         compopt -o filenames 2>/dev/null

@@ -1,12 +1,8 @@
-pub mod Answer
 pub mod Client
 pub mod ClientOpened
-pub mod Depicted
 pub mod Handled
 pub mod Judged
-pub mod Named
+pub mod Manager
+pub mod ManagerOpened
 pub mod Opened
-pub mod Operation
-pub mod Outcome
-pub mod Picture
 pub mod Sessions

@@ -1,18 +1,14 @@
 //! A client of links of any width.
 
 ghost use Rattle.std.specs.Prelude.{◌≡◌};
-ghost use Rattle.hefrudyl.specs.statement.Client.{channel_at, Asked, OfferedOf, Stalls, Shows, ShowsBeat, Pops};
-ghost use Rattle.hefrudyl.specs.statement.Client.{Holds, Copies, Closed};
-ghost use Rattle.tl_beat.specs.statement.Width.{IsWidth};
+ghost use Rattle.hefrudyl.specs.statement.Client.{Asked, OfferedOf, Stalls, Shows, Pops, Holds, Copies, Closed};
 
-use crate::answer::Answer;
-use crate::depiction::picture_of;
-use crate::operation::Operation;
-use crate::outcome::{Outcome, Reception, number_of_perm};
-use crate::picture::Picture;
-use tl_beat::beat::Beat;
-use tl_beat::channel::Channel;
-use tl_monitor::fault::MonitorFault;
+use tl_pictures::answer::Answer;
+use tl_pictures::codes::channel_at;
+use tl_pictures::depiction::show;
+use tl_pictures::operation::Operation;
+use tl_pictures::outcome::{Outcome, Reception, number_of_perm};
+use tl_pictures::picture::Picture;
 use tl_ports::client::ClientPort;
 
 /// A client of a link whose beats have 4, 8 or 16 bytes, with the beats that it has still to send.
@@ -21,19 +17,6 @@ pub enum AnyPort {
     Four(ClientPort<4>),
     Eight(ClientPort<8>),
     Sixteen(ClientPort<16>),
-}
-
-fn channel_at(code: u8) -> Option<Channel>
-    ensures { result ≡ channel_at code }
-{
-    match code {
-        0 => Some(Channel::A),
-        1 => Some(Channel::B),
-        2 => Some(Channel::C),
-        3 => Some(Channel::D),
-        4 => Some(Channel::E),
-        _ => None,
-    }
 }
 
 /// Asks for an operation.
@@ -69,7 +52,7 @@ pub fn offer<const W: usize>(
     };
     match port.offer(beat.channel(), &beat) {
         Err(_) => Answer::NO_MEMORY,
-        Ok(Err(rule)) => Answer::of(Err(MonitorFault::Broken(rule))),
+        Ok(Err(rule)) => Answer::broken(rule),
         Ok(Ok(verdict)) => {
             *reception = Reception::of(verdict);
             Answer::OK
@@ -86,19 +69,6 @@ pub fn stalls<const W: usize>(port: &ClientPort<W>, picture: &Picture, stalled: 
     };
     *stalled = u8::from(port.stalls(beat.channel(), &beat));
     Answer::OK
-}
-
-fn show<const W: usize>(beat: Option<Beat<W>>, picture: &mut Picture) -> Answer
-    requires { IsWidth W }
-    ensures { ShowsBeat beat.entry picture.old picture.new result }
-{
-    match beat {
-        None => Answer::NOTHING,
-        Some(beat) => {
-            *picture = picture_of(&beat);
-            Answer::OK
-        }
-    }
 }
 
 /// Shows the next beat to send on a channel.

@@ -1,14 +1,13 @@
 //! A monitor of links of any width.
 
-ghost use Rattle.std.specs.Prelude.{◌≡◌};
 ghost use Rattle.tl_beat.specs.statement.Width.{IsWidth};
-ghost use Rattle.hefrudyl.specs.statement.Judged.{ToldOf, ToldOfAny, ToldOfBeat};
+ghost use Rattle.hefrudyl.specs.statement.Judged.{ToldOf, ToldOfLine, EntriesOf};
 
-use crate::answer::Answer;
-use crate::picture::Picture;
-use tl_beat::beat::{Beat, Link};
+use tl_beat::read::read_line;
 use tl_monitor::monitor::Monitor;
-use tl_rules::config::MOST_CLIENTS;
+use tl_pictures::answer::Answer;
+use tl_pictures::codes::link_at;
+use tl_pictures::picture::Picture;
 
 /// A monitor of links whose beats have 4, 8 or 16 bytes.
 #[derive(Drop)]
@@ -18,36 +17,40 @@ pub enum AnyMonitor {
     Sixteen(Monitor<16>),
 }
 
-fn judge<const W: usize>(monitor: &mut Monitor<W>, link: u8, beat: Option<Beat<W>>) -> Answer
+/// Judges a beat of a link.
+pub fn push<const W: usize>(monitor: &mut Monitor<W>, link: u8, picture: &Picture) -> Answer
     requires { IsWidth W }
-    ensures { ToldOfBeat monitor.old monitor.new link beat.entry result }
+    ensures { ToldOf monitor.old monitor.new link picture.now result }
 {
-    match beat {
+    let Some(link) = link_at(link) else {
+        return Answer::BAD;
+    };
+    let Some(beat) = picture.beat::<W>() else {
+        return Answer::BAD;
+    };
+    Answer::of(monitor.push(link, &beat))
+}
+
+/// Judges the beat of a line.
+pub fn push_line<const W: usize>(monitor: &mut Monitor<W>, line: &[u8]) -> Answer
+    requires { IsWidth W }
+    ensures { ToldOfLine monitor.old monitor.new line.now result }
+{
+    match read_line::<W>(line) {
+        Err(_) => Answer::BAD,
+        Ok((link, beat)) => Answer::of(monitor.push(link, &beat)),
+    }
+}
+
+/// How many keys are pending and blocks held on a link.
+pub fn entries<const W: usize>(monitor: &Monitor<W>, link: u8, entries: &mut u64) -> Answer
+    ensures { EntriesOf monitor.now link entries.old entries.new result }
+{
+    match link_at(link) {
         None => Answer::BAD,
-        Some(beat) => Answer::of(monitor.push(Link(link), &beat)),
-    }
-}
-
-fn push_to<const W: usize>(monitor: &mut Monitor<W>, link: u8, beat: &Picture) -> Answer
-    requires { IsWidth W }
-    ensures { ToldOf monitor.old monitor.new link beat.now result }
-{
-    if usize::from(link) < MOST_CLIENTS {
-        judge(monitor, link, beat.beat())
-    } else {
-        Answer::BAD
-    }
-}
-
-impl AnyMonitor {
-    /// Judges a beat of a link.
-    pub fn push(&mut self, link: u8, beat: &Picture) -> Answer
-        ensures { ToldOfAny self.old self.new link beat.now result }
-    {
-        match self {
-            AnyMonitor::Four(monitor) => push_to(monitor, link, beat),
-            AnyMonitor::Eight(monitor) => push_to(monitor, link, beat),
-            AnyMonitor::Sixteen(monitor) => push_to(monitor, link, beat),
+        Some(link) => {
+            *entries = monitor.entries(link) as u64;
+            Answer::OK
         }
     }
 }

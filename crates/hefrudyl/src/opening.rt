@@ -1,42 +1,21 @@
-//! What a monitor is made from, as C names it.
+//! What monitors, clients and managers are made from, as C names it.
 
-ghost use Rattle.std.specs.Prelude.{◌≡◌, map, IfOk, IsTrue};
+ghost use Rattle.std.specs.Prelude.{◌≡◌, ◌≤◌, map, length, IfOk};
 ghost use Rattle.tl_beat.specs.statement.Width.{IsWidth};
-ghost use Rattle.hefrudyl.specs.statement.Opened.{level_at, profile_at, are_levels, may_open, Makes};
+ghost use Rattle.hefrudyl.specs.statement.Opened.{may_open, Makes};
+ghost use Rattle.tl_pictures.specs.statement.Codes.{level_at};
 ghost use Rattle.hefrudyl.specs.statement.ClientOpened.{may_open_client, MakesClient};
+ghost use Rattle.hefrudyl.specs.statement.ManagerOpened.{may_open_manager, MakesManager};
 
-use crate::answer::Answer;
 use std::alloc::{AllocError, Global};
 use tl_monitor::monitor::Monitor;
+use tl_pictures::answer::Answer;
+use tl_pictures::codes::{are_levels, is_profile, is_width, level_of, profile_of};
+use tl_pictures::config::{LinkConfig, config_of, links_fit};
 use tl_ports::client::ClientPort;
+use tl_ports::manager::ManagerPort;
 use tl_rules::config::{ClientConfig, MOST_CLIENTS, NewFault};
 use tl_rules::level::Level;
-use tl_rules::profile::Profile;
-
-fn level_of(code: u8) -> Level
-    ensures { result ≡ level_at code }
-{
-    match code {
-        0 => Level::UL,
-        1 => Level::UH,
-        _ => Level::C,
-    }
-}
-
-fn profile_of(code: u8) -> Profile
-    ensures { result ≡ profile_at code }
-{
-    match code {
-        1 => Profile::One,
-        _ => Profile::Two,
-    }
-}
-
-fn are_levels(codes: &[u8]) -> bool
-    ensures { result ≡ are_levels codes.now }
-{
-    codes.iter().all(|code| *code < 3)
-}
 
 /// 1 to 16 levels, 0 to 2 each, a width of 4, 8 or 16 and a profile of 1 or 2.
 pub fn may_open(codes: &[u8], width: u8, profile: u8) -> bool
@@ -45,8 +24,8 @@ pub fn may_open(codes: &[u8], width: u8, profile: u8) -> bool
     1 <= codes.len()
         && codes.len() <= MOST_CLIENTS
         && are_levels(codes)
-        && (width == 4 || width == 8 || width == 16)
-        && (profile == 1 || profile == 2)
+        && is_width(width)
+        && is_profile(profile)
 }
 
 fn levels_of(alloc: Global, codes: &[u8]) -> Result<Vec<Level>, AllocError>
@@ -82,8 +61,8 @@ pub fn may_open_client(level: u8, blocks: u16, sources: u8, width: u8, profile: 
         && blocks <= 1024
         && 1 <= sources
         && sources <= 8
-        && (width == 4 || width == 8 || width == 16)
-        && (profile == 1 || profile == 2)
+        && is_width(width)
+        && is_profile(profile)
 }
 
 /// A client that has sent and taken nothing.
@@ -102,6 +81,48 @@ pub fn make_client<const W: usize>(
         sources,
     };
     match ClientPort::new(alloc, config, blocks, profile_of(profile)) {
+        Ok(port) => Ok(port),
+        Err(NewFault::Memory) => Err(Answer::NO_MEMORY),
+        Err(_) => Err(Answer::BAD),
+    }
+}
+
+/// 1 to 16 links, each with a level of 0 to 2 and 1 to 8 sources, 1 to 1,024 blocks, 1 to 8 trackers, a
+/// width of 4, 8 or 16 and a profile of 1 or 2.
+pub fn may_open_manager(
+    links: &[LinkConfig],
+    blocks: u16,
+    trackers: u8,
+    width: u8,
+    profile: u8,
+) -> bool
+    ensures { result ≡ may_open_manager links.now blocks trackers width profile }
+{
+    1 <= links.len()
+        && links.len() <= MOST_CLIENTS
+        && links_fit(links)
+        && 1 <= blocks
+        && blocks <= 1024
+        && 1 <= trackers
+        && trackers <= 8
+        && is_width(width)
+        && is_profile(profile)
+}
+
+/// A manager that has taken and handed out nothing, of at most 16 links.
+pub fn make_manager<const W: usize>(
+    alloc: Global,
+    links: &[LinkConfig],
+    blocks: u16,
+    trackers: u8,
+    profile: u8,
+) -> Result<ManagerPort<W>, Answer>
+    requires width { IsWidth W }
+    requires few { length links.now ≤ 16 }
+    ensures { MakesManager links.now blocks trackers profile result }
+{
+    let config = config_of(links, blocks, trackers, profile);
+    match ManagerPort::new(alloc, &config) {
         Ok(port) => Ok(port),
         Err(NewFault::Memory) => Err(Answer::NO_MEMORY),
         Err(_) => Err(Answer::BAD),

@@ -1,35 +1,41 @@
 //! What a handle holds.
 
-ghost use Rattle.std.specs.Prelude.{◌≡◌, Some};
-ghost use Rattle.hefrudyl.specs.statement.Judged.{MonitorTold};
 ghost use Rattle.hefrudyl.specs.statement.Opened.{OpensTo, ok_of, answer_in};
+ghost use Rattle.hefrudyl.specs.statement.Sessions.{PushSession, LineSession, EntriesSession};
 ghost use Rattle.hefrudyl.specs.statement.Sessions.{ClientOpens, AsksSession, OffersSession, StallsSession};
 ghost use Rattle.hefrudyl.specs.statement.Sessions.{NextSession, PopSession, HeldSession, CopySession, ClosedSession};
+ghost use Rattle.hefrudyl.specs.statement.Sessions.{ManagerOpens, AdmitsSession, StallsAtSession, NextAtSession};
+ghost use Rattle.hefrudyl.specs.statement.Sessions.{PopAtSession, ClosedAtSession};
 
-use crate::answer::Answer;
-use crate::client;
 use crate::client::AnyPort;
+use crate::manager::AnyManager;
 use crate::monitor::AnyMonitor;
-use crate::opening::{make, make_client, may_open, may_open_client};
-use crate::operation::Operation;
-use crate::outcome::{Outcome, Reception};
-use crate::picture::Picture;
+use crate::opening::{
+    make, make_client, make_manager, may_open, may_open_client, may_open_manager,
+};
+use crate::{client, manager, monitor};
 use std::alloc::Global;
+use tl_pictures::answer::Answer;
+use tl_pictures::config::LinkConfig;
+use tl_pictures::operation::Operation;
+use tl_pictures::outcome::{Outcome, Reception};
+use tl_pictures::picture::Picture;
 
-/// What a handle holds: a monitor, or a client with the beats that it has still to send.
+/// What a handle holds: a monitor, or a client or manager with the beats that it has still to send.
 #[derive(Drop)]
 pub enum Session {
     Monitor(AnyMonitor),
     Client(AnyPort),
+    Manager(AnyManager),
 }
 
-/// What a client of any width answers; bad input where no client is held.
-macro_rules! of_client {
-    ($session:expr, $port:ident => $answer:expr) => {
+/// What a monitor, client or manager of any width answers; bad input where none is held.
+macro_rules! of_any {
+    ($held:ident, $any:ident, $session:expr, $port:ident => $answer:expr) => {
         match $session {
-            Session::Client(AnyPort::Four($port)) => $answer,
-            Session::Client(AnyPort::Eight($port)) => $answer,
-            Session::Client(AnyPort::Sixteen($port)) => $answer,
+            Session::$held($any::Four($port)) => $answer,
+            Session::$held($any::Eight($port)) => $answer,
+            Session::$held($any::Sixteen($port)) => $answer,
             _ => Answer::BAD,
         }
     };
@@ -54,12 +60,23 @@ impl Session {
 
     /// Judges a beat of a link, where a monitor is held.
     pub fn push(&mut self, link: u8, beat: &Picture) -> Answer
-        ensures { MonitorTold (Some self.old) (Some self.new) link beat.now result }
+        ensures { PushSession link beat.now result self.old self.new }
     {
-        match self {
-            Session::Monitor(monitor) => monitor.push(link, beat),
-            _ => Answer::BAD,
-        }
+        of_any!(Monitor, AnyMonitor, self, held => monitor::push(held, link, beat))
+    }
+
+    /// Judges the beat of a line of a trace, where a monitor is held.
+    pub fn push_line(&mut self, line: &[u8]) -> Answer
+        ensures { LineSession line.now result self.old self.new }
+    {
+        of_any!(Monitor, AnyMonitor, self, held => monitor::push_line(held, line))
+    }
+
+    /// How many keys are pending and blocks held on a link of a monitor.
+    pub fn entries(&self, link: u8, entries: &mut u64) -> Answer
+        ensures { EntriesSession link entries.old entries.new result self.now }
+    {
+        of_any!(Monitor, AnyMonitor, self, held => monitor::entries(held, link, entries))
     }
 
     /// A new client of the level, with this many blocks and sources, on a link of the width.
@@ -89,55 +106,113 @@ impl Session {
     pub fn ask(&mut self, operation: &Operation, outcome: &mut Outcome) -> Answer
         ensures { AsksSession operation.now outcome.old outcome.new result self.old self.new }
     {
-        of_client!(self, port => client::ask(port, operation, outcome))
+        of_any!(Client, AnyPort, self, port => client::ask(port, operation, outcome))
     }
 
     /// Offers a client a beat.
     pub fn offer(&mut self, beat: &Picture, reception: &mut Reception) -> Answer
         ensures { OffersSession beat.now reception.old reception.new result self.old self.new }
     {
-        of_client!(self, port => client::offer(port, beat, reception))
+        of_any!(Client, AnyPort, self, port => client::offer(port, beat, reception))
     }
 
     /// Asks whether a beat would have to wait.
     pub fn stalls(&self, beat: &Picture, stalled: &mut u8) -> Answer
         ensures { StallsSession beat.now stalled.old stalled.new result self.now }
     {
-        of_client!(self, port => client::stalls(port, beat, stalled))
+        of_any!(Client, AnyPort, self, port => client::stalls(port, beat, stalled))
     }
 
     /// Shows the next beat that a client has to send on a channel.
     pub fn next(&self, channel: u8, beat: &mut Picture) -> Answer
         ensures { NextSession channel beat.old beat.new result self.now }
     {
-        of_client!(self, port => client::next(port, channel, beat))
+        of_any!(Client, AnyPort, self, port => client::next(port, channel, beat))
     }
 
     /// Shows it, and it is sent now.
     pub fn pop(&mut self, channel: u8, beat: &mut Picture) -> Answer
         ensures { PopSession channel beat.old beat.new result self.old self.new }
     {
-        of_client!(self, port => client::pop(port, channel, beat))
+        of_any!(Client, AnyPort, self, port => client::pop(port, channel, beat))
     }
 
     /// What a client holds of a block.
     pub fn held(&self, block: u16, perm: &mut u8) -> Answer
         ensures { HeldSession block perm.old perm.new result self.now }
     {
-        of_client!(self, port => client::held(port, block, perm))
+        of_any!(Client, AnyPort, self, port => client::held(port, block, perm))
     }
 
     /// The bytes of a client's copy of a block.
     pub fn copy(&self, block: u16, bytes: &mut [u8; 64]) -> Answer
         ensures { CopySession block bytes.old bytes.new result self.now }
     {
-        of_client!(self, port => client::copy(port, block, bytes))
+        of_any!(Client, AnyPort, self, port => client::copy(port, block, bytes))
     }
 
     /// Whether a client refused a beat.
     pub fn closed(&self, is_closed: &mut u8) -> Answer
         ensures { ClosedSession is_closed.old is_closed.new result self.now }
     {
-        of_client!(self, port => client::closed(port, is_closed))
+        of_any!(Client, AnyPort, self, port => client::closed(port, is_closed))
+    }
+
+    /// A new manager of these links, with this many blocks and trackers, whose beats have the width.
+    pub fn open_manager(
+        alloc: Global,
+        links: &[LinkConfig],
+        blocks: u16,
+        trackers: u8,
+        width: u8,
+        profile: u8,
+    ) -> Result<Session, Answer>
+        ensures told { ManagerOpens links.now blocks trackers width profile (ok_of result) (answer_in result) }
+    {
+        if !may_open_manager(links, blocks, trackers, width, profile) {
+            return Err(Answer::BAD);
+        }
+        let manager = match width {
+            4 => AnyManager::Four(make_manager(alloc, links, blocks, trackers, profile)?),
+            8 => AnyManager::Eight(make_manager(alloc, links, blocks, trackers, profile)?),
+            16 => AnyManager::Sixteen(make_manager(alloc, links, blocks, trackers, profile)?),
+            _ => return Err(Answer::BAD),
+        };
+        Ok(Session::Manager(manager))
+    }
+
+    /// Offers a manager a beat of a link.
+    pub fn offer_on(&mut self, link: u8, beat: &Picture, taken: &mut u8) -> Answer
+        ensures { AdmitsSession link beat.now taken.old taken.new result self.old self.new }
+    {
+        of_any!(Manager, AnyManager, self, port => manager::offer(port, link, beat, taken))
+    }
+
+    /// Asks whether a beat of a link would have to wait.
+    pub fn stalls_on(&self, link: u8, beat: &Picture, stalled: &mut u8) -> Answer
+        ensures { StallsAtSession link beat.now stalled.old stalled.new result self.now }
+    {
+        of_any!(Manager, AnyManager, self, port => manager::stalls(port, link, beat, stalled))
+    }
+
+    /// Shows the next beat that a manager has to send on a channel of a link.
+    pub fn next_on(&self, link: u8, channel: u8, beat: &mut Picture) -> Answer
+        ensures { NextAtSession link channel beat.old beat.new result self.now }
+    {
+        of_any!(Manager, AnyManager, self, port => manager::next(port, link, channel, beat))
+    }
+
+    /// Shows it, and it is sent now.
+    pub fn pop_on(&mut self, link: u8, channel: u8, beat: &mut Picture) -> Answer
+        ensures { PopAtSession link channel beat.old beat.new result self.old self.new }
+    {
+        of_any!(Manager, AnyManager, self, port => manager::pop(port, link, channel, beat))
+    }
+
+    /// Whether a link of a manager takes no beats.
+    pub fn closed_on(&self, link: u8, is_closed: &mut u8) -> Answer
+        ensures { ClosedAtSession link is_closed.old is_closed.new result self.now }
+    {
+        of_any!(Manager, AnyManager, self, port => manager::closed(port, link, is_closed))
     }
 }

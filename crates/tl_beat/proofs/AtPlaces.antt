@@ -47,6 +47,19 @@ field_of_two c1 c0 v1 v0 cs d1 d0 =
       behind_zero,
     ) refl
 
+-- the values of the fields before the address are those of digits
+abbrev head_digits : ℕ → ℕ → ℕ → ℕ → ℕ → ℕ → ℕ → Bool
+head_digits l1 l0 o p z s1 s0 =
+    ((nat_lt l1 16 && nat_lt l0 16) && (nat_lt s1 16 && nat_lt s0 16)) && ((nat_lt o 16 && nat_lt p 16) && nat_lt z 16)
+
+are_pairs : (a b c d : ℕ) → ((nat_lt a 16 && nat_lt b 16) && (nat_lt c 16 && nat_lt d 16)) ≡ true
+    → (a < 16) × (b < 16) × (c < 16) × (d < 16)
+are_pairs a b c d e =
+    let (ab, cd) = and_parts (nat_lt a 16 && nat_lt b 16) (nat_lt c 16 && nat_lt d 16) e in
+    let (is_a, is_b) = and_parts (nat_lt a 16) (nat_lt b 16) ab in
+    let (is_c, is_d) = and_parts (nat_lt c 16) (nat_lt d 16) cd in
+    (ltb-true a 16 is_a, ltb-true b 16 is_b, ltb-true c 16 is_c, ltb-true d 16 is_d)
+
 pub head_places : (bytes : List ℕ) (l1 l0 o p z s1 s0 : ℕ) → 14 ≤ length bytes
     → slice_index bytes 2 ≡ 32 → slice_index bytes 6 ≡ 32 → slice_index bytes 8 ≡ 32 → slice_index bytes 10 ≡ 32
     → slice_index bytes 13 ≡ 32
@@ -54,7 +67,7 @@ pub head_places : (bytes : List ℕ) (l1 l0 o p z s1 s0 : ℕ) → 14 ≤ length
     → o ≡ value_or_16 (slice_index bytes 5) → p ≡ value_or_16 (slice_index bytes 7)
     → z ≡ value_or_16 (slice_index bytes 9)
     → s1 ≡ value_or_16 (slice_index bytes 11) → s0 ≡ value_or_16 (slice_index bytes 12)
-    → l1 < 16 → l0 < 16 → o < 16 → p < 16 → z < 16 → s1 < 16 → s0 < 16
+    → head_digits l1 l0 o p z s1 s0 ≡ true
     → head_at bytes ≡ Ok (
       record { link = 16 * l1 + l0; opcode = o; param = p; size = z; source = 16 * s1 + s0 },
       take
@@ -62,7 +75,15 @@ pub head_places : (bytes : List ℕ) (l1 l0 o p z s1 s0 : ℕ) → 14 ≤ length
     )
 unfolding head_at
 head_places (x0 ∷ x1 ∷ x2 ∷ x3 ∷ x4 ∷ x5 ∷ x6 ∷ x7 ∷ x8 ∷ x9 ∷ x10 ∷ x11 ∷ x12 ∷ x13 ∷ rest) l1 l0 o p z s1 s0 long e2
-    e6 e8 e10 e13 v0 v1 v5 v7 v9 v11 v12 b0 b1 b5 b7 b9 b11 b12 =
+    e6 e8 e10 e13 v0 v1 v5 v7 v9 v11 v12 small =
+    let parts = and_parts ((nat_lt l1 16 && nat_lt l0 16) && (nat_lt s1 16 && nat_lt s0 16))
+    ((nat_lt o 16 && nat_lt p 16) && nat_lt z 16) small in
+    let (b0, b1, b11, b12) = are_pairs l1 l0 s1 s0 parts.0 in
+    let (op, is_z) = and_parts (nat_lt o 16 && nat_lt p 16) (nat_lt z 16) parts.1 in
+    let (is_o, is_p) = and_parts (nat_lt o 16) (nat_lt p 16) op in
+    let b5 = ltb-true o 16 is_o in
+    let b7 = ltb-true p 16 is_p in
+    let b9 = ltb-true z 16 is_z in
     let bytes = x0 ∷ x1 ∷ x2 ∷ x3 ∷ x4 ∷ x5 ∷ x6 ∷ x7 ∷ x8 ∷ x9 ∷ x10 ∷ x11 ∷ x12 ∷ x13 ∷ rest in
     rw (
       take_rest bytes 14,
@@ -78,7 +99,7 @@ head_places (x0 ∷ x1 ∷ x2 ∷ x3 ∷ x4 ∷ x5 ∷ x6 ∷ x7 ∷ x8 ∷ x9 �
       field_of_one x9 z (x11 ∷ x12 ∷ 32 ∷ rest) (digit_is x9 z v9 b9),
       field_of_two x11 x12 s1 s0 rest (digit_is x11 s1 v11 b11) (digit_is x12 s0 v12 b12),
     ) refl
-head_places bytes l1 l0 o p z s1 s0 long e2 e6 e8 e10 e13 v0 v1 v5 v7 v9 v11 v12 b0 b1 b5 b7 b9 b11 b12 =
+head_places bytes l1 l0 o p z s1 s0 long e2 e6 e8 e10 e13 v0 v1 v5 v7 v9 v11 v12 small =
     absurd (omega arith)
 
 -- four values of digits

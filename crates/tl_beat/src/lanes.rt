@@ -8,7 +8,8 @@ use std::simd::prelude::*;
 /// The eight lanes that sixteen digits spell, the last lane first.
 #[inline(always)]
 pub(crate) fn eight_lanes(field: &[u8]) -> Option<[u8; 8]>
-    ensures { IfSome result (λ lanes. (before rest : List ℕ) (n : ℕ) → lanes_at before (8 + n) (field.now ++ rest) ≡ lanes_at (lanes ++ before) n rest) }
+    ensures { IfSome result (λ lanes. (before rest : List ℕ) (n : ℕ) → lanes_at before (8 + n) (field.now ++ rest)
+        ≡ lanes_at (lanes ++ before) n rest) }
 {
     let [a, b, c, d, e, f, g, h, i, j, k, l, m, n, o, p] = field else {
         return None;

@@ -1,6 +1,7 @@
 //! Messages assembled from the beats of a channel.
 
-ghost use Rattle.std.specs.Prelude.{slice_get, ℕ, Bool, List, [], ◌∷◌, not, IsTrue, OnErr, OnOk, IfOk, if◌then◌else◌, option_to_list, ◌++◌, ◌==◌, IfSome, is_some, is_err, ◌≡◌, ◌<◌, ◌+◌};
+ghost use Rattle.std.specs.Prelude.{slice_get, ℕ, Bool, List, [], ◌∷◌, not, IsTrue, OnErr, OnOk, IfOk, if◌then◌else◌};
+ghost use Rattle.std.specs.Prelude.{option_to_list, ◌++◌, ◌==◌, IfSome, is_some, is_err, ◌≡◌, ◌<◌, ◌+◌};
 ghost use Rattle.std.specs.Bool.{OnTrue, OnFalse};
 ghost use Rattle.tl_beat.specs.declared.beat.Beat.{Beat};
 ghost use Rattle.tl_beat.specs.statement.Width.{IsWidth};

@@ -5,7 +5,8 @@ ghost use Rattle.tl_beat.specs.statement.Width.{IsWidth};
 ghost use Rattle.tl_burst.specs.statement.Burst;
 ghost use Rattle.tl_burst.specs.statement.Messages;
 ghost use Rattle.tl_burst.specs.statement.Part.{IsTakeable, is_small};
-ghost use Rattle.tl_burst.specs.statement.Burst.{data_beats, lanes_at, mask_at, bit, beat_of, a_beat_of, b_beat_of, c_beat_of, d_beat_of};
+ghost use Rattle.tl_burst.specs.statement.Burst.{data_beats, lanes_at, mask_at, bit, beat_of};
+ghost use Rattle.tl_burst.specs.statement.Burst.{a_beat_of, b_beat_of, c_beat_of, d_beat_of};
 
 use crate::message::{Message, MessageA, MessageB, MessageC, MessageD};
 use tl_beat::beat::{Beat, BeatA, BeatB, BeatC, BeatD, BeatE};

@@ -4,7 +4,8 @@ ghost use Rattle.std.specs.Prelude.{ℕ, Bool, IsTrue, ◌≡◌, ◌<◌, ◌�
 ghost use Rattle.tl_beat.specs.statement.Width.{IsWidth};
 ghost use Rattle.tl_beat.specs.declared.beat.Beat.TheVariants as beat;
 ghost use Rattle.tl_burst.specs.declared.message.Message.TheVariants as message;
-ghost use Rattle.tl_burst.specs.statement.Burst.{lanes_at, mask_at, bit, IsZeroFrom, IsBlankAfter, a_beat_of, b_beat_of, c_beat_of, d_beat_of, beat_of, beats_of};
+ghost use Rattle.tl_burst.specs.statement.Burst.{lanes_at, mask_at, bit, IsZeroFrom, IsBlankAfter, a_beat_of};
+ghost use Rattle.tl_burst.specs.statement.Burst.{b_beat_of, c_beat_of, d_beat_of, beat_of, beats_of};
 ghost use Rattle.tl_burst.specs.statement.Messages.{same_control};
 ghost use Rattle.tl_burst.specs.statement.Part.{IsTakeable};
 

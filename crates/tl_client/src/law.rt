@@ -1,6 +1,7 @@
 //! What a client may do, as laws.
 
-ghost use Rattle.std.specs.Prelude.{ℕ, if◌then◌else◌, ◌≡◌, ◌<◌, ◌≤◌, ◌+◌, ◌%◌, ◌^◌, ◌||◌, [], true, false, length, slice_index_or, List, Option, None, Some, Ok, Err};
+ghost use Rattle.std.specs.Prelude.{ℕ, if◌then◌else◌, ◌≡◌, ◌<◌, ◌≤◌, ◌+◌, ◌%◌, ◌^◌, ◌||◌, [], true};
+ghost use Rattle.std.specs.Prelude.{false, length, slice_index_or, List, Option, None, Some, Ok, Err};
 ghost use Rattle.tl_beat.specs.declared.beat.Beat.{Beat};
 ghost use Rattle.tl_beat.specs.declared.beat.BeatD.{BeatD};
 ghost use Rattle.tl_beat.specs.declared.channel.Channel.{Channel};
@@ -23,7 +24,8 @@ ghost use Rattle.tl_client.specs.declared.operation.Op.{Op};
 ghost use Rattle.tl_client.specs.declared.reply.Reply.TheVariants as reply;
 ghost use Rattle.tl_client.specs.declared.verdict.Verdict.TheVariants as verdict;
 ghost use Rattle.tl_client.specs.laws.Accounted.{IsAccounted};
-ghost use Rattle.tl_client.specs.laws.After.{heard, handed, is_refused, copy_left, copy_by, waiting_left, waiting_by, open_by, release_by, IsStarted};
+ghost use Rattle.tl_client.specs.laws.After.{heard, handed, is_refused, copy_left, copy_by};
+ghost use Rattle.tl_client.specs.laws.After.{waiting_left, waiting_by, open_by, release_by, IsStarted};
 ghost use Rattle.tl_client.specs.statement.Ask.{asked, busy, is_word, loaded, copy_stored};
 ghost use Rattle.tl_client.specs.laws.Bytes.{IsTypedOp, HasBytes};
 ghost use Rattle.tl_client.specs.statement.Endpoint.{EndConfig, Endpoint, copy_at, fresh, shut};
@@ -32,7 +34,8 @@ ghost use Rattle.tl_client.specs.statement.EndpointInvariant.{IsEndpointInvarian
 ghost use Rattle.tl_client.specs.laws.Held.{left_by, held_by};
 ghost use Rattle.tl_client.specs.statement.Requests.{open_beat, open_release};
 ghost use Rattle.tl_client.specs.laws.Sound.{IsSoundIfAny, IsSoundAnswer, IsProperIfAny, IsProperAnswer, IsLegalAfter};
-ghost use Rattle.tl_client.specs.statement.Offer.{offered, stalls, is_stalled, taken, waits, broken_before, broken_later};
+ghost use Rattle.tl_client.specs.statement.Offer.{offered, stalls, is_stalled, taken};
+ghost use Rattle.tl_client.specs.statement.Offer.{waits, broken_before, broken_later};
 
 /// A beat is stalled exactly where that is what is answered.
 pub fn stalls_as_answered<const W: usize>()
@@ -52,7 +55,8 @@ pub fn held_after_asked<const W: usize>()
 /// and the last beat of a Grant gives what its cap names.
 pub fn held_after_offered<const W: usize>()
     requires { IsWidth W }
-    ensures { (terms : EndConfig) (ch : Channel) (x : Beat W) (e : Endpoint W) (k : ℕ) → unfinished channel.C e.past ≡ [] →
+    ensures { (terms : EndConfig) (ch : Channel) (x : Beat W) (e : Endpoint W) (k : ℕ) →
+        unfinished channel.C e.past ≡ [] →
         held k (offered terms ch x e).after.past ≡ held_by (offered terms ch x e).answer x e.past k }
 {}
 
@@ -60,8 +64,10 @@ pub fn held_after_offered<const W: usize>()
 /// it is set.
 pub fn hands_out_sound_messages<const W: usize>()
     requires { IsWidth W }
-    ensures asked { (terms : EndConfig) (op : Op W) (e : Endpoint W) → IsSoundIfAny terms.level (asked terms op e).message }
-    ensures offered { (terms : EndConfig) (ch : Channel) (x : Beat W) (e : Endpoint W) → IsSoundAnswer terms.level (offered terms ch x e).answer }
+    ensures asked { (terms : EndConfig) (op : Op W) (e : Endpoint W) →
+        IsSoundIfAny terms.level (asked terms op e).message }
+    ensures offered { (terms : EndConfig) (ch : Channel) (x : Beat W) (e : Endpoint W) →
+        IsSoundAnswer terms.level (offered terms ch x e).answer }
 {}
 
 /// A client keeps what `IsEndpointInvariant` says: whole messages, a copy exactly where something is
@@ -69,13 +75,16 @@ pub fn hands_out_sound_messages<const W: usize>()
 pub fn keeps<const W: usize>()
     requires { IsWidth W }
     ensures fresh { IsEndpointInvariant (fresh {w = W}) }
-    ensures asked { (terms : EndConfig) (op : Op W) (e : Endpoint W) → IsEndpointInvariant e → IsEndpointInvariant (asked terms op e).after }
-    ensures offered { (terms : EndConfig) (ch : Channel) (x : Beat W) (e : Endpoint W) → IsEndpointInvariant e → IsEndpointInvariant (offered terms ch x e).after }
+    ensures asked { (terms : EndConfig) (op : Op W) (e : Endpoint W) → IsEndpointInvariant e →
+        IsEndpointInvariant (asked terms op e).after }
+    ensures offered { (terms : EndConfig) (ch : Channel) (x : Beat W) (e : Endpoint W) → IsEndpointInvariant e →
+        IsEndpointInvariant (offered terms ch x e).after }
 {}
 
 /// The source that an operation starts with is one of the client's.
 pub fn starts_with_own_sources<const W: usize>()
-    ensures { (terms : EndConfig) (op : Op W) (e : Endpoint W) (s : ℕ) → (asked terms op e).reply ≡ reply.Started s → s < terms.sources }
+    ensures { (terms : EndConfig) (op : Op W) (e : Endpoint W) (s : ℕ) → (asked terms op e).reply ≡ reply.Started s →
+        s < terms.sources }
 {}
 
 /// The history after a call is that before it, with the beat where it was taken, and then with all
@@ -84,8 +93,10 @@ pub fn remembers_what_passes<const W: usize>()
     ensures asked { (terms : EndConfig) (op : Op W) (e : Endpoint W) →
         (asked terms op e).after.past ≡ sent_if_any (asked terms op e).message e.past }
     ensures offered { (terms : EndConfig) (ch : Channel) (x : Beat W) (e : Endpoint W) →
-        (offered terms ch x e).after.past ≡ sent_if_any (handed (offered terms ch x e).answer) (heard (offered terms ch x e).answer x e.past) }
-    ensures asked_closed { (terms : EndConfig) (op : Op W) (e : Endpoint W) → (asked terms op e).after.closed ≡ e.closed }
+        (offered terms ch x e).after.past
+        ≡ sent_if_any (handed (offered terms ch x e).answer) (heard (offered terms ch x e).answer x e.past) }
+    ensures asked_closed { (terms : EndConfig) (op : Op W) (e : Endpoint W) → (asked terms op e).after.closed
+        ≡ e.closed }
     ensures offered_closed { (terms : EndConfig) (ch : Channel) (x : Beat W) (e : Endpoint W) →
         (offered terms ch x e).after.closed ≡ (e.closed || is_refused (offered terms ch x e).answer) }
 {}
@@ -111,17 +122,21 @@ pub fn pending_after_asked<const W: usize>()
     ensures pending { (terms : EndConfig) (op : Op W) (e : Endpoint W) (key : Key) → IsEndpointInvariant e →
         History.pending key (asked terms op e).after.past ≡ pending_if_any key (asked terms op e).message e.past }
     ensures request { (terms : EndConfig) (op : Op W) (e : Endpoint W) (s : ℕ) → IsEndpointInvariant e →
-        History.request_of s (asked terms op e).after.past ≡ request_if_any s (asked terms op e).message (History.request_of s e.past) }
+        History.request_of s (asked terms op e).after.past
+        ≡ request_if_any s (asked terms op e).message (History.request_of s e.past) }
     ensures release { (terms : EndConfig) (op : Op W) (e : Endpoint W) (s : ℕ) → IsEndpointInvariant e →
-        History.release_of s (asked terms op e).after.past ≡ release_if_any s (asked terms op e).message (History.release_of s e.past) }
+        History.release_of s (asked terms op e).after.past
+        ≡ release_if_any s (asked terms op e).message (History.release_of s e.past) }
 {}
 
 /// And after a beat, by its answer. Requests and Releases are as before.
 pub fn pending_after_offered<const W: usize>()
     requires { IsWidth W }
-    ensures unfinished { (terms : EndConfig) (ch : Channel) (x : Beat W) (e : Endpoint W) (at : Channel) → IsEndpointInvariant e →
+    ensures unfinished { (terms : EndConfig) (ch : Channel) (x : Beat W) (e : Endpoint W) (at : Channel) →
+        IsEndpointInvariant e →
         unfinished at (offered terms ch x e).after.past ≡ unfinished at (heard (offered terms ch x e).answer x e.past) }
-    ensures pending { (terms : EndConfig) (ch : Channel) (x : Beat W) (e : Endpoint W) (key : Key) → IsEndpointInvariant e →
+    ensures pending { (terms : EndConfig) (ch : Channel) (x : Beat W) (e : Endpoint W) (key : Key) →
+        IsEndpointInvariant e →
         History.pending key (offered terms ch x e).after.past
         ≡ pending_if_any key (handed (offered terms ch x e).answer) (heard (offered terms ch x e).answer x e.past) }
     ensures request { (terms : EndConfig) (ch : Channel) (x : Beat W) (e : Endpoint W) (s : ℕ) → IsEndpointInvariant e →
@@ -136,10 +151,12 @@ pub fn open_after_calls<const W: usize>()
     ensures asked { (terms : EndConfig) (op : Op W) (e : Endpoint W) (s : ℕ) → IsEndpointInvariant e →
         open_beat s (asked terms op e).after.past ≡ request_if_any s (asked terms op e).message (open_beat s e.past) }
     ensures asked_release { (terms : EndConfig) (op : Op W) (e : Endpoint W) (s : ℕ) → IsEndpointInvariant e →
-        open_release s (asked terms op e).after.past ≡ release_if_any s (asked terms op e).message (open_release s e.past) }
+        open_release s (asked terms op e).after.past
+        ≡ release_if_any s (asked terms op e).message (open_release s e.past) }
     ensures offered { (terms : EndConfig) (ch : Channel) (x : Beat W) (e : Endpoint W) (s : ℕ) → IsEndpointInvariant e →
         open_beat s (offered terms ch x e).after.past ≡ open_by s (offered terms ch x e).answer x e.past }
-    ensures offered_release { (terms : EndConfig) (ch : Channel) (x : Beat W) (e : Endpoint W) (s : ℕ) → IsEndpointInvariant e →
+    ensures offered_release { (terms : EndConfig) (ch : Channel) (x : Beat W) (e : Endpoint W) (s : ℕ) →
+        IsEndpointInvariant e →
         open_release s (offered terms ch x e).after.past ≡ release_by s (offered terms ch x e).answer x e.past }
 {}
 
@@ -149,8 +166,10 @@ pub fn open_after_calls<const W: usize>()
 pub fn keeps_account<const W: usize>()
     requires { IsWidth W }
     ensures fresh { IsAccounted {w = W} [] }
-    ensures asked { (terms : EndConfig) (op : Op W) (e : Endpoint W) → IsEndpointInvariant e → IsAccounted e.past → IsAccounted (asked terms op e).after.past }
-    ensures offered { (terms : EndConfig) (ch : Channel) (x : Beat W) (e : Endpoint W) → IsEndpointInvariant e → IsAccounted e.past → IsAccounted (offered terms ch x e).after.past }
+    ensures asked { (terms : EndConfig) (op : Op W) (e : Endpoint W) → IsEndpointInvariant e → IsAccounted e.past →
+        IsAccounted (asked terms op e).after.past }
+    ensures offered { (terms : EndConfig) (ch : Channel) (x : Beat W) (e : Endpoint W) → IsEndpointInvariant e →
+        IsAccounted e.past → IsAccounted (offered terms ch x e).after.past }
 {}
 
 /// A client asks for and holds blocks of the map alone, none at TL-UL and TL-UH, and its sources are
@@ -158,22 +177,28 @@ pub fn keeps_account<const W: usize>()
 pub fn keeps_inside<const W: usize>()
     requires { IsWidth W }
     ensures fresh { (terms : EndConfig) → IsInside {w = W} terms [] }
-    ensures asked { (terms : EndConfig) (op : Op W) (e : Endpoint W) → IsEndpointInvariant e → IsInside terms e.past → IsInside terms (asked terms op e).after.past }
-    ensures offered { (terms : EndConfig) (ch : Channel) (x : Beat W) (e : Endpoint W) → IsEndpointInvariant e → IsInside terms e.past → IsInside terms (offered terms ch x e).after.past }
+    ensures asked { (terms : EndConfig) (op : Op W) (e : Endpoint W) → IsEndpointInvariant e → IsInside terms e.past →
+        IsInside terms (asked terms op e).after.past }
+    ensures offered { (terms : EndConfig) (ch : Channel) (x : Beat W) (e : Endpoint W) → IsEndpointInvariant e →
+        IsInside terms e.past → IsInside terms (offered terms ch x e).after.past }
 {}
 
 /// A message is handed out for an operation exactly where it started, with the source that the reply
 /// names, which was free.
 pub fn starts_with_a_message<const W: usize>()
-    ensures { (terms : EndConfig) (op : Op W) (e : Endpoint W) → IsStarted (asked terms op e).reply (asked terms op e).message e.past }
+    ensures { (terms : EndConfig) (op : Op W) (e : Endpoint W) →
+        IsStarted (asked terms op e).reply (asked terms op e).message e.past }
 {}
 
 /// A busy client, a miss, a Load and a stall change nothing, and a refusal closes the link and changes
 /// nothing else.
 pub fn changes_nothing<const W: usize>()
-    ensures busy { (terms : EndConfig) (op : Op W) (e : Endpoint W) (b : Busy) → (asked terms op e).reply ≡ reply.Busy b → (asked terms op e).after ≡ e }
-    ensures miss { (terms : EndConfig) (op : Op W) (e : Endpoint W) → (asked terms op e).reply ≡ reply.Miss → (asked terms op e).after ≡ e }
-    ensures load { (terms : EndConfig) (address size : ℕ) (e : Endpoint W) → (asked terms (Op.Load address size) e).after ≡ e }
+    ensures busy { (terms : EndConfig) (op : Op W) (e : Endpoint W) (b : Busy) →
+        (asked terms op e).reply ≡ reply.Busy b → (asked terms op e).after ≡ e }
+    ensures miss { (terms : EndConfig) (op : Op W) (e : Endpoint W) → (asked terms op e).reply ≡ reply.Miss →
+        (asked terms op e).after ≡ e }
+    ensures load { (terms : EndConfig) (address size : ℕ) (e : Endpoint W) →
+        (asked terms (Op.Load address size) e).after ≡ e }
     ensures stall { (terms : EndConfig) (ch : Channel) (x : Beat W) (e : Endpoint W) (m : Option (Message W)) →
         (offered terms ch x e).answer ≡ Ok (verdict.Stalled, m) → (offered terms ch x e).after ≡ e }
     ensures refusal { (terms : EndConfig) (ch : Channel) (x : Beat W) (e : Endpoint W) (rule : Rule) →
@@ -183,23 +208,29 @@ pub fn changes_nothing<const W: usize>()
 /// A beat that breaks no rule and doesn't wait is taken, and one of channel D never waits.
 pub fn takes_what_is_lawful<const W: usize>()
     ensures taken { (terms : EndConfig) (ch : Channel) (x : Beat W) (e : Endpoint W) →
-        broken_before terms ch x e ≡ None → waits x e.past ≡ false → broken_later terms x e ≡ None → offered terms ch x e ≡ taken x e }
-    ensures never_d { (terms : EndConfig) (ch : Channel) (x : BeatD W) (e : Endpoint W) → stalls terms ch (Beat.D x) e ≡ false }
+        broken_before terms ch x e ≡ None → waits x e.past ≡ false → broken_later terms x e ≡ None →
+        offered terms ch x e ≡ taken x e }
+    ensures never_d { (terms : EndConfig) (ch : Channel) (x : BeatD W) (e : Endpoint W) →
+        stalls terms ch (Beat.D x) e ≡ false }
 {}
 
 /// A client keeps blocks of 64 bytes, as copies and for its Grants.
 pub fn keeps_blocks<const W: usize>()
     requires { IsWidth W }
     ensures fresh { HasBytes (fresh {w = W}) }
-    ensures asked { (terms : EndConfig) (op : Op W) (e : Endpoint W) → IsEndpointInvariant e → IsTypedOp op → HasBytes e → HasBytes (asked terms op e).after }
-    ensures offered { (terms : EndConfig) (ch : Channel) (x : Beat W) (e : Endpoint W) → IsEndpointInvariant e → IsTyped x → HasBytes e → HasBytes (offered terms ch x e).after }
+    ensures asked { (terms : EndConfig) (op : Op W) (e : Endpoint W) → IsEndpointInvariant e → IsTypedOp op →
+        HasBytes e → HasBytes (asked terms op e).after }
+    ensures offered { (terms : EndConfig) (ch : Channel) (x : Beat W) (e : Endpoint W) → IsEndpointInvariant e →
+        IsTyped x → HasBytes e → HasBytes (offered terms ch x e).after }
 {}
 
 /// A message that is handed out has 64 bytes, is zero where no beat carries it, and is of the map.
 pub fn hands_out_proper_messages<const W: usize>()
     requires { IsWidth W }
-    ensures asked { (terms : EndConfig) (op : Op W) (e : Endpoint W) → IsTypedOp op → HasBytes e → IsProperIfAny terms.blocks (asked terms op e).message }
-    ensures offered { (terms : EndConfig) (ch : Channel) (x : Beat W) (e : Endpoint W) → HasBytes e → IsProperAnswer terms.blocks (offered terms ch x e).answer }
+    ensures asked { (terms : EndConfig) (op : Op W) (e : Endpoint W) → IsTypedOp op → HasBytes e →
+        IsProperIfAny terms.blocks (asked terms op e).message }
+    ensures offered { (terms : EndConfig) (ch : Channel) (x : Beat W) (e : Endpoint W) → HasBytes e →
+        IsProperAnswer terms.blocks (offered terms ch x e).answer }
 {}
 
 /// No beat of a message that is handed out breaks a rule after the history of the client's end, to which
@@ -208,17 +239,22 @@ pub fn breaks_no_rule<const W: usize>()
     requires { IsWidth W }
     ensures asked { (terms : EndConfig) (op : Op W) (e : Endpoint W) → IsEndpointInvariant e →
         IsLegalAfter terms.level terms.profile (asked terms op e).message e.past }
-    ensures offered { (terms : EndConfig) (ch : Channel) (x : Beat W) (e : Endpoint W) → IsEndpointInvariant e → IsAccounted e.past →
-        IsLegalAfter terms.level terms.profile (handed (offered terms ch x e).answer) (heard (offered terms ch x e).answer x e.past) }
+    ensures offered { (terms : EndConfig) (ch : Channel) (x : Beat W) (e : Endpoint W) → IsEndpointInvariant e →
+        IsAccounted e.past →
+        IsLegalAfter terms.level terms.profile (handed (offered terms ch x e).answer)
+        (heard (offered terms ch x e).answer x e.past) }
 {}
 
 /// A Load reads the number of the copy's bytes, and a Store is done where Trunk is held; either misses
 /// where too little is held.
 pub fn reads_its_copy<const W: usize>()
-    ensures load { (terms : EndConfig) (address size : ℕ) (e : Endpoint W) → busy terms (Op.Load address size) e ≡ None →
+    ensures load { (terms : EndConfig) (address size : ℕ) (e : Endpoint W) → busy terms (Op.Load address size) e
+        ≡ None →
         (asked terms (Op.Load address size) e).reply
-        ≡ (if holds (held (block_at address) e.past) then reply.Value (loaded address size (copy_at e (block_at address))) else reply.Miss) }
-    ensures store { (terms : EndConfig) (address size value : ℕ) (e : Endpoint W) → busy terms (Op.Store address size value) e ≡ None →
+        ≡ (if holds (held (block_at address) e.past) then reply.Value
+        (loaded address size (copy_at e (block_at address))) else reply.Miss) }
+    ensures store { (terms : EndConfig) (address size value : ℕ) (e : Endpoint W) →
+        busy terms (Op.Store address size value) e ≡ None →
         (asked terms (Op.Store address size value) e).reply
         ≡ (if same_perm perm.Trunk (held (block_at address) e.past) then reply.Stored else reply.Miss) }
 {}
@@ -227,10 +263,13 @@ pub fn reads_its_copy<const W: usize>()
 pub fn stores_its_bytes()
     ensures long { (address size value : ℕ) (copy : List ℕ) → is_word address size ≡ true → length copy ≡ 64 →
         length (copy_stored address size value copy) ≡ 64 }
-    ensures inside { (address size value j : ℕ) (copy : List ℕ) → is_word address size ≡ true → length copy ≡ 64 → j < 2 ^ size →
+    ensures inside { (address size value j : ℕ) (copy : List ℕ) → is_word address size ≡ true → length copy ≡ 64 →
+        j < 2 ^ size →
         slice_index_or (copy_stored address size value copy) (address % 64 + j) 0 ≡ byte_of value j }
-    ensures below { (address size value i : ℕ) (copy : List ℕ) → is_word address size ≡ true → length copy ≡ 64 → i < address % 64 →
+    ensures below { (address size value i : ℕ) (copy : List ℕ) → is_word address size ≡ true → length copy ≡ 64 →
+        i < address % 64 →
         slice_index_or (copy_stored address size value copy) i 0 ≡ slice_index_or copy i 0 }
-    ensures above { (address size value i : ℕ) (copy : List ℕ) → is_word address size ≡ true → length copy ≡ 64 → address % 64 + 2 ^ size ≤ i →
+    ensures above { (address size value i : ℕ) (copy : List ℕ) → is_word address size ≡ true → length copy ≡ 64 →
+        address % 64 + 2 ^ size ≤ i →
         slice_index_or (copy_stored address size value copy) i 0 ≡ slice_index_or copy i 0 }
 {}

@@ -29,7 +29,8 @@ pub fn check_alone<const W: usize>(
     beat: &Beat<W>,
 ) -> Result<(), Rule>
     requires { IsWidth W }
-    ensures rule { result ≡ ok_unless (first_if closed A3 (first_if (is_sent_on channel) L1 (illegal level channel beat.now))) }
+    ensures rule { result ≡ ok_unless
+        (first_if closed A3 (first_if (is_sent_on channel) L1 (illegal level channel beat.now))) }
     ensures takeable { OnOk result (IsTakeable beat.now) }
 {
     if closed {

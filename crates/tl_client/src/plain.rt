@@ -84,7 +84,8 @@ impl<const W: usize> Plain<W> {
         requires takeable { IsTakeable beat.now }
         requires legal { illegal self.now.config.level Channel.D beat.now ≡ None }
         ensures rule { (e : Endpoint W) → KnowsPlain self.now e →
-            result ≡ ok_unless (order_rule response.entry (open_at self.now.requests response.entry.source) self.now.responses) }
+            result ≡ ok_unless (order_rule response.entry (open_at self.now.requests response.entry.source)
+            self.now.responses) }
         ensures continues { OnOk result (breaks_burst beat.now self.now.responses ≡ false) }
     {
         let part = self.responses.peek(beat);
@@ -100,7 +101,8 @@ impl<const W: usize> Plain<W> {
     /// The first rule that a beat breaks. Only channel D comes to this client.
     fn judge(&self, channel: Channel, beat: &Beat<W>) -> Result<(), Rule>
         ensures rule { (e : Endpoint W) → KnowsPlain self.now e →
-            result ≡ ok_unless (plain_rule self.now.config.level (open_at self.now.requests) self.now.responses self.now.closed channel beat.now) }
+            result ≡ ok_unless (plain_rule self.now.config.level (open_at self.now.requests) self.now.responses
+            self.now.closed channel beat.now) }
         ensures takeable { OnOk result (IsTakeable beat.now) }
         ensures continues { OnOk result (breaks_burst beat.now self.now.responses ≡ false) }
     {

@@ -53,7 +53,8 @@ fn bytes_at<const W: usize>(address: u32, size: u8, payload: &[u8; 64]) -> [u8; 
 /// How the operation at this address ends, by its response.
 pub fn finish_of<const W: usize>(response: &MessageD<W>, address: u32) -> Finish
     requires { IsWidth W }
-    ensures value { result ≡ Offer.finish_of W response.now.opcode response.now.param response.now.size address response.now.payload }
+    ensures value { result ≡ Offer.finish_of W response.now.opcode response.now.param response.now.size address
+        response.now.payload }
     ensures long { response.now.opcode ≡ OpD.AccessAckData → length response.now.payload ≡ 64 }
 {
     match response.opcode {
@@ -104,7 +105,8 @@ pub fn close<const W: usize>(
     requires { IsWidth W }
     ensures request { result.0 ≡ open_at requests.old response.now.source }
     ensures verdict { result.1 ≡ done_with (in_message response.now) W (open_at requests.old response.now.source) }
-    ensures closed { (s : ℕ) → open_at requests.new s ≡ (if response.now.source == s then None else open_at requests.old s) }
+    ensures closed { (s : ℕ) →
+        open_at requests.new s ≡ (if response.now.source == s then None else open_at requests.old s) }
 {
     let request = requests.close(response.source);
     let address = match request {

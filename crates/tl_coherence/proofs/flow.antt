@@ -2,6 +2,7 @@ pub mod ChannelA
 pub mod ChannelB
 pub mod ChannelCE
 pub mod ChannelD
+pub mod Excluded
 pub mod FlowAccess
 pub mod FlowAcquired
 pub mod FlowAlone
@@ -28,6 +29,15 @@ pub mod FlowSame
 pub mod FlowSinks
 pub mod FlowStep
 pub mod FlowSunk
+pub mod FlowTaken
 pub mod FlowTraces
 pub mod Flows
+pub mod GivenAlone
+pub mod HiddenStore
 pub mod Imports
+pub mod NextOnD
+pub mod Renewed
+pub mod TrueGrant
+pub mod TrueRead
+pub mod TrueReturn
+pub mod Windowed

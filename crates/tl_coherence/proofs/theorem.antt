@@ -1,8 +1,9 @@
 pub mod AccessEnds
 pub mod Allowing
 pub mod Continuing
+pub mod Imports
 pub mod LoneAcquireEnds
 pub mod LoneAcquireSteps
 pub mod Machined
+pub mod Performed
 pub mod Soundness
-pub mod Imports

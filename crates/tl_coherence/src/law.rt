@@ -1,12 +1,20 @@
 //! What keeps a world coherent, as laws.
 
 ghost use Rattle.tl_beat.specs.statement.Width.{IsWidth};
+ghost use Rattle.tl_coherence.specs.statement.AnsweredInTime.{AnsweredInTime};
 ghost use Rattle.tl_coherence.specs.statement.Delivery.{Fifo, CapacityBound, Faultless, Flows, Stalls};
-ghost use Rattle.tl_coherence.specs.statement.Draining.{LoneAcquire, LoneAcquireWhole, DeliveryBound, DrainsWithinLoad, GrantedIsHeld};
+ghost use Rattle.tl_coherence.specs.statement.Draining.{LoneAcquire, LoneAcquireWhole, DeliveryBound};
+ghost use Rattle.tl_coherence.specs.statement.Draining.{DrainsWithinLoad, GrantedIsHeld};
 ghost use Rattle.tl_coherence.specs.statement.Headline.{Headline, OneMemory, Unrefused, Coherent, NoDeadlock};
+ghost use Rattle.tl_coherence.specs.statement.HiddenStores.{HiddenStores};
+ghost use Rattle.tl_coherence.specs.statement.OneWriter.{Apart};
+ghost use Rattle.tl_coherence.specs.statement.PerformedFree.{PerformedFree};
 ghost use Rattle.tl_coherence.specs.statement.Ranged.{AreInRange, HaveRoom};
 ghost use Rattle.tl_coherence.specs.statement.Recorded.{Recorded};
 ghost use Rattle.tl_coherence.specs.statement.Theorem.{Theorem};
+ghost use Rattle.tl_coherence.specs.statement.TrueGrants.{TrueGrants};
+ghost use Rattle.tl_coherence.specs.statement.TrueReads.{TrueReads};
+ghost use Rattle.tl_coherence.specs.statement.TrueReturns.{TrueReturns};
 
 /// Whatever happens, no client holds more of a block than the manager has recorded for it.
 pub fn holds_at_most_what_is_recorded<const W: usize>()
@@ -81,7 +89,8 @@ pub fn moves_at_most_the_load<const W: usize>()
     ensures { DeliveryBound W }
 {}
 
-/// What is outstanding ends after as many deliveries as the load at most, each the next one, and then no delivery is left.
+/// What is outstanding ends after as many deliveries as the load at most, each the next one, and then no delivery is
+/// left.
 pub fn drains_within_the_load<const W: usize>()
     requires { IsWidth W }
     ensures { DrainsWithinLoad W }
@@ -97,6 +106,49 @@ pub fn breaks_no_rule_on_a_link<const W: usize>()
 pub fn has_no_fault_on_all_links<const W: usize>()
     requires { IsWidth W }
     ensures { Faultless W }
+{}
+
+/// What all links carry gives nobody a block that another may write, nor to write what another holds.
+pub fn grants_beside_no_writer<const W: usize>()
+    requires { IsWidth W }
+    ensures { Apart W }
+{}
+
+/// Each access is answered after a moment, since its request was complete, at which no link held what excludes it.
+pub fn answers_after_a_window<const W: usize>()
+    requires { IsWidth W }
+    ensures { AnsweredInTime W }
+{}
+
+/// Each beat of a GrantData that is delivered has the bytes of the one memory at that moment.
+pub fn grants_true_bytes<const W: usize>()
+    requires { IsWidth W }
+    ensures { TrueGrants W }
+{}
+
+/// Each beat of a ProbeAckData or ReleaseData that is delivered has the bytes of the one memory at that moment.
+pub fn gives_back_true_bytes<const W: usize>()
+    requires { IsWidth W }
+    ensures { TrueReturns W }
+{}
+
+/// Each beat of an AccessAckData that is delivered has bytes that the one memory had at a moment, since the request
+/// was complete, at which no link held what excludes it.
+pub fn reads_true_bytes<const W: usize>()
+    requires { IsWidth W }
+    ensures { TrueReads W }
+{}
+
+/// A client stores to its copy, which no link carries, only where its link holds Trunk of the block.
+pub fn stores_under_trunk<const W: usize>()
+    requires { IsWidth W }
+    ensures { HiddenStores W }
+{}
+
+/// An access is performed alone, at a moment at which no link holds what excludes it.
+pub fn performs_where_free<const W: usize>()
+    requires { IsWidth W }
+    ensures { PerformedFree W }
 {}
 
 /// Each beat that is delivered has room in its line and, where clients are given bytes to store, is

@@ -1,4 +1,10 @@
 //! What the program can be asked to do: for those who read it from words, and for those who do it.
 #![tactic(auto)]
 
+mod clients;
 pub mod command;
+mod number;
+pub mod random;
+pub mod random_words;
+pub mod task;
+pub mod width_word;

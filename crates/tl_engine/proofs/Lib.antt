@@ -1,7 +1,10 @@
+pub mod Explaining
 pub mod FirstLine
+pub mod GivenUp
 pub mod InputLines
 pub mod Parts
 pub mod Progress
+pub mod Replaying
 pub mod Runs
 pub mod Decoded
 pub mod Headers
@@ -12,6 +15,7 @@ pub mod Played
 mod PlayedOnce
 pub mod Playing
 pub mod SaidLines
+pub mod SoFar
 pub mod Writable
 mod Told
 mod TraceClean

@@ -1,10 +1,10 @@
 -- Bytes that were written in part.
-use Rattle.std.proofs.Common.{◌≡◌, ℕ, List, ◌++◌, take, drop, append_assoc, sym}
+use Rattle.std.proofs.Common.{◌≡◌, ◌<◌, ℕ, zero, suc, List, [], ◌∷◌, ◌++◌, length, take, drop, append_assoc, sym, arith}
 use Rattle.std.proofs.lemmas.List.{take-append-drop}
 use Rattle.std.proofs.KnownBytes.{Appends-trans}
 use Rattle.std.specs.Io.KnownBytes.{Appends}
 use Rattle.std.specs.Prelude.{Option}
-use Rattle.tl_engine.specs.code.Parts.{AppendsPart}
+use Rattle.tl_engine.specs.code.Parts.{AppendsPart, AppendsShort}
 
 pub part_of : (a b : Option (List ℕ)) (n : ℕ) (bytes : List ℕ) → Appends a b (take n bytes) → AppendsPart a b bytes
 part_of a b n bytes p = (take n bytes, drop n bytes, take-append-drop n bytes, p)
@@ -18,3 +18,15 @@ part_more a b c done next rest whole p (front, left, cut, q) e =
 -- a part, where more was to be written
 pub longer : (a b : Option (List ℕ)) (out rest : List ℕ) → AppendsPart a b out → AppendsPart a b (out ++ rest)
 longer a b out rest (front, left, cut, p) = (front, left ++ rest, rw (← cut) (sym (append_assoc front left rest)), p)
+
+pub short_part : (a b : Option (List ℕ)) (bytes : List ℕ) → AppendsShort a b bytes → AppendsPart a b bytes
+short_part a b bytes (front, rest, cut, some, p) = (front, rest, cut, p)
+
+pub short_of : (a b : Option (List ℕ)) (n : ℕ) (bytes : List ℕ) → n < length bytes → Appends a b (take n bytes)
+    → AppendsShort a b bytes
+short_of a b n bytes less p = (take n bytes, drop n bytes, take-append-drop n bytes, left n bytes less, p)
+  where
+    left : (n : ℕ) (bytes : List ℕ) → n < length bytes → drop n bytes ≡ [] → ⊥
+    left n [] less none = absurd (omega arith)
+    left zero (b ∷ bytes) less none = absurd cc
+    left (suc n) (b ∷ bytes) less none = left n bytes (omega arith) none

@@ -72,7 +72,8 @@ module _ {H : Type 0} (knows : H → List (List ℕ) → List ℕ → Type 0) (t
           );
         }
     feeds_line old new line was is Broken ends none counts = λ read before p more.
-        rw (cut_line old read (before ++ was) line more p ends) (counts p.lines before p.known p.counted (lines_of more))
+        rw (cut_line old read (before ++ was) line more p ends)
+        (counts p.lines before p.known p.counted (lines_of more))
 
     -- the same, where no beginning of the line came before
     pub feeds_at_hand : (r : Result Status ToolFault) (old new : Lines H) (line was is : List ℕ) → IsLine line
@@ -98,7 +99,8 @@ module _ {H : Type 0} (knows : H → List (List ℕ) → List ℕ → Type 0) (t
         let all : lines_of ((read ++ piece) ++ more) ≡ p.lines ++ (begun ++ found.0) ∷ found.1 =
         ap lines_of (append_assoc read piece more) ∙ p.cut (piece ++ more) ∙ ap
         (λ (rest : List ℕ). p.lines ++ lines_of rest) same ∙ ap (λ (rest : List (List ℕ)). p.lines ++ rest) found.2 in
-        rw all (stops (begun ++ found.0) (open_from begun found.0 unended size) p.lines before p.known p.counted found.1)
+        rw all (stops (begun ++ found.0) (open_from begun found.0 unended size) p.lines before p.known p.counted
+        found.1)
 
     pub feeds_stopped : (r : Result Status ToolFault) (old new : Lines H) (piece was is front back : List ℕ)
         → piece ≡ front ++ back → LacksLf front → 256 ≤ length old.begun.items + length front

@@ -18,7 +18,7 @@ use Rattle.tl_engine.proofs.Progress.{all_lines}
 
 module _ {H : Type 0} (knows : H → List (List ℕ) → List ℕ → Type 0) (tells : List (List ℕ) → List ℕ → Status → Type 0)
   where
-    same_text : (state : Lines H) (read before : List ℕ) → Progress knows state read before
+    pub same_text : (state : Lines H) (read before : List ℕ) → Progress knows state read before
         → Progress knows state read (before ++ [])
     same_text state read before p = rw append-nil p
 
@@ -104,9 +104,11 @@ module _ {H : Type 0} (knows : H → List (List ℕ) → List ℕ → Type 0) (t
           )
 
       -- a line of the piece that was read last is at fault
-      pub ends_broken : (now holds_now : Option (List ℕ)) (piece said : List ℕ) (new : Lines H) → Consumes left now piece
+      pub ends_broken : (now holds_now : Option (List ℕ)) (piece said : List ℕ) (new : Lines H)
+          → Consumes left now piece
           → Appends holds holds_now said → Passes knows tells state new piece said Broken
-          → (read text : List ℕ) × Consumes had now read × Appends held holds_now text × tells (lines_of read) text Broken
+          → (read text : List ℕ) × Consumes had now read × Appends held holds_now text
+          × tells (lines_of read) text Broken
           × EndsAs tells now read text Broken
       ends_broken now holds_now piece said new more written broken =
           let (read, text, consumed, appended, p) = so_far in (
@@ -136,7 +138,8 @@ module _ {H : Type 0} (knows : H → List (List ℕ) → List ℕ → Type 0) (t
       ends_closed : (status : Status) (now holds_now : Option (List ℕ)) (said : List ℕ) → Consumes left now []
           → IsAtEnd now → Appends holds holds_now said
           → FinishesInput knows tells state [] said status
-          → (read text : List ℕ) × Consumes had now read × Appends held holds_now text × tells (lines_of read) text status
+          → (read text : List ℕ) × Consumes had now read × Appends held holds_now text
+          × tells (lines_of read) text status
           × EndsAs tells now read text status
       ends_closed Clean now holds_now said more end written ends =
           let (read, text, consumed, appended, p) = so_far in (

@@ -1,8 +1,11 @@
+pub mod Explaining
+pub mod GivenUp
 pub mod Judging
 pub mod Lines
 pub mod Parts
 pub mod Playing
 pub mod Progress
+pub mod Replaying
 pub mod Run
 pub mod PlayableWorld
 pub mod TraceReading

@@ -1,5 +1,6 @@
 pub mod Decoded
 pub mod Exit
+pub mod Explained
 pub mod Fault
 pub mod Judged
 pub mod Played

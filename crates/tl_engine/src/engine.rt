@@ -1,11 +1,13 @@
 //! Reads an input to its end, and writes what a handler says of its lines.
 
-ghost use Rattle.std.specs.Prelude.{◌≡◌, ◌⊎◌, ◌+◌, ◌++◌, [], ◌≤◌, ◌<◌, ℕ, List, IfOk, OnOk, OnErr, IfErr, length, take, vec_len};
+ghost use Rattle.std.specs.Prelude.{◌≡◌, ◌⊎◌, ◌+◌, ◌++◌, [], ◌≤◌, ◌<◌, ℕ, List};
+ghost use Rattle.std.specs.Prelude.{IfOk, OnOk, OnErr, IfErr, length, take, vec_len};
 ghost use Rattle.std.specs.Io.KnownBytes.{Appends, Consumes, IsAtEnd, Keeps};
+ghost use Rattle.tl_engine.specs.code.GivenUp.{GivesUpFor, GivesUpPiece, IsKnown};
 ghost use Rattle.tl_engine.specs.code.Judging.{IsTotal};
 ghost use Rattle.tl_engine.specs.code.Lines.{lines_of};
 ghost use Rattle.tl_engine.specs.code.Parts.{AppendsPart};
-ghost use Rattle.tl_engine.specs.code.Progress.{FinishesInput, GivesUp, Progress, lines_judged};
+ghost use Rattle.tl_engine.specs.code.Progress.{FinishesInput, Progress};
 ghost use Rattle.tl_engine.specs.code.Run.{FailsAfter, FailsAt, Passes, RunsTo};
 ghost use Rattle.tl_engine.specs.declared.status.Status.{Status};
 
@@ -33,7 +35,8 @@ pub fn next_piece<R: Read>(reader: &mut R, chunk: &mut Vec<u8>) -> Result<usize,
     requires { 0 < vec_len chunk.old }
     ensures some { IfOk result (λ count. count ≤ vec_len chunk.new) }
     ensures room { vec_len chunk.new ≡ vec_len chunk.old }
-    ensures ok { IfOk result (λ count. Consumes (R.remaining reader.old) (R.remaining reader.new) (take count chunk.new.items)) }
+    ensures ok { IfOk result (λ count. Consumes (R.remaining reader.old) (R.remaining reader.new)
+        (take count chunk.new.items)) }
     ensures end { result ≡ Ok 0 → IsAtEnd (R.remaining reader.new) }
     ensures err { OnErr result (Keeps (R.remaining reader.old) (R.remaining reader.new)) }
     ensures fault { IfErr result (λ fault. fault ≡ ToolFault.Read) }
@@ -55,8 +58,10 @@ fn pass<H: LineHandler, W: Write>(
     ensures empty { OnOk result (out.new.items ≡ []) }
     ensures ok { IfOk result (λ status. (said : List ℕ) × Appends (W.contents writer.old) (W.contents writer.new) said
         × Passes H.knows H.tells lines.old lines.new piece.now said status) }
-    ensures err { OnErr result (FailsAfter H.knows H.tells lines.old piece.now (W.contents writer.old) (W.contents writer.new)) }
-    ensures fault { IfErr result (λ fault. GivesUp (lines_judged lines.new) fault ⊎ (fault ≡ ToolFault.Write)) }
+    ensures err { OnErr result (FailsAfter H.knows H.tells lines.old piece.now (W.contents writer.old)
+        (W.contents writer.new)) }
+    ensures fault { IfErr result (GivesUpPiece H.knows H.tells lines.old piece.now (W.contents writer.old)
+        (W.contents writer.new)) }
 {
     let status = lines.feed(piece, out)?;
     write_all(writer, out)?;
@@ -74,8 +79,10 @@ fn close<H: LineHandler, W: Write>(
     requires total { IsTotal H.knows H.tells }
     ensures ok { IfOk result (λ status. (said : List ℕ) × Appends (W.contents writer.old) (W.contents writer.new) said
         × FinishesInput H.knows H.tells lines.old [] said status) }
-    ensures err { OnErr result (FailsAfter H.knows H.tells lines.old [] (W.contents writer.old) (W.contents writer.new)) }
-    ensures fault { IfErr result (λ fault. GivesUp (lines_judged lines.new) fault ⊎ (fault ≡ ToolFault.Write)) }
+    ensures err { OnErr result (FailsAfter H.knows H.tells lines.old [] (W.contents writer.old)
+        (W.contents writer.new)) }
+    ensures fault { IfErr result (GivesUpPiece H.knows H.tells lines.old [] (W.contents writer.old)
+        (W.contents writer.new)) }
 {
     let status = lines.finish(out)?;
     write_all(writer, out)?;
@@ -93,8 +100,12 @@ pub fn handle_input<H: LineHandler, R: Read, W: Write>(
 ) -> Result<Status, ToolFault>
     requires begins { H.knows handler [] [] }
     requires total { IsTotal H.knows H.tells }
-    ensures ok { IfOk result (RunsTo H.tells (R.remaining reader.old) (R.remaining reader.new) (W.contents writer.old) (W.contents writer.new)) }
-    ensures err { OnErr result (FailsAt H.tells (R.remaining reader.old) (R.remaining reader.new) (W.contents writer.old) (W.contents writer.new)) }
+    ensures ok { IfOk result (RunsTo H.tells (R.remaining reader.old) (R.remaining reader.new) (W.contents writer.old)
+        (W.contents writer.new)) }
+    ensures err { OnErr result (FailsAt H.tells (R.remaining reader.old) (R.remaining reader.new)
+        (W.contents writer.old) (W.contents writer.new)) }
+    ensures fault { IfErr result (GivesUpFor (IsKnown H.knows) H.tells (R.remaining reader.old) (R.remaining reader.new)
+        (W.contents writer.old) (W.contents writer.new)) }
 {
     let mut chunk = new_chunk(alloc)?;
     let mut out = Vec::new(alloc);

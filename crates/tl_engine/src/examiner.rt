@@ -1,15 +1,19 @@
 //! Judges a recorded trace, and notes what an explanation of its first fault starts from.
 
+ghost use Rattle.std.specs.Prelude.{◌≡◌, IfOk, true};
 ghost use Rattle.tl_beat.specs.statement.Width.{IsWidth};
 ghost use Rattle.tl_engine.specs.statement.Judged.{Judged};
+ghost use Rattle.tl_engine.specs.code.Explaining.{IsVerdict, fault_of};
 ghost use Rattle.tl_engine.specs.code.Watching.{KnowsLines};
 
-use crate::fault::Fault;
+use crate::fault::{Fault, append_fault};
 use crate::header::{Header, read_header};
 use crate::line_handler::LineHandler;
 use crate::monitor_lines::MonitorLines;
-use std::alloc::AllocError;
+use crate::status::Status;
+use std::alloc::{AllocError, Global};
 use tl_beat::beat::Beat;
+use tl_beat::fault::LineFault;
 use tl_beat::read::read_line;
 use tl_explain::told::Spelling;
 use tl_monitor::monitor::Monitor;
@@ -56,6 +60,39 @@ impl Found {
             fault: None,
             block: None,
         }
+    }
+
+    /// What the line behind the good ones is at fault for, where one is: a first line that is no header,
+    /// or one that is too long or has no LF, isn't noted.
+    pub fn at_fault(&self) -> Fault
+        ensures { result ≡ fault_of self.now }
+    {
+        match (&self.header, &self.fault) {
+            (None, _) => Fault::Header,
+            (Some(_), None) => Fault::Line(LineFault::F1),
+            (Some(_), Some((fault, _))) => *fault,
+        }
+    }
+
+    /// Whether a verdict is that of what was found: a clean one, or the fault of the line behind the good
+    /// ones.
+    pub fn is_verdict(
+        &self,
+        alloc: Global,
+        status: Status,
+        verdict: &[u8],
+    ) -> Result<bool, AllocError>
+        ensures { IfOk result (λ same. same ≡ true → IsVerdict self.now status verdict.now) }
+    {
+        if status == Status::Clean {
+            return Ok(true);
+        }
+        let Some(number) = self.good.checked_add(1) else {
+            return Ok(false);
+        };
+        let mut text = Vec::new(alloc);
+        append_fault(number, self.at_fault(), &mut text)?;
+        Ok(text.as_slice() == verdict)
     }
 
     /// Notes a line without a fault.

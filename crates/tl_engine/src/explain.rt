@@ -1,9 +1,13 @@
 //! Explains what a recorded trace is judged, by reading it twice.
 
-ghost use Rattle.std.specs.Prelude.{◌≡◌, ◌≢◌, ◌++◌, ℕ, List, Err, IfErr, IfOk, Ok};
+ghost use Rattle.std.specs.Prelude.{◌≡◌, ◌≢◌, ◌+◌, ◌++◌, [], ℕ, List, Err, IfErr, IfOk, IfSome, Ok, OnOk, not, true};
 ghost use Rattle.std.specs.Io.KnownBytes.{Appends, Consumes};
 ghost use Rattle.tl_beat.specs.statement.Width.{IsWidth};
+ghost use Rattle.tl_explain.specs.statement.Reasons.{IsSubject};
+ghost use Rattle.tl_engine.specs.code.Explaining.{ExplainsFound, ExplainsStatus};
 ghost use Rattle.tl_engine.specs.code.Lines.{lines_of};
+ghost use Rattle.tl_engine.specs.code.Replaying.{KnowsReplay};
+ghost use Rattle.tl_engine.specs.statement.Explained.{Explains, IsExplained, is_of_order};
 ghost use Rattle.tl_engine.specs.statement.Judged.{Judged};
 ghost use Rattle.tl_engine.specs.declared.status.Status.{Status};
 
@@ -14,6 +18,7 @@ use crate::header::{Header, read_header};
 use crate::monitor_lines::MonitorLines;
 use crate::output::write_all;
 use crate::replay::{Listing, Replay};
+use crate::reread::read_again;
 use crate::status::{Status, ToolFault};
 use std::alloc::{AllocError, Global};
 use std::io;
@@ -138,7 +143,9 @@ fn explain_spelling<const W: usize, R: Read>(
 }
 
 /// Whether a rule judges a beat by itself.
-fn is_legality(rule: Rule) -> bool {
+fn is_legality(rule: Rule) -> bool
+    ensures { result ≡ not (is_of_order rule) }
+{
     matches!(
         rule,
         Rule::L1 | Rule::L2 | Rule::L3 | Rule::L4 | Rule::L5 | Rule::L6 | Rule::L7
@@ -202,7 +209,9 @@ fn explain_legality<const W: usize, R: Read>(
 }
 
 /// What a verdict on a beat speaks of; the block is that of the request that a Grant answers.
-fn subject_of<const W: usize>(link: Link, beat: &Beat<W>, block: Option<u32>) -> Subject {
+fn subject_of<const W: usize>(link: Link, beat: &Beat<W>, block: Option<u32>) -> Subject
+    ensures { IsSubject result link beat.now }
+{
     let (block, source, sink) = match beat {
         Beat::A(x) => (block_at(x.address), x.source, 0),
         Beat::B(x) => (block_at(x.address), x.source, 0),
@@ -218,32 +227,22 @@ fn subject_of<const W: usize>(link: Link, beat: &Beat<W>, block: Option<u32>) ->
     }
 }
 
-/// Records the beats before the line at fault.
-fn record<const W: usize, R: Read>(
-    alloc: Global,
-    reader: &mut R,
-    good: u64,
-    line: &Spelling,
-    subject: Subject,
-) -> Result<Recorder, ExplainFault>
+/// Begins to record for a line at fault, where it spells a beat.
+fn start_of<const W: usize>(header: &Header, found: &Found, line: &Spelling) -> Option<Replay<W>>
     requires { IsWidth W }
+    ensures { IfSome result (λ start. KnowsReplay start []) }
 {
-    let mut recorder = Recorder::new(subject);
-    let mut reached = false;
-    let mut unread = Vec::new(alloc);
-    let replay = Replay::<W> {
-        recorder: &mut recorder,
-        good,
-        line,
-        count: 0,
-        reached: &mut reached,
+    let Ok((link, beat)) = read_line::<W>(line.line()) else {
+        return None;
     };
-    let _status = in_memory(handle_input(alloc, replay, reader, &mut unread))?;
-    if reached {
-        Ok(recorder)
-    } else {
-        Err(ExplainFault::Changed)
-    }
+    Some(Replay {
+        recorder: Recorder::new(subject_of(link, &beat, found.block)),
+        profile: header.profile,
+        good: found.good,
+        line: *line,
+        count: 0,
+        reached: false,
+    })
 }
 
 /// Explains a beat that breaks a rule of bursts or of the order of messages.
@@ -257,17 +256,23 @@ fn explain_order<const W: usize, R: Read>(
     out: &mut Vec<u8>,
 ) -> Result<(), ExplainFault>
     requires { IsWidth W }
+    ensures { OnOk result (IsExplained (R.remaining reader.old) (R.remaining reader.new) (found.now.good + 1) rule) }
 {
-    let Ok((link, beat)) = read_line::<W>(line.line()) else {
+    let start = start_of::<W>(header, found, line).ok_or(ExplainFault::Changed)?;
+    let replay = read_again(alloc, reader, start)?.ok_or(ExplainFault::Changed)?;
+    let number = found.good.saturating_add(1);
+    if replay.good != found.good {
+        return Err(ExplainFault::Changed);
+    }
+    let line = replay.line.line();
+    let Ok((_, beat)) = read_line::<W>(line) else {
         return Err(ExplainFault::Changed);
     };
-    let subject = subject_of(link, &beat, found.block);
-    let record = record::<W, R>(alloc, reader, found.good, line, subject)?;
-    let Some(reason) = find_reason(header.profile, rule, &beat, &record) else {
+    let Some(reason) = find_reason(replay.profile, rule, &beat, &replay.recorder) else {
         return Err(ExplainFault::Changed);
     };
-    append_front::<W>(rule, found.good.saturating_add(1), line.line(), out)?;
-    tell::tell(header.profile, &beat, &reason, &record, out)?;
+    append_front::<W>(rule, number, line, out)?;
+    tell::tell(replay.profile, &beat, &reason, &replay.recorder, out)?;
     Ok(())
 }
 
@@ -311,6 +316,8 @@ fn explain_found<const W: usize, R: Read>(
     out: &mut Vec<u8>,
 ) -> Result<(), ExplainFault>
     requires { IsWidth W }
+    ensures { OnOk result (ExplainsFound (R.remaining reader.old) (R.remaining reader.new) found.now.good
+        found.now.fault status) }
 {
     let number = found.good.saturating_add(1);
     match (status, &found.fault) {
@@ -339,7 +346,9 @@ fn reasons<R: Read>(
     found: &Found,
     status: Status,
     out: &mut Vec<u8>,
-) -> Result<(), ExplainFault> {
+) -> Result<(), ExplainFault>
+    ensures { OnOk result (ExplainsStatus (R.remaining reader.old) (R.remaining reader.new) found.now status) }
+{
     match &found.header {
         None => explain_header(alloc, reader, out),
         Some(header) => match header.width {
@@ -350,16 +359,21 @@ fn reasons<R: Read>(
     }
 }
 
+#[tactic(auto, using(crate::proofs::Explaining::explains))]
 /// Writes what `monitor` says of a trace, and behind it why. The two readers are of the same file, each
-/// at its front; the second is read up to the line at fault. Where they differ nothing is written.
+/// at its front; the second is read up to the line at fault. Where they differ nothing is written. Where
+/// a rule of order is broken, what the second reader gave has a reason in it for that line and that rule.
 pub fn explain_input<R: Read, S: Read, W: Write>(
     alloc: Global,
     first: &mut R,
     second: &mut S,
     writer: &mut W,
 ) -> Result<Status, ExplainFault>
-    ensures { IfOk result (λ status. (read verdict reasons : List ℕ) × Consumes (R.remaining first.old) (R.remaining first.new) read
-        × Judged (lines_of read) verdict status × Appends (W.contents writer.old) (W.contents writer.new) (verdict ++ reasons)) }
+    ensures { IfOk result (λ status. (read verdict reasons : List ℕ)
+        × Consumes (R.remaining first.old) (R.remaining first.new) read
+        × Judged (lines_of read) verdict status
+        × Explains (S.remaining second.old) (S.remaining second.new) verdict status
+        × Appends (W.contents writer.old) (W.contents writer.new) (verdict ++ reasons)) }
 {
     let mut found = Found::new();
     let mut verdict = Vec::new(alloc);
@@ -368,6 +382,9 @@ pub fn explain_input<R: Read, S: Read, W: Write>(
         found: &mut found,
     };
     let status = in_memory(handle_input(alloc, examiner, first, &mut verdict))?;
+    if !found.is_verdict(alloc, status, verdict.as_slice())? {
+        return Err(ExplainFault::Changed);
+    }
     let mut why = Vec::new(alloc);
     reasons(alloc, second, &found, status, &mut why)?;
     write_all(writer, &verdict)?;

@@ -42,7 +42,8 @@ fn levels(bytes: &[u8]) -> Option<ArrayVec<Level, MOST_CLIENTS>>
 
 /// What follows the word at the front of a trace.
 fn after_word(line: &[u8]) -> Option<&[u8]>
-    ensures { MatchOption result ((rest : List ℕ) → line.now ≢ trace_word ++ rest) (λ rest. line.now ≡ trace_word ++ rest.now) }
+    ensures { MatchOption result ((rest : List ℕ) → line.now ≢ trace_word ++ rest) (λ rest. line.now
+        ≡ trace_word ++ rest.now) }
 {
     line.strip_prefix(b"tltrace ")
 }
@@ -68,7 +69,8 @@ fn whole_header(line: &[u8]) -> Option<Header>
 pub fn read_header(line: &[u8]) -> Option<Header>
     // What is read is spelled by the line, and whatever the line spells is read.
     ensures spelled { IfSome result (λ header. SpellsHeader line.now header.width header.profile header.levels.items) }
-    ensures every_spelling { (width : Width) (profile : Profile) (levels : List Level) → SpellsHeader line.now width profile levels → IsHeader result width profile levels }
+    ensures every_spelling { (width : Width) (profile : Profile) (levels : List Level) →
+        SpellsHeader line.now width profile levels → IsHeader result width profile levels }
 {
     whole_header(line)
 }

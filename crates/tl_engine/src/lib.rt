@@ -14,6 +14,7 @@ pub mod monitor_lines;
 pub mod output;
 pub mod play;
 mod replay;
+mod reread;
 pub mod run_lines;
 pub mod status;
 pub mod tool;

@@ -3,7 +3,8 @@
 ghost use Rattle.std.specs.Prelude.{◌≡◌, ◌+◌, ◌++◌, [], ◌≤◌, ◌<◌, ◌^◌, ◌-◌, ℕ, List, IfOk, IfErr, MatchOption, length};
 ghost use Rattle.tl_engine.specs.statement.Fault.{fault_text};
 ghost use Rattle.tl_engine.specs.code.Lines.{IsLine, IsOpen, LacksLf};
-ghost use Rattle.tl_engine.specs.code.Progress.{CountsLine, Feeds, FinishesInput, GivesUp, Progress, StopsAt, lines_judged};
+ghost use Rattle.tl_engine.specs.code.Progress.{CountsLine, Feeds, FinishesInput, GivesUp};
+ghost use Rattle.tl_engine.specs.code.Progress.{GivesUpWithin, Progress, StopsAt, lines_judged};
 
 use crate::fault::{Fault, append_fault};
 use crate::line_handler::LineHandler;
@@ -32,8 +33,9 @@ impl From<AllocError> for ToolFault {
 }
 
 /// The first line of these bytes with its LF, and what follows it.
-fn first_line(bytes: &[u8]) -> Option<(&[u8], &[u8])>
-    ensures { MatchOption result (LacksLf bytes.now) (λ parts. IsLine parts.0.now × (parts.0.now ++ parts.1.now ≡ bytes.now)) }
+pub(crate) fn first_line(bytes: &[u8]) -> Option<(&[u8], &[u8])>
+    ensures { MatchOption result (LacksLf bytes.now) (λ parts. IsLine parts.0.now
+        × (parts.0.now ++ parts.1.now ≡ bytes.now)) }
 {
     let end = memchr(b'\n', bytes)?;
     Some(bytes.split_at(end + 1))
@@ -54,8 +56,9 @@ fn handle_counted_line<H: LineHandler>(
     line: &[u8],
     out: &mut Vec<u8>,
 ) -> Result<Status, ToolFault>
-    ensures counts { IfOk result (CountsLine H.knows H.tells handler.old handler.new count.old count.new line.now out.old.items out.new.items) }
-    ensures fault { IfErr result (GivesUp count.new) }
+    ensures counts { IfOk result (CountsLine H.knows H.tells handler.old handler.new count.old count.new line.now
+        out.old.items out.new.items) }
+    ensures fault { IfErr result (GivesUp count.old) }
 {
     let number = number_after(*count)?;
     match handler.handle_line(line, out)? {
@@ -82,11 +85,27 @@ impl<H: LineHandler> Lines<H> {
         }
     }
 
+    /// What judges the lines.
+    pub fn handler(&self) -> &H
+        ensures { result.now ≡ self.now.handler }
+    {
+        &self.handler
+    }
+
+    /// What has judged the lines.
+    pub fn into_handler(self) -> H
+        ensures { result ≡ self.handler }
+    {
+        self.handler
+    }
+
     /// Appends the fault of a line that has no LF or more than 256 bytes.
     fn stop(&self, out: &mut Vec<u8>) -> Result<Status, ToolFault>
         ensures broken { IfOk result (λ status. status ≡ Status.Broken) }
-        ensures stops { IfOk result (λ _. (line : List ℕ) → IsOpen line → StopsAt H.knows H.tells self.now.handler self.now.count line out.old.items out.new.items) }
-        ensures says { IfOk result (λ _. (fault : Fault) × (out.new.items ≡ out.old.items ++ fault_text (self.now.count + 1) fault)) }
+        ensures stops { IfOk result (λ _. (line : List ℕ) → IsOpen line →
+            StopsAt H.knows H.tells self.now.handler self.now.count line out.old.items out.new.items) }
+        ensures says { IfOk result (λ _. (fault : Fault)
+            × (out.new.items ≡ out.old.items ++ fault_text (self.now.count + 1) fault)) }
         ensures fault { IfErr result (GivesUp (lines_judged self.now)) }
     {
         let number = number_after(self.count)?;
@@ -95,10 +114,10 @@ impl<H: LineHandler> Lines<H> {
     }
 
     /// Judges a line, of which a beginning may have come with earlier pieces.
-    fn take_line(&mut self, line: &[u8], out: &mut Vec<u8>) -> Result<Status, ToolFault>
+    pub(crate) fn take_line(&mut self, line: &[u8], out: &mut Vec<u8>) -> Result<Status, ToolFault>
         requires { IsLine line.now }
         ensures feeds { IfOk result (Feeds H.knows H.tells self.old self.new line.now out.old.items out.new.items) }
-        ensures fault { IfErr result (GivesUp (lines_judged self.new)) }
+        ensures fault { IfErr result (GivesUp (lines_judged self.old)) }
     {
         if self.begun.is_empty() && line.len() <= 256 {
             return handle_counted_line(&mut self.handler, &mut self.count, line, out);
@@ -117,10 +136,10 @@ impl<H: LineHandler> Lines<H> {
     }
 
     /// Keeps the beginning of a line. A line that has 256 bytes and no LF is at fault at once.
-    fn keep(&mut self, rest: &[u8], out: &mut Vec<u8>) -> Result<Status, ToolFault>
+    pub(crate) fn keep(&mut self, rest: &[u8], out: &mut Vec<u8>) -> Result<Status, ToolFault>
         requires { LacksLf rest.now }
         ensures feeds { IfOk result (Feeds H.knows H.tells self.old self.new rest.now out.old.items out.new.items) }
-        ensures fault { IfErr result (GivesUp (lines_judged self.new)) }
+        ensures fault { IfErr result (GivesUp (lines_judged self.old)) }
     {
         if self.begun.try_extend_from_slice(rest).is_err() || self.begun.is_full() {
             return self.stop(out);
@@ -131,7 +150,7 @@ impl<H: LineHandler> Lines<H> {
     /// Judges the lines that end in a piece of the input, and keeps the beginning of the next.
     pub fn feed(&mut self, piece: &[u8], out: &mut Vec<u8>) -> Result<Status, ToolFault>
         ensures feeds { IfOk result (Feeds H.knows H.tells self.old self.new piece.now out.old.items out.new.items) }
-        ensures fault { IfErr result (GivesUp (lines_judged self.new)) }
+        ensures fault { IfErr result (GivesUpWithin H.knows self.old piece.now out.old.items) }
     {
         let mut rest = piece;
         while let Some((line, after)) = first_line(rest) {
@@ -146,7 +165,7 @@ impl<H: LineHandler> Lines<H> {
     /// Judges the end of the input. A rest without LF is a line too.
     pub fn finish(&mut self, out: &mut Vec<u8>) -> Result<Status, ToolFault>
         ensures finishes { IfOk result (FinishesInput H.knows H.tells self.old out.old.items out.new.items) }
-        ensures fault { IfErr result (GivesUp (lines_judged self.new)) }
+        ensures fault { IfErr result (GivesUp (lines_judged self.old)) }
     {
         if !self.begun.is_empty() {
             return self.stop(out);

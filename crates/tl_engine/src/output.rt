@@ -3,16 +3,16 @@
 ghost use Rattle.std.specs.Prelude.{◌≡◌, ◌++◌, ◌∷◌, [], ℕ, OnOk, OnErr, IfErr, codes};
 ghost use Rattle.std.specs.Io.KnownBytes.{Appends};
 ghost use Rattle.tl_engine.specs.statement.Fault.{changed_text, once_text, open_fault_text};
-ghost use Rattle.tl_engine.specs.code.Parts.{AppendsPart};
+ghost use Rattle.tl_engine.specs.code.Parts.{AppendsPart, AppendsShort};
 
 use crate::status::ToolFault;
 use std::io::Write;
 
-/// Writes all of the bytes. A writer that fails or takes none of them is a `Write` fault, and a
-/// beginning of the bytes was written then.
+/// Writes all of the bytes. A writer that fails or takes none of them is a `Write` fault: a beginning of
+/// the bytes was written then, and some of them are left.
 pub fn write_all<W: Write>(writer: &mut W, bytes: &[u8]) -> Result<(), ToolFault>
     ensures ok { OnOk result (Appends (W.contents writer.old) (W.contents writer.new) bytes.now) }
-    ensures err { OnErr result (AppendsPart (W.contents writer.old) (W.contents writer.new) bytes.now) }
+    ensures err { OnErr result (AppendsShort (W.contents writer.old) (W.contents writer.new) bytes.now) }
     ensures fault { IfErr result (λ fault. fault ≡ ToolFault.Write) }
 {
     let mut done = 0;
@@ -37,8 +37,10 @@ fn write_around<W: Write>(
     back: &[u8],
     writer: &mut W,
 ) -> Result<(), ToolFault>
-    ensures ok { OnOk result (Appends (W.contents writer.old) (W.contents writer.new) (front.now ++ name.now ++ back.now)) }
-    ensures err { OnErr result (AppendsPart (W.contents writer.old) (W.contents writer.new) (front.now ++ name.now ++ back.now)) }
+    ensures ok { OnOk result (Appends (W.contents writer.old) (W.contents writer.new)
+        (front.now ++ name.now ++ back.now)) }
+    ensures err { OnErr result (AppendsPart (W.contents writer.old) (W.contents writer.new)
+        (front.now ++ name.now ++ back.now)) }
     ensures fault { IfErr result (λ fault. fault ≡ ToolFault.Write) }
 {
     write_all(writer, front)?;
@@ -51,7 +53,8 @@ fn write_around<W: Write>(
 /// `Write`.
 pub fn write_open_fault<W: Write>(name: &str, writer: &mut W) -> Result<(), ToolFault>
     ensures ok { OnOk result (Appends (W.contents writer.old) (W.contents writer.new) (open_fault_text name.now)) }
-    ensures err { OnErr result (AppendsPart (W.contents writer.old) (W.contents writer.new) (open_fault_text name.now)) }
+    ensures err { OnErr result (AppendsPart (W.contents writer.old) (W.contents writer.new)
+        (open_fault_text name.now)) }
     ensures fault { IfErr result (λ fault. fault ≡ ToolFault.Write) }
 {
     write_around(b"tltool: cannot open ", name, b"\n", writer)

@@ -1,4 +1,4 @@
-//! Reads the lines of a trace again, up to the line at fault or to the end.
+//! What reads the lines of a trace again, up to the line at fault or to the end.
 
 ghost use Rattle.std.specs.Prelude.{IsTrue, ⊤};
 ghost use Rattle.tl_engine.specs.statement.Decoded.{is_width};
@@ -10,61 +10,23 @@ use tl_beat::read::read_line;
 use tl_explain::ledger::{Ledger, LedgerFault};
 use tl_explain::recorder::Recorder;
 use tl_explain::told::Spelling;
+use tl_params::profile::Profile;
 
-/// Records the beats before the line at fault. What it answers `Header` for is where it stops.
+/// Records the beats before the line at fault. What it answers `Header` for is where the lines aren't
+/// those that were read first.
 #[derive(Drop)]
-pub struct Replay<'a, const W: usize> {
-    pub recorder: &'a mut Recorder,
-    /// How many lines come before the one at fault.
+pub struct Replay<const W: usize> {
+    pub recorder: Recorder,
+    pub profile: Profile,
+    /// How many lines come before the one at fault, the header among them.
     pub good: u64,
-    pub line: &'a Spelling,
+    /// The line at fault.
+    pub line: Spelling,
+    /// How many lines before it have been read.
     pub count: u64,
     /// Whether the line at fault was reached, and is what it was.
-    pub reached: &'a mut bool,
+    pub reached: bool,
     pub ghost width: { IsTrue (is_width W) },
-}
-
-impl<const W: usize> Replay<'_, W> {
-    /// Records a beat. Answers whether the line spells one.
-    fn record(&mut self, line: &[u8]) -> bool {
-        match read_line::<W>(line) {
-            Err(_) => false,
-            Ok((link, beat)) => self
-                .recorder
-                .take(self.count.saturating_add(1), line, link, &beat)
-                .is_ok(),
-        }
-    }
-}
-
-impl<const W: usize> LineHandler for Replay<'_, W> {
-    ghost knows = { λ _ _ _. ⊤ };
-
-    ghost tells = { λ _ _ _. ⊤ };
-
-    fn handle_line(
-        &mut self,
-        line: &[u8],
-        _out: &mut Vec<u8>,
-    ) -> Result<Option<Fault>, AllocError> {
-        if self.count >= self.good {
-            *self.reached = line == self.line.line();
-            return Ok(Some(Fault::Header));
-        }
-        if self.count > 0 && !self.record(line) {
-            return Ok(Some(Fault::Header));
-        }
-        self.count = self.count.saturating_add(1);
-        Ok(None)
-    }
-
-    fn open_fault(&self) -> Fault {
-        Fault::Header
-    }
-
-    fn finish(&mut self, _count: u64, _out: &mut Vec<u8>) -> Result<Option<Fault>, AllocError> {
-        Ok(None)
-    }
 }
 
 /// Lists what is pending at the end of a trace. What it answers `Header` for is where it stops.

@@ -6,12 +6,15 @@ ghost use Rattle.tl_engine.specs.code.Playing.{KnowsSchedule, Opens, is_trace};
 
 use crate::fault::Fault;
 use crate::line_handler::LineHandler;
-use crate::play::PlayableWorld;
-use crate::trace_header::append_header;
+use crate::play::play;
+use crate::trace_header::{append_header, world_of};
 use std::alloc::{AllocError, Global};
+use tl_client::any::AnyClient;
+use tl_manager::bits::BitDirectory;
 use tl_params::width::Width;
 use tl_schedule::header::read_schedule;
 use tl_schedule::line::EventFault;
+use tl_world::world::World;
 
 /// Plays the lines of a schedule: the header, and then what happens to a world of the clients that it
 /// names. What comes of it is written, or the trace of it where `TRACES` is 1.
@@ -19,9 +22,9 @@ use tl_schedule::line::EventFault;
 pub enum RunLines<const TRACES: usize> {
     /// The header hasn't been read.
     Waiting(Global),
-    Four(PlayableWorld<4>),
-    Eight(PlayableWorld<8>),
-    Sixteen(PlayableWorld<16>),
+    Four(World<4, AnyClient<4>, BitDirectory>),
+    Eight(World<8, AnyClient<8>, BitDirectory>),
+    Sixteen(World<16, AnyClient<16>, BitDirectory>),
 }
 
 /// A world of the clients that a header names. A line of another form names none.
@@ -37,9 +40,9 @@ fn open<const TRACES: usize>(
     };
     append_header(TRACES == 1, schedule.version, &schedule.config, out)?;
     let run_lines = match schedule.version.width() {
-        Width::Four => RunLines::Four(PlayableWorld::new(alloc, schedule.config)?),
-        Width::Eight => RunLines::Eight(PlayableWorld::new(alloc, schedule.config)?),
-        Width::Sixteen => RunLines::Sixteen(PlayableWorld::new(alloc, schedule.config)?),
+        Width::Four => RunLines::Four(world_of(alloc, schedule.config)?),
+        Width::Eight => RunLines::Eight(world_of(alloc, schedule.config)?),
+        Width::Sixteen => RunLines::Sixteen(world_of(alloc, schedule.config)?),
     };
     Ok(Some(run_lines))
 }
@@ -58,9 +61,9 @@ impl<const TRACES: usize> LineHandler for RunLines<TRACES> {
                     Ok(None)
                 }
             },
-            RunLines::Four(world) => world.play(TRACES == 1, line, out),
-            RunLines::Eight(world) => world.play(TRACES == 1, line, out),
-            RunLines::Sixteen(world) => world.play(TRACES == 1, line, out),
+            RunLines::Four(world) => play(TRACES == 1, world, line, out),
+            RunLines::Eight(world) => play(TRACES == 1, world, line, out),
+            RunLines::Sixteen(world) => play(TRACES == 1, world, line, out),
         }
     }
 

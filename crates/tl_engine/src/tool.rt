@@ -1,8 +1,9 @@
 //! Runs a command over an input.
 
-ghost use Rattle.std.specs.Prelude.{◌≡◌, ℕ, List, IfOk, OnErr};
+ghost use Rattle.std.specs.Prelude.{◌≡◌, ℕ, List, IfErr, IfOk, OnErr};
+ghost use Rattle.tl_engine.specs.code.GivenUp.{GivesUpFor};
 ghost use Rattle.tl_engine.specs.code.Run.{FailsAt, RunsTo};
-ghost use Rattle.tl_engine.specs.statement.Told.{text_told};
+ghost use Rattle.tl_engine.specs.statement.Told.{text_so_far, text_told};
 
 use crate::decoder::Decoder;
 use crate::engine::handle_input;
@@ -14,22 +15,29 @@ use std::io::{Read, Write};
 use tl_command::command::{Command, Width};
 
 /// Runs a command: reads the input to its end or to the first line at fault, and writes the command's
-/// text of it; of `explain` the first line, since its reasons take a second reading. `decode` takes memory that doesn't grow with the input; `monitor` keeps what is unfinished,
+/// text of it; of `explain` the first line, since its reasons take a second reading. `decode` takes memory that doesn't
+/// grow with the input; `monitor` keeps what is unfinished,
 /// pending and held on each link besides, and `run` the world that the schedule's header names.
 ///
 /// `Broken` says that a `line N X` was written, and that it stands whatever follows the input, unless
 /// line N is what stands behind the last LF at the end of the input: fewer than 256 bytes, or nothing.
 /// `Clean` comes at the end of the input alone. At a fault of memory or of a device a beginning of the
-/// text of what was read has been written. Any error of the reader is a `Read` fault, and so is a line
-/// after line 2^64 - 1; a writer that fails or takes none of the bytes is a `Write` fault.
+/// text of what was read has been written. Any error of the reader is a `Read` fault: all that was read
+/// is judged and written then; so is a line after line 2^64 - 1. A writer that fails or takes none of the
+/// bytes is a `Write` fault: some of them are left. `Memory` comes where what was read last, or the end,
+/// couldn't be judged, and nothing is left to be written of what came before.
 pub fn run_tool<R: Read, W: Write>(
     alloc: Global,
     command: Command,
     reader: &mut R,
     writer: &mut W,
 ) -> Result<Status, ToolFault>
-    ensures ok { IfOk result (RunsTo (text_told command) (R.remaining reader.old) (R.remaining reader.new) (W.contents writer.old) (W.contents writer.new)) }
-    ensures err { OnErr result (FailsAt (text_told command) (R.remaining reader.old) (R.remaining reader.new) (W.contents writer.old) (W.contents writer.new)) }
+    ensures ok { IfOk result (RunsTo (text_told command) (R.remaining reader.old) (R.remaining reader.new)
+        (W.contents writer.old) (W.contents writer.new)) }
+    ensures err { OnErr result (FailsAt (text_told command) (R.remaining reader.old) (R.remaining reader.new)
+        (W.contents writer.old) (W.contents writer.new)) }
+    ensures fault { IfErr result (GivesUpFor (text_so_far command) (text_told command) (R.remaining reader.old)
+        (R.remaining reader.new) (W.contents writer.old) (W.contents writer.new)) }
 {
     match command {
         Command::Decode { width } => match width {

@@ -85,7 +85,8 @@ fn append_trace_header(
     clients: &[ClientConfig],
     out: &mut Vec<u8>,
 ) -> Result<(), AllocError>
-    ensures { OnOk result (out.new.items ≡ out.old.items ++ header_line version (map (λ client. client.level) clients.now)) }
+    ensures { OnOk result (out.new.items
+        ≡ out.old.items ++ header_line version (map (λ client. client.level) clients.now)) }
 {
     out.extend_from_slice(b"tltrace ")?;
     append_version(version, out)?;

@@ -145,7 +145,8 @@ fn tell<R: Read, W: Write>(
     input: &mut R,
     output: &mut W,
 ) -> Result<Status, ToolFault>
-    ensures { IfOk result (Tells command name.now separator.now (R.remaining input.old) (R.remaining input.new) (W.contents output.old) (W.contents output.new)) }
+    ensures { IfOk result (Tells command name.now separator.now (R.remaining input.old) (R.remaining input.new)
+        (W.contents output.old) (W.contents output.new)) }
 {
     write_all(output, name.as_bytes())?;
     write_all(output, separator)?;

@@ -1,5 +1,6 @@
 -- A recorder follows a trace by one more beat.
-use Rattle.std.proofs.Common.{◌≡◌, ℕ, ◌+◌, ◌==◌, ◌&&◌, List, [], ◌∷◌, length, true, false, Bool, refl, sym, ap, ap₂, ◌∙◌, arith}
+use Rattle.std.proofs.Common.{◌≡◌, ℕ, ◌+◌, ◌==◌, ◌&&◌, List, [], ◌∷◌, length}
+use Rattle.std.proofs.Common.{true, false, Bool, refl, sym, ap, ap₂, ◌∙◌, arith}
 use Rattle.std.specs.Prelude.{Option, Some, None, is_some, is_none, if◌then◌else◌}
 use Rattle.tl_beat.specs.declared.beat.Beat.{Beat}
 use Rattle.tl_beat.specs.declared.beat.Beat.TheVariants as beat
@@ -11,9 +12,11 @@ use Rattle.tl_beat.specs.declared.opcode.OpD.TheVariants as d
 use Rattle.tl_burst.specs.statement.Messages.{History, channel_of, grown, on, unfinished}
 use Rattle.tl_burst.specs.statement.Part.{completes, is_empty}
 use Rattle.tl_params.specs.declared.key.Key.{Key}
-use Rattle.tl_params.specs.declared.key.Key.TheVariants.{RequestSource, ReleaseSource, AcquireOf, ReleaseOf, GrantSink, GrantAckOf, ProbeOf}
+use Rattle.tl_params.specs.declared.key.Key.TheVariants.{RequestSource, ReleaseSource, AcquireOf}
+use Rattle.tl_params.specs.declared.key.Key.TheVariants.{ReleaseOf, GrantSink, GrantAckOf, ProbeOf}
 use Rattle.tl_rules.specs.statement.Conformance.{Trace, on_link}
-use Rattle.tl_rules.specs.statement.History.{begins, block_at, ends, opens, closes, says_held, is_grant, is_release_ack, asks_for, releases, request_of, release_of, grant_sink, is_sink}
+use Rattle.tl_rules.specs.statement.History.{begins, block_at, ends, opens, closes, says_held, is_grant, is_release_ack}
+use Rattle.tl_rules.specs.statement.History.{asks_for, releases, request_of, release_of, grant_sink, is_sink}
 use Rattle.tl_beat.specs.statement.Control.{control_of}
 use Rattle.tl_beat.specs.declared.control.Control.{Control}
 use Rattle.tl_explain.specs.declared.told.Mention.{Mention}
@@ -30,7 +33,10 @@ use Rattle.tl_beat.specs.declared.channel.Channel.{Channel}
 use Rattle.tl_beat.specs.declared.channel.Channel.TheVariants as channel
 use Rattle.tl_monitor.specs.code.Count.{at}
 use Rattle.tl_explain.specs.statement.Evidence.{last_opening, last_saying, last_where, burst_opening, mention_of, told}
-use Rattle.tl_explain.specs.code.Recorded.{AreBlocks, AreTurns, IsBegun, IsMoment, IsRecord, IsTurn, asked_next, burst_after, burst_on, burst_with, channel_in, completes_burst, released_next, same_channel, block_asked, block_of, block_released, closes_by, is_number, opens_by, says_by, sink_by, sink_in}
+use Rattle.tl_explain.specs.code.Recorded.{AreBlocks, AreTurns, IsBegun, IsMoment, IsRecord, IsTurn, asked_next}
+use Rattle.tl_explain.specs.code.Recorded.{burst_after, burst_on, burst_with, channel_in, completes_burst}
+use Rattle.tl_explain.specs.code.Recorded.{released_next, same_channel, block_asked, block_of, block_released}
+use Rattle.tl_explain.specs.code.Recorded.{closes_by, is_number, opens_by, says_by, sink_by, sink_in}
 
 -- ---- the block of an answer
 
@@ -43,7 +49,8 @@ released_is k None = refl
 released_is k (Some x) = refl
 
 grant_block : {w : ℕ} (o : OpD) (k : ℕ) (r : Option (BeatC w)) (a : Option (BeatA w))
-    → (is_grant o && is_number k (if is_release_ack o then block_released r else block_asked a)) ≡ (is_grant o && asks_for k a)
+    → (is_grant o && is_number k (if is_release_ack o then block_released r else block_asked a))
+    ≡ (is_grant o && asks_for k a)
 grant_block d.AccessAck k r a = refl
 grant_block d.AccessAckData k r a = refl
 grant_block d.HintAck k r a = refl
@@ -52,7 +59,8 @@ grant_block d.GrantData k r a = asked_is k a
 grant_block d.ReleaseAck k r a = refl
 
 release_block : {w : ℕ} (o : OpD) (k : ℕ) (r : Option (BeatC w)) (a : Option (BeatA w))
-    → (is_release_ack o && is_number k (if is_release_ack o then block_released r else block_asked a)) ≡ (is_release_ack o && releases k r)
+    → (is_release_ack o && is_number k (if is_release_ack o then block_released r else block_asked a))
+    ≡ (is_release_ack o && releases k r)
 release_block d.AccessAck k r a = refl
 release_block d.AccessAckData k r a = refl
 release_block d.HintAck k r a = refl
@@ -103,7 +111,8 @@ sink_is : (s : ℕ) (o : Option ℕ) → is_number s o ≡ is_sink s o
 sink_is s None = refl
 sink_is s (Some n) = refl
 
-closes_is : {w : ℕ} (k : Key) (x : Beat w) (t : History w) (granted : Option ℕ) → ((b : ℕ) → k ≡ GrantAckOf b → granted ≡ grant_sink b t)
+closes_is : {w : ℕ} (k : Key) (x : Beat w) (t : History w) (granted : Option ℕ)
+    → ((b : ℕ) → k ≡ GrantAckOf b → granted ≡ grant_sink b t)
     → closes_by k (control_of x) (block_of x t) granted ≡ closes k x t
 closes_is (RequestSource s) (beat.A x) t g e = refl
 closes_is (RequestSource s) (beat.B x) t g e = refl
@@ -145,7 +154,8 @@ some_if : {A : Type 0} (b : Bool) (v : A) → is_some (if b then Some v else Non
 some_if true v = refl
 some_if false v = refl
 
-says_is : {w : ℕ} (k : ℕ) (x : Beat w) (t : History w) → says_by k (control_of x) (block_of x t) ≡ is_some (says_held k x t)
+says_is : {w : ℕ} (k : ℕ) (x : Beat w) (t : History w) → says_by k (control_of x) (block_of x t) ≡ is_some
+    (says_held k x t)
 says_is k (beat.A x) t = refl
 says_is k (beat.B x) t = refl
 says_is k (beat.C x) t = sym (some_if _ _)
@@ -167,14 +177,17 @@ never : {A : Type 0} (b : Bool) (m rest : A) → (if b && false then m else rest
 never true m rest = refl
 never false m rest = refl
 
-chosen : (b : Bool) (m : Mention) (rest : Option Mention) (s : ℕ) (g : Option ℕ) → mention_sink rest ≡ g → sink_by m.control ≡ Some s
+chosen : (b : Bool) (m : Mention) (rest : Option Mention) (s : ℕ) (g : Option ℕ) → mention_sink rest ≡ g
+    → sink_by m.control ≡ Some s
     → mention_sink (if b then Some m else rest) ≡ (if b then Some s else g)
 unfolding mention_sink
 chosen true m rest s g e f = f
 chosen false m rest s g e f = e
 
-sink_step : {w : ℕ} (b : ℕ) (y : Beat w) (h : History w) (here : Bool) (m : Mention) (rest : Option Mention) → m.control ≡ control_of y → mention_sink rest ≡ grant_sink b h
-    → mention_sink (if here && (begins y h && opens (GrantAckOf b) y h) then Some m else rest) ≡ grant_sink b (if here then y ∷ h else h)
+sink_step : {w : ℕ} (b : ℕ) (y : Beat w) (h : History w) (here : Bool) (m : Mention) (rest : Option Mention)
+    → m.control ≡ control_of y → mention_sink rest ≡ grant_sink b h
+    → mention_sink (if here && (begins y h && opens (GrantAckOf b) y h) then Some m else rest) ≡ grant_sink b
+    (if here then y ∷ h else h)
 unfolding grant_sink
 sink_step b y h false m rest e ih = ih
 sink_step b (beat.A x) h true m rest e ih = ap mention_sink (never _ (Some m) rest) ∙ ih
@@ -183,14 +196,17 @@ sink_step b (beat.C x) h true m rest e ih = ap mention_sink (never _ (Some m) re
 sink_step b (beat.D x) h true m rest e ih = chosen _ m rest x.sink _ ih (ap sink_by e)
 sink_step b (beat.E x) h true m rest e ih = ap mention_sink (never _ (Some m) rest) ∙ ih
 
-granted_is : {w : ℕ} (n b : ℕ) (t : Trace w) → mention_sink (last_opening n (GrantAckOf b) t) ≡ grant_sink b (on_link n t)
+granted_is : {w : ℕ} (n b : ℕ) (t : Trace w) → mention_sink (last_opening n (GrantAckOf b) t) ≡ grant_sink b
+    (on_link n t)
 unfolding last_where on_link grant_sink mention_sink
 granted_is n b [] = refl
-granted_is n b (x ∷ t) = sink_step b x.1 (on_link n t) (x.0.0 == n) (told x t) (last_opening n (GrantAckOf b) t) refl (granted_is n b t)
+granted_is n b (x ∷ t) = sink_step b x.1 (on_link n t) (x.0.0 == n) (told x t) (last_opening n (GrantAckOf b) t) refl
+    (granted_is n b t)
 
 -- ---- one key, by one beat
 
-mention_if : (b : Bool) (m : Told) (rest : Option Told) → mention_of (if b then Some m else rest) ≡ (if b then Some m.mention else mention_of rest)
+mention_if : (b : Bool) (m : Told) (rest : Option Told)
+    → mention_of (if b then Some m else rest) ≡ (if b then Some m.mention else mention_of rest)
 mention_if true m rest = refl
 mention_if false m rest = refl
 
@@ -200,18 +216,23 @@ here a n b e = rw e (rw (same n) refl)
     same : (k : ℕ) → (k == k) ≡ true
     same k = grind arith
 
-pub turn_next : {w : ℕ} (old new : Turn) (n : ℕ) (k : Key) (m : Moment) (x : Link × Beat w) (t : Trace w) → IsMoment m n x t → IsTurn old n k t
+pub turn_next : {w : ℕ} (old new : Turn) (n : ℕ) (k : Key) (m : Moment) (x : Link × Beat w) (t : Trace w)
+    → IsMoment m n x t → IsTurn old n k t
     → new.opening ≡ (if m.first && opens_by k m.told.mention.control m.block then Some m.told else old.opening)
-    → new.closing ≡ (if m.last && closes_by k m.told.mention.control m.block (sink_in old.opening) then Some m.told else old.closing)
+    → new.closing ≡ (if m.last && closes_by k m.told.mention.control m.block (sink_in old.opening) then Some m.told else
+    old.closing)
     → IsTurn new n k (x ∷ t)
 unfolding last_where
 turn_next old new n k m x t is turn opening closing =
     let control : m.told.mention.control ≡ control_of x.1 = ap (λ (y : Mention). y.control) is.told_is in
-    let opens : opens_by k m.told.mention.control m.block ≡ opens k x.1 (on_link n t) = ap₂ (opens_by k) control is.block_is ∙ opens_is k x.1 (on_link n t) in
+    let opens : opens_by k m.told.mention.control m.block ≡ opens k x.1 (on_link n t) =
+    ap₂ (opens_by k) control is.block_is ∙ opens_is k x.1 (on_link n t) in
     let sink : (b : ℕ) → k ≡ GrantAckOf b → sink_in old.opening ≡ grant_sink b (on_link n t) =
-    λ b e. sink_of_told old.opening ∙ ap mention_sink turn.opening_is ∙ ap (λ (j : Key). mention_sink (last_opening n j t)) e ∙ granted_is n b t in
+    λ b e. sink_of_told old.opening ∙ ap mention_sink turn.opening_is ∙ ap
+    (λ (j : Key). mention_sink (last_opening n j t)) e ∙ granted_is n b t in
     let closes : closes_by k m.told.mention.control m.block (sink_in old.opening) ≡ closes k x.1 (on_link n t) =
-    ap₂ (λ (a : Control) (b : Option ℕ). closes_by k a b (sink_in old.opening)) control is.block_is ∙ closes_is k x.1 (on_link n t) (sink_in old.opening) sink in
+    ap₂ (λ (a : Control) (b : Option ℕ). closes_by k a b (sink_in old.opening)) control is.block_is ∙ closes_is k x.1
+    (on_link n t) (sink_in old.opening) sink in
     let o = ap₂ (λ (a b : Bool). a && b) is.first_is opens ∙ sym (here x.0.0 n _ is.of_link) in
     let c = ap₂ (λ (a b : Bool). a && b) is.last_is closes ∙ sym (here x.0.0 n _ is.of_link) in
     record {
@@ -219,19 +240,22 @@ turn_next old new n k m x t is turn opening closing =
       closing_is = ap mention_of closing ∙ mention_if _ m.told old.closing ∙ rw (c, is.told_is, turn.closing_is) refl;
     }
 
-pub said_next : {w : ℕ} (old new : Option Told) (n k : ℕ) (m : Moment) (x : Link × Beat w) (t : Trace w) → IsMoment m n x t → mention_of old ≡ last_saying n k t
+pub said_next : {w : ℕ} (old new : Option Told) (n k : ℕ) (m : Moment) (x : Link × Beat w) (t : Trace w)
+    → IsMoment m n x t → mention_of old ≡ last_saying n k t
     → new ≡ (if m.last && says_by k m.told.mention.control m.block then Some m.told else old)
     → mention_of new ≡ last_saying n k (x ∷ t)
 unfolding last_where
 said_next old new n k m x t is was e =
     let control : m.told.mention.control ≡ control_of x.1 = ap (λ (y : Mention). y.control) is.told_is in
-    let says : says_by k m.told.mention.control m.block ≡ is_some (says_held k x.1 (on_link n t)) = ap₂ (says_by k) control is.block_is ∙ says_is k x.1 (on_link n t) in
+    let says : says_by k m.told.mention.control m.block ≡ is_some (says_held k x.1 (on_link n t)) =
+    ap₂ (says_by k) control is.block_is ∙ says_is k x.1 (on_link n t) in
     let s = ap₂ (λ (a b : Bool). a && b) is.last_is says ∙ sym (here x.0.0 n _ is.of_link) in
     ap mention_of e ∙ mention_if _ m.told old ∙ rw (s, is.told_is, was) refl
 
 -- ---- before any beat
 
-pub no_turn : {w : ℕ} (turn : Turn) (n : ℕ) (k : Key) → turn.opening ≡ None → turn.closing ≡ None → IsTurn {w = w} turn n k []
+pub no_turn : {w : ℕ} (turn : Turn) (n : ℕ) (k : Key) → turn.opening ≡ None → turn.closing ≡ None
+    → IsTurn {w = w} turn n k []
 unfolding last_where
 no_turn turn n k opening closing = record { opening_is = ap mention_of opening; closing_is = ap mention_of closing }
 
@@ -239,7 +263,8 @@ pub no_saying : (w n k : ℕ) → mention_of None ≡ last_saying {w = w} n k []
 unfolding last_where
 no_saying w n k = refl
 
-pub no_blocks : (w : ℕ) (asked released : List (Option ℕ)) → ((s : ℕ) → at asked s ≡ None) → ((s : ℕ) → at released s ≡ None)
+pub no_blocks : (w : ℕ) (asked released : List (Option ℕ)) → ((s : ℕ) → at asked s ≡ None)
+    → ((s : ℕ) → at released s ≡ None)
     → AreBlocks {w = w} (record { asked = asked; released = released }) []
 unfolding request_of release_of
 no_blocks w asked released a r = record { asked_are = a; released_are = r }
@@ -248,7 +273,8 @@ pub empty_blocks : (w : ℕ) (b : Blocks) (n : ℕ) → AreBlocks {w = w} b [] �
 unfolding on_link
 empty_blocks w b n are = are
 
-pub no_bursts : (w : ℕ) (b : Bursts) (n : ℕ) → b.a ≡ None → b.b ≡ None → b.c ≡ None → b.d ≡ None → b.e ≡ None → (ch : Channel) → IsBegun {w = w} (burst_on b ch) n ch []
+pub no_bursts : (w : ℕ) (b : Bursts) (n : ℕ) → b.a ≡ None → b.b ≡ None → b.c ≡ None → b.d ≡ None → b.e ≡ None
+    → (ch : Channel) → IsBegun {w = w} (burst_on b ch) n ch []
 unfolding unfinished on_link
 no_bursts w b n a bb c d e channel.A = rw a refl
 no_bursts w b n a bb c d e channel.B = rw bb refl
@@ -265,7 +291,11 @@ module _ {w : ℕ} (n : ℕ) (x : Link × Beat w) (t : Trace w) (elsewhere : (x.
 
   turn_kept : (turn : Turn) (k : Key) → IsTurn turn n k t → IsTurn turn n k (x ∷ t)
   unfolding last_where
-  turn_kept turn k is = record { opening_is = is.opening_is ∙ rw elsewhere refl; closing_is = is.closing_is ∙ rw elsewhere refl }
+  turn_kept turn k is = record {
+    opening_is = is.opening_is ∙ rw elsewhere refl;
+    closing_is =
+        is.closing_is ∙ rw elsewhere refl;
+  }
 
   saying_kept : (k : ℕ) (m : Option Mention) → m ≡ last_saying n k t → m ≡ last_saying n k (x ∷ t)
   unfolding last_where
@@ -277,10 +307,18 @@ module _ {w : ℕ} (n : ℕ) (x : Link × Beat w) (t : Trace w) (elsewhere : (x.
 
   begun_kept : (b : Option Begun) (ch : Channel) → IsBegun b n ch t → IsBegun b n ch (x ∷ t)
   begun_kept None ch is = ap (unfinished ch) not_on ∙ is
-  begun_kept (Some b) ch is =
-      (is.0, is.1, ap (unfinished ch) not_on ∙ is.2, is.3, ap (λ (h : History w). length (unfinished ch h)) not_on ∙ is.4, opening_kept ch ∙ is.5)
+  begun_kept (Some b) ch is = (
+    is.0,
+    is.1,
+    ap (unfinished ch) not_on ∙ is.2,
+    is.3,
+    ap (λ (h : History w). length (unfinished ch h))
+        not_on ∙ is.4,
+    opening_kept ch ∙ is.5,
+  )
 
-turns_kept : {w : ℕ} (r : Turns) (subject : Subject) (x : Link × Beat w) (t : Trace w) → (x.0.0 == subject.link.0) ≡ false → AreTurns r subject t → AreTurns r subject (x ∷ t)
+turns_kept : {w : ℕ} (r : Turns) (subject : Subject) (x : Link × Beat w) (t : Trace w)
+    → (x.0.0 == subject.link.0) ≡ false → AreTurns r subject t → AreTurns r subject (x ∷ t)
 turns_kept r subject x t elsewhere is = record {
   request_is = turn_kept subject.link.0 x t elsewhere r.request _ is.request_is;
   release_with_source_is = turn_kept subject.link.0 x t elsewhere r.release_with_source _ is.release_with_source_is;
@@ -292,7 +330,8 @@ turns_kept r subject x t elsewhere is = record {
   said_is = saying_kept subject.link.0 x t elsewhere subject.block (mention_of r.said) is.said_is;
 }
 
-pub record_kept : {w : ℕ} (r : Recorder) (x : Link × Beat w) (t : Trace w) → (x.0.0 == r.subject.link.0) ≡ false → IsRecord r t → IsRecord r (x ∷ t)
+pub record_kept : {w : ℕ} (r : Recorder) (x : Link × Beat w) (t : Trace w) → (x.0.0 == r.subject.link.0) ≡ false
+    → IsRecord r t → IsRecord r (x ∷ t)
 record_kept r x t elsewhere is = record {
   bursts_are = λ ch. begun_kept r.subject.link.0 x t elsewhere (burst_on r.bursts ch) ch (is.bursts_are ch);
   blocks_are = rw (not_on r.subject.link.0 x t elsewhere) is.blocks_are;
@@ -358,16 +397,21 @@ on_own channel.E (beat.E x) e = refl
 abbrev BegunOf : {w : ℕ} → Option Begun → List (Beat w) → Option Mention → Type 0
 BegunOf None u opening = u ≡ []
 BegunOf {w} (Some b) u opening =
-    (newest : Beat w) × (earlier : List (Beat w)) × (u ≡ newest ∷ earlier) × (b.newest ≡ control_of newest) × (length u ≡ b.came) × (opening ≡ Some b.first.mention)
+    (newest : Beat w) × (earlier : List (Beat w)) × (u ≡ newest ∷ earlier) × (b.newest ≡ control_of newest)
+    × (length u ≡ b.came) × (opening ≡ Some b.first.mention)
 
 abbrev opening_after : {w : ℕ} → Bool → List (Beat w) → List (Beat w) → Mention → Option Mention → Option Mention
-opening_after here new old m opening = if here then (if is_empty new then None else if is_empty old then Some m else opening) else opening
+opening_after here new old m opening =
+    if here then (if is_empty new then None else if is_empty old then Some m else opening) else opening
 
-begun_step : {w : ℕ} (here last : Bool) (y : Beat w) (u v : List (Beat w)) (was is : Option Mention) (b : Option Begun) (m : Told) → m.mention.control ≡ control_of y
-    → v ≡ (if here then grown y u else u) → is ≡ opening_after here v u m.mention was → (here ≡ true → last ≡ completes y u) → BegunOf b u was
+begun_step : {w : ℕ} (here last : Bool) (y : Beat w) (u v : List (Beat w)) (was is : Option Mention) (b : Option Begun)
+    (m : Told) → m.mention.control ≡ control_of y
+    → v ≡ (if here then grown y u else u) → is ≡ opening_after here v u m.mention was
+    → (here ≡ true → last ≡ completes y u) → BegunOf b u was
     → BegunOf (if here then burst_after m last b else b) v is
 begun_step false last y u v was is None m e grows opens finishes begun = grows ∙ begun
-begun_step false last y u v was is (Some b) m e grows opens finishes begun = (begun.0, begun.1, grows ∙ begun.2, begun.3, ap length grows ∙ begun.4, opens ∙ begun.5)
+begun_step false last y u v was is (Some b) m e grows opens finishes begun =
+    (begun.0, begun.1, grows ∙ begun.2, begun.3, ap length grows ∙ begun.4, opens ∙ begun.5)
 begun_step true true y u v was is b m e grows opens finishes begun = grows ∙ rw (← finishes refl) refl
 begun_step true false y u v was is None m e grows opens finishes begun =
     let now : v ≡ y ∷ [] = grows ∙ rw (← finishes refl, begun) refl in
@@ -377,53 +421,68 @@ begun_step true false y u v was is (Some b) m e grows opens finishes begun =
     let long : length (y ∷ u) ≡ b.came + 1 = omega (arith, begun.4) in
     (y, u, now, e, ap length now ∙ long, opens ∙ rw (now, begun.2) begun.5)
 
-into : {w : ℕ} (b : Option Begun) (n : ℕ) (ch : Channel) (t : Trace w) → IsBegun b n ch t → BegunOf b (unfinished ch (on_link n t)) (burst_opening n ch t)
+into : {w : ℕ} (b : Option Begun) (n : ℕ) (ch : Channel) (t : Trace w) → IsBegun b n ch t
+    → BegunOf b (unfinished ch (on_link n t)) (burst_opening n ch t)
 into None n ch t is = is
 into (Some b) n ch t is = is
 
-back : {w : ℕ} (b : Option Begun) (n : ℕ) (ch : Channel) (t : Trace w) → BegunOf b (unfinished ch (on_link n t)) (burst_opening n ch t) → IsBegun b n ch t
+back : {w : ℕ} (b : Option Begun) (n : ℕ) (ch : Channel) (t : Trace w)
+    → BegunOf b (unfinished ch (on_link n t)) (burst_opening n ch t) → IsBegun b n ch t
 back None n ch t is = is
 back (Some b) n ch t is = is
 
 unfinished_taken : {w : ℕ} (n : ℕ) (ch : Channel) (x : Link × Beat w) (t : Trace w) → (x.0.0 == n) ≡ true
-    → unfinished ch (on_link n (x ∷ t)) ≡ (if on ch x.1 then grown x.1 (unfinished ch (on_link n t)) else unfinished ch (on_link n t))
+    → unfinished ch (on_link n (x ∷ t)) ≡ (if on ch x.1 then grown x.1 (unfinished ch (on_link n t)) else unfinished ch
+    (on_link n t))
 unfolding unfinished on_link
 unfinished_taken n ch x t own = rw own refl
 
 opening_taken : {w : ℕ} (n : ℕ) (ch : Channel) (x : Link × Beat w) (t : Trace w) → (x.0.0 == n) ≡ true
-    → burst_opening n ch (x ∷ t) ≡ opening_after (on ch x.1) (unfinished ch (on_link n (x ∷ t))) (unfinished ch (on_link n t)) (told x t) (burst_opening n ch t)
+    → burst_opening n ch (x ∷ t) ≡ opening_after (on ch x.1) (unfinished ch (on_link n (x ∷ t)))
+    (unfinished ch (on_link n t)) (told x t) (burst_opening n ch t)
 unfolding burst_opening
 opening_taken n ch x t own = rw own refl
 
-begun_taken : {w : ℕ} (n : ℕ) (ch : Channel) (x : Link × Beat w) (t : Trace w) (b : Option Begun) (m : Told) (last : Bool) → (x.0.0 == n) ≡ true → m.mention ≡ told x t
-    → (on ch x.1 ≡ true → last ≡ completes x.1 (unfinished ch (on_link n t))) → IsBegun b n ch t → IsBegun (burst_with ch m last b) n ch (x ∷ t)
+begun_taken : {w : ℕ} (n : ℕ) (ch : Channel) (x : Link × Beat w) (t : Trace w) (b : Option Begun) (m : Told)
+    (last : Bool) → (x.0.0 == n) ≡ true → m.mention ≡ told x t
+    → (on ch x.1 ≡ true → last ≡ completes x.1 (unfinished ch (on_link n t))) → IsBegun b n ch t
+    → IsBegun (burst_with ch m last b) n ch (x ∷ t)
 begun_taken n ch x t b m last own is finishes begun =
     let control : m.mention.control ≡ control_of x.1 = ap (λ (y : Mention). y.control) is in
-    let same : same_channel ch (channel_in m.mention.control) ≡ on ch x.1 = ap (λ (y : Control). same_channel ch (channel_in y)) control ∙ on_is ch x.1 in
-    let opening = opening_taken n ch x t own ∙ ap (λ (y : Mention). opening_after (on ch x.1) (unfinished ch (on_link n (x ∷ t))) (unfinished ch (on_link n t)) y (burst_opening n ch t)) (sym is) in
-    let step = begun_step (on ch x.1) last x.1 (unfinished ch (on_link n t)) (unfinished ch (on_link n (x ∷ t))) (burst_opening n ch t) (burst_opening n ch (x ∷ t)) b m control
+    let same : same_channel ch (channel_in m.mention.control) ≡ on ch x.1 =
+    ap (λ (y : Control). same_channel ch (channel_in y)) control ∙ on_is ch x.1 in
+    let opening = opening_taken n ch x t own ∙ ap
+    (λ (y : Mention). opening_after (on ch x.1) (unfinished ch (on_link n (x ∷ t))) (unfinished ch (on_link n t)) y
+    (burst_opening n ch t)) (sym is) in
+    let step = begun_step (on ch x.1) last x.1 (unfinished ch (on_link n t)) (unfinished ch (on_link n (x ∷ t)))
+    (burst_opening n ch t) (burst_opening n ch (x ∷ t)) b m control
     (unfinished_taken n ch x t own) opening finishes (into b n ch t begun) in
     back (burst_with ch m last b) n ch (x ∷ t) (rw same step)
 
 -- ---- and of the moment, and of the blocks
 
-first_is : {w : ℕ} (b : Option Begun) (u : List (Beat w)) (was : Option Mention) → BegunOf b u was → is_none b ≡ is_empty u
+first_is : {w : ℕ} (b : Option Begun) (u : List (Beat w)) (was : Option Mention) → BegunOf b u was
+    → is_none b ≡ is_empty u
 first_is None u was begun = rw begun refl
 first_is (Some b) u was begun = rw begun.2 refl
 
-last_is : {w : ℕ} (y : Beat w) (b : Option Begun) (u : List (Beat w)) (was : Option Mention) → BegunOf b u was → completes_burst y b ≡ completes y u
+last_is : {w : ℕ} (y : Beat w) (b : Option Begun) (u : List (Beat w)) (was : Option Mention) → BegunOf b u was
+    → completes_burst y b ≡ completes y u
 last_is y None u was begun = rw begun refl
 last_is y (Some b) u was begun = rw begun.4 refl
 
-asked_if : {w : ℕ} (c : Bool) (x : BeatA w) (r : Option (BeatA w)) → (if c then Some (block_at x.address) else block_asked r) ≡ block_asked (if c then Some x else r)
+asked_if : {w : ℕ} (c : Bool) (x : BeatA w) (r : Option (BeatA w))
+    → (if c then Some (block_at x.address) else block_asked r) ≡ block_asked (if c then Some x else r)
 asked_if true x r = refl
 asked_if false x r = refl
 
-released_if : {w : ℕ} (c : Bool) (x : BeatC w) (r : Option (BeatC w)) → (if c then Some (block_at x.address) else block_released r) ≡ block_released (if c then Some x else r)
+released_if : {w : ℕ} (c : Bool) (x : BeatC w) (r : Option (BeatC w))
+    → (if c then Some (block_at x.address) else block_released r) ≡ block_released (if c then Some x else r)
 released_if true x r = refl
 released_if false x r = refl
 
-asked_step : {w : ℕ} (y : Beat w) (h : History w) (s : ℕ) → asked_next (begins y h) y s (block_asked (request_of s h)) ≡ block_asked (request_of s (y ∷ h))
+asked_step : {w : ℕ} (y : Beat w) (h : History w) (s : ℕ) → asked_next (begins y h) y s (block_asked (request_of s h))
+    ≡ block_asked (request_of s (y ∷ h))
 unfolding request_of
 asked_step (beat.A x) h s = asked_if _ x (request_of s h)
 asked_step (beat.B x) h s = refl
@@ -431,7 +490,8 @@ asked_step (beat.C x) h s = refl
 asked_step (beat.D x) h s = refl
 asked_step (beat.E x) h s = refl
 
-released_step : {w : ℕ} (y : Beat w) (h : History w) (s : ℕ) → released_next (begins y h) y s (block_released (release_of s h)) ≡ block_released (release_of s (y ∷ h))
+released_step : {w : ℕ} (y : Beat w) (h : History w) (s : ℕ)
+    → released_next (begins y h) y s (block_released (release_of s h)) ≡ block_released (release_of s (y ∷ h))
 unfolding release_of
 released_step (beat.A x) h s = refl
 released_step (beat.B x) h s = refl
@@ -439,7 +499,8 @@ released_step (beat.C x) h s = released_if _ x (release_of s h)
 released_step (beat.D x) h s = refl
 released_step (beat.E x) h s = refl
 
-blocks_taken : {w : ℕ} (b c : Blocks) (y : Beat w) (h : History w) (first : Bool) → first ≡ begins y h → ((s : ℕ) → at c.asked s ≡ asked_next first y s (at b.asked s))
+blocks_taken : {w : ℕ} (b c : Blocks) (y : Beat w) (h : History w) (first : Bool) → first ≡ begins y h
+    → ((s : ℕ) → at c.asked s ≡ asked_next first y s (at b.asked s))
     → ((s : ℕ) → at c.released s ≡ released_next first y s (at b.released s)) → AreBlocks b h → AreBlocks c (y ∷ h)
 blocks_taken b c y h first is asked released are = record {
   asked_are = λ s. asked s ∙ rw (is, are.asked_are s) (asked_step y h s);
@@ -449,26 +510,44 @@ blocks_taken b c y h first is asked released are = record {
 same_number : (a n : ℕ) → a ≡ n → (a == n) ≡ true
 same_number a n e = grind arith
 
-on_own_link : {w : ℕ} (n : ℕ) (x : Link × Beat w) (t : Trace w) → (x.0.0 == n) ≡ true → on_link n (x ∷ t) ≡ x.1 ∷ on_link n t
+on_own_link : {w : ℕ} (n : ℕ) (x : Link × Beat w) (t : Trace w) → (x.0.0 == n) ≡ true
+    → on_link n (x ∷ t) ≡ x.1 ∷ on_link n t
 unfolding on_link
 on_own_link n x t own = rw own refl
 
-pub record_taken : {w : ℕ} (r q : Recorder) (m : Moment) (x : Link × Beat w) (t : Trace w) → x.0.0 ≡ r.subject.link.0 → m.told.mention ≡ told x t
-    → m.first ≡ is_none (burst_on r.bursts (channel_of x.1)) → m.last ≡ completes_burst x.1 (burst_on r.bursts (channel_of x.1))
+pub record_taken : {w : ℕ} (r q : Recorder) (m : Moment) (x : Link × Beat w) (t : Trace w) → x.0.0 ≡ r.subject.link.0
+    → m.told.mention ≡ told x t
+    → m.first ≡ is_none (burst_on r.bursts (channel_of x.1))
+    → m.last ≡ completes_burst x.1 (burst_on r.bursts (channel_of x.1))
     → ((h : History w) → AreBlocks r.blocks h → m.block ≡ block_of x.1 h) → q.subject ≡ r.subject
     → (IsMoment m r.subject.link.0 x t → AreTurns r.turns r.subject t → AreTurns q.turns r.subject (x ∷ t))
-    → ((s : ℕ) → at q.blocks.asked s ≡ asked_next m.first x.1 s (at r.blocks.asked s)) → ((s : ℕ) → at q.blocks.released s ≡ released_next m.first x.1 s (at r.blocks.released s))
-    → ((ch : Channel) → burst_on q.bursts ch ≡ burst_with ch m.told m.last (burst_on r.bursts ch)) → IsRecord r t → IsRecord q (x ∷ t)
+    → ((s : ℕ) → at q.blocks.asked s ≡ asked_next m.first x.1 s (at r.blocks.asked s))
+    → ((s : ℕ) → at q.blocks.released s ≡ released_next m.first x.1 s (at r.blocks.released s))
+    → ((ch : Channel) → burst_on q.bursts ch ≡ burst_with ch m.told m.last (burst_on r.bursts ch)) → IsRecord r t
+    → IsRecord q (x ∷ t)
 record_taken r q m x t own is first last block same turns asked released bursts rec =
     let n = r.subject.link.0 in
     let here : (x.0.0 == n) ≡ true = same_number x.0.0 n own in
     let begun = into (burst_on r.bursts (channel_of x.1)) n (channel_of x.1) t (rec.bursts_are (channel_of x.1)) in
-    let begins_is : m.first ≡ begins x.1 (on_link n t) = first ∙ first_is (burst_on r.bursts (channel_of x.1)) (unfinished (channel_of x.1) (on_link n t)) (burst_opening n (channel_of x.1) t) begun in
-    let ends_is : m.last ≡ ends x.1 (on_link n t) = last ∙ last_is x.1 (burst_on r.bursts (channel_of x.1)) (unfinished (channel_of x.1) (on_link n t)) (burst_opening n (channel_of x.1) t) begun in
-    let moment : IsMoment m n x t = record { told_is = is; of_link = own; first_is = begins_is; last_is = ends_is; block_is = block (on_link n t) rec.blocks_are } in
-    let all_bursts : (ch : Channel) → IsBegun (burst_on q.bursts ch) n ch (x ∷ t) = λ ch. rw (bursts ch) (begun_taken n ch x t (burst_on r.bursts ch) m.told m.last here is
-    (λ on_it. ends_is ∙ ap (λ (c : Channel). completes x.1 (unfinished c (on_link n t))) (sym (on_own ch x.1 on_it))) (rec.bursts_are ch)) in
-    let all_blocks : AreBlocks q.blocks (on_link n (x ∷ t)) = rw (on_own_link n x t here) (blocks_taken r.blocks q.blocks x.1 (on_link n t) m.first begins_is asked released rec.blocks_are) in
+    let begins_is : m.first ≡ begins x.1 (on_link n t) = first ∙ first_is (burst_on r.bursts (channel_of x.1))
+    (unfinished (channel_of x.1) (on_link n t)) (burst_opening n (channel_of x.1) t) begun in
+    let ends_is : m.last ≡ ends x.1 (on_link n t) = last ∙ last_is x.1 (burst_on r.bursts (channel_of x.1))
+    (unfinished (channel_of x.1) (on_link n t)) (burst_opening n (channel_of x.1) t) begun in
+    let moment : IsMoment m n x t = record {
+      told_is = is;
+      of_link = own;
+      first_is = begins_is;
+      last_is =
+          ends_is;
+      block_is = block (on_link n t) rec.blocks_are;
+    } in
+    let all_bursts : (ch : Channel) → IsBegun (burst_on q.bursts ch) n ch (x ∷ t) =
+    λ ch. rw (bursts ch) (begun_taken n ch x t (burst_on r.bursts ch) m.told m.last here is
+    (λ on_it. ends_is ∙ ap (λ (c : Channel). completes x.1 (unfinished c (on_link n t))) (sym (on_own ch x.1 on_it)))
+    (rec.bursts_are ch)) in
+    let all_blocks : AreBlocks q.blocks (on_link n (x ∷ t)) =
+    rw (on_own_link n x t here) (blocks_taken r.blocks q.blocks x.1 (on_link n t) m.first begins_is asked released
+    rec.blocks_are) in
     record {
       bursts_are = rw same all_bursts;
       blocks_are = rw same all_blocks;

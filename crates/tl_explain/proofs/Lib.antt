@@ -1,8 +1,11 @@
 pub mod Cuts
 pub mod BeatTexts
 pub mod Convicts
+pub mod First
 pub mod Follows
 pub mod Found
+pub mod Ordered
 pub mod Places
 pub mod Rests
 pub mod Sound
+pub mod WholeBursts

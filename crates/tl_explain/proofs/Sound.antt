@@ -70,7 +70,7 @@ later_line a b e = grind arith
 
 -- ---- keys
 
-opened_some : (opening closing : Option Told) (m : Told)
+pub opened_some : (opening closing : Option Told) (m : Told)
     → (if is_open (mention_of opening) (mention_of closing) then opening else None) ≡ Some m
     → (is_open (mention_of opening) (mention_of closing) ≡ true) × (opening ≡ Some m)
 opened_some opening closing m e = go (is_open (mention_of opening) (mention_of closing)) refl e
@@ -712,26 +712,26 @@ module _ {w : ℕ} (p : Profile) (r : Recorder) (t : Trace w) (rec : IsRecord r 
   abbrev Sound : Rule → Beat w → Option Reason → Type 0
   Sound rule x o = IsSound p rule x n t o
 
-  source_turn : (s : ℕ) → r.subject.source ≡ s → IsTurn r.turns.request n (RequestSource s) t
+  pub source_turn : (s : ℕ) → r.subject.source ≡ s → IsTurn r.turns.request n (RequestSource s) t
   source_turn s e = subst (λ (i : ℕ). IsTurn r.turns.request n (RequestSource i) t) e rec.turns_are.request_is
 
-  release_turn : (s : ℕ) → r.subject.source ≡ s → IsTurn r.turns.release_with_source n (ReleaseSource s) t
+  pub release_turn : (s : ℕ) → r.subject.source ≡ s → IsTurn r.turns.release_with_source n (ReleaseSource s) t
   release_turn s e = subst (λ (i : ℕ). IsTurn r.turns.release_with_source n (ReleaseSource i) t) e
       rec.turns_are.release_with_source_is
 
-  acquire_turn : (k : ℕ) → r.subject.block ≡ k → IsTurn r.turns.acquire n (AcquireOf k) t
+  pub acquire_turn : (k : ℕ) → r.subject.block ≡ k → IsTurn r.turns.acquire n (AcquireOf k) t
   acquire_turn k e = subst (λ (i : ℕ). IsTurn r.turns.acquire n (AcquireOf i) t) e rec.turns_are.acquire_is
 
-  release_of_turn : (k : ℕ) → r.subject.block ≡ k → IsTurn r.turns.release n (ReleaseOf k) t
+  pub release_of_turn : (k : ℕ) → r.subject.block ≡ k → IsTurn r.turns.release n (ReleaseOf k) t
   release_of_turn k e = subst (λ (i : ℕ). IsTurn r.turns.release n (ReleaseOf i) t) e rec.turns_are.release_is
 
-  probe_turn : (k : ℕ) → r.subject.block ≡ k → IsTurn r.turns.probe n (ProbeOf k) t
+  pub probe_turn : (k : ℕ) → r.subject.block ≡ k → IsTurn r.turns.probe n (ProbeOf k) t
   probe_turn k e = subst (λ (i : ℕ). IsTurn r.turns.probe n (ProbeOf i) t) e rec.turns_are.probe_is
 
-  ack_turn : (k : ℕ) → r.subject.block ≡ k → IsTurn r.turns.grant_ack n (GrantAckOf k) t
+  pub ack_turn : (k : ℕ) → r.subject.block ≡ k → IsTurn r.turns.grant_ack n (GrantAckOf k) t
   ack_turn k e = subst (λ (i : ℕ). IsTurn r.turns.grant_ack n (GrantAckOf i) t) e rec.turns_are.grant_ack_is
 
-  sink_turn : (s : ℕ) → r.subject.sink ≡ s → IsTurn r.turns.sink n (GrantSink s) t
+  pub sink_turn : (s : ℕ) → r.subject.sink ≡ s → IsTurn r.turns.sink n (GrantSink s) t
   sink_turn s e = subst (λ (i : ℕ). IsTurn r.turns.sink n (GrantSink i) t) e rec.turns_are.sink_is
 
   said_is : (k : ℕ) → r.subject.block ≡ k → mention_of r.turns.said ≡ last_saying n k t

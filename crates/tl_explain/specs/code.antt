@@ -1,3 +1,4 @@
 pub mod Chosen
 pub mod Cuts
 pub mod Recorded
+pub mod Spelled

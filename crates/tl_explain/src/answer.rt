@@ -104,7 +104,8 @@ pub fn fits_grow(profile: Profile, opcode: OpA, param: u8, cap: u8) -> bool
 
 /// Whether an answer lacks the data that a request wants, where this is held.
 fn lacks_data(answer: OpD, request: OpA, held: Perm) -> bool
-    ensures { result ≡ (is_grant_without_data answer && (is_acquire_block request && not (same_perm held perm.Branch))) }
+    ensures { result ≡ (is_grant_without_data answer
+        && (is_acquire_block request && not (same_perm held perm.Branch))) }
 {
     answer == OpD::Grant && request == OpA::AcquireBlock && held != Perm::Branch
 }

@@ -5,7 +5,8 @@ ghost use Rattle.tl_beat.specs.declared.channel.Channel.{Channel};
 ghost use Rattle.tl_beat.specs.statement.Width.{IsWidth};
 ghost use Rattle.tl_burst.specs.statement.Messages;
 ghost use Rattle.tl_burst.specs.statement.Part.{is_small};
-ghost use Rattle.tl_explain.specs.code.Recorded.{burst_on, burst_after, channel_in, burst_with, completes_burst, has_room};
+ghost use Rattle.tl_explain.specs.code.Recorded.{burst_on, burst_after, channel_in};
+ghost use Rattle.tl_explain.specs.code.Recorded.{burst_with, completes_burst, has_room};
 
 use crate::told::Told;
 use tl_beat::beat::Beat;
@@ -47,25 +48,30 @@ pub fn is_small<const W: usize>(beat: &Beat<W>) -> bool
     }
 }
 
-/// A burst with one more beat, or nothing where that is its last.
-fn after(told: &Told, burst: Option<Begun>, completes: bool) -> Option<Begun>
-    requires { has_room burst ≡ true }
-    ensures { result ≡ burst_after told.now completes burst }
+/// Takes one more beat of a channel, which ends the burst or doesn't.
+#[inline(always)]
+fn go_on(burst: &mut Option<Begun>, told: &Told, completes: bool)
+    requires { has_room burst.old ≡ true }
+    ensures { burst.new ≡ burst_after told.now completes burst.old }
 {
-    if completes {
-        return None;
-    }
     match burst {
-        None => Some(Begun {
-            first: *told,
-            newest: told.mention.control,
-            came: 1,
-        }),
-        Some(burst) => Some(Begun {
-            first: burst.first,
-            newest: told.mention.control,
-            came: burst.came + 1,
-        }),
+        None => {
+            if !completes {
+                *burst = Some(Begun {
+                    first: *told,
+                    newest: told.mention.control,
+                    came: 1,
+                });
+            }
+        }
+        Some(begun) => {
+            if completes {
+                *burst = None;
+            } else {
+                begun.newest = told.mention.control;
+                begun.came += 1;
+            }
+        }
     }
 }
 
@@ -136,11 +142,11 @@ impl Bursts {
         ensures { (ch : Channel) → burst_on self.new ch ≡ burst_with ch told.now completes (burst_on self.old ch) }
     {
         match told.mention.control {
-            Control::A(_) => self.a = after(told, self.a, completes),
-            Control::B(_) => self.b = after(told, self.b, completes),
-            Control::C(_) => self.c = after(told, self.c, completes),
-            Control::D(_) => self.d = after(told, self.d, completes),
-            Control::E(_) => self.e = after(told, self.e, completes),
+            Control::A(_) => go_on(&mut self.a, told, completes),
+            Control::B(_) => go_on(&mut self.b, told, completes),
+            Control::C(_) => go_on(&mut self.c, told, completes),
+            Control::D(_) => go_on(&mut self.d, told, completes),
+            Control::E(_) => go_on(&mut self.e, told, completes),
         }
     }
 }

@@ -8,6 +8,7 @@ use tl_params::key::Key;
 use tl_rules::kind::{is_acquire, is_grant, is_probe, is_probe_ack, is_release, is_release_ack};
 
 /// Whether a message that begins with this beat, and is of this block, opens the key.
+#[inline(always)]
 pub fn opens(key: Key, beat: &Control, block: Option<u32>) -> bool
     ensures { result ≡ opens_by key beat.now block }
 {
@@ -25,6 +26,7 @@ pub fn opens(key: Key, beat: &Control, block: Option<u32>) -> bool
 
 /// Whether a message that is complete with this beat, and is of this block, closes the key. The last
 /// Grant that opened the key had the sink `granted`.
+#[inline(always)]
 pub fn closes(key: Key, beat: &Control, block: Option<u32>, granted: Option<u8>) -> bool
     ensures { result ≡ closes_by key beat.now block granted }
 {
@@ -45,6 +47,7 @@ pub fn closes(key: Key, beat: &Control, block: Option<u32>, granted: Option<u8>)
 
 /// Whether a message that is complete with this beat, and is of this block, leaves what is held of
 /// the block `of`.
+#[inline(always)]
 pub fn says_held(of: u32, beat: &Control, block: Option<u32>) -> bool
     ensures { result ≡ says_by of beat.now block }
 {

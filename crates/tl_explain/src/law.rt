@@ -1,17 +1,20 @@
 //! What is told of a trace, as laws.
 
-ghost use Rattle.std.specs.Prelude.{◌≡◌, ℕ, Some, true};
+ghost use Rattle.std.specs.Prelude.{◌≡◌, ℕ, None, Some, false, true};
 ghost use Rattle.tl_beat.specs.declared.beat.Beat.{Beat};
+ghost use Rattle.tl_beat.specs.statement.First.{first_if};
+ghost use Rattle.tl_burst.specs.statement.Messages.{History, breaks_burst, channel_of, unfinished};
 ghost use Rattle.tl_params.specs.declared.key.Key.{Key};
 ghost use Rattle.tl_params.specs.declared.profile.Profile.{Profile};
 ghost use Rattle.tl_params.specs.declared.rule.Rule.{Rule};
-ghost use Rattle.tl_rules.specs.statement.Conformance.{Trace, on_link};
-ghost use Rattle.tl_rules.specs.statement.History.{held, pending};
+ghost use Rattle.tl_params.specs.declared.rule.Rule.TheVariants.{S1};
+ghost use Rattle.tl_rules.specs.statement.Conformance.{Trace, broken_in_order, on_link};
+ghost use Rattle.tl_rules.specs.statement.History.{begins, held, pending};
 ghost use Rattle.tl_explain.specs.declared.told.Mention.{Mention};
 ghost use Rattle.tl_explain.specs.statement.Evidence.{is_open, last_closing, last_opening, last_saying, left_of};
 ghost use Rattle.tl_explain.specs.statement.Evidence.{is_opening, is_closing, is_saying};
 ghost use Rattle.tl_explain.specs.declared.reason.Reason.{Reason};
-ghost use Rattle.tl_explain.specs.statement.Reasons.{Breaks, IsEvidence, convicted};
+ghost use Rattle.tl_explain.specs.statement.Reasons.{Breaks, IsEvidence, convicted, first_broken, order_rules};
 ghost use Rattle.tl_explain.specs.statement.Since.{IsHeldSince, IsLast, IsLastIfAny, IsPendingSince};
 
 /// A key is pending where its last opening isn't followed by a closing.
@@ -55,6 +58,20 @@ pub fn held_since_saying()
 /// What is told for a verdict makes the rule broken: where what a reason tells of a trace is so, the
 /// beat breaks the rule that follows from the reason and the beat alone.
 pub fn evidence_convicts()
-    ensures { (w n : ℕ) (p : Profile) (rule : Rule) (x : Beat w) (reason : Reason) (t : Trace w) → IsEvidence n x reason t →
+    ensures { (w n : ℕ) (p : Profile) (rule : Rule) (x : Beat w) (reason : Reason) (t : Trace w) →
+        IsEvidence n x reason t →
         convicted p x reason ≡ Some rule → Breaks p rule x (on_link n t) }
+{}
+
+/// The rules of order, each by itself, are those that a monitor judges by. Of a beat that begins a message
+/// the first rule that it breaks is the first of the H rules, in their order, that it breaks by itself; a
+/// beat that goes on with a burst breaks S1 or none. So the first rule that a beat breaks is one that it
+/// breaks by itself.
+pub fn first_rule_broken()
+    ensures message { (w : ℕ) (p : Profile) (x : Beat w) (t : History w) → begins x t ≡ true →
+        broken_in_order p x t ≡ first_broken p order_rules x t }
+    ensures burst { (w : ℕ) (p : Profile) (x : Beat w) (t : History w) → begins x t ≡ false →
+        broken_in_order p x t ≡ first_if (breaks_burst x (unfinished (channel_of x) t)) S1 None }
+    ensures itself { (w : ℕ) (p : Profile) (rule : Rule) (x : Beat w) (t : History w) →
+        broken_in_order p x t ≡ Some rule → Breaks p rule x t }
 {}

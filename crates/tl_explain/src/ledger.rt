@@ -10,6 +10,7 @@ use std::collections::BTreeMap;
 use std::io;
 use std::io::Write;
 use tl_beat::beat::{Beat, Link};
+use tl_monitor::byte_table::ByteTable;
 use tl_params::key::block_at;
 use tl_rules::kind::{is_grant, is_probe, is_probe_ack, is_release, is_release_ack};
 
@@ -23,19 +24,36 @@ pub enum Kind {
     Burst,
 }
 
-/// The message of a link that has opened a source, a sink or a block.
-#[derive(Clone, Copy, Debug, PartialEq, Eq, PartialOrd, Ord)]
-pub struct Entry {
-    pub link: u8,
-    pub kind: Kind,
-    pub number: u32,
+/// The line in which a message began, with its number.
+#[derive(Clone, Copy)]
+struct Opening {
+    line: u64,
+    spelling: Spelling,
+}
+
+/// A message that is pending.
+#[derive(Clone, Copy)]
+struct Pending {
+    kind: Kind,
+    opening: Opening,
+}
+
+/// What is pending on a link: requests and Releases by their source, Grants by their sink, Probes by
+/// their block, and the bursts that aren't complete.
+#[derive(Drop)]
+struct LinkLedger {
+    bursts: Bursts,
+    requests: ByteTable<Opening>,
+    releases: ByteTable<Opening>,
+    grants: ByteTable<Opening>,
+    probes: BTreeMap<u32, Opening>,
 }
 
 /// The messages of a trace that are pending, each with its line.
 #[derive(Drop)]
 pub struct Ledger {
-    bursts: Vec<Bursts>,
-    open: BTreeMap<Entry, Told>,
+    links: Vec<LinkLedger>,
+    pending: Vec<Pending>,
 }
 
 /// Why a ledger can't go on.
@@ -54,30 +72,6 @@ impl From<AllocError> for LedgerFault {
 /// The most messages that are told of.
 const TOLD: usize = 20;
 
-/// What a message that begins with this beat has pending.
-fn opened<const W: usize>(link: u8, beat: &Beat<W>) -> Option<Entry> {
-    let (kind, number) = match beat {
-        Beat::A(x) => (Kind::Request, u32::from(x.source)),
-        Beat::B(x) if is_probe(x.opcode) => (Kind::Probe, block_at(x.address)),
-        Beat::C(x) if is_release(x.opcode) => (Kind::Release, u32::from(x.source)),
-        Beat::D(x) if is_grant(x.opcode) => (Kind::Grant, u32::from(x.sink)),
-        _ => return None,
-    };
-    Some(Entry { link, kind, number })
-}
-
-/// What a message that is complete with this beat has answered.
-fn answered<const W: usize>(link: u8, beat: &Beat<W>) -> Option<Entry> {
-    let (kind, number) = match beat {
-        Beat::C(x) if is_probe_ack(x.opcode) => (Kind::Probe, block_at(x.address)),
-        Beat::D(x) if is_release_ack(x.opcode) => (Kind::Release, u32::from(x.source)),
-        Beat::D(x) => (Kind::Request, u32::from(x.source)),
-        Beat::E(x) => (Kind::Grant, u32::from(x.sink)),
-        _ => return None,
-    };
-    Some(Entry { link, kind, number })
-}
-
 /// What a message that is pending waits for.
 fn missing(kind: Kind) -> &'static str {
     match kind {
@@ -94,16 +88,145 @@ fn is_before(one: (u64, Kind), other: (u64, Kind)) -> bool {
     one.0 < other.0 || one.0 == other.0 && one.1 < other.1
 }
 
+impl Pending {
+    fn place(&self) -> (u64, Kind) {
+        (self.opening.line, self.kind)
+    }
+}
+
+impl LinkLedger {
+    /// Nothing is pending.
+    fn new(alloc: Global) -> Self {
+        LinkLedger {
+            bursts: Bursts::new(),
+            requests: ByteTable::new(),
+            releases: ByteTable::new(),
+            grants: ByteTable::new(),
+            probes: BTreeMap::new(alloc),
+        }
+    }
+
+    /// Notes what a message opens that begins with this beat.
+    fn open<const W: usize>(
+        &mut self,
+        beat: &Beat<W>,
+        opening: Opening,
+    ) -> Result<(), LedgerFault> {
+        match beat {
+            Beat::A(x) => self.requests.set(x.source, Some(opening)),
+            Beat::B(x) if is_probe(x.opcode) => {
+                let block = block_at(x.address);
+                if self.probes.insert(block, opening).is_err() {
+                    return Err(LedgerFault::Memory);
+                }
+            }
+            Beat::C(x) if is_release(x.opcode) => self.releases.set(x.source, Some(opening)),
+            Beat::D(x) if is_grant(x.opcode) => self.grants.set(x.sink, Some(opening)),
+            _ => {}
+        }
+        Ok(())
+    }
+
+    /// Notes what a message answers that is complete with this beat.
+    fn close<const W: usize>(&mut self, beat: &Beat<W>) {
+        match beat {
+            Beat::C(x) if is_probe_ack(x.opcode) => {
+                self.probes.remove(&block_at(x.address));
+            }
+            Beat::D(x) if is_release_ack(x.opcode) => self.releases.set(x.source, None),
+            Beat::D(x) => self.requests.set(x.source, None),
+            Beat::E(x) => self.grants.set(x.sink, None),
+            _ => {}
+        }
+    }
+
+    /// Takes the next beat of the link.
+    fn take<const W: usize>(
+        &mut self,
+        number: u64,
+        line: &[u8],
+        beat: &Beat<W>,
+    ) -> Result<(), LedgerFault>
+        requires { IsWidth W }
+    {
+        if !is_small(beat) || !self.bursts.has_room(beat) {
+            return Err(LedgerFault::Unrecorded);
+        }
+        let first = self.bursts.begins(beat);
+        let last = self.bursts.completes(beat);
+        let spelling = Spelling::of(line);
+        if !first || !last {
+            let mention = Mention {
+                line: number,
+                control: beat.control(),
+            };
+            self.bursts.take(&Told { mention, spelling }, last);
+        }
+        if first {
+            let opening = Opening {
+                line: number,
+                spelling,
+            };
+            self.open(beat, opening)?;
+        }
+        if last {
+            self.close(beat);
+        }
+        Ok(())
+    }
+
+    /// Appends what is pending on the link.
+    fn list(&self, pending: &mut Vec<Pending>) -> Result<(), AllocError> {
+        append_openings(Kind::Request, &self.requests, pending)?;
+        append_openings(Kind::Release, &self.releases, pending)?;
+        append_openings(Kind::Grant, &self.grants, pending)?;
+        for (_, opening) in &self.probes {
+            pending.push(Pending {
+                kind: Kind::Probe,
+                opening: *opening,
+            })?;
+        }
+        let bursts = [self.bursts.a, self.bursts.b, self.bursts.c, self.bursts.d];
+        for burst in bursts {
+            if let Some(begun) = burst {
+                let opening = Opening {
+                    line: begun.first.mention.line,
+                    spelling: begun.first.spelling,
+                };
+                pending.push(Pending {
+                    kind: Kind::Burst,
+                    opening,
+                })?;
+            }
+        }
+        Ok(())
+    }
+}
+
+/// Appends the messages of a table.
+fn append_openings(
+    kind: Kind,
+    table: &ByteTable<Opening>,
+    pending: &mut Vec<Pending>,
+) -> Result<(), AllocError> {
+    for number in 0..=255u8 {
+        if let Some(opening) = table.get(number) {
+            pending.push(Pending { kind, opening })?;
+        }
+    }
+    Ok(())
+}
+
 impl Ledger {
     /// Nothing is pending on so many links.
-    pub fn new(alloc: Global, links: usize) -> Result<Self, AllocError> {
-        let mut bursts = Vec::new(alloc);
-        for _ in 0..links {
-            bursts.push(Bursts::new())?;
+    pub fn new(alloc: Global, count: usize) -> Result<Self, AllocError> {
+        let mut links = Vec::new(alloc);
+        for _ in 0..count {
+            links.push(LinkLedger::new(alloc))?;
         }
         Ok(Ledger {
-            bursts,
-            open: BTreeMap::new(alloc),
+            links,
+            pending: Vec::new(alloc),
         })
     }
 
@@ -117,86 +240,26 @@ impl Ledger {
     ) -> Result<(), LedgerFault>
         requires { IsWidth W }
     {
-        let n = usize::from(link.0);
-        if n >= self.bursts.len() || !is_small(beat) {
-            return Err(LedgerFault::Unrecorded);
+        match self.links.get_mut(usize::from(link.0)) {
+            None => Err(LedgerFault::Unrecorded),
+            Some(ledger) => ledger.take(number, line, beat),
         }
-        let bursts = &mut self.bursts[n];
-        if !bursts.has_room(beat) {
-            return Err(LedgerFault::Unrecorded);
-        }
-        let told = Told {
-            mention: Mention {
-                line: number,
-                control: beat.control(),
-            },
-            spelling: Spelling::of(line),
-        };
-        let first = bursts.begins(beat);
-        let last = bursts.completes(beat);
-        bursts.take(&told, last);
-        self.note(link.0, told, first, last, beat)
-    }
-
-    /// Notes what a beat opens and answers.
-    fn note<const W: usize>(
-        &mut self,
-        link: u8,
-        told: Told,
-        first: bool,
-        last: bool,
-        beat: &Beat<W>,
-    ) -> Result<(), LedgerFault> {
-        if first {
-            if let Some(entry) = opened(link, beat) {
-                if self.open.insert(entry, told).is_err() {
-                    return Err(LedgerFault::Memory);
-                }
-            }
-        }
-        if last {
-            if let Some(entry) = answered(link, beat) {
-                self.open.remove(&entry);
-            }
-        }
-        Ok(())
-    }
-
-    /// Notes the bursts that aren't complete.
-    fn note_bursts(&mut self) -> Result<(), LedgerFault> {
-        for (n, bursts) in self.bursts.iter().enumerate() {
-            let all = [bursts.a, bursts.b, bursts.c, bursts.d];
-            for (channel, burst) in all.iter().enumerate() {
-                if let Some(begun) = burst {
-                    let entry = Entry {
-                        link: (n % 256) as u8,
-                        kind: Kind::Burst,
-                        number: channel as u32,
-                    };
-                    if self.open.insert(entry, begun.first).is_err() {
-                        return Err(LedgerFault::Memory);
-                    }
-                }
-            }
-        }
-        Ok(())
     }
 
     /// The oldest message that is pending and stands behind this one.
-    fn next(&self, after: Option<(u64, Kind)>) -> Option<(Kind, Told)> {
-        let mut oldest: Option<(Kind, Told)> = None;
-        for (entry, told) in &self.open {
-            let place = (told.mention.line, entry.kind);
+    fn next(&self, after: Option<(u64, Kind)>) -> Option<Pending> {
+        let mut oldest: Option<Pending> = None;
+        for pending in &self.pending {
             let comes = match after {
                 None => true,
-                Some(after) => is_before(after, place),
+                Some(after) => is_before(after, pending.place()),
             };
             let older = match oldest {
                 None => true,
-                Some((kind, other)) => is_before(place, (other.mention.line, kind)),
+                Some(other) => is_before(pending.place(), other.place()),
             };
             if comes && older {
-                oldest = Some((entry.kind, *told));
+                oldest = Some(*pending);
             }
         }
         oldest
@@ -206,23 +269,25 @@ impl Ledger {
     pub fn tell<const W: usize>(&mut self, out: &mut Vec<u8>) -> io::Result<()>
         requires { IsWidth W }
     {
-        if self.note_bursts().is_err() {
-            return Err(io::Error::from(AllocError));
+        self.pending.clear();
+        for link in &self.links {
+            link.list(&mut self.pending)?;
         }
-        let count = self.open.len();
+        let count = self.pending.len();
         if count == 0 {
             return out.write_all(b"  nothing is pending at the end\n");
         }
         write!(out, "  pending at the end: {count}, the oldest first\n")?;
         let mut after = None;
         for _ in 0..TOLD {
-            let Some((kind, told)) = self.next(after) else {
+            let Some(pending) = self.next(after) else {
                 return Ok(());
             };
-            let what = missing(kind);
+            let what = missing(pending.kind);
+            let opening = &pending.opening;
             write!(out, "  {what}:\n")?;
-            append_beat_line::<W>(told.mention.line, told.spelling.line(), out)?;
-            after = Some((told.mention.line, kind));
+            append_beat_line::<W>(opening.line, opening.spelling.line(), out)?;
+            after = Some(pending.place());
         }
         let more = count.saturating_sub(TOLD);
         if more > 0 {

@@ -1,8 +1,10 @@
 //! The names of params by opcode, with param names on channel B as on A.
 
 ghost use Rattle.std.specs.Prelude.{◌≡◌, option_map};
-ghost use Rattle.tl_params.specs.statement.Names.{arithmetic_name, cap_name, grow_name, intent_name, logical_name, prune_name, report_name};
-ghost use Rattle.tl_params.specs.statement.Param.{arithmetic_of, cap_of, grow_of, intent_of, logical_of, prune_of, report_named};
+ghost use Rattle.tl_params.specs.statement.Names.{arithmetic_name, cap_name, grow_name, intent_name};
+ghost use Rattle.tl_params.specs.statement.Names.{logical_name, prune_name, report_name};
+ghost use Rattle.tl_params.specs.statement.Param.{arithmetic_of, cap_of, grow_of, intent_of};
+ghost use Rattle.tl_params.specs.statement.Param.{logical_of, prune_of, report_named};
 ghost use Rattle.tl_explain.specs.statement.ParamNames.{a_param_name, b_param_name, c_param_name, d_param_name};
 
 use tl_beat::opcode::{OpA, OpB, OpC, OpD};

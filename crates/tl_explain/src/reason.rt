@@ -7,6 +7,7 @@ ghost use Rattle.tl_explain.specs.code.Recorded.{IsRecord};
 ghost use Rattle.tl_explain.specs.statement.Reasons.{HasBlockAsked, IsEvidence, IsSubject, convicted, is_always_told};
 ghost use Rattle.tl_rules.specs.statement.Conformance.{Trace, on_link};
 ghost use Rattle.tl_explain.specs.statement.Evidence;
+ghost use Rattle.tl_params.specs.declared.level.Level.{Level};
 ghost use Rattle.tl_params.specs.statement.Param.{cap_of, prune_of};
 ghost use Rattle.tl_rules.specs.statement.Conformance;
 
@@ -317,7 +318,8 @@ fn chosen_reason<const W: usize>(
 
 /// Why the beat breaks the rule, by what is recorded of the beats before it; nothing where it doesn't.
 /// What is told is so, of the beats that were recorded, and from it and the beat alone the rule is
-/// broken. Of H3, H6 and H12 a reason is told wherever they are the first rule that the beat breaks.
+/// broken. Of each rule of order a reason is told wherever it is the first that the beat breaks; of H2
+/// and H8 where no earlier beat of the link was at fault.
 pub fn find_reason<const W: usize>(
     profile: Profile,
     rule: Rule,
@@ -331,6 +333,11 @@ pub fn find_reason<const W: usize>(
     ensures first { (t : Trace W) (link : Link) → IsRecord recorder.now t →
         IsSubject recorder.now.subject link beat.now → HasBlockAsked recorder.now.subject beat.now t →
         is_always_told rule ≡ true →
+        Conformance.broken_in_order profile beat.now (on_link recorder.now.subject.link.0 t) ≡ Some rule →
+        is_some result ≡ true }
+    ensures first_fault { (t : Trace W) (link : Link) (level : Level) → IsRecord recorder.now t →
+        IsSubject recorder.now.subject link beat.now → HasBlockAsked recorder.now.subject beat.now t →
+        Conformance.is_legal level profile (on_link recorder.now.subject.link.0 t) ≡ true →
         Conformance.broken_in_order profile beat.now (on_link recorder.now.subject.link.0 t) ≡ Some rule →
         is_some result ≡ true }
 {

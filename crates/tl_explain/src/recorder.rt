@@ -28,7 +28,8 @@ pub struct Recorder {
 impl Recorder {
     /// A recorder that has seen no beat.
     pub fn new(subject: Subject) -> Self
-        ensures { (w : ℕ) → IsRecord {w = w} result [] }
+        ensures record { (w : ℕ) → IsRecord {w = w} result [] }
+        ensures subject { result.subject ≡ subject }
     {
         Recorder {
             subject,
@@ -38,7 +39,7 @@ impl Recorder {
         }
     }
 
-    /// Takes the next beat of a trace, which stands in the line of this number.
+    /// Takes the next beat of a trace, which stands in the line of this number. The subject stays.
     pub fn take<const W: usize>(
         &mut self,
         number: u64,
@@ -47,7 +48,9 @@ impl Recorder {
         beat: &Beat<W>,
     ) -> Result<(), Unrecorded>
         requires { IsWidth W }
-        ensures { OnOk result ((t : Trace W) → number ≡ next_line t → IsRecord self.old t → IsRecord self.new ((link, beat.now) ∷ t)) }
+        ensures record { OnOk result ((t : Trace W) → number ≡ next_line t → IsRecord self.old t →
+            IsRecord self.new ((link, beat.now) ∷ t)) }
+        ensures subject { self.new.subject ≡ self.old.subject }
     {
         if link != self.subject.link {
             return Ok(());

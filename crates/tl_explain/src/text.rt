@@ -1,11 +1,13 @@
 //! Writes a beat line as a readable line. The digits are those of the beat line.
 
-ghost use Rattle.std.specs.Prelude.{◌≡◌, ◌+◌, ◌≤◌, ◌/◌, ◌++◌, length, OnOk, option_map, unwrap_or, slice_index, slice_range, codes, [], ◌∷◌};
+ghost use Rattle.std.specs.Prelude.{◌≡◌, ◌+◌, ◌≤◌, ◌/◌, ◌++◌, length, OnOk, option_map};
+ghost use Rattle.std.specs.Prelude.{unwrap_or, slice_index, slice_range, codes, [], ◌∷◌};
 ghost use Rattle.tl_beat.specs.declared.beat.Link.{Link};
 ghost use Rattle.tl_beat.specs.statement.Line.{Spells};
 ghost use Rattle.tl_beat.specs.statement.Width.{IsWidth};
 ghost use Rattle.tl_explain.specs.statement.Text.{text_of};
-ghost use Rattle.tl_explain.specs.code.Cuts.{IsShort, acknowledgement_text, address_text, head_text, release_text, request_text, response_text, size_and_source, tail_text};
+ghost use Rattle.tl_explain.specs.code.Cuts.{IsShort, acknowledgement_text, address_text, head_text, release_text};
+ghost use Rattle.tl_explain.specs.code.Cuts.{request_text, response_text, size_and_source, tail_text};
 
 use crate::params::{name_on_a, name_on_b, name_on_c, name_on_d};
 use arrayvec::ArrayVec;
@@ -76,7 +78,8 @@ fn address_block(line: &[u8]) -> [u8; 34]
 #[tactic(auto, unfolding(crate::specs::code::Cuts::size_and_source))]
 fn sink_block(line: &[u8]) -> [u8; 34]
     requires { 18 ≤ length line.now }
-    ensures { result ≡ size_and_source line.now (codes " sink=" ++ slice_index line.now 14 ∷ slice_index line.now 15 ∷ (codes " denied=" ++ slice_index line.now 17 ∷ [])) }
+    ensures { result ≡ size_and_source line.now (codes " sink=" ++ slice_index line.now 14 ∷ slice_index line.now 15
+        ∷ (codes " denied=" ++ slice_index line.now 17 ∷ [])) }
 {
     let mut block = *b" size=0 source=00 sink=00 denied=0";
     block[6] = line[9];
@@ -223,7 +226,8 @@ pub fn append_text<const W: usize>(
 ) -> Result<(), AllocError>
     requires width { IsWidth W }
     requires spelled { (link : Link) × Spells line.now link beat.now }
-    ensures { OnOk result ((link : Link) → Spells line.now link beat.now → out.new.items ≡ out.old.items ++ text_of link beat.now) }
+    ensures { OnOk result ((link : Link) → Spells line.now link beat.now →
+        out.new.items ≡ out.old.items ++ text_of link beat.now) }
 {
     let mut text = ArrayVec::new();
     append_beat(&mut text, line, beat);

@@ -1,5 +1,8 @@
 //! Beats with the numbers of their lines.
 
+ghost use Rattle.std.specs.Prelude.{◌≡◌, ◌≤◌, length};
+ghost use Rattle.tl_explain.specs.code.Spelled.{spelled};
+
 use tl_beat::control::Control;
 
 /// A beat by its control fields, with the number of its line.
@@ -25,7 +28,9 @@ pub struct Told {
 
 impl Spelling {
     /// The bytes of a line; what stands behind the first 64 is left out.
-    pub fn of(line: &[u8]) -> Self {
+    pub fn of(line: &[u8]) -> Self
+        ensures { length line.now ≤ 64 → spelled result ≡ line.now }
+    {
         let mut bytes = [0u8; 64];
         let len = line.len().min(64);
         bytes[..len].copy_from_slice(&line[..len]);
@@ -36,7 +41,9 @@ impl Spelling {
     }
 
     /// The line.
-    pub fn line(&self) -> &[u8] {
+    pub fn line(&self) -> &[u8]
+        ensures { result.now ≡ spelled self.now }
+    {
         let end = usize::from(self.len).min(64);
         &self.bytes[..end]
     }

@@ -25,6 +25,7 @@ impl Turn {
     }
 
     /// Takes a message, which may open the key or close it.
+    #[inline(always)]
     pub fn take(&mut self, told: &Told, opens: bool, closes: bool)
         ensures opening { self.new.opening ≡ (if opens then Some told.now else self.old.opening) }
         ensures closing { self.new.closing ≡ (if closes then Some told.now else self.old.closing) }

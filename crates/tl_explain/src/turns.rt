@@ -47,6 +47,7 @@ pub struct Turns {
 }
 
 /// The sink of a Grant.
+#[inline(always)]
 fn sink_of(told: &Option<Told>) -> Option<u8>
     ensures { result ≡ sink_in told.now }
 {
@@ -60,6 +61,7 @@ fn sink_of(told: &Option<Told>) -> Option<u8>
 }
 
 /// Whether both hold.
+#[inline(always)]
 fn both(one: bool, other: bool) -> bool
     ensures { result ≡ (one && other) }
 {
@@ -67,8 +69,10 @@ fn both(one: bool, other: bool) -> bool
 }
 
 /// Follows one key by one beat.
+#[inline(always)]
 fn note(turn: &mut Turn, key: Key, moment: &Moment)
-    ensures { (w n : ℕ) (x : Link × Beat w) (t : Trace w) → IsMoment moment.now n x t → IsTurn turn.old n key t → IsTurn turn.new n key (x ∷ t) }
+    ensures { (w n : ℕ) (x : Link × Beat w) (t : Trace w) → IsMoment moment.now n x t → IsTurn turn.old n key t →
+        IsTurn turn.new n key (x ∷ t) }
 {
     let granted = sink_of(&turn.opening);
     let control = &moment.told.mention.control;
@@ -80,8 +84,10 @@ fn note(turn: &mut Turn, key: Key, moment: &Moment)
 }
 
 /// Notes a message that leaves what is held of a block.
+#[inline(always)]
 fn note_said(said: &mut Option<Told>, block: u32, moment: &Moment)
-    ensures { said.new ≡ (if moment.now.last && says_by block moment.now.told.mention.control moment.now.block then Some moment.now.told else said.old) }
+    ensures { said.new ≡ (if moment.now.last && says_by block moment.now.told.mention.control moment.now.block then Some
+        moment.now.told else said.old) }
 {
     if both(
         moment.last,
@@ -110,7 +116,8 @@ impl Turns {
 
     /// Follows the keys by one beat of their link.
     pub fn take(&mut self, subject: Subject, moment: &Moment)
-        ensures { (w : ℕ) (x : Link × Beat w) (t : Trace w) → IsMoment moment.now subject.link.0 x t → AreTurns self.old subject t → AreTurns self.new subject (x ∷ t) }
+        ensures { (w : ℕ) (x : Link × Beat w) (t : Trace w) → IsMoment moment.now subject.link.0 x t →
+            AreTurns self.old subject t → AreTurns self.new subject (x ∷ t) }
     {
         note(
             &mut self.request,

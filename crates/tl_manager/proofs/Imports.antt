@@ -51,7 +51,8 @@ pub use Rattle.tl_manager.specs.code.Bit.{bit_if}
 pub use Rattle.tl_manager.specs.code.BlockState.{IsBlockState, IsBlockStateWithout, IsDone, IsReadyAt}
 pub use Rattle.tl_manager.specs.code.Blocks.{AreBlocks}
 pub use Rattle.tl_manager.specs.code.Complete.{IsComplete}
-pub use Rattle.tl_manager.specs.code.Kept.{AreApart, Each, IsFilled, IsKept, IsPerformable, IsSound, IsTyped, blocks_of}
+pub use Rattle.tl_rules.specs.laws.Typed.{HasBlock}
+pub use Rattle.tl_manager.specs.code.Kept.{AreApart, Each, IsKept, IsPerformable, IsSound, IsTyped, blocks_of}
 pub use Rattle.tl_manager.specs.code.Kept.{illegal_at, illegal_message_at, is_granting}
 pub use Rattle.tl_manager.specs.code.Knows.{Knows}
 pub use Rattle.tl_manager.specs.code.LinkState.{IsLinkState}

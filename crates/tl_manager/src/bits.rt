@@ -29,7 +29,8 @@ impl Words {
     pub(crate) fn with(self, client: u8, perm: Perm) -> Words
         requires { client < 16 }
         ensures here { perm_in result.owners result.sharers client ≡ perm }
-        ensures others { (c : ℕ) → c ≢ client → perm_in result.owners result.sharers c ≡ perm_in self.owners self.sharers c }
+        ensures others { (c : ℕ) → c ≢ client → perm_in result.owners result.sharers c
+            ≡ perm_in self.owners self.sharers c }
     {
         let owners = with_bit(self.owners, client, perm == Perm::Trunk);
         let sharers = with_bit(self.sharers, client, perm == Perm::Branch);

@@ -1,6 +1,7 @@
 //! What the definitions of a manager's answers amount to, as laws.
 
-ghost use Rattle.std.specs.Prelude.{◌≡◌, ◌<◌, ◌↔◌, ◌&&◌, ◌||◌, ℕ, Bool, List, [], true, false, nat_lt, length, Some, if◌then◌else◌};
+ghost use Rattle.std.specs.Prelude.{◌≡◌, ◌<◌, ◌↔◌, ◌&&◌, ◌||◌, ℕ, Bool, List, []};
+ghost use Rattle.std.specs.Prelude.{true, false, nat_lt, length, Some, if◌then◌else◌};
 ghost use Rattle.tl_beat.specs.declared.beat.Beat.{Beat};
 ghost use Rattle.tl_beat.specs.declared.beat.BeatC.{BeatC};
 ghost use Rattle.tl_beat.specs.declared.beat.BeatE.{BeatE};
@@ -23,10 +24,11 @@ ghost use Rattle.tl_rules.specs.statement.Admission.{payload_of, sent};
 ghost use Rattle.tl_rules.specs.statement.Conformance.{Trace, on_link, comes_in_request};
 ghost use Rattle.tl_rules.specs.statement.History.{block_at, pending, opens, closes, request_of};
 ghost use Rattle.tl_rules.specs.statement.Legality.{is_one_of};
-ghost use Rattle.tl_manager.specs.laws.After.{services_after, history_after, taken_after, is_of_clients, missing_after};
+ghost use Rattle.tl_manager.specs.laws.After.{services_left, history_after, taken_after, is_of_clients, missing_after};
 ghost use Rattle.tl_manager.specs.statement.Holders.{recorded, is_missing, clients_where, is_settled, is_unheld};
 ghost use Rattle.tl_manager.specs.code.Kept.{IsTyped, IsKept, IsRising, IsAnswerLawful, is_stalled};
-ghost use Rattle.tl_manager.specs.laws.Pending.{is_any, is_asking, is_acquiring, is_granted_to, is_granted_with, is_awaited, IsNamed, IsProbed};
+ghost use Rattle.tl_manager.specs.laws.Pending.{is_any, is_asking, is_acquiring, is_granted_to};
+ghost use Rattle.tl_manager.specs.laws.Pending.{is_granted_with, is_awaited, IsNamed, IsProbed};
 ghost use Rattle.tl_manager.specs.laws.Record.{recorded_after, is_of_block};
 ghost use Rattle.tl_manager.specs.statement.Request.{request_carried};
 ghost use Rattle.tl_manager.specs.statement.Service.{services, service_of_block};
@@ -71,7 +73,8 @@ pub fn serves_requests<const W: usize>()
     requires { IsWidth W }
     ensures { (config : Config) (link : Link) (ch : Channel) (x : Beat W) (e : End W) →
         IsTyped x → IsKept config e →
-        services (offered config link ch x e).1.trace ≡ services_after (offered config link ch x e).0 (link, x) e.trace }
+        services (offered config link ch x e).1.trace
+        ≡ services_left (offered config link ch x e).0 (link, x) e.trace }
 {}
 
 /// The history of each link after any beat: with the beat where it is taken, and with the messages that
@@ -81,7 +84,8 @@ pub fn extends_histories<const W: usize>()
     ensures history { (config : Config) (link : Link) (ch : Channel) (x : Beat W) (e : End W) (client : ℕ) →
         on_link client (offered config link ch x e).1.trace
         ≡ history_after (offered config link ch x e).0 (link, x) client (on_link client e.trace) }
-    ensures unfinished { (config : Config) (link : Link) (ch : Channel) (x : Beat W) (e : End W) (client : ℕ) (other : Channel) →
+    ensures unfinished { (config : Config) (link : Link) (ch : Channel) (x : Beat W) (e : End W) (client : ℕ)
+        (other : Channel) →
         IsTyped x → IsKept config e → is_of_clients other ≡ true →
         unfinished other (on_link client (offered config link ch x e).1.trace)
         ≡ unfinished other (taken_after (offered config link ch x e).0 (link, x) client (on_link client e.trace)) }
@@ -99,13 +103,17 @@ pub fn extends_histories<const W: usize>()
 pub fn accounts_for_pending<const W: usize>()
     ensures source { (config : Config) (e : End W) (client source : ℕ) → IsKept config e →
         pending (RequestSource source) (on_link client e.trace)
-        ≡ (comes_in_request source (unfinished Channel.A (on_link client e.trace)) || is_any (is_asking client source e.trace) (services e.trace)) }
+        ≡ (comes_in_request source (unfinished Channel.A (on_link client e.trace))
+        || is_any (is_asking client source e.trace) (services e.trace)) }
     ensures acquire { (config : Config) (e : End W) (client block : ℕ) → IsKept config e →
-        pending (AcquireOf block) (on_link client e.trace) ≡ is_acquiring client e.trace (service_of_block block (services e.trace)) }
+        pending (AcquireOf block) (on_link client e.trace)
+        ≡ is_acquiring client e.trace (service_of_block block (services e.trace)) }
     ensures grant { (config : Config) (e : End W) (client block : ℕ) → IsKept config e →
-        pending (GrantAckOf block) (on_link client e.trace) ≡ is_granted_to client e.trace (service_of_block block (services e.trace)) }
+        pending (GrantAckOf block) (on_link client e.trace)
+        ≡ is_granted_to client e.trace (service_of_block block (services e.trace)) }
     ensures sink { (config : Config) (e : End W) (client sink : ℕ) → IsKept config e →
-        pending (GrantSink sink) (on_link client e.trace) ≡ is_any (is_granted_with client sink e.trace) (services e.trace) }
+        pending (GrantSink sink) (on_link client e.trace)
+        ≡ is_any (is_granted_with client sink e.trace) (services e.trace) }
     ensures named { (config : Config) (e : End W) (block : ℕ) → IsKept config e →
         IsNamed block e.trace (service_of_block block (services e.trace)) }
     ensures probe { (config : Config) (e : End W) (client block : ℕ) → IsKept config e →
@@ -121,9 +129,11 @@ pub fn finds_clients<const W: usize>()
         is_one_of client (clients_where config test) ≡ (nat_lt client (length config.clients.items) && test client) }
     ensures rising { (config : Config) (test : ℕ → Bool) → IsRising (clients_where config test) }
     ensures settled { (config : Config) (block : ℕ) (t : Trace W) →
-        (is_settled config block t ≡ true) ↔ ((client : ℕ) → client < length config.clients.items → is_missing client block t ≡ false) }
+        (is_settled config block t ≡ true) ↔ ((client : ℕ) → client < length config.clients.items →
+        is_missing client block t ≡ false) }
     ensures unheld { (config : Config) (block : ℕ) (t : Trace W) →
-        (is_unheld config block t ≡ true) ↔ ((client : ℕ) → client < length config.clients.items → recorded client block t ≡ perm.None) }
+        (is_unheld config block t ≡ true) ↔ ((client : ℕ) → client < length config.clients.items →
+        recorded client block t ≡ perm.None) }
 {}
 
 /// The request that is made of the beats of a message is that message, and so are the data of a

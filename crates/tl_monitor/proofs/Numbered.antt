@@ -22,7 +22,7 @@ use Rattle.tl_monitor.specs.code.Blocks.{block_in, is_held, open_of}
 use Rattle.tl_monitor.specs.code.LinkState.{is_first, touched, is_block, entries_in, IsNew}
 use Rattle.tl_monitor.specs.code.LinkState as link_state
 use Rattle.tl_monitor.specs.code.Keeps.{Keeps}
-use Rattle.tl_monitor.specs.statement.Numbers.{numbers, entries_of, AnyMore}
+use Rattle.tl_monitor.specs.statement.Numbers.{numbers, entry_count, AnyMore}
 use Rattle.tl_monitor.specs.declared.link_state.LinkState.{LinkState}
 use Rattle.tl_monitor.proofs.Counts.{sum-same, sum-changed, sum-both}
 use Rattle.tl_monitor.proofs.Keeping.{begins-is, ends-is, same_touched}
@@ -163,12 +163,12 @@ some-more {w} l p k x t b width keeps legal new =
 
 -- of a link without a level there are none
 pub no-entries : {w : ℕ} (levels : List Level) (link : Link) (t : Trace w) (n count : ℕ) → n ≡ link.0
-    → count ≡ length levels → count ≤ n → 0 ≡ entries_of levels link t
+    → count ≡ length levels → count ≤ n → 0 ≡ entry_count levels link t
 no-entries levels link t n count own counted none = rw (le-ltb link.0 (length levels) (omega arith)) refl
 
 pub link-entries : {w : ℕ} (levels : List Level) (link : Link) (t : Trace w) (k : LinkState) (n count : ℕ) → n ≡ link.0
     → count ≡ length levels → n < count → Keeps k (on_link n t)
-    → entries_in k ≡ entries_of levels link t
+    → entries_in k ≡ entry_count levels link t
 link-entries {w} levels link t k n count own counted lt keeps =
     let below : link.0 < length levels = omega arith in
     entries-are k (on_link n t) keeps ∙ rw (lt-ltb link.0 (length levels) below)

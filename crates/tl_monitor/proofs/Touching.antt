@@ -11,7 +11,7 @@ use Rattle.tl_params.specs.declared.profile.Profile.{Profile}
 use Rattle.tl_params.specs.declared.rule.Rule.TheVariants.{L1}
 use Rattle.tl_rules.specs.declared.table.Block.{Block}
 use Rattle.tl_rules.specs.statement.Conformance.{Trace, on_link, broken_after, broken_on_link, broken_at_level}
-use Rattle.tl_rules.specs.statement.History.{begins, ends, held, is_acquire, is_probe, is_release_ack, is_grant}
+use Rattle.tl_rules.specs.statement.History.{begins, ends, is_acquire, is_probe, is_release_ack, is_grant}
 use Rattle.tl_rules.specs.statement.History.{block_at}
 use Rattle.tl_rules.specs.code.Tables.{kept_block, block_next}
 use Rattle.tl_rules.proofs.Tables.{block-next}

@@ -1,10 +1,12 @@
 //! A table of what is open of blocks, and of what is held of them.
 
-ghost use Rattle.std.specs.Prelude.{ℕ, List, [], None, length, slice_index_or, IfOk, OnOk, OnErr, if◌then◌else◌, ◌==◌, ◌≡◌, ◌<◌, ◌≤◌, ◌^◌, ◌*◌};
+ghost use Rattle.std.specs.Prelude.{ℕ, List, [], None, length, slice_index_or, IfOk, OnOk};
+ghost use Rattle.std.specs.Prelude.{OnErr, if◌then◌else◌, ◌==◌, ◌≡◌, ◌<◌, ◌≤◌, ◌^◌, ◌*◌};
 ghost use Rattle.tl_rules.specs.declared.table.Block.{Block};
 ghost use Rattle.tl_rules.specs.code.Tables.{empty_block};
 ghost use Rattle.tl_monitor.specs.code.Count.{sum_below};
-ghost use Rattle.tl_monitor.specs.code.Blocks.{block_or_empty, block_in, entries_of, is_held, open_of, tree_of, value_in, with_seen, with_value, AllOpen, AreOpen, IsSeen, IsValue};
+ghost use Rattle.tl_monitor.specs.code.Blocks.{block_or_empty, block_in, entries_of, is_held, open_of, tree_of};
+ghost use Rattle.tl_monitor.specs.code.Blocks.{value_in, with_seen, with_value, AllOpen, AreOpen, IsSeen, IsValue};
 
 use std::alloc::{AllocError, Global};
 use std::array;
@@ -133,7 +135,8 @@ fn make_room_in(
 ) -> Result<Option<Block>, AllocError>
     requires stands { IsValue tree.old.entries block seen }
     requires open { AllOpen tree.old.entries }
-    ensures changed { IfOk result (λ new. (k : ℕ) → value_in (with_value tree.new.entries block new) k ≡ (if k == block then value else value_in tree.old.entries k)) }
+    ensures changed { IfOk result (λ new. (k : ℕ) → value_in (with_value tree.new.entries block new) k
+        ≡ (if k == block then value else value_in tree.old.entries k)) }
     ensures stands { IfOk result (λ new. IsValue tree.new.entries block new) }
     ensures open { AllOpen tree.new.entries }
     ensures unchanged { OnErr result (tree.new.entries ≡ tree.old.entries) }
@@ -161,7 +164,8 @@ fn make_room(
 ) -> Result<Option<Block>, AllocError>
     requires stands { IsSeen (entries_of trees.old) block seen }
     requires open { AreOpen (entries_of trees.old) }
-    ensures changed { IfOk result (λ new. (k : ℕ) → block_in (with_seen (entries_of trees.new) block new) k ≡ (if k == block then value else block_in (entries_of trees.old) k)) }
+    ensures changed { IfOk result (λ new. (k : ℕ) → block_in (with_seen (entries_of trees.new) block new) k
+        ≡ (if k == block then value else block_in (entries_of trees.old) k)) }
     ensures stands { IfOk result (λ new. IsSeen (entries_of trees.new) block new) }
     ensures open { AreOpen (entries_of trees.new) }
     ensures long { length trees.new ≡ 256 }
@@ -172,8 +176,8 @@ fn make_room(
 }
 
 /// What is open or held of blocks. A block of which nothing is isn't kept. A contract sees the trees,
-/// in each the blocks that are, in rising order, with their numbers. The block of a beat is looked up once, however often
-/// the rules ask for it, and written once, when the next one is looked up.
+/// in each the blocks that are, in rising order, with their numbers. The block of a beat is looked up once, however
+/// often the rules ask for it, and written once, when the next one is looked up.
 #[derive(Drop)]
 pub struct Blocks {
     trees: [BTreeMap<u32, Block>; TREES],
@@ -190,7 +194,8 @@ impl Model for Blocks {
 
     ghost view = { λ b. with_seen (entries_of b.trees) b.last b.seen };
 
-    ghost invariant = { λ b. (b.len ≡ sum_below (2 ^ 32) (λ k. open_of (block_in (with_seen (entries_of b.trees) b.last b.seen) k)))
+    ghost invariant = { λ b. (b.len
+        ≡ sum_below (2 ^ 32) (λ k. open_of (block_in (with_seen (entries_of b.trees) b.last b.seen) k)))
         × AreOpen (entries_of b.trees)
         × IsSeen (entries_of b.trees) b.last b.seen
         × (length b.trees ≡ 256) };
@@ -231,7 +236,8 @@ impl Blocks {
     /// Writes what is open and held of a block. Without memory nothing changes; that can only be
     /// where nothing was open or held of the block, and now something is.
     pub fn set(&mut self, block: u32, value: Block) -> Result<(), AllocError>
-        ensures changed { OnOk result ((k : ℕ) → block_in self.new k ≡ (if k == block then value else block_in self.old k)) }
+        ensures changed { OnOk result ((k : ℕ) →
+            block_in self.new k ≡ (if k == block then value else block_in self.old k)) }
         ensures unchanged { OnErr result (self.new ≡ self.old) }
         ensures new { OnErr result ((block_in self.old block ≡ empty_block) × (0 < open_of value)) }
     {

@@ -44,7 +44,8 @@ pub fn broken_after<const W: usize>(
     link_state: &LinkState,
 ) -> Option<Rule>
     requires { IsWidth W }
-    ensures rule { (t : History W) → Keeps link_state.now t → result ≡ Conformance.broken_after level profile beat.now t }
+    ensures rule { (t : History W) → Keeps link_state.now t →
+        result ≡ Conformance.broken_after level profile beat.now t }
     ensures small { IfNone result (IsTrue (is_small beat.now)) }
 {
     match check_beat(level, beat.channel(), beat) {

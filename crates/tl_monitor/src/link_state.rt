@@ -10,7 +10,8 @@ ghost use Rattle.tl_rules.specs.statement.History.{is_grant, is_release_ack};
 ghost use Rattle.tl_rules.specs.code.Tables.{empty_block, request_next, release_next, release_fields};
 ghost use Rattle.tl_monitor.specs.code.Count.{at};
 ghost use Rattle.tl_monitor.specs.code.Blocks.{block_in, open_of};
-ghost use Rattle.tl_monitor.specs.code.LinkState.{is_block, sink_with, touched, block_of_request, block_of_release, entries_in, IsNext, IsNew, IsEmpty};
+ghost use Rattle.tl_monitor.specs.code.LinkState.{is_block, sink_with, touched, block_of_request};
+ghost use Rattle.tl_monitor.specs.code.LinkState.{block_of_release, entries_in, IsNext, IsNew, IsEmpty};
 
 use crate::blocks::Blocks;
 use crate::bursts::Bursts;
@@ -151,7 +152,8 @@ fn update_block<const W: usize>(
     block: Option<u32>,
 ) -> Result<(), AllocError>
     ensures next { OnOk result ((b : ℕ) → block_in blocks.new b ≡
-        (if is_block b block then Tables.block_next first last beat.now (block_in blocks.old b) else block_in blocks.old b)) }
+        (if is_block b block then Tables.block_next first last beat.now (block_in blocks.old b) else block_in blocks.old
+        b)) }
     ensures unchanged { OnErr result (blocks.new ≡ blocks.old) }
     ensures new { OnErr result (IfSome block (λ b. (block_in blocks.old b ≡ empty_block)
         × (0 < open_of (Tables.block_next first last beat.now (block_in blocks.old b))))) }

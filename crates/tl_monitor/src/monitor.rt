@@ -31,8 +31,9 @@ pub struct Monitor<const W: usize> {
 }
 
 impl<const W: usize> Monitor<W> {
-    ghost use Rattle.tl_monitor.specs.statement.Numbers.{IsMoreWhereRefused, entries_of};
-    ghost use Rattle.tl_monitor.specs.statement.Knows.{Knows, IsNew, Answers, fault_of, recorded_after, closed_after, request_on, held_on, begins_on, LeavesOthers, AllEmpty};
+    ghost use Rattle.tl_monitor.specs.statement.Numbers.{IsMoreWhereRefused, entry_count};
+    ghost use Rattle.tl_monitor.specs.statement.Knows.{Knows, IsNew, Answers, fault_of, recorded_after, closed_after};
+    ghost use Rattle.tl_monitor.specs.statement.Knows.{request_on, held_on, begins_on, LeavesOthers, AllEmpty};
 
     /// What is kept of this many links that have carried nothing.
     fn empty_links(alloc: Global, count: usize) -> Result<Vec<LinkState>, AllocError>
@@ -163,7 +164,7 @@ impl<const W: usize> Monitor<W> {
     pub fn entries(&self, link: Link) -> usize
         ensures { (levels : List Level) (p : Profile) (t : Trace W) (closed : Bool) →
             Knows self.now levels p t closed →
-            result ≡ entries_of levels link t }
+            result ≡ entry_count levels link t }
     {
         let n = usize::from(link.0);
         if n >= self.levels.len() {

@@ -85,7 +85,8 @@ fn read_version(bytes: &[u8]) -> Option<(Version, &[u8])>
 
 /// The version at the front with what it names, and what follows it.
 pub fn front_version(bytes: &[u8]) -> Option<(Version, &[u8])>
-    ensures { MatchOption result ((version : Version) (rest : List ℕ) → bytes.now ≢ version_text version ++ rest) (λ x. bytes.now ≡ version_text x.0 ++ x.1.now) }
+    ensures { MatchOption result ((version : Version) (rest : List ℕ) → bytes.now ≢ version_text version ++ rest)
+        (λ x. bytes.now ≡ version_text x.0 ++ x.1.now) }
 {
     read_version(bytes)
 }
@@ -104,7 +105,8 @@ fn read_level(bytes: &[u8]) -> Option<(Level, &[u8])>
 
 /// The level at the front, behind a space, and what follows it.
 pub fn front_level(bytes: &[u8]) -> Option<(Level, &[u8])>
-    ensures { MatchOption result ((level : Level) (rest : List ℕ) → bytes.now ≢ 32 ∷ (level_text level ++ rest)) (λ x. bytes.now ≡ 32 ∷ (level_text x.0 ++ x.1.now)) }
+    ensures { MatchOption result ((level : Level) (rest : List ℕ) → bytes.now ≢ 32 ∷ (level_text level ++ rest))
+        (λ x. bytes.now ≡ 32 ∷ (level_text x.0 ++ x.1.now)) }
 {
     read_level(bytes)
 }

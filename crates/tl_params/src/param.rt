@@ -9,7 +9,8 @@ ghost use Rattle.tl_params.specs.statement.Param.{grow_of, grow_code, grow_left,
 ghost use Rattle.tl_params.specs.statement.Param.{cap_of, cap_code, cap_right};
 ghost use Rattle.tl_params.specs.statement.Param.{prune_of, prune_code, prune_left, prune_right};
 ghost use Rattle.tl_params.specs.statement.Param.{report_named, report_code, report_left, report_right};
-ghost use Rattle.tl_params.specs.statement.Param.{arithmetic_of, arithmetic_code, logical_of, logical_code, intent_of, intent_code};
+ghost use Rattle.tl_params.specs.statement.Param.{arithmetic_of, arithmetic_code, logical_of};
+ghost use Rattle.tl_params.specs.statement.Param.{logical_code, intent_of, intent_code};
 
 use crate::perm::Perm;
 

@@ -1,3 +1,4 @@
 pub mod Firsts
 pub mod Places
+pub mod Rows
 pub mod Sending

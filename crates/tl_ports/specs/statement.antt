@@ -1,2 +1,3 @@
 pub mod Client
+pub mod Manager
 pub mod Waiting

@@ -2,4 +2,5 @@
 #![tactic(auto)]
 
 pub mod client;
+pub mod manager;
 pub mod outgoing;

@@ -1,21 +1,28 @@
 -- Lines of a schedule, one after another.
-use Rattle.std.proofs.Common.{◌≡◌, ◌++◌, ◌+◌, ℕ, suc, Bool, List, [], refl, sym, ◌∙◌, ap, append_assoc, Result, Ok, Err}
+use Rattle.std.proofs.Common.{◌≡◌, ◌++◌, ◌+◌, ◌-◌, ◌≤◌, ℕ, zero, suc, Bool, List, [], refl, sym, ◌∙◌, ap, append_assoc}
+use Rattle.std.proofs.Common.{Result, Ok, Err, arith}
 use Rattle.std.proofs.Common.{if◌then◌else◌}
-use Rattle.std.specs.Prelude.{OnOk, IsTrue, is_ok, not, true, false, Option, Some, None}
+use Rattle.std.specs.Prelude.{OnErr, OnOk, IsTrue, is_ok, not, true, false, Option, Some, None}
 use Rattle.std.specs.Io.KnownBytes.{Appends}
 use Rattle.std.proofs.Common.{add-one, subst}
 use Rattle.std.proofs.lemmas.List.{append-nil}
-use Rattle.std.proofs.KnownBytes.{Appends-trans}
+use Rattle.std.proofs.KnownBytes.{Appends-nil, Appends-trans}
 use Rattle.tl_coherence.specs.declared.event.Event.{Event}
 use Rattle.tl_params.specs.declared.config.Config.{Config}
 use Rattle.tl_params.specs.declared.config.NewFault.TheVariants as fault
 use Rattle.tl_params.specs.declared.header.Version.{Version}
 use Rattle.tl_params.specs.statement.Config.{all_sources_fit, blocks_fit, clients_fit, config_fault, trackers_fit}
 use Rattle.tl_params.specs.statement.Header.{profile_of}
+use Rattle.tl_command.specs.declared.random.Options.{Options}
+use Rattle.tl_engine.proofs.Parts.{part_more}
+use Rattle.tl_engine.specs.code.Parts.{AppendsPart}
 use Rattle.tl_engine.specs.statement.Played.{HeadsSchedule}
+use Rattle.tl_random.specs.code.Begun.{IsBegun}
 use Rattle.tl_schedule.specs.declared.line.Line.TheVariants as line_of
 use Rattle.tl_schedule.specs.statement.EventLine.{SpellsEvent, drain_line}
-use Rattle.tl_random.specs.statement.Random.{AreLinesOf, GrowsByLine, IsLineOf, WritesSchedule, header_of, is_event_of}
+use Rattle.tl_random.specs.statement.Random.{AreLinesOf, GrowsByLine, IsLineOf, IsScheduleOf, WritesPart}
+use Rattle.tl_random.specs.statement.Random.{WritesSchedule, header_of}
+use Rattle.tl_random.specs.statement.Random.{is_event_of}
 
 -- no line
 pub no_lines : (w : ℕ) (config : Config) → AreLinesOf w config 0 []
@@ -51,33 +58,6 @@ grows_drain w config old was new (Ok x) same e =
     (drain_line, e ∙ ap (λ (x : List ℕ). x ++ drain_line) same, (line_of.Drain, refl, tt))
 grows_drain w config old was new (Err x) same e = tt
 
--- the header was written, and nothing behind it
-pub begun : (w : ℕ) (config : Config) (old new : Option (List ℕ)) (empty header out shown : List ℕ)
-    → out ≡ empty ++ header → empty ≡ [] → Appends old new shown → shown ≡ out
-    → (lines : List ℕ) × AreLinesOf w config 0 lines × Appends old new (header ++ lines)
-begun w config old new empty header out shown e none a same = (
-  [],
-  no_lines w config,
-  subst (λ (x : List ℕ). Appends old new x)
-      (same ∙ e ∙ ap (λ (x : List ℕ). x ++ header) none ∙ sym (append-nil header)) a,
-)
-
--- one line more was written
-pub went_on : (w : ℕ) (config : Config) (n : ℕ) (a b d : Option (List ℕ)) (header empty out shown : List ℕ)
-    → ((lines : List ℕ) × AreLinesOf w config n lines × Appends a b (header ++ lines))
-    → GrowsByLine w config empty out → empty ≡ [] → Appends b d shown → shown ≡ out
-    → (lines : List ℕ) × AreLinesOf w config (n + 1) lines × Appends a d (header ++ lines)
-went_on w config n a b d header empty out shown before grown none more same =
-    let are : AreLinesOf w config (n + 1) (before.0 ++ grown.0) =
-    rw add-one (one_more w config n before.0 grown.0 (before.0 ++ grown.0) before.1 grown.2 refl) in
-    let tail : Appends b d grown.0 =
-    subst (λ (x : List ℕ). Appends b d x) (same ∙ grown.1 ∙ ap (λ (x : List ℕ). x ++ grown.0) none) more in (
-      before.0 ++ grown.0,
-      are,
-      subst (λ (x : List ℕ). Appends a d x) (append_assoc header before.0 grown.0)
-          (Appends-trans _ _ _ _ _ before.2 tail),
-    )
-
 -- a configuration within its limits
 fits : (a b c d : Bool) → (if not a then Some fault.N1 else if not b then Some fault.N2 else if not c then Some fault.N3
     else if not d then Some fault.N4 else None) ≡ None
@@ -106,21 +86,122 @@ heads version config e of =
       of_profile = of;
     }
 
--- the whole was written
-pub finished : {X E : Type 0} (w : ℕ) (version : Version) (config : Config) (n k : ℕ) (a b d : Option (List ℕ))
-    (r : Result X E) → config_fault config ≡ None → config.profile ≡ profile_of version → k ≡ n
-    → ((lines : List ℕ) × AreLinesOf w config k lines × Appends a b (header_of version config ++ lines))
-    → OnOk r (Appends b d drain_line) → OnOk r (WritesSchedule w version config n a d)
-finished w version config n k a b d (Ok x) e of same before more = (
-  header_of version config ++ (before.0 ++ drain_line),
-  record {
-    lines = before.0;
-    header_is = heads version config e of;
-    lines_are =
-        subst (λ (m : ℕ). AreLinesOf w config m before.0) same before.1;
+-- ---- what is gathered, and what was written
+
+-- more behind lines that are partly written
+behind_lines : (written out header lines rest tail : List ℕ) → written ++ out ≡ header ++ lines
+    → written ++ (out ++ (rest ++ tail)) ≡ header ++ ((lines ++ rest) ++ tail)
+behind_lines written out header lines rest tail e =
+    sym (append_assoc written out (rest ++ tail)) ∙ ap (λ (x : List ℕ). x ++ (rest ++ tail)) e
+    ∙ append_assoc header lines (rest ++ tail) ∙ ap (λ (x : List ℕ). header ++ x) (sym (append_assoc lines rest tail))
+
+module _ (w : ℕ) (o : Options) where
+  abbrev WholeOf : List ℕ → List ℕ
+  WholeOf lines = header_of o.version o.config ++ (lines ++ drain_line)
+
+  -- a schedule of these lines
+  whole : (lines : List ℕ) → AreLinesOf w o.config o.events lines
+      → IsScheduleOf w o.version o.config o.events (WholeOf lines)
+  whole lines are = record {
+    lines = lines;
+    header_is = heads o.version o.config o.fits o.of_profile;
+    lines_are = are;
     text_is = refl;
-  },
-  subst (λ (x : List ℕ). Appends a d x) (append_assoc (header_of version config) before.0 drain_line)
-      (Appends-trans _ _ _ _ _ before.2 more),
-)
-finished w version config n k a b d (Err x) e of same before more = tt
+  }
+
+  -- lines that drain behind so many make more
+  more_lines : (m k n : ℕ) (lines : List ℕ) → n ≡ m + k → AreLinesOf w o.config k lines
+      → (rest : List ℕ) × AreLinesOf w o.config n (lines ++ rest)
+  more_lines zero k n lines e are =
+      let same : k ≡ n = omega (arith, e) in
+      ([], rw (append-nil lines) (subst (λ (x : ℕ). AreLinesOf w o.config x lines) same are))
+  more_lines (suc m) k n lines e are =
+      let (rest, longer) = more_lines m k (m + k) lines refl are in
+      let same : suc (m + k) ≡ n = omega (arith, e) in
+      let next : AreLinesOf w o.config (suc (m + k)) (lines ++ (rest ++ drain_line)) =
+      one_more w o.config (m + k) (lines ++ rest) drain_line (lines ++ (rest ++ drain_line)) longer
+      (line_of.Drain, refl, tt) (sym (append_assoc lines rest drain_line)) in
+      (rest ++ drain_line, subst (λ (x : ℕ). AreLinesOf w o.config x (lines ++ (rest ++ drain_line))) same next)
+
+  -- what was written of some lines is a beginning of a whole schedule
+  pub part_written : (k : ℕ) (out : List ℕ) (had holds now : Option (List ℕ)) → IsBegun w o k out had holds
+      → k ≤ o.events → AppendsPart holds now out → WritesPart w o.version o.config o.events had now
+  part_written k out had holds now (written, lines, p, e, are) few part =
+      let (rest, all) = more_lines (o.events - k) k o.events lines (omega (arith, few)) are in
+      let text = behind_lines written out (header_of o.version o.config) lines rest drain_line e in (
+        WholeOf (lines ++ rest),
+        whole (lines ++ rest) all,
+        part_more had holds now written out (rest ++ drain_line) (WholeOf (lines ++ rest)) p part text,
+      )
+
+  -- nothing is a beginning
+  pub nothing_written : (k : ℕ) (out : List ℕ) (had holds : Option (List ℕ)) → IsBegun w o k out had holds
+      → k ≤ o.events → WritesPart w o.version o.config o.events had holds
+  nothing_written k out had holds begun few =
+      part_written k out had holds holds begun few ([], out, refl, Appends-nil holds)
+
+  -- the header is gathered, and nothing is written
+  pub begun : (out empty : List ℕ) (had : Option (List ℕ)) → out ≡ empty ++ header_of o.version o.config → empty ≡ []
+      → IsBegun w o 0 out had had
+  begun out empty had e none = (
+    [],
+    [],
+    Appends-nil had,
+    e ∙ ap (λ (x : List ℕ). x ++ header_of o.version o.config) none ∙ sym (append-nil (header_of o.version o.config)),
+    no_lines w o.config,
+  )
+
+  -- one line more is gathered
+  pub gathered : (k : ℕ) (old new : List ℕ) (had holds : Option (List ℕ)) → IsBegun w o k old had holds
+      → GrowsByLine w o.config old new → IsBegun w o (k + 1) new had holds
+  gathered k old new had holds (written, lines, p, e, are) (line, grown, is) =
+      let longer : AreLinesOf w o.config (k + 1) (lines ++ line) =
+      rw add-one (one_more w o.config k lines line (lines ++ line) are is refl) in (
+        written,
+        lines ++ line,
+        p,
+        ap (λ (x : List ℕ). written ++ x) grown ∙ sym (append_assoc written old line)
+            ∙ ap (λ (x : List ℕ). x ++ line) e ∙ append_assoc (header_of o.version o.config) lines line,
+        longer,
+      )
+
+  -- what is gathered is written
+  pub put : (k : ℕ) (out empty : List ℕ) (had holds now : Option (List ℕ)) → IsBegun w o k out had holds
+      → Appends holds now out → empty ≡ [] → IsBegun w o k empty had now
+  put k out empty had holds now (written, lines, p, e, are) q none = (
+    written ++ out,
+    lines,
+    Appends-trans _ _ _ _ _ p q,
+    ap (λ (x : List ℕ). (written ++ out) ++ x) none ∙ append-nil (written ++ out) ∙ e,
+    are,
+  )
+
+  -- the last line is written with what is gathered
+  module _ (k : ℕ) (out : List ℕ) (had holds now : Option (List ℕ)) (is : IsBegun w o k out had holds)
+      (all : k ≡ o.events) where
+    last_lines : AreLinesOf w o.config o.events is.1
+    last_lines = subst (λ (n : ℕ). AreLinesOf w o.config n is.1) all is.4
+
+    last_text : is.0 ++ (out ++ drain_line) ≡ WholeOf is.1
+    last_text = sym (append_assoc is.0 out drain_line) ∙ ap (λ (x : List ℕ). x ++ drain_line) is.3
+        ∙ append_assoc (header_of o.version o.config) is.1 drain_line
+
+    pub finished : {X E : Type 0} (r : Result X E) → OnOk r (Appends holds now (out ++ drain_line))
+        → OnOk r (WritesSchedule w o.version o.config o.events had now)
+    finished (Ok x) q = (
+      WholeOf is.1,
+      whole is.1 last_lines,
+      subst (λ (x : List ℕ). Appends had now x) last_text (Appends-trans _ _ _ _ _ is.2 q),
+    )
+    finished (Err x) q = tt
+
+    pub cut_short : {X E : Type 0} (r : Result X E) → OnErr r (AppendsPart holds now (out ++ drain_line))
+        → OnErr r (WritesPart w o.version o.config o.events had now)
+    cut_short (Ok x) q = tt
+    cut_short (Err x) q =
+        let text : is.0 ++ ((out ++ drain_line) ++ []) ≡ WholeOf is.1 =
+        ap (λ (x : List ℕ). is.0 ++ x) (append-nil (out ++ drain_line)) ∙ last_text in (
+          WholeOf is.1,
+          whole is.1 last_lines,
+          part_more had holds now is.0 (out ++ drain_line) [] (WholeOf is.1) is.2 q text,
+        )

@@ -8,7 +8,6 @@ ghost use Rattle.tl_random.specs.statement.Random.{GrowsByLine};
 use crate::choose::{channel, request};
 use crate::draw::{below, is_one_in};
 use crate::event::event_in;
-use crate::options::Options;
 use crate::text::{append_delivery, append_request};
 use rand_core::SeedableRng;
 use rand_xoshiro::Xoshiro256PlusPlus;
@@ -16,6 +15,7 @@ use std::alloc::{AllocError, Global};
 use tl_client::any::AnyClient;
 use tl_client::reply::Reply;
 use tl_coherence::event::Outcome;
+use tl_command::random::Options;
 use tl_engine::trace_header::world_of;
 use tl_manager::bits::BitDirectory;
 use tl_params::config::Config;
@@ -67,33 +67,30 @@ fn block(rng: &mut Xoshiro256PlusPlus, options: &Options) -> u16 {
     }
 }
 
-/// The world that a configuration names, to which nothing has happened.
+/// The world that the options name, to which nothing has happened.
 fn fresh_world<const W: usize>(
     alloc: Global,
-    config: &Config,
+    options: &Options,
 ) -> Result<World<W, AnyClient<W>, BitDirectory>, AllocError>
     requires { IsWidth W }
 {
     let config = Config {
-        blocks: config.blocks,
-        trackers: config.trackers,
-        clients: config.clients.clone()?,
-        profile: config.profile,
+        blocks: options.config.blocks,
+        trackers: options.config.trackers,
+        clients: options.config.clients.clone()?,
+        profile: options.config.profile,
     };
-    if config.check().is_err() {
-        return Err(AllocError);
-    }
     world_of(alloc, config)
 }
 
 impl<const W: usize> Generator<W> {
-    /// A generator of this seed, and the world that a configuration names.
-    pub(crate) fn new(alloc: Global, seed: u64, config: &Config) -> Result<Self, AllocError>
+    /// A generator of the options' seed, and the world that they name.
+    pub(crate) fn new(alloc: Global, options: &Options) -> Result<Self, AllocError>
         requires { IsWidth W }
     {
         Ok(Generator {
-            rng: Xoshiro256PlusPlus::seed_from_u64(seed),
-            world: fresh_world(alloc, config)?,
+            rng: Xoshiro256PlusPlus::seed_from_u64(options.seed),
+            world: fresh_world(alloc, options)?,
             line: Vec::new(alloc),
         })
     }

@@ -7,7 +7,6 @@ mod draw;
 mod event;
 mod generator;
 mod header;
-pub mod options;
 mod request;
 pub mod schedule;
 mod text;

@@ -1,20 +1,47 @@
 //! Writes a whole schedule.
 
-ghost use Rattle.std.specs.Prelude.{◌≡◌, OnOk, None};
+ghost use Rattle.std.specs.Prelude.{◌≡◌, ◌+◌, ◌<◌, [], ℕ, List, OnOk, OnErr, Option};
 ghost use Rattle.tl_beat.specs.statement.Width.{IsWidth};
-ghost use Rattle.tl_params.specs.statement.Config.{config_fault};
-ghost use Rattle.tl_params.specs.statement.Header.{profile_of, width_of};
+ghost use Rattle.tl_params.specs.statement.Header.{width_of};
 ghost use Rattle.tl_engine.specs.statement.Width.{bytes_of};
-ghost use Rattle.tl_random.specs.statement.Random.{WritesSchedule};
+ghost use Rattle.tl_random.specs.code.Begun.{IsBegun};
+ghost use Rattle.tl_random.specs.statement.Random.{WritesPart, WritesSchedule};
 
 use crate::generator::Generator;
 use crate::header::append_schedule_header;
-use crate::options::Options;
 use std::alloc::Global;
 use std::io::Write;
+use tl_command::random::Options;
 use tl_engine::output::write_all;
 use tl_engine::status::ToolFault;
 use tl_params::width::Width;
+
+/// How many bytes of lines are gathered before they are written.
+const CHUNK: usize = 65536;
+
+/// Appends the next line to those that are gathered, and writes them where they are many.
+fn put_line<const BYTES: usize, W: Write>(
+    generator: &mut Generator<BYTES>,
+    options: &Options,
+    out: &mut Vec<u8>,
+    writer: &mut W,
+) -> Result<(), ToolFault>
+    requires { IsWidth BYTES }
+    ensures ok { OnOk result ((k : ℕ) (had : Option (List ℕ))
+        → IsBegun BYTES options.now k out.old.items had (W.contents writer.old)
+        → IsBegun BYTES options.now (k + 1) out.new.items had (W.contents writer.new)) }
+    ensures err { OnErr result ((k : ℕ) (had : Option (List ℕ))
+        → IsBegun BYTES options.now k out.old.items had (W.contents writer.old)
+        → k < options.now.events
+        → WritesPart BYTES options.now.version options.now.config options.now.events had (W.contents writer.new)) }
+{
+    generator.append_line(options, out)?;
+    if out.len() >= CHUNK {
+        write_all(writer, out)?;
+        out.clear();
+    }
+    Ok(())
+}
 
 /// Writes a schedule of events of this width.
 fn write_lines<const BYTES: usize, W: Write>(
@@ -22,36 +49,35 @@ fn write_lines<const BYTES: usize, W: Write>(
     options: &Options,
     writer: &mut W,
 ) -> Result<(), ToolFault>
-    requires width { IsWidth BYTES }
-    requires fits { config_fault options.now.config ≡ None }
-    requires profile { options.now.config.profile ≡ profile_of options.now.version }
-    ensures { OnOk result (WritesSchedule BYTES options.now.version options.now.config options.now.events
+    requires { IsWidth BYTES }
+    ensures ok { OnOk result (WritesSchedule BYTES options.now.version options.now.config options.now.events
+        (W.contents writer.old) (W.contents writer.new)) }
+    ensures err { OnErr result (WritesPart BYTES options.now.version options.now.config options.now.events
         (W.contents writer.old) (W.contents writer.new)) }
 {
-    let mut generator = Generator::<BYTES>::new(alloc, options.seed, &options.config)?;
+    let mut generator = Generator::<BYTES>::new(alloc, options)?;
     let mut out = Vec::new(alloc);
     append_schedule_header(options.version, &options.config, &mut out)?;
-    write_all(writer, &out)?;
     for _ in 0..options.events {
-        out.clear();
-        generator.append_line(options, &mut out)?;
-        write_all(writer, &out)?;
+        put_line(&mut generator, options, &mut out, writer)?;
     }
-    write_all(writer, b"drain\n")
+    out.extend_from_slice(b"drain\n")?;
+    write_all(writer, &out)
 }
 
 /// Writes a schedule at random: its header, the options' number of lines, each of which says an event
 /// of the world that the header names or drains it, and a last `drain`. What is written depends on
 /// the options alone, and the memory that it takes doesn't grow with their number of lines. At a fault
-/// of memory or of the writer the schedule may have been cut short.
+/// of memory or of the writer a beginning of such a schedule has been written.
 pub fn write_schedule<W: Write>(
     alloc: Global,
     options: &Options,
     writer: &mut W,
 ) -> Result<(), ToolFault>
-    requires fits { config_fault options.now.config ≡ None }
-    requires profile { options.now.config.profile ≡ profile_of options.now.version }
-    ensures { OnOk result (WritesSchedule (bytes_of (width_of options.now.version))
+    ensures ok { OnOk result (WritesSchedule (bytes_of (width_of options.now.version))
+        options.now.version options.now.config options.now.events
+        (W.contents writer.old) (W.contents writer.new)) }
+    ensures err { OnErr result (WritesPart (bytes_of (width_of options.now.version))
         options.now.version options.now.config options.now.events
         (W.contents writer.old) (W.contents writer.new)) }
 {

@@ -1,40 +1,43 @@
 //! Writes the lines of events. What is written is read back before it counts, so nothing is claimed
 //! of it here.
 
-ghost use Rattle.std.specs.Prelude.{◌≡◌, ◌<◌, ◌≤◌};
-ghost use Rattle.tl_beat.specs.statement.Digits.{digit_char};
+ghost use Rattle.std.specs.Prelude.{◌≤◌, length};
 ghost use Rattle.tl_beat.specs.statement.Width.{IsWidth};
 
 use crate::request::{Asked, Request};
+use arrayvec::ArrayVec;
 use std::alloc::AllocError;
 use tl_beat::channel::Channel;
+use tl_beat::text::append_digits;
 use tl_schedule::access::beats;
 
-/// A hexadecimal digit, lower-case.
-fn digit(value: u8) -> u8
-    requires { value < 16 }
-    ensures { result ≡ digit_char value }
-{
-    if value < 10 { b'0' + value } else { 87 + value }
-}
-
 /// Appends the lowest hexadecimal digits of a number, this many of them, the highest first.
-fn append_digits(out: &mut Vec<u8>, number: u64, count: u8) -> Result<(), AllocError>
-    requires { count ≤ 16 }
+fn put_digits(out: &mut Vec<u8>, number: u32, count: u8) -> Result<(), AllocError>
+    requires { count ≤ 8 }
 {
-    for i in 0..count {
-        let shift = 4 * (count - 1 - i);
-        out.push(digit(((number >> shift) % 16) as u8))?;
-    }
-    Ok(())
+    let mut text = ArrayVec::<u8, 64>::new();
+    append_digits(&mut text, number, count);
+    out.extend_from_slice(text.as_slice())
 }
 
 /// Appends a space and a number of this many digits.
-fn append_number(out: &mut Vec<u8>, number: u64, count: u8) -> Result<(), AllocError>
-    requires { count ≤ 16 }
+fn append_number(out: &mut Vec<u8>, number: u32, count: u8) -> Result<(), AllocError>
+    requires { count ≤ 8 }
 {
     out.push(b' ')?;
-    append_digits(out, number, count)
+    put_digits(out, number, count)
+}
+
+/// Appends a space and a mask of this many digits.
+fn append_mask(out: &mut Vec<u8>, mask: u64, count: u8) -> Result<(), AllocError>
+    requires { count ≤ 16 }
+{
+    let (high, low) = ((mask >> 32) as u32, (mask % (1 << 32)) as u32);
+    if count <= 8 {
+        return append_number(out, low, count);
+    }
+    append_number(out, high, count - 8)?;
+    put_digits(out, low, 8)
 }
 
 /// Appends a space and a name.
@@ -58,24 +61,12 @@ fn byte_count(size: u8) -> usize
     }
 }
 
-/// How many digits spell a number of `2^size` bytes, at most 8.
-fn value_digits(size: u8) -> u8
-    ensures { result ≤ 16 }
-{
-    match size {
-        0 => 2,
-        1 => 4,
-        2 => 8,
-        _ => 16,
-    }
-}
-
-/// Appends a space and the digits of the first `2^size` bytes, the last of them first.
-fn append_bytes(out: &mut Vec<u8>, size: u8, bytes: &[u8; 64]) -> Result<(), AllocError> {
-    let count = byte_count(size);
+/// Appends a space and the digits of the first `2^size` of these bytes, the last of them first.
+fn append_bytes(out: &mut Vec<u8>, size: u8, bytes: &[u8]) -> Result<(), AllocError> {
+    let count = byte_count(size).min(bytes.len());
     out.push(b' ')?;
-    for i in 0..count {
-        append_digits(out, u64::from(bytes[count - 1 - i]), 2)?;
+    for byte in bytes[..count].iter().rev() {
+        put_digits(out, u32::from(*byte), 2)?;
     }
     Ok(())
 }
@@ -83,14 +74,14 @@ fn append_bytes(out: &mut Vec<u8>, size: u8, bytes: &[u8; 64]) -> Result<(), All
 /// Appends a word with a size and an address.
 fn append_place(out: &mut Vec<u8>, word: &str, size: u8, address: u32) -> Result<(), AllocError> {
     append_name(out, word)?;
-    append_number(out, u64::from(size), 1)?;
-    append_number(out, u64::from(address), 8)
+    append_number(out, u32::from(size), 1)?;
+    append_number(out, address, 8)
 }
 
 /// Appends a word with a block.
 fn append_block(out: &mut Vec<u8>, word: &str, block: u16) -> Result<(), AllocError> {
     append_name(out, word)?;
-    append_number(out, u64::from(block), 3)
+    append_number(out, u32::from(block), 3)
 }
 
 /// Appends what an access asks for.
@@ -111,7 +102,7 @@ fn append_access<const W: usize>(
         }
         Asked::Part { mask, bytes } => {
             append_place(out, "part", size, address)?;
-            append_number(out, *mask, (W / 4) as u8 * beats::<W>(size))?;
+            append_mask(out, *mask, (W / 4) as u8 * beats::<W>(size))?;
             append_bytes(out, size, bytes)
         }
         Asked::Arith { operation, bytes } => {
@@ -139,7 +130,7 @@ pub(crate) fn append_request<const W: usize>(
 ) -> Result<(), AllocError>
     requires { IsWidth W }
 {
-    append_digits(out, u64::from(client), 2)?;
+    put_digits(out, u32::from(client), 2)?;
     match request {
         Request::Load { size, address } => append_place(out, "load", *size, *address)?,
         Request::Store {
@@ -148,7 +139,7 @@ pub(crate) fn append_request<const W: usize>(
             value,
         } => {
             append_place(out, "store", *size, *address)?;
-            append_number(out, *value, value_digits(*size))?;
+            append_bytes(out, *size, &value.to_le_bytes())?;
         }
         Request::Acquire { block, grow } => {
             append_block(out, "acquire", *block)?;
@@ -192,7 +183,7 @@ pub(crate) fn append_delivery(
     link: u8,
     channel: Channel,
 ) -> Result<(), AllocError> {
-    append_digits(out, u64::from(link), 2)?;
+    put_digits(out, u32::from(link), 2)?;
     append_name(out, "deliver")?;
     append_name(out, letter(channel))?;
     out.push(b'\n')?;

@@ -2,7 +2,7 @@
 use Rattle.std.proofs.Common.{◌≡◌, ℕ, zero, suc, ◌+◌, ◌-◌, ◌*◌, ◌/◌, ◌%◌, ◌^◌, ◌<◌, ◌≤◌, ◌⊎◌, ◌≢◌, eqb, leb, ltb, cond}
 use Rattle.std.proofs.Common.{true, false, Bool, List, [], ◌∷◌, ◌++◌}
 use Rattle.std.proofs.Common.{length, take, drop, get_or, replicate, Some, None, unwrap_or, refl, sym, ap, ◌∙◌, arith}
-use Rattle.std.proofs.Common.{inl, inr, zero-add, add-zero}
+use Rattle.std.proofs.Common.{inl, inr, zero-add, add-zero, append_assoc}
 use Rattle.std.specs.Int.{to_le_bytes, w64}
 use Rattle.std.proofs.lemmas.Bool.{cases_lt, lt-ltb, le-ltb, le-leb, lt-leb, and_right, cases_Bool, eqb-true}
 use Rattle.std.proofs.lemmas.List.{length-append, length-take-le, length-replicate, get_or_append_left}
@@ -35,7 +35,11 @@ use Rattle.std.proofs.lemmas.Nat.{div-add-mod'}
 use Rattle.std.proofs.lemmas.Nat.Bits.{bit_at_above}
 use Rattle.tl_rules.proofs.Bursts.{control_of_legal, control_aligned}
 use Rattle.tl_rules.proofs.Masks.{shifted_bit_below, shifted_bit_from}
-use Rattle.tl_rules.proofs.Numbers.{byte_of_rest, written_byte}
+use Rattle.tl_rules.proofs.Numbers.{byte_of_rest, written_byte, number_byte, logical_byte}
+use Rattle.tl_rules.proofs.Numbers.{part_byte}
+use Rattle.std.specs.Simd.Lanes.{zip2}
+use Rattle.std.proofs.lemmas.Simd.{get_or-zip2, length-zip2}
+use Rattle.std.proofs.lemmas.List.{length-drop, drop-drop}
 use Rattle.tl_rules.proofs.Places.{number_same}
 use Rattle.tl_rules.proofs.Rooms.{base_in_memory, room_of_base, room_in_block}
 use Rattle.tl_rules.proofs.Widths.{width-bounds}
@@ -181,26 +185,53 @@ arithmetic_done {w} m operation memory old new at first count v o n is_width par
     number_put m memory old new at count n number at_is count_is few room long
     (sym (mod-mod n (2 ^ (8 * count))) ∙ ap (λ k. k % 2 ^ (8 * count)) number_is) new_is is
 
-pub logical_done : {w : ℕ} (m : MessageA w) (operation : Logical) (memory : Memory) (old new : List ℕ)
-    (at first count v o n : ℕ) → IsWidth w → Some operation ≡ logical_of m.param
-    → at ≡ m.address % 64 → first ≡ m.address % w → count ≡ 2 ^ m.size → count ≤ 8 → at + count ≤ 64 → length old ≡ 64
-    → v ≡ number_from (λ i. get_or old i 0) at count → o ≡ number_from (λ i. get_or m.payload i 0) first count
-    → n ≡ logical_result operation v o
-    → new ≡ take at old ++ take count (to_le_bytes w64 n) ++ drop (at + count) old
+pub logical_done : {w : ℕ} (m : MessageA w) (operation : Logical) (memory : Memory) (old mid new : List ℕ)
+    (at first count : ℕ) → IsWidth w → Some operation ≡ logical_of m.param
+    → at ≡ m.address % 64 → first ≡ m.address % w → count ≡ 2 ^ m.size → at + count ≤ 64 → first + count ≤ 64
+    → length old ≡ 64 → length m.payload ≡ 64
+    → mid ≡ zip2 (logical_result operation) (take count (drop at old)) (take count (drop first m.payload))
+    → ((i : ℕ) → get_or (take count (drop at old)) i 0 < 256)
+    → ((i : ℕ) → get_or (take count (drop first m.payload)) i 0 < 256)
+    → new ≡ take at old ++ (mid ++ drop count (drop at old))
     → IsBlock memory (m.address / 64) old
     → IsBlock (with_number m (number_stored m (by_param logical_result (logical_of m.param)) memory) memory)
     (m.address / 64) new
-logical_done {w} m operation memory old new at first count v o n is_width param at_is first_is count_is few room long
-    v_is o_is n_is new_is is =
+logical_done {w} m operation memory old mid new at first count is_width param at_is first_is count_is room from long
+    long_payload mid_is old_fits operand_fits spliced is =
+    let new_is : new ≡ take at old ++ mid ++ drop (at + count) old =
+    spliced ∙ rw drop-drop (sym (append_assoc (take at old) mid (drop (at + count) old))) in
     let room' : m.address % 64 + 2 ^ m.size ≤ 64 = omega arith in
-    let v_as : v ≡ number_from memory m.address (2 ^ m.size) =
-    v_is ∙ rw (at_is, count_is) (old_value m memory old room' is) in
+    let olds = take count (drop at old) in
+    let operands = take count (drop first m.payload) in
+    let v = number_from (λ i. get_or old i 0) at count in
+    let o = number_from (λ i. get_or m.payload i 0) first count in
+    let v_as : v ≡ number_from memory m.address (2 ^ m.size) = rw (at_is, count_is) (old_value m memory old room' is) in
     let o_as : o ≡ number_from (operand_of m) m.address (2 ^ m.size) =
-    o_is ∙ rw (first_is, count_is) (operand_value m is_width) in
+    rw (first_is, count_is) (operand_value m is_width) in
     let number = number_stored m (by_param logical_result (logical_of m.param)) memory in
-    let number_is : n ≡ number = n_is ∙ rw (← param, ← v_as, ← o_as) refl in
-    number_put m memory old new at count n number at_is count_is few room long (ap (λ k. k % 2 ^ (8 * count)) number_is)
-    new_is is
+    let number_is : logical_result operation v o ≡ number = rw (← param, ← v_as, ← o_as) refl in
+    let olds_long : length olds ≡ count = length-take-le count (drop at old) (omega (arith, length-drop at old)) in
+    let operands_long : length operands ≡ count =
+    length-take-le count (drop first m.payload) (omega (arith, length-drop first m.payload)) in
+    let mid_long : length mid ≡ count =
+    ap length mid_is ∙ length-zip2 (logical_result operation) olds operands (omega arith) ∙ olds_long in
+    let old_byte : (j : ℕ) → j < count → byte_of v j ≡ get_or olds j 0 =
+    λ j lt. number_byte (λ i. get_or old i 0) at count j
+    (λ i less. rw (part_byte old at count i less) at (old_fits i)) lt ∙ sym (part_byte old at count j lt) in
+    let operand_byte : (j : ℕ) → j < count → byte_of o j ≡ get_or operands j 0 =
+    λ j lt. number_byte (λ i. get_or m.payload i 0) first count j
+    (λ i less. rw (part_byte m.payload first count i less) at (operand_fits i)) lt
+    ∙ sym (part_byte m.payload first count j lt) in
+    number_written m number memory old new room' is
+    (λ j lt.
+    let less : j < count = omega arith in
+    ap (λ k. get_or new (k + j) 0) (sym at_is) ∙ splice_inside at count old mid new mid_long (omega arith) new_is j less
+    ∙ ap (λ xs. get_or xs j 0) mid_is
+    ∙ get_or-zip2 (logical_result operation) olds operands j 0 0 0 (omega arith) (omega arith)
+    ∙ rw (← old_byte j less, ← operand_byte j less) (sym (logical_byte operation v o j)) ∙ ap (λ n. byte_of n j)
+    number_is)
+    (λ i lt out. splice_outside at count old mid new mid_long (omega arith) new_is i
+    (rw (← at_is, ← count_is) at out))
 
 -- ---- Puts
 

@@ -3,3 +3,4 @@ pub mod Conformance
 pub mod Effect
 pub mod History
 pub mod Legality
+pub mod Windows

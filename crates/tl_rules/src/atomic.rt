@@ -1,8 +1,10 @@
-//! Atomic operations on the numbers of a block.
+//! Atomic operations on the bytes of a block.
 
-ghost use Rattle.std.specs.Prelude.{◌≡◌, ◌<◌, ◌≤◌, ◌*◌, ◌%◌, ◌^◌, int_lt};
+ghost use Rattle.std.specs.Prelude.{◌≡◌, ◌<◌, ◌≤◌, ◌*◌, ◌%◌, ◌^◌, ℕ, int_lt, length, slice_index};
+ghost use Rattle.std.specs.Simd.Lanes.{zip2};
 ghost use Rattle.tl_rules.specs.statement.Effect.{arithmetic_result, logical_result, signed};
 
+use std::simd::Simd;
 use tl_params::param::{Arithmetic, Logical};
 
 /// Whether a number of `count` bytes is less than another, both with sign.
@@ -51,14 +53,36 @@ pub fn arithmetic(operation: Arithmetic, count: usize, old: u64, operand: u64) -
     }
 }
 
-/// What an operation of LogicalData makes of two numbers.
-pub fn logical(operation: Logical, old: u64, operand: u64) -> u64
-    ensures { result ≡ logical_result operation old operand }
+/// Performs an operation of LogicalData on bytes, all at once.
+fn logical_lanes<const N: usize>(operation: Logical, bytes: &mut [u8], operand: &[u8])
+    requires count { length bytes.old ≡ N }
+    requires same { length operand.now ≡ N }
+    ensures { bytes.new ≡ zip2 (logical_result operation) bytes.old operand.now }
 {
-    match operation {
-        Logical::Xor => old ^ operand,
-        Logical::Or => old | operand,
-        Logical::And => old & operand,
-        Logical::Swap => operand,
+    let old = Simd::<u8, N>::from_slice(bytes);
+    let lanes = Simd::<u8, N>::from_slice(operand);
+    let new = match operation {
+        Logical::Xor => old ^ lanes,
+        Logical::Or => old | lanes,
+        Logical::And => old & lanes,
+        Logical::Swap => lanes,
+    };
+    new.copy_to_slice(bytes);
+}
+
+/// Performs an operation of LogicalData on `2^size` bytes.
+pub fn logical(operation: Logical, size: u8, bytes: &mut [u8], operand: &[u8])
+    requires small { size ≤ 3 }
+    requires count { length bytes.old ≡ 2 ^ size }
+    requires same { length operand.now ≡ 2 ^ size }
+    ensures value { bytes.new ≡ zip2 (logical_result operation) bytes.old operand.now }
+    ensures old_fits { (i : ℕ) → slice_index bytes.old i < 256 }
+    ensures operand_fits { (i : ℕ) → slice_index operand.now i < 256 }
+{
+    match size {
+        0 => logical_lanes::<1>(operation, bytes, operand),
+        1 => logical_lanes::<2>(operation, bytes, operand),
+        2 => logical_lanes::<4>(operation, bytes, operand),
+        _ => logical_lanes::<8>(operation, bytes, operand),
     }
 }

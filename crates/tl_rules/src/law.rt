@@ -1,6 +1,7 @@
 //! What a history says after a message, and what a message does, as laws.
 
-ghost use Rattle.std.specs.Prelude.{ℕ, suc, true, [], ◌++◌, None, is_some, length, ◌≡◌, ◌<◌, ◌≤◌, ◌+◌, ◌*◌, ◌/◌, ◌%◌, ◌^◌, List};
+ghost use Rattle.std.specs.Prelude.{ℕ, suc, true, [], ◌++◌, None, is_some, length};
+ghost use Rattle.std.specs.Prelude.{◌≡◌, ◌<◌, ◌≤◌, ◌+◌, ◌*◌, ◌/◌, ◌%◌, ◌^◌, List};
 ghost use Rattle.tl_beat.specs.declared.beat.Beat.{Beat};
 ghost use Rattle.tl_beat.specs.declared.channel.Channel.{Channel};
 ghost use Rattle.tl_beat.specs.statement.Width.{IsWidth};
@@ -17,7 +18,8 @@ ghost use Rattle.tl_rules.specs.statement.Conformance.{broken_in_order, broken_a
 ghost use Rattle.tl_rules.specs.statement.Legality.{illegal_message};
 ghost use Rattle.tl_rules.specs.statement.Effect.{Memory, SameBlock};
 ghost use Rattle.tl_rules.specs.statement.Effect;
-ghost use Rattle.tl_rules.specs.laws.Handed.{pending_with, held_with, request_with, release_with, probe_with, sink_with};
+ghost use Rattle.tl_rules.specs.laws.Handed.{pending_with, held_with, request_with};
+ghost use Rattle.tl_rules.specs.laws.Handed.{release_with, probe_with, sink_with};
 ghost use Rattle.tl_rules.specs.statement.History;
 ghost use Rattle.tl_rules.specs.laws.Typed.{IsTyped, AreTyped, HasBlock};
 
@@ -58,7 +60,8 @@ pub fn goes_on_lawfully<const W: usize>()
         Messages.unfinished (channel_in m) t ≡ begun m (suc i) → broken_in_order profile (beat_of m (suc i)) t ≡ None }
     ensures message { (level : Level) (profile : Profile) (m : Message W) (i : ℕ) (t : History W) →
         illegal_message level (channel_in m) m ≡ None → broken_in_order profile (beat_of m 0) t ≡ None →
-        Messages.unfinished (channel_in m) t ≡ [] → i < beats_of m → broken_after level profile (beat_of m i) (begun m i ++ t) ≡ None }
+        Messages.unfinished (channel_in m) t ≡ [] → i < beats_of m →
+        broken_after level profile (beat_of m i) (begun m i ++ t) ≡ None }
 {}
 
 /// Messages of 64 bytes have beats of the types, and beats of the types, no more than fit, a payload
@@ -66,13 +69,16 @@ pub fn goes_on_lawfully<const W: usize>()
 pub fn keeps_types<const W: usize>()
     requires { IsWidth W }
     ensures beats { (m : Message W) (i : ℕ) → HasBlock m → i < beats_of m → IsTyped (beat_of m i) }
-    ensures payload { (beats : List (Beat W)) → AreTyped beats → W * length beats ≤ 64 → length (payload_of beats) ≡ 64 }
+    ensures payload { (beats : List (Beat W)) → AreTyped beats → W * length beats ≤ 64 →
+        length (payload_of beats) ≡ 64 }
 {}
 
 /// What an access does to its block, and what it is answered, depends on its block alone.
 pub fn acts_on_its_block<const W: usize>()
-    ensures after { (m : MessageA W) (f g : Memory) → m.address % 64 + 2 ^ m.size ≤ 64 → SameBlock (m.address / 64) f g →
+    ensures after { (m : MessageA W) (f g : Memory) → m.address % 64 + 2 ^ m.size ≤ 64 →
+        SameBlock (m.address / 64) f g →
         SameBlock (m.address / 64) (Effect.after m.opcode m f) (Effect.after m.opcode m g) }
-    ensures reply { (m : MessageA W) (f g : Memory) → m.address % 64 + 2 ^ m.size ≤ 64 → SameBlock (m.address / 64) f g →
+    ensures reply { (m : MessageA W) (f g : Memory) → m.address % 64 + 2 ^ m.size ≤ 64 →
+        SameBlock (m.address / 64) f g →
         Effect.access_result m.opcode m f ≡ Effect.access_result m.opcode m g }
 {}

@@ -7,7 +7,8 @@ ghost use Rattle.tl_burst.specs.statement.Burst.{beats_of, IsBlankAfter};
 ghost use Rattle.tl_rules.specs.statement.Legality.{illegal_message, is_aligned};
 ghost use Rattle.tl_rules.specs.code.Control.{a_control};
 ghost use Rattle.tl_beat.specs.statement.Opcode.{a_carries_data};
-ghost use Rattle.tl_rules.specs.statement.Effect.{IsBlock, number_from, effect, request_block, answer_of, after, access_result, answer_at, as_payload, bytes_from, byte_count};
+ghost use Rattle.tl_rules.specs.statement.Effect.{IsBlock, number_from, effect, request_block, answer_of, after};
+ghost use Rattle.tl_rules.specs.statement.Effect.{access_result, answer_at, as_payload, bytes_from, byte_count};
 ghost use Rattle.tl_params.specs.statement.Param.{arithmetic_of, logical_of};
 
 use crate::answer::Answer;
@@ -25,7 +26,8 @@ fn read<const W: usize>(block: &[u8; 64], request: &MessageA<W>) -> [u8; 64]
     requires width { IsWidth W }
     requires aligned { IsTrue (is_aligned request.now.address request.now.size) }
     ensures { (memory : ℕ → ℕ) → IsBlock memory (request.now.address / 64) block.now
-        → result ≡ as_payload (request.now.address % W) (bytes_from memory request.now.address (byte_count request.now)) }
+        → result ≡ as_payload (request.now.address % W)
+        (bytes_from memory request.now.address (byte_count request.now)) }
 {
     place::payload_at(block, Span::new::<W>(request.address, request.size))
 }
@@ -83,16 +85,16 @@ fn logical<const W: usize>(block: &mut [u8; 64], request: &MessageA<W>)
         unreachable!()
     };
     let span = Span::new::<W>(request.address, request.size);
-    let old = place::number_at(block, span.in_block, span.count);
-    let operand = operand(request, span);
-    let new = atomic::logical(operation, old, operand);
-    place::write_number(block, span.in_block, span.count, new);
+    let operand = &request.payload[span.in_payload..span.in_payload + span.count];
+    let bytes = &mut block[span.in_block..span.in_block + span.count];
+    atomic::logical(operation, request.size, bytes, operand);
 }
 
 /// Performs an access on its block.
 fn access<const W: usize>(block: &mut [u8; 64], request: &MessageA<W>) -> Answer
     requires width { IsWidth W }
-    requires legal { a_control W Level.UH request.now.opcode request.now.param request.now.size request.now.address ≡ None }
+    requires legal { a_control W Level.UH request.now.opcode request.now.param request.now.size request.now.address
+        ≡ None }
     ensures memory { (memory : ℕ → ℕ) → IsBlock memory (request.now.address / 64) block.old
         → IsBlock (after request.now.opcode request.now memory) (request.now.address / 64) block.new }
     ensures answer { (memory : ℕ → ℕ) → IsBlock memory (request.now.address / 64) block.old
@@ -129,7 +131,8 @@ pub fn perform<const W: usize>(block: &mut [u8; 64], message: &Message<W>) -> An
     ensures answer { (memory : ℕ → ℕ) → IsBlock memory (request_block message.now) block.old
         → result ≡ answer_of message.now (effect message.now memory).1 }
     ensures elsewhere { IsBlankAfter (beats_of message.now) message.now
-        → (memory : ℕ → ℕ) (address : ℕ) → address / 64 ≢ request_block message.now → (effect message.now memory).0 address ≡ memory address }
+        → (memory : ℕ → ℕ) (address : ℕ) → address / 64 ≢ request_block message.now →
+        (effect message.now memory).0 address ≡ memory address }
 {
     let Message::A(request) = message else {
         unreachable!()

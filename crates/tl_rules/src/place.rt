@@ -1,6 +1,7 @@
 //! The bytes of a message and of a number at their places in a block.
 
-ghost use Rattle.std.specs.Prelude.{◌≡◌, ◌<◌, ◌≤◌, ◌+◌, ◌*◌, ◌%◌, ◌^◌, ◌++◌, ℕ, IsTrue, length, take, drop, slice_index, ◌&&◌, nat_le, nat_lt};
+ghost use Rattle.std.specs.Prelude.{◌≡◌, ◌<◌, ◌≤◌, ◌+◌, ◌*◌, ◌%◌, ◌^◌, ◌++◌, ℕ, IsTrue};
+ghost use Rattle.std.specs.Prelude.{length, take, drop, slice_index, ◌&&◌, nat_le, nat_lt};
 ghost use Rattle.std.specs.Int.{to_le_bytes, w64};
 ghost use Rattle.tl_beat.specs.statement.Width.{IsWidth};
 ghost use Rattle.tl_burst.specs.statement.Burst.{bit};

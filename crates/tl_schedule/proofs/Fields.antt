@@ -11,7 +11,7 @@ use Rattle.std.proofs.lemmas.List.{take_all, drop_all, replicate-append-replicat
 use Rattle.tl_beat.specs.statement.Line.{pieces, onto_first}
 use Rattle.tl_beat.proofs.Pieces.{pieces-some}
 use Rattle.tl_beat.proofs.Spaces.{position_some}
-use Rattle.tl_schedule.specs.statement.EventLine.{filled}
+use Rattle.tl_client.specs.statement.Offer.{padded}
 use Rattle.tl_schedule.specs.code.FieldReading.{hex_at, number_in, pair_at, pairs_in, bytes_in, fields_behind}
 use Rattle.tl_schedule.specs.code.FieldReading.{is_none_left}
 
@@ -112,7 +112,7 @@ data-step count i byte bytes field rest after lt (done, len, is, same) read =
     (byte ∷ done, more, written, same ∙ rw (one, read) refl)
 
 pub data-fails : (count i : ℕ) (bytes field rest : List ℕ) → i < count → Reads count i bytes field rest
-    → pair_at rest ≡ None → option_map filled (bytes_in count field) ≡ None
+    → pair_at rest ≡ None → option_map padded (bytes_in count field) ≡ None
 unfolding pairs_in
 data-fails count i bytes field rest lt (done, len, is, same) none =
     let one : count - i ≡ suc (count - (i + 1)) = omega arith in
@@ -120,7 +120,7 @@ data-fails count i bytes field rest lt (done, len, is, same) none =
     rw nothing refl
 
 data-whole : (count i : ℕ) (bytes field rest : List ℕ) → count - i ≡ 0 → i ≡ count → Reads count i bytes field rest
-    → true ≡ (length rest == 0) → option_map filled (bytes_in count field) ≡ Some bytes
+    → true ≡ (length rest == 0) → option_map padded (bytes_in count field) ≡ Some bytes
 unfolding pairs_in
 data-whole count i bytes field [] none all (done, len, is, same) empty =
     let read : pairs_in [] count field ≡ Some done = same ∙ rw none refl in
@@ -129,7 +129,7 @@ data-whole count i bytes field [] none all (done, len, is, same) empty =
 data-whole count i bytes field (c ∷ cs) none all r empty = absurd (grind (arith, nat_tests))
 
 data-more : (count i : ℕ) (bytes field rest : List ℕ) → count - i ≡ 0 → Reads count i bytes field rest
-    → false ≡ (length rest == 0) → option_map filled (bytes_in count field) ≡ None
+    → false ≡ (length rest == 0) → option_map padded (bytes_in count field) ≡ None
 unfolding pairs_in
 data-more count i bytes field [] none r some = absurd (grind (arith, nat_tests))
 data-more count i bytes field (c ∷ cs) none (done, len, is, same) some =
@@ -137,11 +137,11 @@ data-more count i bytes field (c ∷ cs) none (done, len, is, same) some =
     rw nothing refl
 
 pub data-done : (count i : ℕ) (bytes field rest : List ℕ) → i ≡ count → Reads count i bytes field rest
-    → true ≡ (length rest == 0) → option_map filled (bytes_in count field) ≡ Some bytes
+    → true ≡ (length rest == 0) → option_map padded (bytes_in count field) ≡ Some bytes
 data-done count i bytes field rest all r empty = data-whole count i bytes field rest (omega arith) all r empty
 
 pub data-left : (count i : ℕ) (bytes field rest : List ℕ) → i ≡ count → Reads count i bytes field rest
-    → false ≡ (length rest == 0) → option_map filled (bytes_in count field) ≡ None
+    → false ≡ (length rest == 0) → option_map padded (bytes_in count field) ≡ None
 data-left count i bytes field rest all r some = data-more count i bytes field rest (omega arith) r some
 
 -- ---- the end of the fields

@@ -4,7 +4,8 @@ ghost use Rattle.std.specs.Prelude.{◌≡◌, ◌≤◌, ◌-◌, ◌*◌, ◌^
 ghost use Rattle.tl_beat.specs.statement.Width.{IsWidth};
 ghost use Rattle.tl_burst.specs.statement.Burst.{data_beats};
 ghost use Rattle.tl_schedule.specs.statement.EventLine.{lanes_of, mask_digits, placed};
-ghost use Rattle.tl_schedule.specs.code.EventReading.{arith_at, asked_at, data_request, get_at, hint_at, logic_at, part_at, put_at, request_of};
+ghost use Rattle.tl_schedule.specs.code.EventReading.{arith_at, asked_at, data_request, get_at};
+ghost use Rattle.tl_schedule.specs.code.EventReading.{hint_at, logic_at, part_at, put_at, request_of};
 ghost use Rattle.tl_schedule.specs.code.FieldReading.{bytes_in, fields_behind, last};
 
 use crate::field::{is_end, last_bytes, number_field};
@@ -100,7 +101,8 @@ fn with_data<const W: usize>(
 ) -> Option<Request>
     requires width { IsWidth W }
     requires small { size ≤ 6 }
-    ensures { result ≡ option_map (data_request W size address opcode param mask) (last (bytes_in (2 ^ size)) (fields_behind bytes.now)) }
+    ensures { result ≡ option_map (data_request W size address opcode param mask)
+        (last (bytes_in (2 ^ size)) (fields_behind bytes.now)) }
 {
     let data = last_bytes(bytes, bytes_of(size))?;
     let payload = in_lanes::<W>(size, address, data);

@@ -1,14 +1,17 @@
 //! Reading the fields of a line: the pieces between its spaces.
 
-ghost use Rattle.std.specs.Prelude.{◌≡◌, ◌==◌, ◌<◌, ◌≤◌, ◌*◌, ◌^◌, ◌∷◌, ℕ, [], IfSome, MatchOption, option_map, position};
+ghost use Rattle.std.specs.Prelude.{◌≡◌, ◌==◌, ◌<◌, ◌≤◌, ◌*◌, ◌^◌, ◌∷◌, ℕ, []};
+ghost use Rattle.std.specs.Prelude.{IfSome, MatchOption, option_map, position};
 ghost use Rattle.tl_beat.specs.statement.Line.{pieces};
-ghost use Rattle.tl_schedule.specs.statement.EventLine.{filled};
+ghost use Rattle.tl_client.specs.statement.Offer.{padded};
 ghost use Rattle.tl_params.specs.code.HeaderReading.{Gives as GivesRest};
-ghost use Rattle.tl_schedule.specs.code.FieldReading.{Gives, bytes_in, fields_behind, front, hex_at, hex_in, is_none_left, last, number_in, pair_at, size_in};
+ghost use Rattle.tl_beat.specs.code.FromLeft.{digit_of};
+ghost use Rattle.tl_schedule.specs.code.FieldReading.{Gives, bytes_in, fields_behind, front, hex_at};
+ghost use Rattle.tl_schedule.specs.code.FieldReading.{is_none_left, last, number_in, pair_at, size_in};
 
 /// The value of a hexadecimal digit, lower-case.
 fn hex(byte: u8) -> Option<u8>
-    ensures value { result ≡ hex_in byte }
+    ensures value { result ≡ digit_of byte }
     ensures small { IfSome result (λ d. d < 16) }
 {
     match byte {
@@ -69,7 +72,7 @@ fn pair(bytes: &[u8]) -> Option<(u8, &[u8])>
 /// them.
 pub fn data(field: &[u8], count: usize) -> Option<[u8; 64]>
     requires { count ≤ 64 }
-    ensures { result ≡ option_map filled (bytes_in count field.now) }
+    ensures { result ≡ option_map padded (bytes_in count field.now) }
 {
     let mut bytes = [0u8; 64];
     let mut rest = field;
@@ -102,7 +105,8 @@ pub fn cut(bytes: &[u8]) -> (&[u8], &[u8])
 
 /// The next field, behind a space, and what follows it.
 pub fn next(bytes: &[u8]) -> Option<(&[u8], &[u8])>
-    ensures { MatchOption result (fields_behind bytes.now ≡ []) (λ x. fields_behind bytes.now ≡ x.0.now ∷ fields_behind x.1.now) }
+    ensures { MatchOption result (fields_behind bytes.now ≡ []) (λ x. fields_behind bytes.now
+        ≡ x.0.now ∷ fields_behind x.1.now) }
 {
     match bytes {
         [] => None,
@@ -160,7 +164,7 @@ pub fn block_field(bytes: &[u8]) -> Option<(u16, &[u8])>
 /// This many bytes in the last field, with zeros behind them.
 pub fn last_bytes(bytes: &[u8], count: usize) -> Option<[u8; 64]>
     requires { count ≤ 64 }
-    ensures { result ≡ option_map filled (last (bytes_in count) (fields_behind bytes.now)) }
+    ensures { result ≡ option_map padded (last (bytes_in count) (fields_behind bytes.now)) }
 {
     let (field, rest) = next(bytes)?;
     if !is_end(rest) {

@@ -5,7 +5,8 @@ ghost use Rattle.tl_params.specs.declared.config.ClientConfig.{ClientConfig};
 ghost use Rattle.tl_params.specs.declared.header.Version.{Version};
 ghost use Rattle.tl_params.specs.statement.Header.{profile_of};
 ghost use Rattle.tl_params.specs.code.HeaderReading.{Gives, GivesAll};
-ghost use Rattle.tl_schedule.specs.code.HeaderReading.{GivesSchedule, byte_at, client_at, clients_at, decimal_from, digit_at, header_at, number_at, starts_with_zero, within};
+ghost use Rattle.tl_schedule.specs.code.HeaderReading.{GivesSchedule, byte_at, client_at, clients_at, decimal_from};
+ghost use Rattle.tl_schedule.specs.code.HeaderReading.{digit_at, header_at, number_at, starts_with_zero, within};
 ghost use Rattle.tl_schedule.specs.statement.Schedule.{IsSchedule, SpellsSchedule, schedule_word};
 
 use arrayvec::ArrayVec;
@@ -111,7 +112,8 @@ fn clients(bytes: &[u8]) -> Option<ArrayVec<ClientConfig, MOST_CLIENTS>>
 
 /// What follows the word at the front of a schedule.
 fn after_word(line: &[u8]) -> Option<&[u8]>
-    ensures { MatchOption result ((rest : List ℕ) → line.now ≢ schedule_word ++ rest) (λ rest. line.now ≡ schedule_word ++ rest.now) }
+    ensures { MatchOption result ((rest : List ℕ) → line.now ≢ schedule_word ++ rest) (λ rest. line.now
+        ≡ schedule_word ++ rest.now) }
 {
     line.strip_prefix(b"tlsched ")
 }
@@ -140,9 +142,11 @@ fn whole_header(line: &[u8]) -> Option<Schedule>
 /// Reads the first line of a schedule, its LF included. A line of another form has no header.
 pub fn read_schedule(line: &[u8]) -> Option<Schedule>
     // What is read is spelled by the line, and whatever the line spells is read.
-    ensures spelled { IfSome result (λ s. SpellsSchedule line.now s.version s.config.blocks s.config.trackers s.config.clients.items) }
+    ensures spelled { IfSome result (λ s. SpellsSchedule line.now s.version s.config.blocks s.config.trackers
+        s.config.clients.items) }
     ensures of_profile { IfSome result (λ s. s.config.profile ≡ profile_of s.version) }
-    ensures every_spelling { (version : Version) (blocks trackers : ℕ) (clients : List ClientConfig) → SpellsSchedule line.now version blocks trackers clients → IsSchedule result version blocks trackers clients }
+    ensures every_spelling { (version : Version) (blocks trackers : ℕ) (clients : List ClientConfig) →
+        SpellsSchedule line.now version blocks trackers clients → IsSchedule result version blocks trackers clients }
 {
     whole_header(line)
 }

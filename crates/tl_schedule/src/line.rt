@@ -5,7 +5,8 @@ ghost use Rattle.tl_beat.specs.statement.Width.{IsWidth};
 ghost use Rattle.tl_beat.specs.statement.Line.{pieces};
 ghost use Rattle.tl_schedule.specs.declared.line.Line.{Line};
 ghost use Rattle.tl_schedule.specs.statement.EventLine.{SpellsLine, event_fault};
-ghost use Rattle.tl_schedule.specs.code.EventReading.{access_at, acquire_at, ask_at, deliver_at, event_at, line_at, load_at, meant_by, release_at, said_at, store_at, whole_at};
+ghost use Rattle.tl_schedule.specs.code.EventReading.{access_at, acquire_at, ask_at, deliver_at, event_at, line_at};
+ghost use Rattle.tl_schedule.specs.code.EventReading.{load_at, meant_by, release_at, said_at, store_at, whole_at};
 ghost use Rattle.tl_schedule.specs.code.FieldReading.{Gives, fields_behind, front, number_in};
 
 use crate::access::asked_request;

@@ -4,7 +4,9 @@ ghost use Rattle.std.specs.Prelude.{◌≡◌, ◌<◌, ◌≤◌, ◌^◌, ◌+
 ghost use Rattle.tl_beat.specs.statement.Digits.{digit_char, digits, lane_digits};
 ghost use Rattle.tl_beat.specs.statement.Line.{IsWritable, fields_of, spaced};
 ghost use Rattle.tl_beat.specs.statement.Width.{IsWidth};
-ghost use Rattle.tl_schedule.specs.statement.OutcomeLine.{HasLine, asked_size, busy_name, data_text, done_text, drained_line, finish_text, link_of, outcome_line, outcome_text, perm_name, reply_text, trace_text};
+ghost use Rattle.tl_schedule.specs.statement.OutcomeLine.{HasLine, asked_size, busy_name, data_text, done_text};
+ghost use Rattle.tl_schedule.specs.statement.OutcomeLine.{drained_line, finish_text, link_of, outcome_line};
+ghost use Rattle.tl_schedule.specs.statement.OutcomeLine.{outcome_text, perm_name, reply_text, trace_text};
 
 use itoa::Buffer;
 use std::alloc::AllocError;

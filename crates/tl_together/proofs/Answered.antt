@@ -1,7 +1,7 @@
 -- What a judge's tables answer of the rules of memory.
-use Rattle.std.proofs.Common.{◌≡◌, ℕ, suc, Bool, true, false, ◌&&◌, ◌||◌, ◌<◌, List, length, refl, sym, ap, ◌∙◌, arith}
+use Rattle.std.proofs.Common.{◌≡◌, ℕ, Bool, true, false, ◌&&◌, ◌||◌, ◌<◌, List, length, refl, sym, ap, ◌∙◌}
 use Rattle.std.proofs.Common.{◌+◌}
-use Rattle.std.specs.Prelude.{if◌then◌else◌, Option, Some, None, is_some, nat_lt, nat_le}
+use Rattle.std.specs.Prelude.{if◌then◌else◌, Option, Some, None, is_some, nat_le}
 use Rattle.std.proofs.Math.Numerals.{add-one}
 use Rattle.std.proofs.lemmas.Bool.{lt-ltb}
 use Rattle.tl_beat.specs.declared.beat.Beat.{Beat}
@@ -16,12 +16,13 @@ use Rattle.tl_rules.specs.declared.past.Request.{Request}
 use Rattle.tl_rules.specs.statement.Conformance.{Trace, on_link}
 use Rattle.tl_rules.specs.statement.History.{begins, is_grant, held, capped}
 use Rattle.tl_monitor.specs.statement.Knows.{held_on, begins_on, request_on}
-use Rattle.tl_together.specs.statement.Coherence.{is_free, is_spared, leaves, needs, has_window, is_access_ack}
+use Rattle.tl_rules.specs.statement.Windows.{is_free, is_spared, leaves, needs, has_window}
+use Rattle.tl_together.specs.statement.Coherence.{is_performed}
 use Rattle.tl_together.specs.statement.Coherence.{broken_grant, broken_access, broken_response, broken_memory}
 use Rattle.tl_together.specs.declared.breach.MemoryRule.{MemoryRule}
 use Rattle.tl_together.specs.declared.breach.MemoryRule.TheVariants.{M1, M4}
 use Rattle.tl_together.specs.declared.windows.Window.{Window}
-use Rattle.tl_together.specs.code.Windows.{asked_at, asked_in, last_free, last_in, window_in, KnowsWindows}
+use Rattle.tl_together.specs.code.Windows.{asked_at, last_free, last_in, window_in, KnowsWindows}
 use Rattle.tl_together.proofs.Windowed.{free_window, window-is}
 
 -- one link more
@@ -40,6 +41,12 @@ pub free_none : {w : ℕ} (spared : Option ℕ) (given : Perm) (block : ℕ) (t 
     → true ≡ is_free 0 spared given block t
 unfolding is_free
 free_none spared given block t = refl
+
+-- of all links, where these are they
+pub free_all : {w : ℕ} (n links block : ℕ) (t : Trace w) (reading writing : Bool) → n ≡ links
+    → (reading ≡ is_free n None perm.Branch block t) × (writing ≡ is_free n None perm.Trunk block t)
+    → (reading ≡ is_free links None perm.Branch block t) × (writing ≡ is_free links None perm.Trunk block t)
+free_all n links block t reading writing e known = rw (sym e) known
 
 pub window_free : {w : ℕ} (links n link source : ℕ) (given : Perm) (block : ℕ) (t : Trace w) (r : Bool) → links ≡ n
     → is_some (open_request source (on_link link t)) ≡ true
@@ -72,7 +79,7 @@ pub no_response : {w : ℕ} (levels : List Level) (n : ℕ) (link : Link) (x : B
 no_response levels n link x t lt none =
     let here : open_request x.source (on_link link.0 t) ≡ None = sym (rw (lt-ltb link.0 (length levels) lt) refl) ∙ sym
     none in
-    rw here (go (is_grant x.opcode) (is_access_ack x.opcode))
+    rw here (go (is_grant x.opcode) (is_performed x))
   where
     no : Option MemoryRule
     no = None
@@ -108,12 +115,12 @@ a_grant n link x t r g o asked g_is yes' o_is = o_is ∙ rw (sym g_is ∙ yes', 
 
 pub an_access : {w : ℕ} (n link : ℕ) (x : BeatD w) (t : Trace w) (r : Request) (g a : Bool) (o : Option MemoryRule)
     → open_request x.source (on_link link t) ≡ Some r
-    → g ≡ is_grant x.opcode → g ≡ false → a ≡ is_access_ack x.opcode → a ≡ true → o ≡ broken_access n link x (Some r) t
+    → g ≡ is_grant x.opcode → g ≡ false → a ≡ is_performed x → a ≡ true → o ≡ broken_access n link x (Some r) t
     → o ≡ broken_response n link x t
 an_access n link x t r g a o asked g_is no' a_is yes' o_is = o_is ∙ rw (sym g_is ∙ no', sym a_is ∙ yes', asked) refl
 
 pub another : {w : ℕ} (n link : ℕ) (x : BeatD w) (t : Trace w) (g a : Bool) → g ≡ is_grant x.opcode → g ≡ false
-    → a ≡ is_access_ack x.opcode → a ≡ false
+    → a ≡ is_performed x → a ≡ false
     → None ≡ broken_response n link x t
 another n link x t g a g_is no' a_is none = rw (sym g_is ∙ no', sym a_is ∙ none) refl
 

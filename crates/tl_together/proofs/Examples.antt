@@ -1,10 +1,9 @@
 -- The shortest traces that break a rule of memory, and beside each the right one.
-use Rattle.std.proofs.Common.{◌≡◌, ℕ, refl, false, List, [], ◌∷◌}
+use Rattle.std.proofs.Common.{◌≡◌, ℕ, refl, true, false, List, [], ◌∷◌}
 use Rattle.std.specs.Prelude.{Some, None}
 use Rattle.tl_beat.specs.declared.beat.Beat.{Beat}
 use Rattle.tl_beat.specs.declared.beat.Beat.TheVariants as beat
 use Rattle.tl_beat.specs.declared.beat.Link.{Link}
-use Rattle.tl_beat.specs.declared.opcode.OpA.{OpA}
 use Rattle.tl_beat.specs.declared.opcode.OpA.TheVariants as a
 use Rattle.tl_beat.specs.declared.opcode.OpB.TheVariants as b
 use Rattle.tl_beat.specs.declared.opcode.OpC.TheVariants as c
@@ -19,7 +18,8 @@ use Rattle.tl_rules.specs.statement.History.{request_of, release_of, probe_of, g
 use Rattle.tl_rules.specs.statement.Legality.{illegal, first_illegal, each_below}
 use Rattle.tl_together.specs.declared.breach.Breach.TheVariants.{OfLink, OfMemory}
 use Rattle.tl_together.specs.declared.breach.MemoryRule.TheVariants.{M1, M4}
-use Rattle.tl_together.specs.statement.Coherence.{is_free, has_window, breach_from, first_breach}
+use Rattle.tl_rules.specs.statement.Windows.{is_free, has_window}
+use Rattle.tl_together.specs.statement.Coherence.{breach_from, first_breach}
 
 -- beats of 8 bytes of block 0, on these links
 abbrev acquire_perm : ℕ → ℕ → Link × Beat 8
@@ -123,6 +123,23 @@ answer link = (
   }),
 )
 
+-- an answer that is denied, whose bytes are corrupt
+abbrev denial : ℕ → Link × Beat 8
+denial link = (
+  record { 0 = link },
+  beat.D (record {
+    opcode = d.AccessAckData;
+    param = 0;
+    size = 3;
+    source = 1;
+    sink = 0;
+    denied = true;
+    lanes = Some eight;
+    corrupt = true;
+    carries = refl;
+  }),
+)
+
 abbrev two_caches : List Level
 two_caches = level.C ∷ level.C ∷ []
 
@@ -163,6 +180,12 @@ a_get_beside_a_writer : first_breach two_caches profile.One (one_writes (get 1 �
 unfolding breach_from is_free has_window on_link unfinished request_of release_of probe_of grant_sink pending held
     illegal first_illegal each_below broken_order broken_after
 a_get_beside_a_writer = refl
+
+-- an access that is denied isn't performed, and needs no moment
+a_denied_get_beside_a_writer : first_breach two_caches profile.One (one_writes (get 1 ∷ denial 1 ∷ [])) ≡ None
+unfolding breach_from is_free has_window on_link unfinished request_of release_of probe_of grant_sink pending held
+    illegal first_illegal each_below broken_order broken_after
+a_denied_get_beside_a_writer = refl
 
 -- the other has become a reader first
 a_get_after_a_probe : first_breach two_caches profile.One

@@ -1,15 +1,13 @@
 -- A judge that knows one more beat.
-use Rattle.std.proofs.Common.{◌≡◌, subst, ℕ, zero, suc, Bool, true, false, ◌<◌, ◌≤◌, ◌+◌, ◌++◌, List, [], ◌∷◌, length}
-use Rattle.std.proofs.Common.{refl, sym, ap, ◌∙◌, arith, inl, inr, take, drop, reverse}
-use Rattle.std.specs.Prelude.{Option, Some, None, Err, slice_index_or}
+use Rattle.std.proofs.Common.{◌≡◌, subst, ℕ, suc, Bool, true, false, ◌<◌, ◌+◌, List, [], ◌∷◌, length}
+use Rattle.std.proofs.Common.{refl, sym, ap, ◌∙◌}
+use Rattle.std.specs.Prelude.{Option, Some, None, Err}
 use Rattle.std.proofs.Math.Numerals.{add-one}
-use Rattle.std.proofs.lemmas.List.{drop_more, take_more, drop_all, reverse-append, length-reverse, length-take-le}
 use Rattle.tl_beat.specs.declared.beat.Beat.{Beat}
 use Rattle.tl_beat.specs.declared.beat.Link.{Link}
 use Rattle.tl_params.specs.declared.level.Level.{Level}
 use Rattle.tl_params.specs.declared.profile.Profile.{Profile}
 use Rattle.tl_params.specs.declared.rule.Rule.{Rule}
-use Rattle.tl_params.specs.statement.Config.{IsCount}
 use Rattle.tl_params.specs.declared.perm.Perm.TheVariants as perm
 use Rattle.tl_rules.specs.statement.Conformance.{Trace, on_link, broken_on_link}
 use Rattle.tl_rules.specs.statement.History.{pending}
@@ -17,16 +15,13 @@ use Rattle.tl_together.specs.declared.windows.Window.{Window}
 use Rattle.tl_monitor.specs.statement.Knows as of_link
 use Rattle.tl_monitor.specs.declared.fault.MonitorFault.{MonitorFault}
 use Rattle.tl_monitor.specs.declared.fault.MonitorFault.TheVariants as monitor
-use Rattle.tl_monitor.specs.declared.monitor.Monitor.{Monitor}
-use Rattle.tl_together.specs.declared.breach.Breach.{Breach}
-use Rattle.tl_together.specs.declared.breach.Breach.TheVariants.{OfLink, OfMemory}
+use Rattle.tl_together.specs.declared.breach.Breach.TheVariants.{OfLink}
 use Rattle.tl_together.specs.declared.breach.MemoryRule.{MemoryRule}
 use Rattle.tl_together.specs.declared.fault.JudgeFault.{JudgeFault}
 use Rattle.tl_together.specs.declared.fault.JudgeFault.TheVariants as judge
 use Rattle.tl_together.specs.declared.judge.Judge.{Judge}
-use Rattle.tl_together.specs.statement.Coherence.{broken_memory, broken_together, first_broken, breach_from}
-use Rattle.tl_together.specs.statement.Knows.{Knows, KnowsTrace, Answers, AnswersTrace, fault_of, broken, closed_after}
-use Rattle.tl_together.specs.statement.Knows.{trace_fault_of}
+use Rattle.tl_together.specs.statement.Coherence.{broken_memory, first_broken}
+use Rattle.tl_together.specs.statement.Knows.{Knows, KnowsTrace, Answers, fault_of, broken, closed_after}
 use Rattle.tl_together.specs.code.Windows.{NotesRequest, NotesWindow, KnowsAsked, KnowsWindows, closes}
 use Rattle.tl_together.specs.code.Windows.{fault_of_monitor, last_free}
 use Rattle.tl_together.proofs.Noted.{in_levels}

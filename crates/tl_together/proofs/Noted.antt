@@ -1,14 +1,14 @@
 -- What is noted of a beat is what there is to know of the longer trace.
-use Rattle.std.proofs.Common.{◌≡◌, ℕ, zero, suc, Bool, true, false, ◌&&◌, ◌||◌, ◌<◌, ◌≤◌, ◌≢◌, List, [], ◌∷◌, length}
-use Rattle.std.proofs.Common.{refl, sym, ap, ◌∙◌, arith, inl, inr}
-use Rattle.std.specs.Prelude.{if◌then◌else◌, not, ◌==◌, Option, Some, None, is_some, is_none, nat_lt, slice_get, IsTrue}
+use Rattle.std.proofs.Common.{◌≡◌, ℕ, suc, Bool, true, false, ◌&&◌, ◌<◌, ◌≢◌, List, [], ◌∷◌, length}
+use Rattle.std.proofs.Common.{refl, sym, ap, ◌∙◌, inl, inr}
+use Rattle.std.specs.Prelude.{if◌then◌else◌, not, ◌==◌, Option, Some, None, is_some, nat_lt, slice_get, IsTrue}
 use Rattle.std.proofs.lemmas.Bool.{cases_Bool, cases_eq, cases_lt, lt-ltb, eq-eqb, ne_eqb, eqb-true}
 use Rattle.tl_beat.specs.declared.beat.Beat.{Beat}
 use Rattle.tl_beat.specs.declared.beat.Beat.TheVariants.{A, B, C, D, E}
 use Rattle.tl_beat.specs.declared.beat.BeatA.{BeatA}
 use Rattle.tl_beat.specs.declared.beat.Link.{Link}
 use Rattle.tl_beat.specs.declared.channel.Channel.TheVariants as channel
-use Rattle.tl_burst.specs.statement.Messages.{History, unfinished, grown, breaks_burst, same_control, burst_length}
+use Rattle.tl_burst.specs.statement.Messages.{History, unfinished, breaks_burst, same_control}
 use Rattle.tl_burst.proofs.ControlFields.{control_a}
 use Rattle.tl_params.specs.declared.key.Key.TheVariants.{RequestSource}
 use Rattle.tl_params.specs.declared.level.Level.{Level}
@@ -16,7 +16,7 @@ use Rattle.tl_params.specs.declared.perm.Perm.{Perm}
 use Rattle.tl_params.specs.declared.perm.Perm.TheVariants as perm
 use Rattle.tl_params.specs.declared.profile.Profile.{Profile}
 use Rattle.tl_rules.specs.code.Open.{open_request, request_fields}
-use Rattle.tl_rules.specs.code.Tables.{kept_request, request_next}
+use Rattle.tl_rules.specs.code.Tables.{kept_request}
 use Rattle.tl_rules.specs.declared.past.Request.{Request}
 use Rattle.tl_rules.specs.statement.Conformance.{Trace, on_link, broken_after, broken_on_link, broken_at_level}
 use Rattle.tl_rules.specs.statement.Conformance.{comes_in_request}
@@ -27,9 +27,9 @@ use Rattle.tl_monitor.specs.code.LinkState.{is_block}
 use Rattle.tl_monitor.specs.statement.Knows.{Knows, LeavesOthers, request_on}
 use Rattle.tl_monitor.specs.declared.monitor.Monitor.{Monitor}
 use Rattle.tl_monitor.proofs.Touching.{no_level}
-use Rattle.tl_together.specs.statement.Coherence.{is_free}
+use Rattle.tl_rules.specs.statement.Windows.{is_free}
 use Rattle.tl_together.specs.declared.windows.Window.{Window}
-use Rattle.tl_together.specs.code.Windows.{asked_at, asked_in, last_free, last_in, window_in, KnowsAsked, KnowsWindows}
+use Rattle.tl_together.specs.code.Windows.{asked_in, last_in, window_in, KnowsAsked, KnowsWindows}
 use Rattle.tl_together.specs.code.Windows.{NotesRequest, NotesWindow}
 use Rattle.tl_together.proofs.Windowed.{own_link, other_link, as_free, none_free, free_last, last_still, asked_now}
 use Rattle.tl_together.proofs.Windowed.{asked_still}

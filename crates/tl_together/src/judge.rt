@@ -1,13 +1,14 @@
 //! A judge of the links of a manager: what it answers to each beat.
 
 ghost use Rattle.std.specs.Prelude.{ℕ, Bool, true, false, Some, List, OnOk, OnErr, IfOk};
-ghost use Rattle.std.specs.Prelude.{length, nat_lt, if◌then◌else◌, ◌&&◌, ◌||◌, ◌==◌, ◌≡◌, ◌<◌, is_some};
+ghost use Rattle.std.specs.Prelude.{length, nat_lt, if◌then◌else◌, ◌&&◌, ◌==◌, ◌≡◌, ◌<◌, is_some};
 ghost use Rattle.tl_beat.specs.declared.beat.Beat.{Beat};
 ghost use Rattle.tl_beat.specs.statement.Width.{IsWidth};
 ghost use Rattle.tl_params.specs.declared.level.Level.{Level};
 ghost use Rattle.tl_params.specs.declared.profile.Profile.{Profile};
 ghost use Rattle.tl_rules.specs.code.Open.{open_request};
 ghost use Rattle.tl_rules.specs.statement.Conformance.{Trace, on_link};
+ghost use Rattle.tl_rules.specs.statement.Windows as window;
 ghost use Rattle.tl_monitor.specs.statement.Knows as of_link;
 ghost use Rattle.tl_together.specs.statement.Coherence;
 ghost use Rattle.tl_together.specs.code.Windows.{asked_in, last_in, closes};
@@ -15,6 +16,7 @@ ghost use Rattle.tl_together.specs.code.Windows.{fault_of_monitor, NotesRequest,
 
 use crate::breach::{Breach, MemoryRule};
 use crate::fault::JudgeFault;
+use crate::free::{freedom_of, is_free};
 use crate::windows::{Window, Windows};
 use std::alloc::{AllocError, Global};
 use tl_beat::beat::{Beat, BeatD, Link};
@@ -28,37 +30,9 @@ use tl_rules::past::Request;
 use tl_rules::perm::Perm;
 use tl_rules::profile::Profile;
 
-/// Whether another may hold so much of a block beside one who has so much of it.
-fn leaves(given: Perm, held: Perm) -> bool
-    ensures { result ≡ Coherence.leaves given held }
-{
-    match given {
-        Perm::Trunk => held == Perm::None,
-        Perm::Branch => held != Perm::Trunk,
-        Perm::None => true,
-    }
-}
-
-/// Whether a link is the one that is spared.
-fn is_spared(link: u8, spared: Option<u8>) -> bool
-    ensures { result ≡ Coherence.is_spared link spared }
-{
-    match spared {
-        None => false,
-        Some(own) => own == link,
-    }
-}
-
-/// Whether a link is spared, or leaves a block to one who has so much of it.
-fn is_left(link: u8, spared: Option<u8>, given: Perm, held: Perm) -> bool
-    ensures { result ≡ (Coherence.is_spared link spared || Coherence.leaves given held) }
-{
-    is_spared(link, spared) || leaves(given, held)
-}
-
 /// What an access needs of its block, as one who holds it would.
 fn needs(opcode: OpA) -> Perm
-    ensures { result ≡ Coherence.needs opcode }
+    ensures { result ≡ window.needs opcode }
 {
     match opcode {
         OpA::Get => Perm::Branch,
@@ -74,6 +48,13 @@ fn is_access_ack(opcode: OpD) -> bool
     matches!(opcode, OpD::AccessAck | OpD::AccessAckData)
 }
 
+/// Whether a response answers an access that was performed: one that is denied wasn't.
+fn is_performed<const W: usize>(x: &BeatD<W>) -> bool
+    ensures { result ≡ Coherence.is_performed x.now }
+{
+    is_access_ack(x.opcode) && !x.denied
+}
+
 /// When the request with this source was complete on a link, where that was noted.
 fn asked_in(asked: &Vec<ByteTable<u64>>, link: usize, source: u8) -> Option<u64>
     ensures { result ≡ asked_in asked.now.items link source }
@@ -87,7 +68,8 @@ fn asked_in(asked: &Vec<ByteTable<u64>>, link: usize, source: u8) -> Option<u64>
 /// Notes when the request with a source is complete, on a link that there is.
 fn note_asked(asked: &mut Vec<ByteTable<u64>>, link: usize, source: u8, moment: u64)
     ensures noted { (n s : ℕ) → asked_in asked.new.items n s ≡
-        (if nat_lt link (length asked.old.items) && ((n == link) && (s == source)) then Some moment else asked_in asked.old.items n s) }
+        (if nat_lt link (length asked.old.items) && ((n == link) && (s == source)) then Some moment else asked_in
+        asked.old.items n s) }
     ensures length { length asked.new.items ≡ length asked.old.items }
 {
     if link < asked.len() {
@@ -103,33 +85,6 @@ fn last_in(given: Perm, window: Window) -> u64
         Perm::Trunk => window.writing,
         _ => window.reading,
     }
-}
-
-/// Whether both are true.
-fn both(one: bool, other: bool) -> bool
-    ensures { result ≡ (one && other) }
-{
-    one && other
-}
-
-/// Whether each of so many links, but the one that is spared, leaves a block to one who has so much of it.
-fn is_free<const W: usize>(
-    monitor: &Monitor<W>,
-    links: u8,
-    spared: Option<u8>,
-    given: Perm,
-    block: u32,
-) -> bool
-    ensures { (levels : List Level) (p : Profile) (t : Trace W) →
-        of_link.Knows monitor.now levels p t false → links ≡ length levels →
-        result ≡ Coherence.is_free links spared given block t }
-{
-    let mut free = true;
-    for n in 0..links {
-        let held = monitor.held(Link(n), block);
-        free = both(free, is_left(n, spared, given, held));
-    }
-    free
 }
 
 /// Judges the beats of up to 16 links of one manager, in the order in which they were taken. It keeps
@@ -189,11 +144,10 @@ fn note_window<const W: usize>(
         return Ok(());
     };
     let old = windows.get(block);
-    let reading = is_free(monitor, links, None, Perm::Branch, block);
-    let writing = is_free(monitor, links, None, Perm::Trunk, block);
+    let free = freedom_of(monitor, links, block);
     let window = Window {
-        reading: latest(reading, moment, old.reading),
-        writing: latest(writing, moment, old.writing),
+        reading: latest(free.reading, moment, old.reading),
+        writing: latest(free.writing, moment, old.writing),
     };
     windows.set(block, window)
 }
@@ -262,7 +216,7 @@ impl<const W: usize> Judge<W> {
             KnowsTrace self.now levels p t →
             link.0 < length levels →
             is_some (open_request source (on_link link.0 t)) ≡ true →
-            result ≡ Coherence.has_window (length levels) link.0 source given block t }
+            result ≡ window.has_window (length levels) link.0 source given block t }
     {
         if is_free(&self.monitor, self.links, None, given, block) {
             return true;
@@ -318,7 +272,7 @@ impl<const W: usize> Judge<W> {
         if is_grant(x.opcode) {
             return self.broken_grant(link, x, asked);
         }
-        if !is_access_ack(x.opcode) {
+        if !is_performed(x) {
             return None;
         }
         self.broken_access(link, x, asked)

@@ -3,6 +3,7 @@
 
 pub mod breach;
 pub mod fault;
+mod free;
 pub mod judge;
 pub mod trace;
 mod windows;

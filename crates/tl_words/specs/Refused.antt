@@ -4,10 +4,10 @@ use Rattle.clap.specs.Words.{Row, Text, kind_of, subcommand_of, takes}
 use Rattle.clap.specs.declared.error.Error.{Error}
 use Rattle.clap.specs.declared.error.ErrorKind.{ErrorKind}
 use Rattle.clap.specs.declared.error.ErrorKind.TheVariants as kind
-use Rattle.tl_command.specs.declared.command.Command.{Command}
+use Rattle.tl_command.specs.declared.task.Task.{Task}
 use Rattle.tl_words.specs.declared.words.WordsFault.{WordsFault}
 use Rattle.tl_words.specs.declared.words.WordsFault.TheVariants.{Usage, Memory}
-use Rattle.tl_words.specs.Tool.{command_in, tool_of}
+use Rattle.tl_words.specs.Tool.{IsTaskOf, tool_of}
 
 -- what an error of `clap` is to the program
 abbrev pub is_want_of_memory : ErrorKind → Bool
@@ -26,17 +26,24 @@ usage_status _ = 2
 abbrev pub status_of_usage : Error → ℕ
 status_of_usage error = usage_status (kind_of error)
 
--- the command of a subcommand with its entries
-abbrev pub command_given : Option (Text × List Row) → Option Command
-command_given None = None
-command_given (Some (name, rows)) = command_in name rows
+-- a subcommand with its entries, if there is one, asks for nothing that the program can do
+abbrev pub AsksNothing : Option (Text × List Row) → Type 0
+AsksNothing None = ⊤
+AsksNothing (Some (name, rows)) = (task : Task) → ¬ IsTaskOf name rows task
 
--- `clap` doesn't take the words (it shows help or the version, or says what is wrong), or they name no
--- width of a beat, or no file to explain
-abbrev pub AreRefused : List Text → Type 0
-AreRefused words = (takes tool_of words ≡ false) ⊎ (command_given (subcommand_of tool_of words) ≡ None)
+-- `clap` doesn't take the words (it shows help or the version, or says what is wrong); or they ask for
+-- nothing that the program can do, where a word stands for nothing or no file is there to explain, and the
+-- error says so
+abbrev pub AreRefused : List Text → Error → Type 0
+AreRefused words error = (takes tool_of words ≡ false)
+    ⊎ (AsksNothing (subcommand_of tool_of words) × (status_of_usage error ≡ 2))
 
 -- only words that are refused are a usage
 abbrev pub IsRefusal : List Text → WordsFault → Type 0
-IsRefusal words (Usage error) = AreRefused words
+IsRefusal words (Usage error) = AreRefused words error
 IsRefusal words Memory = ⊤
+
+-- a subcommand with these entries asks for nothing, want of memory aside
+abbrev pub IsFaultOf : Text → List Row → WordsFault → Type 0
+IsFaultOf name rows (Usage error) = ((task : Task) → ¬ IsTaskOf name rows task) × (status_of_usage error ≡ 2)
+IsFaultOf name rows Memory = ⊤

@@ -1,16 +1,23 @@
 -- The command line as `clap` sees it, and what its matches mean.
-use Rattle.std.specs.Prelude.{Bool, List, Option, Some, None, codes, true, false, if◌then◌else◌, option_map}
+use Rattle.std.specs.Prelude.{◌≡◌, Bool, List, Option, Some, None, codes, true, false, if◌then◌else◌, option_map}
 use Rattle.std.specs.Str.{bytes_eq}
+use Rattle.std.specs.String.{string_bytes}
 use Rattle.clap.specs.declared.builder.action.ArgAction.TheVariants.{SetTrue}
 use Rattle.clap.specs.Words.{App, Row, Rule, Text, first_of, new_app, new_rule, with_rule, with_subcommand}
 use Rattle.tl_command.specs.declared.command.Command.{Command}
 use Rattle.tl_command.specs.declared.command.Command.TheVariants.{Decode, Monitor, Explain, Run}
-use Rattle.tl_params.specs.declared.width.Width.{Width}
-use Rattle.tl_params.specs.declared.width.Width.TheVariants.{Four, Eight, Sixteen}
+use Rattle.tl_command.specs.declared.task.Task.{Task}
+use Rattle.tl_command.specs.declared.task.Task.TheVariants.{Draw, Read}
+use Rattle.tl_command.specs.statement.RandomWords.{AreOptions, Words}
+use Rattle.tl_command.specs.statement.Words.{width_named}
+
+-- `--NAME VALUE`
+abbrev pub valued_rule : Text → Rule
+valued_rule name = record (new_rule name) { long = Some name; value_names = 1 }
 
 -- `--width BYTES`
 abbrev pub width_rule : Rule
-width_rule = record (new_rule (codes "width")) { long = Some (codes "width"); value_names = 1 }
+width_rule = valued_rule (codes "width")
 
 -- `decode [--width BYTES] [FILE]`
 abbrev pub decode_of : App
@@ -32,6 +39,24 @@ trace_rule = record (new_rule (codes "trace")) { long = Some (codes "trace"); ac
 abbrev pub run_of : App
 run_of = with_rule (with_rule (new_app (codes "run")) trace_rule) (new_rule (codes "FILE"))
 
+-- `--seed N`, which has to be given
+abbrev pub seed_rule : Rule
+seed_rule = record (valued_rule (codes "seed")) { required = true }
+
+-- `random --seed N [--events N] [--contend N]`, without what the header names
+abbrev pub drawing_of : App
+drawing_of = with_rule (with_rule (with_rule (new_app (codes "random")) seed_rule) (valued_rule (codes "events")))
+    (valued_rule (codes "contend"))
+
+-- and with the size of the world: `[--clients LIST] [--blocks N] [--trackers N]`
+abbrev pub sizing_of : App
+sizing_of = with_rule (with_rule (with_rule drawing_of (valued_rule (codes "clients"))) (valued_rule (codes "blocks")))
+    (valued_rule (codes "trackers"))
+
+-- and with `[--width BYTES] [--profile P]`
+abbrev pub random_of : App
+random_of = with_rule (with_rule sizing_of width_rule) (valued_rule (codes "profile"))
+
 abbrev pub with_required_subcommand : App → App
 with_required_subcommand a = record a { top = record a.top { subcommand_required = true } }
 
@@ -48,14 +73,12 @@ abbrev pub explaining_of : App
 explaining_of = with_subcommand reading_of explain_of.top
 
 -- and with the one that plays
-abbrev pub tool_of : App
-tool_of = with_subcommand explaining_of run_of.top
+abbrev pub playing_of : App
+playing_of = with_subcommand explaining_of run_of.top
 
--- the width that a word stands for, 8 bytes where there is no word
-abbrev pub width_named : Option Text → Option Width
-width_named None = Some Eight
-width_named (Some word) = if bytes_eq word (codes "4") then Some Four else if bytes_eq word (codes "8") then Some Eight
-    else if bytes_eq word (codes "16") then Some Sixteen else None
+-- and with the one that draws
+abbrev pub tool_of : App
+tool_of = with_subcommand playing_of random_of.top
 
 -- a flag is given where its word is `true`
 abbrev pub flag_named : Option Text → Bool
@@ -77,3 +100,22 @@ command_in name rows = command_named name (first_of (codes "width") rows) (first
 
 abbrev pub file_in : List Row → Option Text
 file_in rows = first_of (codes "FILE") rows
+
+-- the words of the options of `random`
+abbrev pub words_in : List Row → Words
+words_in rows = record {
+  seed = first_of (codes "seed") rows;
+  events = first_of (codes "events") rows;
+  clients = first_of (codes "clients") rows;
+  blocks = first_of (codes "blocks") rows;
+  trackers = first_of (codes "trackers") rows;
+  width = first_of (codes "width") rows;
+  profile = first_of (codes "profile") rows;
+  contend = first_of (codes "contend") rows;
+}
+
+-- what a subcommand's name and entries ask for: a command over FILE, or a random schedule
+abbrev pub IsTaskOf : Text → List Row → Task → Type 0
+IsTaskOf name rows (Read command file) =
+    (command_in name rows ≡ Some command) × (option_map string_bytes file ≡ file_in rows)
+IsTaskOf name rows (Draw options) = (bytes_eq name (codes "random") ≡ true) × AreOptions (words_in rows) options

@@ -1,5 +1,25 @@
 //! What the help says behind the words of each command: its codes, its exit status, examples.
 
+/// What help says of `--width`.
+pub const WIDTH: &str = "Bytes of data that a beat carries: 4, 8 or 16 [default: 8]";
+
+/// What help says of `--clients`.
+pub const CLIENTS: &str =
+    "1 to 16 clients: level UL, UH or C, and sources, 1 to 8 [default: C:2,C:2,C:2,UH:1]";
+
+/// What help says of `--blocks`.
+pub const BLOCKS: &str = "Blocks of the map, 1 to 1024 [default: 2]";
+
+/// What help says of `--trackers`.
+pub const TRACKERS: &str = "Trackers of the manager, 1 to 8 [default: 2]";
+
+/// What help says of `--profile`.
+pub const PROFILE: &str = "The profile, 1 or 2 [default: 1]";
+
+/// What help says of `--contend`.
+pub const CONTEND: &str =
+    "Of how many blocks, from the first on, most operations speak [default: 2, or the blocks if fewer]";
+
 /// What stands behind the options of a command: the codes that it can write, each with what it says,
 /// the exit status, and examples.
 macro_rules! outcomes {
@@ -33,7 +53,7 @@ wrong with it. `tltool explain FILE` says why, `tltool explain X` what X says, a
   H1 to H13     the beat breaks the order of messages
 
 Exit status:
-  0  no line is at fault; or help or the version was asked for
+  0  done, and no line is at fault; or help or the version was asked for
   1  `line N X` was written
   2  the words are not of the form above
   3  no memory, or reading, writing or opening a file failed; a directory can be opened, but not
@@ -45,7 +65,8 @@ Examples, in the folder of examples (crates/tl_examples/data):
   tltool explain wrong_report.trace
   tltool explain H12
   tail -n +2 two_caches.trace | tltool decode
-  tltool run --trace schedules/a_writer_becomes_a_reader.schedule | tltool monitor";
+  tltool run --trace schedules/a_writer_becomes_a_reader.schedule | tltool monitor
+  tltool random --seed 1 | tltool run --trace | tltool monitor";
 
 /// Behind the options of `decode`.
 pub const DECODE: &str = outcomes!(
@@ -116,3 +137,19 @@ pub const RUN: &str = outcomes!(
     "\n  tltool run schedules/a_part_of_a_word.schedule",
     "\n  tltool run --trace schedules/a_writer_becomes_a_reader.schedule | tltool monitor",
 );
+
+/// Behind the options of `random`.
+pub const RANDOM: &str =
+    "The schedule is a header, lines, and a last `drain`. Each line is an event of the header's world, or
+`drain`; the events are played along, so that most of them do something: a tenth are busy, missing
+or empty. The same words write the same bytes.
+
+Exit status:
+  0  the schedule was written; or help was asked for
+  2  the words are not of the form above
+  3  no memory, or writing failed; a reader of the output that goes away makes writing fail
+
+Examples:
+  tltool random --seed 1 | tltool run --trace | tltool monitor
+  tltool random --seed 2 --events 100000 --clients C:8,C:8,UL:2 --blocks 16 --contend 4
+  tltool random --seed 3 --width 16 --profile 2 | tltool run";

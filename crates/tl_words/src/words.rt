@@ -1,18 +1,26 @@
 //! Reads the program's words: `tltool decode [--width 4|8|16] [FILE]`, `tltool monitor [FILE]`,
-//! `tltool explain FILE`, `tltool run [--trace] [FILE]`, and those that ask for help or the version.
+//! `tltool explain FILE`, `tltool run [--trace] [FILE]`, `tltool random --seed N` with its options, and those
+//! that ask for help or the version.
 
-ghost use Rattle.std.specs.Prelude.{◌≡◌, IfOk, IfErr, true, false, List, Some, map, option_map};
+ghost use Rattle.std.specs.Prelude.{◌≡◌, IfOk, IfErr, true, false, List, Some, bytes_eq, codes, map, option_map};
 ghost use Rattle.std.specs.String.{string_bytes};
-ghost use Rattle.clap.specs.Words.{Row, Text, app_of, is_simple_and_free, kind_of, subcommand_of};
+ghost use Rattle.clap.specs.Words.{Row, Text, app_of, found_of, is_simple_and_free};
+ghost use Rattle.clap.specs.Words.{kind_of, rows_of, rule_of, subcommand_of};
 ghost use Rattle.clap.specs.declared.builder.command.Command.TheViews.{out-Command};
-ghost use Rattle.tl_words.specs.Refused.{IsRefusal, usage_status, words_fault};
-ghost use Rattle.tl_words.specs.Tool.{command_in, command_named, decode_of, explain_of, explaining_of, file_in, flag_named, monitor_of, reading_of, run_of, tool_of, width_named};
+ghost use Rattle.tl_words.specs.Refused.{IsFaultOf, IsRefusal, status_of_usage, usage_status, words_fault};
+ghost use Rattle.tl_command.specs.statement.RandomWords.{words_of};
+ghost use Rattle.tl_words.specs.Tool.{IsTaskOf, command_named, decode_of, drawing_of, explain_of};
+ghost use Rattle.tl_words.specs.Tool.{explaining_of, flag_named, monitor_of, playing_of, random_of};
+ghost use Rattle.tl_words.specs.Tool.{reading_of, run_of, sizing_of, tool_of, valued_rule, words_in};
 
 use crate::help;
 use clap::error::ErrorKind;
-use clap::{Arg, ArgAction};
+use clap::{Arg, ArgAction, ArgMatches};
 use std::alloc::{AllocError, Global};
-use tl_command::command::{Command, Width};
+use tl_command::command::Command;
+use tl_command::random_words::{RandomOption, RandomWords, options_named};
+use tl_command::task::Task;
+use tl_command::width_word::width_named;
 
 /// Why the words give no command: they aren't of its form, or ask for help, or there is no memory.
 #[derive(Debug, Drop)]
@@ -68,10 +76,7 @@ fn decode<'a>(alloc: Global) -> Result<clap::Command<'a>, AllocError>
     ensures app { IfOk result (λ c. app_of c ≡ decode_of) }
     ensures local { IfOk result (λ c. (out-Command c).has_globals ≡ false) }
 {
-    let width = Arg::new(alloc, "width")
-        .long("width")
-        .value_name("BYTES")
-        .help("Bytes of data that a beat carries: 4, 8 or 16 [default: 8]");
+    let width = valued(alloc, "width", "BYTES", help::WIDTH);
     let file = Arg::new(alloc, "FILE").help(FILE_HELP);
     clap::Command::new(alloc, "decode")
         .about("Writes a readable line for each beat line of FILE")
@@ -141,24 +146,77 @@ fn explaining<'a>(alloc: Global) -> Result<clap::Command<'a>, AllocError>
     reading(alloc)?.subcommand(explain)
 }
 
-fn tool<'a>(alloc: Global) -> Result<clap::Command<'a>, AllocError>
-    ensures { IfOk result (λ c. app_of c ≡ tool_of) }
+/// The program with its commands that read.
+fn playing<'a>(alloc: Global) -> Result<clap::Command<'a>, AllocError>
+    ensures { IfOk result (λ c. app_of c ≡ playing_of) }
 {
     let run = run(alloc)?;
     explaining(alloc)?.subcommand(run)
 }
 
-/// The width that a word stands for, 8 bytes where there is no word.
-fn width_named(word: Option<&str>) -> Option<Width>
-    ensures { result ≡ width_named (option_map (λ s. s.now) word.entry) }
+/// An option with a value.
+fn valued<'a>(alloc: Global, name: &'a str, value: &'a str, help: &'a str) -> Arg<'a>
+    ensures rule { rule_of result ≡ valued_rule name.entry.now }
+    ensures local { result.global ≡ false }
 {
-    match word {
-        None => Some(Width::Eight),
-        Some("4") => Some(Width::Four),
-        Some("8") => Some(Width::Eight),
-        Some("16") => Some(Width::Sixteen),
-        Some(_) => None,
-    }
+    Arg::new(alloc, name)
+        .long(name)
+        .value_name(value)
+        .help(help)
+}
+
+/// `random` with what says what is drawn.
+fn drawing<'a>(alloc: Global) -> Result<clap::Command<'a>, AllocError>
+    ensures app { IfOk result (λ c. app_of c ≡ drawing_of) }
+    ensures local { IfOk result (λ c. (out-Command c).has_globals ≡ false) }
+{
+    let seed = valued(
+        alloc,
+        "seed",
+        "N",
+        "The seed: the same words write the same schedule",
+    )
+    .required(true);
+    let events = valued(
+        alloc,
+        "events",
+        "N",
+        "Lines behind the header [default: 1000]",
+    );
+    let contend = valued(alloc, "contend", "N", help::CONTEND);
+    clap::Command::new(alloc, "random")
+        .about("Writes a random schedule for `run`")
+        .after_help(help::RANDOM)
+        .arg(seed)?
+        .arg(events)?
+        .arg(contend)
+}
+
+/// And with the size of the world.
+fn sizing<'a>(alloc: Global) -> Result<clap::Command<'a>, AllocError>
+    ensures app { IfOk result (λ c. app_of c ≡ sizing_of) }
+    ensures local { IfOk result (λ c. (out-Command c).has_globals ≡ false) }
+{
+    let clients = valued(alloc, "clients", "LIST", help::CLIENTS);
+    let blocks = valued(alloc, "blocks", "N", help::BLOCKS);
+    let trackers = valued(alloc, "trackers", "N", help::TRACKERS);
+    drawing(alloc)?.arg(clients)?.arg(blocks)?.arg(trackers)
+}
+
+fn random<'a>(alloc: Global) -> Result<clap::Command<'a>, AllocError>
+    ensures app { IfOk result (λ c. app_of c ≡ random_of) }
+    ensures local { IfOk result (λ c. (out-Command c).has_globals ≡ false) }
+{
+    let width = valued(alloc, "width", "BYTES", help::WIDTH);
+    let profile = valued(alloc, "profile", "P", help::PROFILE);
+    sizing(alloc)?.arg(width)?.arg(profile)
+}
+
+fn tool<'a>(alloc: Global) -> Result<clap::Command<'a>, AllocError>
+    ensures { IfOk result (λ c. app_of c ≡ tool_of) }
+{
+    let random = random(alloc)?;
+    playing(alloc)?.subcommand(random)
 }
 
 /// Whether a flag is given, by its word.
@@ -178,7 +236,8 @@ fn command_named(
     trace: Option<&str>,
     file: Option<&str>,
 ) -> Option<Command>
-    ensures { result ≡ command_named name.now (option_map (λ s. s.now) width.entry) (option_map (λ s. s.now) trace.entry) (option_map (λ s. s.now) file.entry) }
+    ensures { result ≡ command_named name.now (option_map (λ s. s.now) width.entry)
+        (option_map (λ s. s.now) trace.entry) (option_map (λ s. s.now) file.entry) }
 {
     match name {
         "decode" => {
@@ -219,7 +278,9 @@ fn wrong_width(alloc: Global, word: Option<&str>) -> Result<clap::Error, AllocEr
 }
 
 /// The error of an `explain` without FILE.
-fn missing_file(alloc: Global) -> Result<clap::Error, AllocError> {
+fn missing_file(alloc: Global) -> Result<clap::Error, AllocError>
+    ensures { IfOk result (λ error. kind_of error ≡ ErrorKind.MissingRequiredArgument) }
+{
     let mut explain = explain(alloc)?.bin_name("tltool explain")?;
     explain.error(
         ErrorKind::MissingRequiredArgument,
@@ -228,7 +289,9 @@ fn missing_file(alloc: Global) -> Result<clap::Error, AllocError> {
 }
 
 /// The error of words that name no width, or no file to explain.
-fn wrong_words(alloc: Global, name: &str, width: Option<&str>) -> Result<clap::Error, AllocError> {
+fn wrong_words(alloc: Global, name: &str, width: Option<&str>) -> Result<clap::Error, AllocError>
+    ensures { IfOk result (λ error. status_of_usage error ≡ 2) }
+{
     if name == "explain" {
         missing_file(alloc)
     } else {
@@ -241,19 +304,57 @@ pub fn is_simple_command()
     ensures { is_simple_and_free tool_of ≡ true }
 {}
 
-/// The command and FILE that the program's words give, its own name first. Words of another form and
-/// a request for help or the version are a `Usage`, whose text is `clap`'s.
-pub fn invocation(alloc: Global, words: &[String]) -> Result<(Command, Option<String>), WordsFault>
-    ensures refused { IfErr result (IsRefusal (map string_bytes words.now)) }
-    ensures given { IfOk result (λ r. (name : Text) × (rows : List Row) × (subcommand_of tool_of (map string_bytes words.now) ≡ Some (name, rows))
-        × (command_in name rows ≡ Some r.0) × (option_map string_bytes r.1 ≡ file_in rows)) }
+/// The error of an option of `random` whose word stands for nothing.
+fn wrong_option(
+    alloc: Global,
+    option: RandomOption,
+    word: Option<&str>,
+) -> Result<clap::Error, AllocError>
+    ensures { IfOk result (λ error. status_of_usage error ≡ 2) }
 {
-    let mut tool = tool(alloc)?;
-    let matches = tool.try_get_matches_from_mut(words)?;
-    let Some((name, found)) = matches.subcommand() else {
-        let error = tool.error(ErrorKind::MissingSubcommand, "a subcommand is required")?;
-        return Err(WordsFault::Usage(error));
-    };
+    let (word, name, wanted) = (word.unwrap_or(""), option.name(), option.wanted());
+    let message = format!(in alloc; "invalid value '{word}' for '{name}': {wanted}")?;
+    let mut random = random(alloc)?.bin_name("tltool random")?;
+    random.error(ErrorKind::InvalidValue, message.as_str())
+}
+
+/// The words of the options of `random`.
+fn random_words<'a>(found: &ArgMatches<'a>) -> RandomWords<'a>
+    ensures { words_of result ≡ words_in (rows_of (found_of found.now)) }
+{
+    RandomWords {
+        seed: found.get_str("seed"),
+        events: found.get_str("events"),
+        clients: found.get_str("clients"),
+        blocks: found.get_str("blocks"),
+        trackers: found.get_str("trackers"),
+        width: found.get_str("width"),
+        profile: found.get_str("profile"),
+        contend: found.get_str("contend"),
+    }
+}
+
+/// The random schedule that the entries of `random` ask for.
+fn draw(alloc: Global, found: &ArgMatches) -> Result<Task, WordsFault>
+    ensures drawn { IfOk result (IsTaskOf (codes "random") (rows_of (found_of found.now))) }
+    ensures wrong { IfErr result (IsFaultOf (codes "random") (rows_of (found_of found.now))) }
+{
+    let words = random_words(found);
+    match options_named(&words) {
+        Ok(options) => Ok(Task::Draw { options }),
+        Err(option) => {
+            let error = wrong_option(alloc, option, words.word_of(option))?;
+            Err(WordsFault::Usage(error))
+        }
+    }
+}
+
+/// What the entries of a command ask for that reads.
+fn read(alloc: Global, name: &str, found: &ArgMatches) -> Result<Task, WordsFault>
+    requires { bytes_eq name.now (codes "random") ≡ false }
+    ensures read { IfOk result (IsTaskOf name.now (rows_of (found_of found.now))) }
+    ensures wrong { IfErr result (IsFaultOf name.now (rows_of (found_of found.now))) }
+{
     let width = found.get_str("width");
     let trace = found.get_str("trace");
     let name_of_file = found.get_str("FILE");
@@ -261,5 +362,26 @@ pub fn invocation(alloc: Global, words: &[String]) -> Result<(Command, Option<St
         return Err(WordsFault::Usage(wrong_words(alloc, name, width)?));
     };
     let file = copied(alloc, name_of_file)?;
-    Ok((command, file))
+    Ok(Task::Read { command, file })
+}
+
+/// What the program's words ask for, its own name first. Words of another form and a request for help
+/// or the version are a `Usage`, whose text is `clap`'s; its exit status is 2 where `clap` takes the words.
+pub fn invocation(alloc: Global, words: &[String]) -> Result<Task, WordsFault>
+    ensures refused { IfErr result (IsRefusal (map string_bytes words.now)) }
+    ensures given { IfOk result (λ task. (name : Text) × (rows : List Row)
+        × (subcommand_of tool_of (map string_bytes words.now) ≡ Some (name, rows))
+        × IsTaskOf name rows task) }
+{
+    let mut tool = tool(alloc)?;
+    let matches = tool.try_get_matches_from_mut(words)?;
+    let Some((name, found)) = matches.subcommand() else {
+        let error = tool.error(ErrorKind::MissingSubcommand, "a subcommand is required")?;
+        return Err(WordsFault::Usage(error));
+    };
+    if name == "random" {
+        draw(alloc, found)
+    } else {
+        read(alloc, name, found)
+    }
 }

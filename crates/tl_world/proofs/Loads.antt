@@ -22,7 +22,7 @@ use Rattle.tl_coherence.specs.statement.Log.{Log}
 use Rattle.tl_world.specs.code.Opened.{counted}
 use Rattle.tl_coherence.specs.bound.Rank.{total, is_used, is_let, open_requests, open_releases}
 use Rattle.tl_coherence.specs.statement.System.{terms_at}
-use Rattle.tl_coherence.specs.protocol.Packet.{one_if}
+use Rattle.tl_manager.specs.laws.Pending.{one_if}
 use Rattle.tl_coherence.specs.refinement.SimulationRelation.{is_caching}
 use Rattle.tl_coherence.proofs.simulation.Bounded.{matched-bounded}
 use Rattle.tl_coherence.proofs.protocol.Capacities.{few_on_e}

@@ -44,7 +44,8 @@ pub fn offer_at<const W: usize, A: Agent<W>>(
 
 /// What one client holds of a block: None where there is no such client.
 pub fn held_at<const W: usize, A: Agent<W>>(clients: &Vec<A>, i: usize, block: u16) -> Perm
-    ensures there { (e : Endpoint W) (d : A) → i < length clients.now.items → A.represents (slice_index_or clients.now.items i d) e →
+    ensures there { (e : Endpoint W) (d : A) → i < length clients.now.items →
+        A.represents (slice_index_or clients.now.items i d) e →
         result ≡ Endpoint.held_at e block }
     ensures nowhere { length clients.now.items ≤ i → result ≡ perm.None }
 {
@@ -60,7 +61,8 @@ pub fn copy_at<const W: usize, A: Agent<W>>(
     i: usize,
     block: u16,
 ) -> Option<[u8; 64]>
-    ensures there { (e : Endpoint W) (d : A) → i < length clients.now.items → A.represents (slice_index_or clients.now.items i d) e →
+    ensures there { (e : Endpoint W) (d : A) → i < length clients.now.items →
+        A.represents (slice_index_or clients.now.items i d) e →
         result ≡ e.copies block }
     ensures nowhere { length clients.now.items ≤ i → result ≡ None }
 {
@@ -77,7 +79,8 @@ pub fn stalls_at<const W: usize, A: Agent<W>>(
     channel: Channel,
     beat: &Beat<W>,
 ) -> bool
-    ensures there { (e : Endpoint W) (d : A) → i < length clients.now.items → A.represents (slice_index_or clients.now.items i d) e →
+    ensures there { (e : Endpoint W) (d : A) → i < length clients.now.items →
+        A.represents (slice_index_or clients.now.items i d) e →
         result ≡ Offer.stalls (A.terms (slice_index_or clients.now.items i d)) channel beat.now e }
     ensures nowhere { length clients.now.items ≤ i → result ≡ true }
 {

@@ -22,7 +22,8 @@ impl<const W: usize, A: Agent<W>, D: Directory> Network<W, A, D> {
     /// Whether the end that takes the beat stalls it.
     fn stalls(&self, link: Link, channel: Channel, beat: &Beat<W>) -> bool
         requires width { IsWidth W }
-        ensures { (config : Config) (s : System W) → Holds A.represents A.terms D.perm_of config self.now s → link.0 < clients_of config →
+        ensures { (config : Config) (s : System W) → Holds A.represents A.terms D.perm_of config self.now s →
+            link.0 < clients_of config →
             Movable.moves config (terms_at config link.0) link.0 channel (beat.now ∷ []) s ≡ not result }
     {
         if is_to_client(channel) {

@@ -14,7 +14,8 @@ use tl_manager::word::with_bit;
 /// The place of the lowest bit that is set in a word: None where no bit is.
 pub fn lowest(word: u16) -> Option<u8>
     ensures none { result ≡ None → word ≡ 0 }
-    ensures some { IfSome result (λ least. (least < 16) × (bit_at word least ≡ 1) × ((k : ℕ) → k < least → bit_at word k ≡ 0)) }
+    ensures some { IfSome result (λ least. (least < 16) × (bit_at word least ≡ 1)
+        × ((k : ℕ) → k < least → bit_at word k ≡ 0)) }
 {
     if word == 0 {
         None
@@ -48,7 +49,8 @@ impl NonEmptyChannels {
     pub fn mark(&mut self, link: Link, channel: Channel, holds: bool)
         requires { link.0 < 16 }
         ensures here { bit_at (word_of self.new channel) link.0 ≡ bit_if holds }
-        ensures others { (k : ℕ) (ch : Channel) → place k ch ≢ place link.0 channel → bit_at (word_of self.new ch) k ≡ bit_at (word_of self.old ch) k }
+        ensures others { (k : ℕ) (ch : Channel) → place k ch ≢ place link.0 channel → bit_at (word_of self.new ch) k
+            ≡ bit_at (word_of self.old ch) k }
     {
         let number = number(channel);
         self.words[number] = with_bit(self.words[number], link.0, holds);

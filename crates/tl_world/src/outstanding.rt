@@ -101,8 +101,10 @@ pub struct Outstanding {
 impl Outstanding {
     /// Something has happened.
     pub fn count<const W: usize>(&mut self, event: &Event<W>, outcome: &Outcome<W>)
-        ensures requests { self.new.requests ≡ counted (Load.starts_request event.now outcome.now) (Load.ends_request outcome.now) self.old.requests }
-        ensures releases { self.new.releases ≡ counted (Load.starts_release event.now outcome.now) (Load.ends_release outcome.now) self.old.releases }
+        ensures requests { self.new.requests
+            ≡ counted (Load.starts_request event.now outcome.now) (Load.ends_request outcome.now) self.old.requests }
+        ensures releases { self.new.releases
+            ≡ counted (Load.starts_release event.now outcome.now) (Load.ends_release outcome.now) self.old.releases }
     {
         self.requests = after(
             self.requests,

@@ -1,6 +1,7 @@
 //! The channels of all links.
 
-ghost use Rattle.std.specs.Prelude.{ℕ, ◌≡◌, ◌≢◌, ◌+◌, ◌*◌, ◌++◌, ◌∷◌, ◌≤◌, ◌<◌, List, length, drop, max, slice_get, slice_index_or};
+ghost use Rattle.std.specs.Prelude.{ℕ, ◌≡◌, ◌≢◌, ◌+◌, ◌*◌, ◌++◌, ◌∷◌, ◌≤◌, ◌<◌, List};
+ghost use Rattle.std.specs.Prelude.{length, drop, max, slice_get, slice_index_or};
 ghost use Rattle.std.specs.Option.{option_copied};
 ghost use Rattle.circular_buffer.specs.Buffer.{buffer};
 ghost use Rattle.tl_beat.specs.statement.Width.{IsWidth};
@@ -36,11 +37,17 @@ fn send_at<const W: usize>(rings: &mut Vec<Ring<W>>, at: usize, message: &Messag
     requires width { IsWidth W }
     requires inside { at < length rings.old.items }
     ensures number { length rings.new.items ≡ length rings.old.items }
-    ensures capacity { (d : Ring W) → (slice_index_or rings.new.items at d).beats.capacity ≡ (slice_index_or rings.old.items at d).beats.capacity }
-    ensures items { (d : Ring W) → length (slice_index_or rings.old.items at d).beats.items + Burst.beats_of message.now ≤ (slice_index_or rings.old.items at d).beats.capacity →
-        (slice_index_or rings.new.items at d).beats.items ≡ (slice_index_or rings.old.items at d).beats.items ++ beats_from message.now 0 (Burst.beats_of message.now) }
-    ensures deepest { (d : Ring W) → (slice_index_or rings.new.items at d).deepest ≡ max (slice_index_or rings.old.items at d).deepest (length (slice_index_or rings.new.items at d).beats.items) }
-    ensures others { (k : ℕ) (d : Ring W) → k ≢ at → slice_index_or rings.new.items k d ≡ slice_index_or rings.old.items k d }
+    ensures capacity { (d : Ring W) → (slice_index_or rings.new.items at d).beats.capacity
+        ≡ (slice_index_or rings.old.items at d).beats.capacity }
+    ensures items { (d : Ring W) →
+        length (slice_index_or rings.old.items at d).beats.items
+        + Burst.beats_of message.now ≤ (slice_index_or rings.old.items at d).beats.capacity →
+        (slice_index_or rings.new.items at d).beats.items ≡ (slice_index_or rings.old.items at d).beats.items
+        ++ beats_from message.now 0 (Burst.beats_of message.now) }
+    ensures deepest { (d : Ring W) → (slice_index_or rings.new.items at d).deepest
+        ≡ max (slice_index_or rings.old.items at d).deepest (length (slice_index_or rings.new.items at d).beats.items) }
+    ensures others { (k : ℕ) (d : Ring W) → k ≢ at → slice_index_or rings.new.items k d
+        ≡ slice_index_or rings.old.items k d }
 {
     rings[at].send(message);
 }
@@ -49,9 +56,13 @@ fn send_at<const W: usize>(rings: &mut Vec<Ring<W>>, at: usize, message: &Messag
 fn drop_at<const W: usize>(rings: &mut Vec<Ring<W>>, at: usize)
     requires { at < length rings.old.items }
     ensures number { length rings.new.items ≡ length rings.old.items }
-    ensures beats { (d : Ring W) → (slice_index_or rings.new.items at d).beats ≡ buffer (drop 1 (slice_index_or rings.old.items at d).beats.items) (slice_index_or rings.old.items at d).beats.capacity }
-    ensures deepest { (d : Ring W) → (slice_index_or rings.new.items at d).deepest ≡ (slice_index_or rings.old.items at d).deepest }
-    ensures others { (k : ℕ) (d : Ring W) → k ≢ at → slice_index_or rings.new.items k d ≡ slice_index_or rings.old.items k d }
+    ensures beats { (d : Ring W) → (slice_index_or rings.new.items at d).beats
+        ≡ buffer (drop 1 (slice_index_or rings.old.items at d).beats.items)
+        (slice_index_or rings.old.items at d).beats.capacity }
+    ensures deepest { (d : Ring W) → (slice_index_or rings.new.items at d).deepest
+        ≡ (slice_index_or rings.old.items at d).deepest }
+    ensures others { (k : ℕ) (d : Ring W) → k ≢ at → slice_index_or rings.new.items k d
+        ≡ slice_index_or rings.old.items k d }
 {
     rings[at].drop_first();
 }
@@ -114,7 +125,8 @@ impl<const W: usize> Rings<W> {
     pub fn send(&mut self, link: Link, message: &Message<W>)
         requires { IsWidth W }
         ensures kept { AreKept self.old self.new }
-        ensures moved { (n : ℕ) (s : System W) → Carries n self.old s → Fit n self.old (with_message link.0 message.now s) →
+        ensures moved { (n : ℕ) (s : System W) → Carries n self.old s →
+            Fit n self.old (with_message link.0 message.now s) →
             AreMoved n self.old self.new (with_message link.0 message.now s) }
     {
         let channel = channel_of(message);
@@ -129,7 +141,8 @@ impl<const W: usize> Rings<W> {
     pub fn send_if_any(&mut self, link: Link, message: &Option<Message<W>>)
         requires { IsWidth W }
         ensures kept { AreKept self.old self.new }
-        ensures moved { (n : ℕ) (s : System W) → Carries n self.old s → Fit n self.old (with_messages (handed_by link.0 message.now) s) →
+        ensures moved { (n : ℕ) (s : System W) → Carries n self.old s →
+            Fit n self.old (with_messages (handed_by link.0 message.now) s) →
             AreMoved n self.old self.new (with_messages (handed_by link.0 message.now) s) }
     {
         match message {
@@ -142,7 +155,8 @@ impl<const W: usize> Rings<W> {
     fn send_probes(&mut self, block: u16, cap: Cap, clients: u16)
         requires { IsWidth W }
         ensures kept { AreKept self.old self.new }
-        ensures moved { (n : ℕ) (s : System W) → Carries n self.old s → Fit n self.old (with_messages (messages_of (Probes block cap clients)) s) →
+        ensures moved { (n : ℕ) (s : System W) → Carries n self.old s →
+            Fit n self.old (with_messages (messages_of (Probes block cap clients)) s) →
             AreMoved n self.old self.new (with_messages (messages_of (Probes block cap clients)) s) }
     {
         let message = probe(u32::from(block), cap);
@@ -158,7 +172,8 @@ impl<const W: usize> Rings<W> {
     pub fn send_out(&mut self, outbox: &Outbox<W>)
         requires { IsWidth W }
         ensures kept { AreKept self.old self.new }
-        ensures moved { (n : ℕ) (s : System W) → Carries n self.old s → Fit n self.old (with_messages (messages_of outbox.now) s) →
+        ensures moved { (n : ℕ) (s : System W) → Carries n self.old s →
+            Fit n self.old (with_messages (messages_of outbox.now) s) →
             AreMoved n self.old self.new (with_messages (messages_of outbox.now) s) }
     {
         match outbox {

@@ -68,7 +68,8 @@ impl<const W: usize, A: Agent<W>, D: Directory> Network<W, A, D> {
         requires inside { client < length self.old.clients.items }
         ensures { (config : Config) (s : System W) → Holds A.represents A.terms D.perm_of config self.old s →
             HasRoom config (stepped config (Ask client operation.entry) s).after →
-            IsStepped A.represents A.terms D.perm_of config self.old self.new (Ask client operation.entry) outcome.new s }
+            IsStepped A.represents A.terms D.perm_of config self.old self.new (Ask client operation.entry) outcome.new
+            s }
     {
         let (reply, message) = ask_at(&mut self.clients, usize::from(client), operation);
         self.rings.send_if_any(Link(client), &message);

@@ -10,7 +10,8 @@ ghost use Rattle.tl_coherence.specs.statement.Load.{IsBalanced};
 ghost use Rattle.tl_coherence.specs.statement.Log.{Log, system_after, logged};
 ghost use Rattle.tl_coherence.specs.statement.Step.{stepped};
 ghost use Rattle.tl_coherence.specs.statement.System.{terms_at};
-ghost use Rattle.tl_world.specs.statement.World.{IsReached, IsWorld, IsNewWorld, IsReplayed, AreReady, IsEmpty, held_by, copy_by, deepest_by};
+ghost use Rattle.tl_world.specs.statement.World.{IsReached, IsWorld, IsNewWorld, IsReplayed};
+ghost use Rattle.tl_world.specs.statement.World.{AreReady, IsEmpty, held_by, copy_by, deepest_by};
 ghost use Rattle.tl_coherence.specs.statement.Movable;
 ghost use Rattle.tl_coherence.specs.statement.Movable.{drained};
 ghost use Rattle.tl_coherence.specs.statement.Draining.{IsDrained};
@@ -96,9 +97,11 @@ impl<const W: usize, A: Agent<W>, D: Directory> World<W, A, D> {
     /// Something happens: what comes of it.
     pub fn step(&mut self, event: Event<W>) -> Outcome<W>
         ensures world { IsWorld A.represents A.terms D.perm_of self.old }
-        ensures reached { (config : Config) (log : Log W) → IsReached A.represents A.terms D.perm_of config self.old log →
+        ensures reached { (config : Config) (log : Log W) →
+            IsReached A.represents A.terms D.perm_of config self.old log →
             IsReached A.represents A.terms D.perm_of config self.new ((event.entry, result) ∷ log) }
-        ensures outcome { (config : Config) (log : Log W) → IsReached A.represents A.terms D.perm_of config self.old log →
+        ensures outcome { (config : Config) (log : Log W) →
+            IsReached A.represents A.terms D.perm_of config self.old log →
             result ≡ (stepped config event.entry (system_after config log)).outcome }
     {
         prove_typed(&event);
@@ -112,7 +115,8 @@ impl<const W: usize, A: Agent<W>, D: Directory> World<W, A, D> {
     pub fn run(&mut self, events: &[Event<W>], outcomes: &mut [Outcome<W>])
         requires { length events.now ≡ length outcomes.old }
         ensures world { IsWorld A.represents A.terms D.perm_of self.old }
-        ensures reached { (config : Config) (log : Log W) → IsReached A.represents A.terms D.perm_of config self.old log →
+        ensures reached { (config : Config) (log : Log W) →
+            IsReached A.represents A.terms D.perm_of config self.old log →
             IsReached A.represents A.terms D.perm_of config self.new (logged events.now outcomes.new log) }
         ensures number { length outcomes.new ≡ length outcomes.old }
     {
@@ -157,9 +161,11 @@ impl<const W: usize, A: Agent<W>, D: Directory> World<W, A, D> {
     /// is at most the load before.
     pub fn drain(&mut self) -> u64
         ensures world { IsWorld A.represents A.terms D.perm_of self.old }
-        ensures reached { (config : Config) (log : Log W) → IsReached A.represents A.terms D.perm_of config self.old log →
+        ensures reached { (config : Config) (log : Log W) →
+            IsReached A.represents A.terms D.perm_of config self.old log →
             IsReached A.represents A.terms D.perm_of config self.new (drained config result log) }
-        ensures drained { (config : Config) (log : Log W) → IsReached A.represents A.terms D.perm_of config self.old log →
+        ensures drained { (config : Config) (log : Log W) →
+            IsReached A.represents A.terms D.perm_of config self.old log →
             IsDrained config log result }
     {
         // A field is named so that the prover has the invariant of the world here.
@@ -200,7 +206,8 @@ impl<const W: usize, A: Agent<W>, D: Directory> World<W, A, D> {
     /// 0 for a link without a client.
     pub fn deepest(&self, link: Link, channel: Channel) -> u16
         ensures world { IsWorld A.represents A.terms D.perm_of self.now }
-        ensures deepest { (config : Config) (log : Log W) → IsReached A.represents A.terms D.perm_of config self.now log →
+        ensures deepest { (config : Config) (log : Log W) →
+            IsReached A.represents A.terms D.perm_of config self.now log →
             result ≡ deepest_by config log link.0 channel }
         ensures room { (config : Config) (log : Log W) → IsReached A.represents A.terms D.perm_of config self.now log →
             result ≤ capacity (64 / W) (sources_of (terms_at config link.0)) config.trackers channel }
@@ -213,7 +220,8 @@ impl<const W: usize, A: Agent<W>, D: Directory> World<W, A, D> {
         ensures world { IsWorld A.represents A.terms D.perm_of self.now }
         ensures load { (config : Config) (log : Log W) → IsReached A.represents A.terms D.perm_of config self.now log →
             result ≡ Load.load log }
-        ensures balanced { (config : Config) (log : Log W) → IsReached A.represents A.terms D.perm_of config self.now log →
+        ensures balanced { (config : Config) (log : Log W) →
+            IsReached A.represents A.terms D.perm_of config self.now log →
             IsBalanced log }
     {
         self.state.outstanding.load::<W>()

@@ -1,15 +1,20 @@
 -- How the program ends, by its exit status.
-use Rattle.std.specs.Prelude.{◌≡◌, ◌⊎◌, ℕ, List, Option, Result, Err, IfOk, OnErr}
+use Rattle.std.specs.Prelude.{◌≡◌, ◌⊎◌, ℕ, List, Option, Result, Err, IfErr, IfOk, OnErr, OnOk}
 use Rattle.tl_command.specs.declared.command.Command.{Command}
+use Rattle.tl_command.specs.declared.random.Options.{Options}
+use Rattle.tl_params.specs.statement.Header.{width_of}
 use Rattle.tl_words.specs.declared.words.WordsFault.{WordsFault}
 use Rattle.tl_words.specs.declared.words.WordsFault.TheVariants as words
 use Rattle.tl_words.specs.Refused.{status_of_usage}
 use Rattle.tl_engine.specs.declared.status.Status.{Status}
 use Rattle.tl_engine.specs.declared.status.ToolFault.{ToolFault}
 use Rattle.tl_engine.specs.declared.status.ToolFault.TheVariants.{Memory, Write}
+use Rattle.tl_engine.specs.code.GivenUp.{GivesUpFor}
 use Rattle.tl_engine.specs.code.Run.{FailsAt, RunsTo}
 use Rattle.tl_engine.specs.statement.Exit.{exit_status}
-use Rattle.tl_engine.specs.statement.Told.{text_told}
+use Rattle.tl_engine.specs.statement.Told.{text_so_far, text_told}
+use Rattle.tl_engine.specs.statement.Width.{bytes_of}
+use Rattle.tl_random.specs.statement.Random.{WritesPart, WritesSchedule}
 
 -- The status is that of an outcome which the command has over what was read and written.
 abbrev pub EndsAs : Command → Option (List ℕ) → Option (List ℕ) → Option (List ℕ) → Option (List ℕ) → ℕ → Type 0
@@ -17,10 +22,19 @@ EndsAs command had left held holds status =
     (outcome : Result Status ToolFault) × (status ≡ exit_status outcome)
     × IfOk outcome (RunsTo (text_told command) had left held holds)
     × OnErr outcome (FailsAt (text_told command) had left held holds)
+    × IfErr outcome (GivesUpFor (text_so_far command) (text_told command) had left held holds)
 
 -- whatever was left of the input
 abbrev pub EndsOver : Command → Option (List ℕ) → Option (List ℕ) → Option (List ℕ) → ℕ → Type 0
 EndsOver command had held holds status = (left : Option (List ℕ)) × EndsAs command had left held holds status
+
+-- The status is that of an outcome with which a random schedule of these options was written, whole at success and
+-- otherwise a beginning of it.
+abbrev pub EndsDrawn : Options → Option (List ℕ) → Option (List ℕ) → ℕ → Type 0
+EndsDrawn o had holds status =
+    (outcome : Result Status ToolFault) × (status ≡ exit_status outcome)
+    × OnOk outcome (WritesSchedule (bytes_of (width_of o.version)) o.version o.config o.events had holds)
+    × OnErr outcome (WritesPart (bytes_of (width_of o.version)) o.version o.config o.events had holds)
 
 -- The words give no command: the status is that of the usage, or of a writer that failed, or of want of memory.
 abbrev pub IsRefused : WordsFault → ℕ → Type 0

@@ -1,21 +1,24 @@
-//! `tltool`: reads, judges and runs TileLink traces.
+//! `tltool`: reads and judges TileLink traces, and writes and plays schedules.
 #![tactic(auto)]
 
 ghost use Rattle.std.specs.Prelude.{◌≡◌, IfOk, OnOk, OnErr, Err};
 ghost use Rattle.tl_engine.specs.statement.Exit.{exit_status};
-ghost use Rattle.tltool.specs.Ended.{EndsAs, EndsOver, IsRefused};
+ghost use Rattle.tltool.specs.Ended.{EndsAs, EndsDrawn, EndsOver, IsRefused};
 
 use std::fs::File;
 use std::io::{Read, Write};
 use std::process::ExitCode;
 use std::{env, fs, io};
-use tl_tool::command::Command;
-use tl_tool::explain::{ExplainFault, explain_input};
-use tl_tool::named::tell_named;
-use tl_tool::output::{write_all, write_changed, write_once, write_open_fault};
-use tl_tool::status::{Status, ToolFault, exit_of};
-use tl_tool::tool::run_tool;
-use tl_tool::words::{WordsFault, invocation, usage_status};
+use tl_command::random::Options;
+use tl_command::task::Task;
+use tl_engine::command::Command;
+use tl_engine::explain::{ExplainFault, explain_input};
+use tl_engine::named::tell_named;
+use tl_engine::output::{write_all, write_changed, write_once, write_open_fault};
+use tl_engine::status::{Status, ToolFault, exit_of};
+use tl_engine::tool::run_tool;
+use tl_random::schedule::write_schedule;
+use tl_words::words::{WordsFault, invocation, usage_status};
 
 /// The exit status of a run, whose fault is told on standard error.
 fn told(rt: &HostRuntime, outcome: Result<Status, ToolFault>) -> u8
@@ -55,7 +58,8 @@ fn run_over<R: Read, W: Write>(
     input: &mut R,
     output: &mut W,
 ) -> u8
-    ensures { EndsAs command (R.remaining input.old) (R.remaining input.new) (W.contents output.old) (W.contents output.new) result }
+    ensures { EndsAs command (R.remaining input.old) (R.remaining input.new) (W.contents output.old)
+        (W.contents output.new) result }
 {
     told(rt, run_tool(rt.alloc(), command, input, output))
 }
@@ -76,7 +80,8 @@ fn run_file<R: Read + Drop, W: Write>(
     opened: io::Result<R>,
     output: &mut W,
 ) -> u8
-    ensures opened { IfOk opened (λ file. EndsOver command (R.remaining file) (W.contents output.old) (W.contents output.new) result) }
+    ensures opened { IfOk opened (λ file. EndsOver command (R.remaining file) (W.contents output.old)
+        (W.contents output.new) result) }
     ensures unopened { OnErr opened (result ≡ exit_status (Err ToolFault.Read)) }
 {
     match opened {
@@ -130,7 +135,7 @@ fn explain(rt: &HostRuntime, name: &str) -> u8 {
 }
 
 /// Runs a command over standard input, or over the file of this name.
-fn run(rt: &HostRuntime, command: Command, name: Option<String>) -> u8 {
+fn read(rt: &HostRuntime, command: Command, name: Option<String>) -> u8 {
     let mut output = io::writer(rt);
     match name {
         None => run_over(rt, command, &mut rt.reader(), &mut output),
@@ -139,6 +144,22 @@ fn run(rt: &HostRuntime, command: Command, name: Option<String>) -> u8 {
             let opened = fs::open(rt, name.as_str());
             run_file(rt, command, name.as_str(), opened, &mut output)
         }
+    }
+}
+
+/// Writes a random schedule.
+fn draw<W: Write>(rt: &HostRuntime, options: &Options, output: &mut W) -> u8
+    ensures { EndsDrawn options.now (W.contents output.old) (W.contents output.new) result }
+{
+    let written = write_schedule(rt.alloc(), options, output);
+    told(rt, written.map(|_| Status::Clean))
+}
+
+/// Does what the words of the program ask for.
+fn run(rt: &HostRuntime, task: Task) -> u8 {
+    match task {
+        Task::Read { command, file } => read(rt, command, file),
+        Task::Draw { options } => draw(rt, &options, &mut io::writer(rt)),
     }
 }
 
@@ -151,7 +172,7 @@ fn main(rt: HostRuntime) -> ExitCode {
     let status = match words(&rt) {
         Err(_) => told(&rt, Err(ToolFault::Memory)),
         Ok(words) => match invocation(rt.alloc(), words.as_slice()) {
-            Ok((command, name)) => run(&rt, command, name),
+            Ok(task) => run(&rt, task),
             Err(fault) => refused(&rt, fault),
         },
     };

@@ -1,9 +1,8 @@
 -- What C is told by a client with the beats that it has still to send. Each call of a client stands on what
 -- the crate of ports says of it; bad input changes nothing.
-use Rattle.std.specs.Prelude.{ℕ, List, ◌≡◌, ◌==◌, ⊤, Option, Some, None, Result, Ok, Err, if◌then◌else◌}
+use Rattle.std.specs.Prelude.{ℕ, List, ◌≡◌, ⊤, Option, Some, None, Result, Ok, Err}
 use Rattle.tl_beat.specs.declared.beat.Beat.{Beat}
 use Rattle.tl_beat.specs.declared.channel.Channel.{Channel}
-use Rattle.tl_beat.specs.declared.channel.Channel.TheVariants as channel
 use Rattle.tl_burst.specs.statement.Messages.{channel_of}
 use Rattle.tl_params.specs.declared.rule.Rule.{Rule}
 use Rattle.tl_client.specs.code.KnowsAny.{KnowsAny, any_terms}
@@ -14,24 +13,17 @@ use Rattle.tl_client.specs.statement.Endpoint.{Endpoint}
 use Rattle.tl_client.specs.statement.Offer as offer
 use Rattle.tl_ports.specs.declared.client.ClientPort.{ClientPort}
 use Rattle.tl_ports.specs.statement.Client.{AskTold, OfferTold, Popped, next_beat, held_of}
-use Rattle.hefrudyl.specs.declared.answer.Answer.{Answer}
-use Rattle.hefrudyl.specs.declared.operation.Operation.{Operation}
-use Rattle.hefrudyl.specs.declared.outcome.Outcome.{Outcome}
-use Rattle.hefrudyl.specs.declared.outcome.Reception.{Reception}
-use Rattle.hefrudyl.specs.declared.picture.Picture.{Picture}
-use Rattle.hefrudyl.specs.statement.Answer.{ok, bad, broken, no_memory, nothing}
-use Rattle.hefrudyl.specs.statement.Depicted.{depicted, flag}
-use Rattle.hefrudyl.specs.statement.Operation.{asked_for}
-use Rattle.hefrudyl.specs.statement.Outcome.{outcome_of, reception_of, perm_number}
-use Rattle.hefrudyl.specs.statement.Picture.{shown}
-
--- the channel of a code, 0 for A to 4 for E
-abbrev pub channel_at : ℕ → Option Channel
-channel_at code =
-    if code == 0 then Some channel.A else
-    if code == 1 then Some channel.B else
-    if code == 2 then Some channel.C else if code == 3 then Some channel.D else if code == 4 then Some channel.E else
-    None
+use Rattle.tl_pictures.specs.declared.answer.Answer.{Answer}
+use Rattle.tl_pictures.specs.declared.operation.Operation.{Operation}
+use Rattle.tl_pictures.specs.declared.outcome.Outcome.{Outcome}
+use Rattle.tl_pictures.specs.declared.outcome.Reception.{Reception}
+use Rattle.tl_pictures.specs.declared.picture.Picture.{Picture}
+use Rattle.tl_pictures.specs.statement.Answer.{ok, bad, broken, no_memory, nothing}
+use Rattle.tl_pictures.specs.statement.Codes.{channel_at}
+use Rattle.tl_pictures.specs.statement.Depicted.{flag, ShowsBeat}
+use Rattle.tl_pictures.specs.statement.Operation.{asked_for}
+use Rattle.tl_pictures.specs.statement.Outcome.{outcome_of, reception_of, perm_number}
+use Rattle.tl_pictures.specs.statement.Picture.{shown}
 
 -- ---- operations
 
@@ -97,11 +89,6 @@ abbrev pub Stalls : (w : ℕ) → ClientPort w → Picture → ℕ → ℕ → A
 Stalls w port x was stalled answer = StallsBeat port (shown w x) was stalled answer
 
 -- ---- beats to send
-
--- the beat is shown, where there is one
-abbrev pub ShowsBeat : {w : ℕ} → Option (Beat w) → Picture → Picture → Answer → Type 0
-ShowsBeat None was picture answer = (answer ≡ nothing) × (picture ≡ was)
-ShowsBeat (Some x) was picture answer = (answer ≡ ok) × (picture ≡ depicted x)
 
 abbrev pub ShowsOn : {w : ℕ} → ClientPort w → Option Channel → Picture → Picture → Answer → Type 0
 ShowsOn port None was picture answer = (answer ≡ bad) × (picture ≡ was)

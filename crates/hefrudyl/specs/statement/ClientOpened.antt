@@ -1,20 +1,19 @@
 -- What a client is made from, and what a new one knows.
-use Rattle.std.specs.Prelude.{ℕ, Bool, ◌&&◌, ◌||◌, ◌==◌, ◌≡◌, ◌⊎◌, [], nat_lt, nat_le, Result, Ok, Err}
+use Rattle.std.specs.Prelude.{ℕ, Bool, ◌&&◌, ◌≡◌, ◌⊎◌, [], nat_lt, nat_le, Result, Ok, Err}
 use Rattle.tl_beat.specs.declared.channel.Channel.{Channel}
 use Rattle.tl_client.specs.code.KnowsAny.{KnowsAny, any_terms}
 use Rattle.tl_client.specs.statement.Endpoint.{fresh}
 use Rattle.tl_ports.specs.declared.client.ClientPort.{ClientPort}
 use Rattle.tl_ports.specs.statement.Client.{to_send}
-use Rattle.hefrudyl.specs.declared.answer.Answer.{Answer}
-use Rattle.hefrudyl.specs.statement.Answer.{bad, no_memory}
-use Rattle.hefrudyl.specs.statement.Opened.{level_at, profile_at}
+use Rattle.tl_pictures.specs.declared.answer.Answer.{Answer}
+use Rattle.tl_pictures.specs.statement.Answer.{bad, no_memory}
+use Rattle.tl_pictures.specs.statement.Codes.{level_at, profile_at, is_width, is_profile}
 
 -- a level, 1 to 1,024 blocks, 1 to 8 sources, a width and a profile
 abbrev pub may_open_client : ℕ → ℕ → ℕ → ℕ → ℕ → Bool
 may_open_client level blocks sources width profile =
     nat_lt level 3 && nat_le 1 blocks && nat_le blocks 1024 && nat_le 1 sources && nat_le sources 8
-    && (width == 4 || width == 8 || width == 16)
-    && (profile == 1 || profile == 2)
+    && is_width width && is_profile profile
 
 -- a new client has sent and taken nothing, and has nothing to send
 abbrev pub IsFreshClient : {w : ℕ} → ℕ → ℕ → ℕ → ℕ → ClientPort w → Type 0

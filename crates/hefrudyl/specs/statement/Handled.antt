@@ -1,19 +1,31 @@
--- What C is told of a client by its handle.
+-- What C is told of a monitor, a client and a manager by its handle.
 use Rattle.std.specs.Prelude.{ℕ, List, ◌≡◌, Option, Some, None}
-use Rattle.hefrudyl.specs.declared.answer.Answer.{Answer}
-use Rattle.hefrudyl.specs.declared.operation.Operation.{Operation}
-use Rattle.hefrudyl.specs.declared.outcome.Outcome.{Outcome}
-use Rattle.hefrudyl.specs.declared.outcome.Reception.{Reception}
-use Rattle.hefrudyl.specs.declared.picture.Picture.{Picture}
+use Rattle.tl_pictures.specs.declared.answer.Answer.{Answer}
+use Rattle.tl_pictures.specs.declared.config.LinkConfig.{LinkConfig}
+use Rattle.tl_pictures.specs.declared.operation.Operation.{Operation}
+use Rattle.tl_pictures.specs.declared.outcome.Outcome.{Outcome}
+use Rattle.tl_pictures.specs.declared.outcome.Reception.{Reception}
+use Rattle.tl_pictures.specs.declared.picture.Picture.{Picture}
 use Rattle.hefrudyl.specs.declared.session.Session.{Session}
-use Rattle.hefrudyl.specs.statement.Answer.{bad}
+use Rattle.tl_pictures.specs.statement.Answer.{bad, IsBad}
+use Rattle.hefrudyl.specs.statement.Opened.{OpensTo}
 use Rattle.hefrudyl.specs.statement.Sessions
 
--- one that holds something is left as it is
+-- one that holds something is left as it is, and one that holds nothing opens so
+abbrev pub OpensHandle : (Option Session → Answer → Type 0) → Option Session → Option Session → Answer → Type 0
+OpensHandle P (Some old) new answer = IsBad answer (Some old) new
+OpensHandle P None new answer = P new answer
+
+abbrev pub MonitorOpenTold : Option Session → Option Session → List ℕ → ℕ → ℕ → Answer → Type 0
+MonitorOpenTold old new levels width profile answer = OpensHandle (OpensTo levels width profile) old new answer
+
 abbrev pub ClientOpenTold : Option Session → Option Session → ℕ → ℕ → ℕ → ℕ → ℕ → Answer → Type 0
-ClientOpenTold (Some old) new level blocks sources width profile answer = (answer ≡ bad) × (new ≡ Some old)
-ClientOpenTold None new level blocks sources width profile answer =
-    Sessions.ClientOpens level blocks sources width profile new answer
+ClientOpenTold old new level blocks sources width profile answer =
+    OpensHandle (Sessions.ClientOpens level blocks sources width profile) old new answer
+
+abbrev pub ManagerOpenTold : Option Session → Option Session → List LinkConfig → ℕ → ℕ → ℕ → ℕ → Answer → Type 0
+ManagerOpenTold old new links blocks trackers width profile answer =
+    OpensHandle (Sessions.ManagerOpens links blocks trackers width profile) old new answer
 
 -- this holds of what the handle held and holds; a handle that holds nothing is bad input, and holds nothing then
 abbrev pub OnHandle : (Session → Session → Type 0) → Type 0 → Option Session → Option Session → Type 0
@@ -21,34 +33,70 @@ OnHandle P refused (Some old) (Some new) = P old new
 OnHandle P refused None new = refused × (new ≡ None)
 OnHandle _ _ _ _ = ⊥
 
+-- ---- monitors
+
+abbrev pub PushTold : ℕ → Picture → Answer → Option Session → Option Session → Type 0
+PushTold link x answer old new = OnHandle (Sessions.PushSession link x answer) (answer ≡ bad) old new
+
+abbrev pub LineTold : List ℕ → Answer → Option Session → Option Session → Type 0
+LineTold line answer old new = OnHandle (Sessions.LineSession line answer) (answer ≡ bad) old new
+
+abbrev pub EntriesTold : ℕ → ℕ → ℕ → Answer → Option Session → Option Session → Type 0
+EntriesTold link was now answer old new = OnHandle (λ s u. Sessions.EntriesSession link was now answer s × (u ≡ s))
+    (IsBad answer was now) old new
+
+-- ---- clients
+
 abbrev pub AskTold : Operation → Outcome → Outcome → Answer → Option Session → Option Session → Type 0
-AskTold x was now answer old new = OnHandle (Sessions.AsksSession x was now answer) (Sessions.Bad answer was now) old
+AskTold x was now answer old new = OnHandle (Sessions.AsksSession x was now answer) (IsBad answer was now) old
     new
 
 abbrev pub OfferTold : Picture → Reception → Reception → Answer → Option Session → Option Session → Type 0
-OfferTold x was now answer old new = OnHandle (Sessions.OffersSession x was now answer) (Sessions.Bad answer was now)
+OfferTold x was now answer old new = OnHandle (Sessions.OffersSession x was now answer) (IsBad answer was now)
     old new
 
 abbrev pub StallsTold : Picture → ℕ → ℕ → Answer → Option Session → Option Session → Type 0
 StallsTold x was now answer old new = OnHandle (λ s u. Sessions.StallsSession x was now answer s × (u ≡ s))
-    (Sessions.Bad answer was now) old new
+    (IsBad answer was now) old new
 
 abbrev pub NextTold : ℕ → Picture → Picture → Answer → Option Session → Option Session → Type 0
 NextTold channel was now answer old new = OnHandle (λ s u. Sessions.NextSession channel was now answer s × (u ≡ s))
-    (Sessions.Bad answer was now) old new
+    (IsBad answer was now) old new
 
 abbrev pub PopTold : ℕ → Picture → Picture → Answer → Option Session → Option Session → Type 0
 PopTold channel was now answer old new = OnHandle (Sessions.PopSession channel was now answer)
-    (Sessions.Bad answer was now) old new
+    (IsBad answer was now) old new
 
 abbrev pub HeldTold : ℕ → ℕ → ℕ → Answer → Option Session → Option Session → Type 0
 HeldTold block was now answer old new = OnHandle (λ s u. Sessions.HeldSession block was now answer s × (u ≡ s))
-    (Sessions.Bad answer was now) old new
+    (IsBad answer was now) old new
 
 abbrev pub CopyTold : ℕ → List ℕ → List ℕ → Answer → Option Session → Option Session → Type 0
 CopyTold block was now answer old new = OnHandle (λ s u. Sessions.CopySession block was now answer s × (u ≡ s))
-    (Sessions.Bad answer was now) old new
+    (IsBad answer was now) old new
 
 abbrev pub ClosedTold : ℕ → ℕ → Answer → Option Session → Option Session → Type 0
 ClosedTold was now answer old new = OnHandle (λ s u. Sessions.ClosedSession was now answer s × (u ≡ s))
-    (Sessions.Bad answer was now) old new
+    (IsBad answer was now) old new
+
+-- ---- managers
+
+abbrev pub AdmitTold : ℕ → Picture → ℕ → ℕ → Answer → Option Session → Option Session → Type 0
+AdmitTold link x was now answer old new = OnHandle (Sessions.AdmitsSession link x was now answer) (IsBad answer was now)
+    old new
+
+abbrev pub StallsAtTold : ℕ → Picture → ℕ → ℕ → Answer → Option Session → Option Session → Type 0
+StallsAtTold link x was now answer old new =
+    OnHandle (λ s u. Sessions.StallsAtSession link x was now answer s × (u ≡ s)) (IsBad answer was now) old new
+
+abbrev pub NextAtTold : ℕ → ℕ → Picture → Picture → Answer → Option Session → Option Session → Type 0
+NextAtTold link channel was now answer old new =
+    OnHandle (λ s u. Sessions.NextAtSession link channel was now answer s × (u ≡ s)) (IsBad answer was now) old new
+
+abbrev pub PopAtTold : ℕ → ℕ → Picture → Picture → Answer → Option Session → Option Session → Type 0
+PopAtTold link channel was now answer old new = OnHandle (Sessions.PopAtSession link channel was now answer)
+    (IsBad answer was now) old new
+
+abbrev pub ClosedAtTold : ℕ → ℕ → ℕ → Answer → Option Session → Option Session → Type 0
+ClosedAtTold link was now answer old new = OnHandle (λ s u. Sessions.ClosedAtSession link was now answer s × (u ≡ s))
+    (IsBad answer was now) old new

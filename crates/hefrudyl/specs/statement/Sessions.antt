@@ -1,17 +1,49 @@
--- What C is told of a client that a session holds.
+-- What C is told of a monitor, a client or a manager that a session holds.
 use Rattle.std.specs.Prelude.{ℕ, List, ◌≡◌, ◌⊎◌, true, Option, Some, None}
+use Rattle.tl_monitor.specs.declared.monitor.Monitor.{Monitor}
 use Rattle.tl_ports.specs.declared.client.ClientPort.{ClientPort}
-use Rattle.hefrudyl.specs.declared.answer.Answer.{Answer}
+use Rattle.tl_pictures.specs.declared.answer.Answer.{Answer}
+use Rattle.tl_ports.specs.declared.manager.ManagerPort.{ManagerPort}
 use Rattle.hefrudyl.specs.declared.client.AnyPort.TheVariants as port
-use Rattle.hefrudyl.specs.declared.operation.Operation.{Operation}
-use Rattle.hefrudyl.specs.declared.outcome.Outcome.{Outcome}
-use Rattle.hefrudyl.specs.declared.outcome.Reception.{Reception}
-use Rattle.hefrudyl.specs.declared.picture.Picture.{Picture}
+use Rattle.hefrudyl.specs.declared.manager.AnyManager.TheVariants as manager
+use Rattle.hefrudyl.specs.declared.monitor.AnyMonitor.TheVariants as monitor
+use Rattle.tl_pictures.specs.declared.config.LinkConfig.{LinkConfig}
+use Rattle.tl_pictures.specs.declared.operation.Operation.{Operation}
+use Rattle.tl_pictures.specs.declared.outcome.Outcome.{Outcome}
+use Rattle.tl_pictures.specs.declared.outcome.Reception.{Reception}
+use Rattle.tl_pictures.specs.declared.picture.Picture.{Picture}
 use Rattle.hefrudyl.specs.declared.session.Session.{Session}
 use Rattle.hefrudyl.specs.declared.session.Session.TheVariants as session
-use Rattle.hefrudyl.specs.statement.Answer.{ok, bad, no_memory}
+use Rattle.tl_pictures.specs.statement.Answer.{ok, bad, no_memory, IsBad}
 use Rattle.hefrudyl.specs.statement.Client.{Asked, OfferedOf, Stalls, Shows, Pops, Holds, Copies, Closed}
 use Rattle.hefrudyl.specs.statement.ClientOpened.{may_open_client, IsFreshClient}
+use Rattle.hefrudyl.specs.statement.Judged.{ToldOf, ToldOfLine, EntriesOf}
+use Rattle.hefrudyl.specs.statement.Manager.{Admitted, StallsAt, ShowsAt, PopsAt, ClosedAt}
+use Rattle.hefrudyl.specs.statement.ManagerOpened.{may_open_manager, IsFreshManager}
+
+-- ---- monitors
+
+-- this holds of the monitor before and after, whose width stays; a session that holds none is bad input, by which
+-- nothing changes
+abbrev pub OnMonitor : ((w : ℕ) → Monitor w → Monitor w → Type 0) → Type 0 → Session → Session → Type 0
+OnMonitor P refused (session.Monitor (monitor.Four old)) (session.Monitor (monitor.Four new)) = P 4 old new
+OnMonitor P refused (session.Monitor (monitor.Eight old)) (session.Monitor (monitor.Eight new)) = P 8 old new
+OnMonitor P refused (session.Monitor (monitor.Sixteen old)) (session.Monitor (monitor.Sixteen new)) = P 16 old new
+OnMonitor P refused (session.Client old) new = refused × (new ≡ session.Client old)
+OnMonitor P refused (session.Manager old) new = refused × (new ≡ session.Manager old)
+OnMonitor _ _ _ _ = ⊥
+
+abbrev pub PushSession : ℕ → Picture → Answer → Session → Session → Type 0
+PushSession link x answer old new = OnMonitor (λ w m n. ToldOf m n link x answer) (answer ≡ bad) old new
+
+abbrev pub LineSession : List ℕ → Answer → Session → Session → Type 0
+LineSession line answer old new = OnMonitor (λ w m n. ToldOfLine m n line answer) (answer ≡ bad) old new
+
+abbrev pub EntriesSession : ℕ → ℕ → ℕ → Answer → Session → Type 0
+EntriesSession link was entries answer s =
+    OnMonitor (λ w m n. EntriesOf m link was entries answer) (IsBad answer was entries) s s
+
+-- ---- clients
 
 -- the client is new, and of the width
 abbrev pub IsOpenedClient : ℕ → ℕ → ℕ → ℕ → ℕ → Session → Type 0
@@ -21,7 +53,7 @@ IsOpenedClient level blocks sources width profile (session.Client (port.Eight p)
     (width ≡ 8) × IsFreshClient level blocks sources profile p
 IsOpenedClient level blocks sources width profile (session.Client (port.Sixteen p)) =
     (width ≡ 16) × IsFreshClient level blocks sources profile p
-IsOpenedClient level blocks sources width profile (session.Monitor m) = ⊥
+IsOpenedClient level blocks sources width profile _ = ⊥
 
 -- what is told of a handle that held nothing
 abbrev pub ClientOpens : ℕ → ℕ → ℕ → ℕ → ℕ → Option Session → Answer → Type 0
@@ -30,42 +62,89 @@ ClientOpens level blocks sources width profile (Some s) answer =
     width profile s
 ClientOpens level blocks sources width profile None answer = (answer ≡ no_memory) ⊎ (answer ≡ bad)
 
--- this holds of the client before and after, whose width stays; a session that holds none is bad input, by
--- which nothing changes
+-- this holds of the client before and after, likewise
 abbrev pub OnClient : ((w : ℕ) → ClientPort w → ClientPort w → Type 0) → Type 0 → Session → Session → Type 0
 OnClient P refused (session.Client (port.Four old)) (session.Client (port.Four new)) = P 4 old new
 OnClient P refused (session.Client (port.Eight old)) (session.Client (port.Eight new)) = P 8 old new
 OnClient P refused (session.Client (port.Sixteen old)) (session.Client (port.Sixteen new)) = P 16 old new
 OnClient P refused (session.Monitor old) new = refused × (new ≡ session.Monitor old)
+OnClient P refused (session.Manager old) new = refused × (new ≡ session.Manager old)
 OnClient _ _ _ _ = ⊥
-
--- bad input, which leaves what C had given room for
-abbrev pub Bad : {A : Type 0} → Answer → A → A → Type 0
-Bad answer was now = (answer ≡ bad) × (now ≡ was)
 
 abbrev pub AsksSession : Operation → Outcome → Outcome → Answer → Session → Session → Type 0
 AsksSession x was outcome answer old new =
-    OnClient (λ w p q. Asked w p q x was outcome answer) (Bad answer was outcome) old new
+    OnClient (λ w p q. Asked w p q x was outcome answer) (IsBad answer was outcome) old new
 
 abbrev pub OffersSession : Picture → Reception → Reception → Answer → Session → Session → Type 0
 OffersSession x was reception answer old new =
-    OnClient (λ w p q. OfferedOf w p q x was reception answer) (Bad answer was reception) old new
+    OnClient (λ w p q. OfferedOf w p q x was reception answer) (IsBad answer was reception) old new
 
 abbrev pub StallsSession : Picture → ℕ → ℕ → Answer → Session → Type 0
-StallsSession x was stalled answer s = OnClient (λ w p q. Stalls w p x was stalled answer) (Bad answer was stalled) s s
+StallsSession x was stalled answer s = OnClient (λ w p q. Stalls w p x was stalled answer) (IsBad answer was stalled) s
+    s
 
 abbrev pub NextSession : ℕ → Picture → Picture → Answer → Session → Type 0
-NextSession channel was beat answer s = OnClient (λ w p q. Shows w p channel was beat answer) (Bad answer was beat) s s
+NextSession channel was beat answer s = OnClient (λ w p q. Shows w p channel was beat answer) (IsBad answer was beat) s
+    s
 
 abbrev pub PopSession : ℕ → Picture → Picture → Answer → Session → Session → Type 0
 PopSession channel was beat answer old new =
-    OnClient (λ w p q. Pops w p q channel was beat answer) (Bad answer was beat) old new
+    OnClient (λ w p q. Pops w p q channel was beat answer) (IsBad answer was beat) old new
 
 abbrev pub HeldSession : ℕ → ℕ → ℕ → Answer → Session → Type 0
-HeldSession block was perm answer s = OnClient (λ w p q. Holds w p block perm answer) (Bad answer was perm) s s
+HeldSession block was perm answer s = OnClient (λ w p q. Holds w p block perm answer) (IsBad answer was perm) s s
 
 abbrev pub CopySession : ℕ → List ℕ → List ℕ → Answer → Session → Type 0
-CopySession block was bytes answer s = OnClient (λ w p q. Copies w p block was bytes answer) (Bad answer was bytes) s s
+CopySession block was bytes answer s = OnClient (λ w p q. Copies w p block was bytes answer) (IsBad answer was bytes) s
+    s
 
 abbrev pub ClosedSession : ℕ → ℕ → Answer → Session → Type 0
-ClosedSession was closed answer s = OnClient (λ w p q. Closed w p closed answer) (Bad answer was closed) s s
+ClosedSession was closed answer s = OnClient (λ w p q. Closed w p closed answer) (IsBad answer was closed) s s
+
+-- ---- managers
+
+-- the manager is new, and of the width
+abbrev pub IsOpenedManager : List LinkConfig → ℕ → ℕ → ℕ → ℕ → Session → Type 0
+IsOpenedManager links blocks trackers width profile (session.Manager (manager.Four p)) =
+    (width ≡ 4) × IsFreshManager links blocks trackers profile p
+IsOpenedManager links blocks trackers width profile (session.Manager (manager.Eight p)) =
+    (width ≡ 8) × IsFreshManager links blocks trackers profile p
+IsOpenedManager links blocks trackers width profile (session.Manager (manager.Sixteen p)) =
+    (width ≡ 16) × IsFreshManager links blocks trackers profile p
+IsOpenedManager links blocks trackers width profile _ = ⊥
+
+-- what is told of a handle that held nothing
+abbrev pub ManagerOpens : List LinkConfig → ℕ → ℕ → ℕ → ℕ → Option Session → Answer → Type 0
+ManagerOpens links blocks trackers width profile (Some s) answer =
+    (answer ≡ ok) × (may_open_manager links blocks trackers width profile ≡ true) × IsOpenedManager links blocks
+    trackers width profile s
+ManagerOpens links blocks trackers width profile None answer = (answer ≡ no_memory) ⊎ (answer ≡ bad)
+
+-- this holds of the manager before and after, likewise
+abbrev pub OnManager : ((w : ℕ) → ManagerPort w → ManagerPort w → Type 0) → Type 0 → Session → Session → Type 0
+OnManager P refused (session.Manager (manager.Four old)) (session.Manager (manager.Four new)) = P 4 old new
+OnManager P refused (session.Manager (manager.Eight old)) (session.Manager (manager.Eight new)) = P 8 old new
+OnManager P refused (session.Manager (manager.Sixteen old)) (session.Manager (manager.Sixteen new)) = P 16 old new
+OnManager P refused (session.Monitor old) new = refused × (new ≡ session.Monitor old)
+OnManager P refused (session.Client old) new = refused × (new ≡ session.Client old)
+OnManager _ _ _ _ = ⊥
+
+abbrev pub AdmitsSession : ℕ → Picture → ℕ → ℕ → Answer → Session → Session → Type 0
+AdmitsSession link x was taken answer old new =
+    OnManager (λ w p q. Admitted w p q link x was taken answer) (IsBad answer was taken) old new
+
+abbrev pub StallsAtSession : ℕ → Picture → ℕ → ℕ → Answer → Session → Type 0
+StallsAtSession link x was stalled answer s =
+    OnManager (λ w p q. StallsAt w p link x was stalled answer) (IsBad answer was stalled) s s
+
+abbrev pub NextAtSession : ℕ → ℕ → Picture → Picture → Answer → Session → Type 0
+NextAtSession link channel was beat answer s =
+    OnManager (λ w p q. ShowsAt w p link channel was beat answer) (IsBad answer was beat) s s
+
+abbrev pub PopAtSession : ℕ → ℕ → Picture → Picture → Answer → Session → Session → Type 0
+PopAtSession link channel was beat answer old new =
+    OnManager (λ w p q. PopsAt w p q link channel was beat answer) (IsBad answer was beat) old new
+
+abbrev pub ClosedAtSession : ℕ → ℕ → ℕ → Answer → Session → Type 0
+ClosedAtSession link was closed answer s =
+    OnManager (λ w p q. ClosedAt w p link was closed answer) (IsBad answer was closed) s s

@@ -1,7 +1,10 @@
 //! Reading the fields of a line from left to right.
 
-ghost use Rattle.std.specs.Prelude.{◌≡◌, ◌≤◌, ◌<◌, ◌^◌, ◌*◌, ◌/◌, ℕ, [], IfOk, IfSome, Ok, ◌+◌, ◌++◌, length, take, drop};
-ghost use Rattle.tl_beat.specs.code.FromLeft.{digit_of, digit_at, digits_at, space_at, field_at, bit_of_byte, bit_field_at, pair_at, lanes_at, value_or_16, data_at, tail_at, Gives, GivesRest};
+ghost use Rattle.std.specs.Prelude.{◌≡◌, ◌≤◌, ◌<◌, ◌^◌, ◌*◌, ◌/◌, ℕ, [], IfOk};
+ghost use Rattle.std.specs.Prelude.{IfSome, Ok, ◌+◌, ◌++◌, length, take, drop};
+ghost use Rattle.tl_beat.specs.code.FromLeft.{digit_of, digit_at, digits_at, space_at, field_at};
+ghost use Rattle.tl_beat.specs.code.FromLeft.{bit_of_byte, bit_field_at, pair_at, lanes_at};
+ghost use Rattle.tl_beat.specs.code.FromLeft.{value_or_16, data_at, tail_at, Gives, GivesRest};
 ghost use Rattle.tl_beat.specs.statement.Width.{IsWidth};
 
 use crate::fault::LineFault;

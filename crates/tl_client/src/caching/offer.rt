@@ -43,7 +43,8 @@ impl<const W: usize> Caching<W> {
         requires { IsTakeable beat.now }
         ensures rule { (e : Endpoint W) → KnowsCaching self.now e →
             result ≡ Conformance.broken_in_order self.now.profile beat.now e.past }
-        ensures continues { (x : BeatD W) → beat.now ≡ Beat.D x → result ≡ None → breaks_burst beat.now self.now.responses ≡ false }
+        ensures continues { (x : BeatD W) → beat.now ≡ Beat.D x → result ≡ None →
+            breaks_burst beat.now self.now.responses ≡ false }
     {
         match beat {
             Beat::D(_) => broken_in_order(self.profile, beat, self.responses.peek(beat), self),
@@ -57,7 +58,8 @@ impl<const W: usize> Caching<W> {
         ensures rule { (e : Endpoint W) → KnowsCaching self.now e →
             result ≡ ok_unless (Offer.broken_later (terms_of self.now) beat.now e) }
         ensures inside { OnOk result (Admission.is_outside self.now.blocks beat.now ≡ false) }
-        ensures continues { (x : BeatD W) → beat.now ≡ Beat.D x → OnOk result (breaks_burst beat.now self.now.responses ≡ false) }
+        ensures continues { (x : BeatD W) → beat.now ≡ Beat.D x →
+            OnOk result (breaks_burst beat.now self.now.responses ≡ false) }
     {
         if let Some(rule) = self.broken_in_order(beat) {
             return Err(rule);
@@ -73,10 +75,12 @@ impl<const W: usize> Caching<W> {
 
     /// The rule that a beat breaks, or whether it has to wait.
     pub(super) fn judge(&self, channel: Channel, beat: &Beat<W>) -> Result<bool, Rule>
-        ensures judged { (e : Endpoint W) → KnowsCaching self.now e → IsJudged (terms_of self.now) channel beat.now e result }
+        ensures judged { (e : Endpoint W) → KnowsCaching self.now e →
+            IsJudged (terms_of self.now) channel beat.now e result }
         ensures takeable { result ≡ Ok false → IsTakeable beat.now }
         ensures inside { result ≡ Ok false → Admission.is_outside self.now.blocks beat.now ≡ false }
-        ensures continues { result ≡ Ok false → (x : BeatD W) → beat.now ≡ Beat.D x → breaks_burst beat.now self.now.responses ≡ false }
+        ensures continues { result ≡ Ok false → (x : BeatD W) → beat.now ≡ Beat.D x →
+            breaks_burst beat.now self.now.responses ≡ false }
     {
         check_alone(self.closed, self.config.level, channel, beat)?;
         if self.waits(beat) {

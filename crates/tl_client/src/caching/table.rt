@@ -73,7 +73,8 @@ impl Table {
 
     /// Sets what is held of a block.
     pub fn hold(&mut self, block: u32, perm: Perm)
-        ensures held { block < block_count self.old → (k : ℕ) → held_in self.new k ≡ (if k == block then perm else held_in self.old k) }
+        ensures held { block < block_count self.old → (k : ℕ) →
+            held_in self.new k ≡ (if k == block then perm else held_in self.old k) }
         ensures copies { (k : ℕ) → copy_in self.new k ≡ copy_in self.old k }
         ensures waiting { (k : ℕ) → waiting_in self.new k ≡ waiting_in self.old k }
         ensures count { block_count self.new ≡ block_count self.old }
@@ -85,7 +86,8 @@ impl Table {
 
     /// Sets the copy of a block.
     pub fn set_copy(&mut self, block: u32, bytes: Option<[u8; 64]>)
-        ensures copies { block < block_count self.old → (k : ℕ) → copy_in self.new k ≡ (if k == block then bytes else copy_in self.old k) }
+        ensures copies { block < block_count self.old → (k : ℕ) →
+            copy_in self.new k ≡ (if k == block then bytes else copy_in self.old k) }
         ensures held { (k : ℕ) → held_in self.new k ≡ held_in self.old k }
         ensures waiting { (k : ℕ) → waiting_in self.new k ≡ waiting_in self.old k }
         ensures count { block_count self.new ≡ block_count self.old }
@@ -97,7 +99,8 @@ impl Table {
 
     /// Sets the bytes that wait for a Grant of a block.
     pub fn set_waiting(&mut self, block: u32, bytes: Option<[u8; 64]>)
-        ensures waiting { block < block_count self.old → (k : ℕ) → waiting_in self.new k ≡ (if k == block then bytes else waiting_in self.old k) }
+        ensures waiting { block < block_count self.old → (k : ℕ) →
+            waiting_in self.new k ≡ (if k == block then bytes else waiting_in self.old k) }
         ensures held { (k : ℕ) → held_in self.new k ≡ held_in self.old k }
         ensures copies { (k : ℕ) → copy_in self.new k ≡ copy_in self.old k }
         ensures count { block_count self.new ≡ block_count self.old }
@@ -111,7 +114,8 @@ impl Table {
     pub fn lower(&mut self, block: u32, perm: Perm)
         requires { block < block_count self.old }
         ensures held { (k : ℕ) → held_in self.new k ≡ (if k == block then perm else held_in self.old k) }
-        ensures copies { (k : ℕ) → copy_in self.new k ≡ (if (k == block) && not (holds perm) then None else copy_in self.old k) }
+        ensures copies { (k : ℕ) →
+            copy_in self.new k ≡ (if (k == block) && not (holds perm) then None else copy_in self.old k) }
         ensures waiting { (k : ℕ) → waiting_in self.new k ≡ waiting_in self.old k }
         ensures count { block_count self.new ≡ block_count self.old }
     {
@@ -123,8 +127,10 @@ impl Table {
 
     /// Makes the bytes that wait the copy of a block.
     pub fn store_waiting(&mut self, block: u32)
-        ensures copies { block < block_count self.old → (k : ℕ) → copy_in self.new k ≡ (if k == block then waiting_in self.old k else copy_in self.old k) }
-        ensures waiting { block < block_count self.old → (k : ℕ) → waiting_in self.new k ≡ (if k == block then None else waiting_in self.old k) }
+        ensures copies { block < block_count self.old → (k : ℕ) →
+            copy_in self.new k ≡ (if k == block then waiting_in self.old k else copy_in self.old k) }
+        ensures waiting { block < block_count self.old → (k : ℕ) →
+            waiting_in self.new k ≡ (if k == block then None else waiting_in self.old k) }
         ensures held { (k : ℕ) → held_in self.new k ≡ held_in self.old k }
         ensures count { block_count self.new ≡ block_count self.old }
     {

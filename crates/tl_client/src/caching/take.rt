@@ -6,7 +6,8 @@ ghost use Rattle.tl_burst.specs.statement.Messages.{breaks_burst};
 ghost use Rattle.tl_burst.specs.statement.Part.{IsTakeable, completes};
 ghost use Rattle.tl_client.specs.code.KnowsCaching.{terms_of};
 ghost use Rattle.tl_client.specs.statement.Offer;
-ghost use Rattle.tl_client.specs.code.Takes.{Probes, Grants, Finishes, GrantsInside, Goes, Ends, ack_after, granting_by};
+ghost use Rattle.tl_client.specs.code.Takes.{Probes, Grants, Finishes, GrantsInside};
+ghost use Rattle.tl_client.specs.code.Takes.{Goes, Ends, ack_after, granting_by};
 ghost use Rattle.tl_client.specs.code.Response.{in_message, in_beats};
 ghost use Rattle.tl_rules.specs.statement.History.{is_grant};
 
@@ -78,7 +79,8 @@ impl<const W: usize> Caching<W> {
 
     /// Closes what a complete response answers, and takes a Grant with its GrantAck.
     fn finish(&mut self, response: &MessageD<W>) -> (Verdict, Option<Message<W>>)
-        ensures finished { GrantsInside self.old (in_message response.now) → Finishes self.old self.new (in_message response.now) result }
+        ensures finished { GrantsInside self.old (in_message response.now) →
+            Finishes self.old self.new (in_message response.now) result }
         ensures terms { terms_of self.new ≡ terms_of self.old }
         ensures responses { self.new.responses ≡ self.old.responses }
         ensures granting { self.new.granting ≡ self.old.granting }
@@ -120,8 +122,10 @@ impl<const W: usize> Caching<W> {
         requires response { beat.now ≡ Beat.D response.now }
         requires takeable { IsTakeable beat.now }
         requires continues { breaks_burst beat.now self.old.responses ≡ false }
-        ensures goes { completes (Beat.D response.now) self.old.responses ≡ false → Goes self.old self.new response.now result }
-        ensures ends { completes (Beat.D response.now) self.old.responses ≡ true → GrantsInside self.old (in_beats response.now self.old.responses) →
+        ensures goes { completes (Beat.D response.now) self.old.responses ≡ false →
+            Goes self.old self.new response.now result }
+        ensures ends { completes (Beat.D response.now) self.old.responses ≡ true →
+            GrantsInside self.old (in_beats response.now self.old.responses) →
             Ends self.old self.new response.now result }
         ensures terms { terms_of self.new ≡ terms_of self.old }
     {

@@ -9,9 +9,8 @@ use Rattle.std.specs.Prelude.{if◌then◌else◌, length}
 use Rattle.tl_beat.specs.declared.channel.Channel.TheVariants as channel
 use Rattle.tl_params.specs.declared.param.Grow.{Grow}
 use Rattle.tl_coherence.specs.refinement.AbstractStep.{taken_by_client, acquire_taken, some_below, gift, is_unheld}
-use Rattle.tl_coherence.specs.refinement.AbstractStep.{is_whole}
 use Rattle.tl_coherence.specs.protocol.Invariant.{cap_asked}
-use Rattle.tl_coherence.specs.protocol.Phase.{AcquirePhase, NoAcquire, AcquireOpen}
+use Rattle.tl_coherence.specs.protocol.Phase.{AcquirePhase, NoAcquire, AcquireOpen, is_whole}
 use Rattle.tl_coherence.specs.protocol.PhaseSteps.{is_granted_data}
 use Rattle.tl_coherence.specs.refinement.PacketMessages.{cap_sent, prune_told}
 use Rattle.tl_coherence.proofs.bound.EventDecreases.{shown-first}

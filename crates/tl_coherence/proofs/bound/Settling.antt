@@ -14,7 +14,7 @@ use Rattle.tl_coherence.specs.statement.Headline.{AreTyped, IsGiven}
 use Rattle.tl_coherence.specs.statement.Load.{load}
 use Rattle.tl_coherence.specs.statement.Log.{IsLog}
 use Rattle.tl_coherence.specs.statement.Movable.{next_delivery, drained, with_delivery}
-use Rattle.tl_coherence.specs.protocol.Packet.{one_if}
+use Rattle.tl_manager.specs.laws.Pending.{one_if}
 use Rattle.tl_coherence.proofs.outstanding.Counted.{load-open}
 use Rattle.tl_coherence.proofs.links.FromInvariant.{matched-given, stalls}
 use Rattle.tl_coherence.proofs.bound.DeliveriesDecrease.{moving-owed, still-owed}

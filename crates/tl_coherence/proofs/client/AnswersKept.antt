@@ -121,7 +121,7 @@ answered-at {w} c source mail mail' s s' same new h d i = go (cases_eq d c) (cas
     go (inr ne) f = still (λ both. ne both.0)
 
 -- an entry but for one
-set_at-apart : {X : Type 0} (c source : ℕ) (x : X) (f : ℕ → ℕ → X) (d i : ℕ) → ((d ≡ c) × (i ≡ source) → ⊥)
+pub set_at-apart : {X : Type 0} (c source : ℕ) (x : X) (f : ℕ → ℕ → X) (d i : ℕ) → ((d ≡ c) × (i ≡ source) → ⊥)
     → set_at c source x f d i ≡ f d i
 set_at-apart c source x f d i other = elim (cases_eq i source) [
   | inl same ↦ set_at-other c d source i x f (λ e. other (e, same))

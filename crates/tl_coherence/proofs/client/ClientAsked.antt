@@ -6,7 +6,7 @@ use Rattle.tl_coherence.proofs.client.Imports.{Endpoint, copy_at, held_at, sendi
 use Rattle.tl_coherence.proofs.client.Imports.{AbstractState, acquire_opcode, ClientBlock, AcquireOpen, is_unreleased}
 use Rattle.tl_coherence.proofs.client.Imports.{after_acquire, after_release, Block, State, Asked, Acquires, is_wanting}
 use Rattle.tl_coherence.proofs.client.Imports.{acquiring_block, releasing_block, stored_block, AccessMessages, set_at}
-use Rattle.tl_coherence.proofs.client.Imports.{asked_by, is_storing}
+use Rattle.tl_coherence.proofs.client.Imports.{asked_by, is_whole}
 use Rattle.std.proofs.Common.{◌≡◌, subst, ℕ, Bool, true, false, not, ◌&&◌, cond, List, Option, Some, None, refl, sym}
 use Rattle.std.proofs.Common.{◌∙◌, ap, ◌⊎◌, inl, inr}
 use Rattle.std.specs.Prelude.{◌==◌, ◌*◌, unwrap_or}
@@ -208,19 +208,19 @@ end-acquire_asked {w} c n source whole g bytes mail s e f width named idle past 
     of_block : (i : ℕ) → (is_acquire (acquire_opcode whole) && (block_at (64 * n) == i)) ≡ (i == n)
     of_block i = rw (acquires-so whole, same_block n) (swapped n i)
 
-    go : (i : ℕ) → is_storing (((s'.block i).pair c).acquiring) ≡ true → (i ≡ n) ⊎ (i ≡ n → ⊥)
+    go : (i : ℕ) → is_whole (((s'.block i).pair c).acquiring) ≡ true → (i ≡ n) ⊎ (i ≡ n → ⊥)
         → f.waiting i ≡ Some ((s'.block i).waiting c)
     go i storing (inl same) =
-        let now : is_storing (AcquireOpen whole g) ≡ true =
-        sym (ap (λ (b : Block (List ℕ)). is_storing (b.pair c).acquiring)
-        (ap s'.block same ∙ set-same n new s.block) ∙ ap (λ (p : ClientBlock). is_storing p.acquiring) pair_is)
+        let now : is_whole (AcquireOpen whole g) ≡ true =
+        sym (ap (λ (b : Block (List ℕ)). is_whole (b.pair c).acquiring)
+        (ap s'.block same ∙ set-same n new s.block) ∙ ap (λ (p : ClientBlock). is_whole p.acquiring) pair_is)
         ∙ storing in
         ap f.waiting same ∙ here now ∙ ap Some
         (sym (ap (λ (b : Block (List ℕ)). b.waiting c) (ap s'.block same ∙ set-same n new s.block) ∙ set-same c
         bytes (s.block n).waiting))
     go i storing (inr other) =
         let old : s'.block i ≡ s.block i = set-other n i new s.block other in
-        others i other ∙ end.waiting i (sym (ap (λ (b : Block (List ℕ)). is_storing (b.pair c).acquiring) old)
+        others i other ∙ end.waiting i (sym (ap (λ (b : Block (List ℕ)). is_whole (b.pair c).acquiring) old)
         ∙ storing) ∙ ap Some (sym (ap (λ (b : Block (List ℕ)). b.waiting c) old))
 
 -- ---- a Release
@@ -293,8 +293,8 @@ end-release_asked {w} c n source r copy mail s e width begins kept end =
           ∙ copy_of i (i == n) refl (sym (ap (λ (q : Perm). same_perm q perm.None) (event.held i)) ∙ some) ∙ ap Some
           (sym (set-part (λ (b : Block (List ℕ)). b.copy c) n new s.block refl i));
       waiting = λ i storing. kept_waiting n (prune_right r) (sending (release r source n copy) e) i
-          ∙ end.waiting i (sym (set-part (λ (b : Block (List ℕ)). is_storing (b.pair c).acquiring) n new s.block
-          (ap (λ (q : ClientBlock). is_storing q.acquiring) pair_is) i) ∙ storing)
+          ∙ end.waiting i (sym (set-part (λ (b : Block (List ℕ)). is_whole (b.pair c).acquiring) n new s.block
+          (ap (λ (q : ClientBlock). is_whole q.acquiring) pair_is) i) ∙ storing)
           ∙ ap Some (sym (set-part (λ (b : Block (List ℕ)). b.waiting c) n new s.block refl i));
       live = kept_closed n (prune_right r) (sending (release r source n copy) e) ∙ end.live;
     }
@@ -370,7 +370,7 @@ end-stored {w} c n bytes mail s e kept end = record {
   kept = kept.kept;
   accounted = kept.accounted;
   copies = λ i some. copy_of i (cases_eq i n) (sym (ap (λ (p : Perm). same_perm p perm.None) (same.held i)) ∙ some);
-  waiting = λ i storing. end.waiting i (sym (ap is_storing (same.acquiring i)) ∙ storing) ∙ ap Some
+  waiting = λ i storing. end.waiting i (sym (ap is_whole (same.acquiring i)) ∙ storing) ∙ ap Some
       (sym (set-part (λ (b : Block (List ℕ)). b.waiting c) n new s.block refl i));
   live = end.live;
 }

@@ -6,7 +6,7 @@ use Rattle.tl_coherence.proofs.client.Imports.{ClientRelation, Log, AcquirePhase
 use Rattle.tl_coherence.proofs.client.Imports.{State, SourceState, SourceFree, Asked, InService, Replied, Acquires}
 use Rattle.tl_coherence.proofs.client.Imports.{is_wanting, AccessMessages, acquire_of, block_message}
 use Rattle.tl_coherence.proofs.client.Imports.{OpenSourceRelation, System, Acquire, set, SimulationRelation, asked_by}
-use Rattle.tl_coherence.proofs.client.Imports.{is_storing}
+use Rattle.tl_coherence.proofs.client.Imports.{is_whole}
 use Rattle.std.proofs.Common.{◌≡◌, ℕ, Bool, true, false, not, cond, List, [], ◌∷◌, Option, Some, None, refl, sym, ◌∙◌}
 use Rattle.std.proofs.Common.{ap, ◌⊎◌, inl, inr}
 use Rattle.std.specs.Prelude.{◌&&◌, ◌==◌, if◌then◌else◌}
@@ -31,7 +31,7 @@ pub record IsEnd {w : ℕ} (asked : ℕ → Option (BeatA w)) (c : ℕ) (s : Sta
   pub kept : client.IsEndpointInvariant e
   pub accounted : IsAccounted e.past
   pub copies : (n : ℕ) → same_perm ((s.block n).pair c).held perm.None ≡ false → e.copies n ≡ Some ((s.block n).copy c)
-  pub waiting : (n : ℕ) → is_storing ((s.block n).pair c).acquiring ≡ true → e.waiting n ≡ Some ((s.block n).waiting c)
+  pub waiting : (n : ℕ) → is_whole ((s.block n).pair c).acquiring ≡ true → e.waiting n ≡ Some ((s.block n).waiting c)
   pub live : e.closed ≡ false
 
 pub end-matched : {w : ℕ} (config : Config) (log : Log w) (mail : AccessMessages w) (request : ℕ → MessageA w)

@@ -2,7 +2,7 @@
 use Rattle.tl_coherence.proofs.client.Imports.{IsWidth, Beat, unfinished, Cap, Perm, same_perm, Endpoint, copy_at}
 use Rattle.tl_coherence.proofs.client.Imports.{held_at, sending, with_past, probed, ClientRelation, ClientBlock}
 use Rattle.tl_coherence.proofs.client.Imports.{after_probe, Block, State, probed_block, probe_taken, AccessMessages}
-use Rattle.tl_coherence.proofs.client.Imports.{probe_beat, Packet, asked_by, is_storing}
+use Rattle.tl_coherence.proofs.client.Imports.{probe_beat, Packet, asked_by, is_whole}
 use Rattle.std.proofs.Common.{◌≡◌, subst, ℕ, Bool, true, false, not, ◌&&◌, cond, List, ◌∷◌, Some, None, refl, sym, ◌∙◌}
 use Rattle.std.proofs.Common.{ap, inl}
 use Rattle.std.specs.Prelude.{◌==◌}
@@ -44,8 +44,8 @@ end-probe_taken {w} c n k rest mail s e width well end =
           (sym (column (λ (b : Block (List ℕ)). same_perm (b.pair c).held perm.None) n new s.block i) ∙ some)
           ∙ ap Some (sym (set-part (λ (b : Block (List ℕ)). b.copy c) n new s.block refl i));
       waiting = λ i storing. kept_waiting n left g i ∙ end.waiting i
-          (sym (set-part (λ (b : Block (List ℕ)). is_storing (b.pair c).acquiring) n new s.block
-          (ap (λ (q : ClientBlock). is_storing q.acquiring) pair_is) i)
+          (sym (set-part (λ (b : Block (List ℕ)). is_whole (b.pair c).acquiring) n new s.block
+          (ap (λ (q : ClientBlock). is_whole q.acquiring) pair_is) i)
           ∙ storing)
           ∙ ap Some (sym (set-part (λ (b : Block (List ℕ)). b.waiting c) n new s.block refl i));
       live = kept_closed n left g ∙ end.live;

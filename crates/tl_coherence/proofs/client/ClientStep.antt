@@ -26,7 +26,7 @@ use Rattle.tl_coherence.specs.declared.event.Event.{Event}
 use Rattle.tl_coherence.specs.declared.event.Event.TheVariants.{Ask, Deliver}
 use Rattle.tl_coherence.specs.statement.Draining.{is_moving}
 use Rattle.tl_coherence.specs.refinement.AbstractStep.{abstract_step_by, abstract_step, is_last}
-use Rattle.tl_coherence.specs.refinement.ChannelRelation.{receiver}
+use Rattle.tl_coherence.specs.statement.Delivery.{receiver}
 use Rattle.tl_coherence.specs.protocol.Protocol as world
 use Rattle.tl_coherence.specs.protocol.Protocol.{packets_on}
 use Rattle.tl_coherence.specs.statement.Step as step

@@ -5,7 +5,7 @@ use Rattle.tl_coherence.proofs.client.Imports.{Endpoint, with_past, sending, end
 use Rattle.tl_coherence.proofs.client.Imports.{same_block, grant_opcode, acquire_opcode, ClientBlock, AcquireOpen}
 use Rattle.tl_coherence.proofs.client.Imports.{is_unreleased, after_release_ack, Block, State, SourceFree, Acquires}
 use Rattle.tl_coherence.proofs.client.Imports.{is_wanting, taken_block, grant_taken, let_go_block, AccessMessages}
-use Rattle.tl_coherence.proofs.client.Imports.{Packet, asked_by, is_storing}
+use Rattle.tl_coherence.proofs.client.Imports.{Packet, asked_by, is_whole}
 use Rattle.std.proofs.Common.{◌≡◌, subst, ℕ, Bool, true, false, not, ◌&&◌, cond, List, ◌∷◌, Option, Some, None, refl}
 use Rattle.std.proofs.Common.{sym, ◌∙◌, ap, ◌⊎◌, inl, inr}
 use Rattle.std.specs.Prelude.{◌==◌, ◌*◌}
@@ -150,8 +150,8 @@ end-release_ack_taken {w} c n x rest mail s e f is last plain acks from let_ wel
           (ap (λ (q : ClientBlock). q.held) pair_is) k)) ∙ some)
           ∙ ap Some (sym (set-part (λ (b : Block (List ℕ)). b.copy c) n new s.block refl k));
       waiting = λ k storing. ap (λ (g : Endpoint w). g.waiting k) is
-          ∙ end.waiting k (sym (set-part (λ (b : Block (List ℕ)). is_storing (b.pair c).acquiring) n new s.block
-          (ap (λ (q : ClientBlock). is_storing q.acquiring) pair_is) k) ∙ storing)
+          ∙ end.waiting k (sym (set-part (λ (b : Block (List ℕ)). is_whole (b.pair c).acquiring) n new s.block
+          (ap (λ (q : ClientBlock). is_whole q.acquiring) pair_is) k) ∙ storing)
           ∙ ap Some (sym (set-part (λ (b : Block (List ℕ)). b.waiting c) n new s.block refl k));
       live = ap (λ (g : Endpoint w). g.closed) is ∙ end.live;
     }
@@ -331,7 +331,7 @@ end-grant_taken {w} c n whole data_too g k x payload rest mail s e f width named
     copy_here i true false a b same =
         chosen ((i == block_at (64 * n)) && true) (e.waiting i) (e.copies i)
         (and_true (i == block_at (64 * n)) (here i same)) ∙ ap e.waiting same ∙ end.waiting n
-        (ap is_storing is.wants ∙ a)
+        (ap is_whole is.wants ∙ a)
       where
         and_true : (u : Bool) → u ≡ true → (u && true) ≡ true
         and_true u p = rw p refl
@@ -363,13 +363,13 @@ end-grant_taken {w} c n whole data_too g k x payload rest mail s e f width named
     waiting_else i false ne = passed ((i == block_at r.address) && is_acquire_perm r.opcode) None (e.waiting i)
         (ap (λ (u : Bool). u && is_acquire_perm r.opcode) (elsewhere i ne))
 
-    waiting_now : (i : ℕ) → (i ≡ n) ⊎ (i ≡ n → ⊥) → is_storing ((s'.block i).pair c).acquiring ≡ true
+    waiting_now : (i : ℕ) → (i ≡ n) ⊎ (i ≡ n → ⊥) → is_whole ((s'.block i).pair c).acquiring ≡ true
         → waiting_granted (grant_opcode data_too) (Some r) i (e.waiting i) ≡ Some ((s'.block i).waiting c)
     waiting_now i (inl same) storing = absurd (let no : false ≡ true =
-        sym (ap (λ (b : Block (List ℕ)). is_storing (b.pair c).acquiring) (block_now i same)
-        ∙ ap (λ (q : ClientBlock). is_storing q.acquiring) pair_is) ∙ storing in cc)
+        sym (ap (λ (b : Block (List ℕ)). is_whole (b.pair c).acquiring) (block_now i same)
+        ∙ ap (λ (q : ClientBlock). is_whole q.acquiring) pair_is) ∙ storing in cc)
     waiting_now i (inr ne) storing =
         let old : s'.block i ≡ s.block i = set-other n i new s.block ne in
         waiting_else i data_too ne ∙ end.waiting i
-        (sym (ap (λ (b : Block (List ℕ)). is_storing (b.pair c).acquiring) old) ∙ storing) ∙ ap Some
+        (sym (ap (λ (b : Block (List ℕ)). is_whole (b.pair c).acquiring) old) ∙ storing) ∙ ap Some
         (sym (ap (λ (b : Block (List ℕ)). b.waiting c) old))

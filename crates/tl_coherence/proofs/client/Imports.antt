@@ -45,7 +45,8 @@ pub use Rattle.tl_manager.specs.statement.Offer.{level_of}
 pub use Rattle.tl_coherence.specs.protocol.Invariant.{IsInvariant, cap_asked}
 pub use Rattle.tl_coherence.specs.protocol.Packet.{Acquire, Answer, Grant, GrantAck, Kind, Packet, Probe, ProbeAck}
 pub use Rattle.tl_coherence.specs.protocol.Packet.{Release, ReleaseAck, Request, set, set_at}
-pub use Rattle.tl_coherence.specs.protocol.Phase.{AcquireOpen, AcquirePhase, ClientBlock, NoAcquire, is_unprobed}
+pub use Rattle.tl_coherence.specs.protocol.Phase.{AcquireOpen, AcquirePhase, ClientBlock}
+pub use Rattle.tl_coherence.specs.protocol.Phase.{NoAcquire, is_unprobed, is_whole}
 pub use Rattle.tl_coherence.specs.protocol.Phase.{is_unreleased}
 pub use Rattle.tl_coherence.specs.protocol.PhaseSteps.{after_acquire, after_probe, after_release, after_release_ack}
 pub use Rattle.tl_coherence.specs.protocol.PhaseSteps.{after_release_taken, after_report, is_granted_data}
@@ -59,7 +60,7 @@ pub use Rattle.tl_coherence.specs.protocol.Protocol.{report_taken, reported_bloc
 pub use Rattle.tl_coherence.specs.protocol.Protocol.{taken_block, view}
 pub use Rattle.tl_coherence.specs.refinement.AbstractStep.{AbstractState, access_taken, ack_taken, acquire_opcode}
 pub use Rattle.tl_coherence.specs.refinement.AbstractStep.{acquire_taken, asked, gift, granted_after, is_unheld}
-pub use Rattle.tl_coherence.specs.refinement.AbstractStep.{is_whole, kind_taken, last_taken, packet_taken, performs}
+pub use Rattle.tl_coherence.specs.refinement.AbstractStep.{kind_taken, last_taken, packet_taken, performs}
 pub use Rattle.tl_coherence.specs.refinement.AbstractStep.{probes_some, request_taken, taken_by_client, with_state}
 unfoldable pub use Rattle.tl_coherence.specs.refinement.AbstractStep.{some_below}
 pub use Rattle.tl_coherence.specs.refinement.ClientRelation.{ClientRelation}
@@ -67,7 +68,6 @@ pub use Rattle.tl_coherence.specs.refinement.PacketMessages.{AccessMessages, acq
 pub use Rattle.tl_coherence.specs.refinement.PacketMessages.{prune_told, report_told}
 unfoldable pub use Rattle.tl_coherence.specs.refinement.PacketMessages.{block_message}
 pub use Rattle.tl_coherence.specs.refinement.SimulationRelation.{SimulationRelation, asked_by, gives_asked, is_caching}
-pub use Rattle.tl_coherence.specs.refinement.SimulationRelation.{is_storing}
 pub use Rattle.tl_coherence.specs.refinement.SourceRelation.{OpenSourceRelation}
 pub use Rattle.tl_coherence.specs.statement.Log.{Log}
 pub use Rattle.tl_coherence.specs.statement.System.{System, terms_at}

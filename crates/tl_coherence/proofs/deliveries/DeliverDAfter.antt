@@ -20,9 +20,9 @@ use Rattle.tl_client.specs.declared.verdict.Finish.{Finish}
 use Rattle.tl_client.specs.statement.Offer as offer
 use Rattle.tl_client.specs.statement.Send.{grant_ack}
 use Rattle.tl_manager.specs.statement.Handing.{grant_opcode}
-use Rattle.tl_coherence.specs.refinement.AbstractStep.{is_last, is_whole, taken_by_client}
+use Rattle.tl_coherence.specs.refinement.AbstractStep.{is_last, taken_by_client}
 use Rattle.tl_coherence.specs.statement.Machine.{Pool, Releases, pool_of, after_end}
-use Rattle.tl_coherence.specs.protocol.Phase.{is_unreleased}
+use Rattle.tl_coherence.specs.protocol.Phase.{is_unreleased, is_whole}
 use Rattle.tl_coherence.specs.protocol.Protocol.{is_wanting, answer_taken, grant_taken, release_ack_taken, taken_block}
 use Rattle.tl_coherence.proofs.memory.BesideKinds.{beside-answer, beside-grant, beside-release_ack}
 use Rattle.tl_coherence.proofs.simulation.CarriedEvents.{answer_taken-carried, grant_taken-carried}

@@ -37,10 +37,12 @@ pub use Rattle.tl_coherence.specs.protocol.PhaseSteps.{is_granted_data}
 pub use Rattle.tl_coherence.specs.protocol.Protocol.{Block, Free, GrantSent, GrantTaken, Service, SourceState, State}
 pub use Rattle.tl_coherence.specs.protocol.Protocol.{Waits, is_on, let_block, packet, packets_on, release_taken}
 pub use Rattle.tl_coherence.specs.protocol.Protocol.{report_taken, shown, view}
-pub use Rattle.tl_coherence.specs.refinement.AbstractStep.{AbstractState, abstract_step, ack_taken, answers, delivered}
+pub use Rattle.tl_coherence.specs.refinement.AbstractStep.{AbstractState, abstract_step}
+pub use Rattle.tl_coherence.specs.refinement.AbstractStep.{ack_taken, answers, abstract_delivery}
 pub use Rattle.tl_coherence.specs.refinement.AbstractStep.{kind_taken, last_taken, packet_taken, with_state}
 unfoldable pub use Rattle.tl_coherence.specs.refinement.AbstractStep.{some_below}
-pub use Rattle.tl_coherence.specs.refinement.ChannelRelation.{ChannelRelation, receiver}
+pub use Rattle.tl_coherence.specs.refinement.ChannelRelation.{ChannelRelation}
+pub use Rattle.tl_coherence.specs.statement.Delivery.{receiver}
 pub use Rattle.tl_coherence.specs.refinement.MemoryRelation.{MemoryRelation}
 pub use Rattle.tl_coherence.specs.refinement.PacketMessages.{AccessMessages, message_of, message_of_kind, prune_told}
 pub use Rattle.tl_coherence.specs.refinement.PacketMessages.{report_told}

@@ -1,6 +1,7 @@
 -- The manager's end after a delivery on channel C or E, as a step of the whole and as the protocol follows it.
 use Rattle.tl_coherence.proofs.deliveries.Imports.{IsWidth, Beat, Channel, unfinished, completes, Config, EndConfig}
-use Rattle.tl_coherence.proofs.deliveries.Imports.{reaction, End, Deliver, AbstractState, delivered, abstract_step}
+use Rattle.tl_coherence.proofs.deliveries.Imports.{reaction, End, Deliver, AbstractState}
+use Rattle.tl_coherence.proofs.deliveries.Imports.{abstract_delivery, abstract_step}
 use Rattle.tl_coherence.proofs.deliveries.Imports.{packet_taken, Log, receiver, packets_on, Step, handing, is_to_client}
 use Rattle.tl_coherence.proofs.deliveries.Imports.{manager_took, stepped, System, terms_at, with_channel, with_manager}
 use Rattle.tl_coherence.proofs.deliveries.Imports.{SimulationRelation}
@@ -74,7 +75,8 @@ pub followed-taken : {w : ℕ} (config : Config) (c : ℕ) (ch : Channel) (x : B
     ≡ (if completes x (unfinished ch (receiver ch c sys)) then packet_taken config
     (least_untaken (trackers_of (services sys.manager.trace))) c (packets_on ch (h.state.link c)) h else h)
 followed-taken {w} config c ch x queue sys h t terms beats down up =
-    ap (λ (s : Step w). delivered config c ch s.outcome sys h) (step-taken config c ch x queue sys t terms beats down
+    ap (λ (s : Step w). abstract_delivery config c ch s.outcome sys h)
+    (step-taken config c ch x queue sys t terms beats down
     up)
     ∙ ap (λ (b : List (Beat w)). if is_last b (unfinished ch (receiver ch c sys)) then packet_taken config
     (least_untaken (trackers_of (services sys.manager.trace))) c (packets_on ch (h.state.link c)) h else h) beats

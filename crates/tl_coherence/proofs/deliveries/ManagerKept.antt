@@ -1,6 +1,7 @@
 -- What is kept of the manager's end is kept by every event, where the invariant is.
 use Rattle.tl_coherence.proofs.deliveries.Imports.{IsWidth, Beat, Channel, Config, EndConfig, Event, Ask, Deliver}
-use Rattle.tl_coherence.proofs.deliveries.Imports.{AbstractState, delivered, abstract_step, IsInvariant, Log, Step}
+use Rattle.tl_coherence.proofs.deliveries.Imports.{AbstractState, abstract_delivery}
+use Rattle.tl_coherence.proofs.deliveries.Imports.{abstract_step, IsInvariant, Log, Step}
 use Rattle.tl_coherence.proofs.deliveries.Imports.{stepped, System, terms_at, SimulationRelation, is_caching}
 use Rattle.std.proofs.Common.{◌≡◌, subst, ℕ, List, [], ◌∷◌, Option, Some, None, refl, sym}
 use Rattle.std.specs.Prelude.{⊤}
@@ -34,7 +35,7 @@ empty-delivered : {w : ℕ} (config : Config) (log : Log w) (h : AbstractState w
     → IsManagerOf config (abstract_step config (Deliver (record { 0 = c }) ch) sys h)
     (stepped config (Deliver (record { 0 = c }) ch) sys).after.manager
 empty-delivered {w} config log h sys c ch terms is client none =
-    subst (λ (s : Step w). IsManagerOf config (delivered config c ch s.outcome sys h) s.after.manager)
+    subst (λ (s : Step w). IsManagerOf config (abstract_delivery config c ch s.outcome sys h) s.after.manager)
     (sym (stepped-empty config (record { 0 = c }) ch sys terms client none))
     (at_manager-matched config log h.mail h.request h.state sys is)
 

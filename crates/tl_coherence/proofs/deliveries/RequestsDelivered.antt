@@ -3,7 +3,8 @@
 use Rattle.tl_coherence.proofs.deliveries.Imports.{IsWidth, Beat, MessageA, a_beat_of, beats_of, unfinished, completes}
 use Rattle.tl_coherence.proofs.deliveries.Imports.{Config, on_link, block_at, EndConfig, same_block, reaction, End}
 use Rattle.tl_coherence.proofs.deliveries.Imports.{must_wait, Deliver, AbstractState, kind_taken, packet_taken}
-use Rattle.tl_coherence.proofs.deliveries.Imports.{delivered, abstract_step, Step, only, handing, manager_took, stepped}
+use Rattle.tl_coherence.proofs.deliveries.Imports.{abstract_delivery, abstract_step, Step}
+use Rattle.tl_coherence.proofs.deliveries.Imports.{only, handing, manager_took, stepped}
 use Rattle.tl_coherence.proofs.deliveries.Imports.{Free, packet, is_on, Log, message_of, System, terms_at, with_manager}
 use Rattle.tl_coherence.proofs.deliveries.Imports.{with_channel, Kind, Request, Acquire, Probe, ProbeAck, Release}
 use Rattle.tl_coherence.proofs.deliveries.Imports.{Answer, Grant, ReleaseAck, GrantAck, Packet, SimulationRelation}
@@ -295,7 +296,7 @@ pub moved-a : {w : ℕ} (config : Config) (h : AbstractState w) (sys : System w)
     → (beats_of (message.A arrives.request) ≡ suc arrives.next.k
     → P (kind_taken config (next_tracker sys) c arrives.kind arrives.number arrives.rest h))
     → (arrives.next.k + 1 < beats_of (message.A arrives.request) → P h)
-    → P (delivered config c channel.A (outcome.Moved x) sys h)
+    → P (abstract_delivery config c channel.A (outcome.Moved x) sys h)
 moved-a {w} config h sys c x queue P beats arrives last more =
     subst (λ (b : Bool). P (if b then packet_taken config (next_tracker sys) c (h.state.link c).a h else h))
     (sym last_is) (go (completes x rest) refl)
@@ -371,13 +372,13 @@ pub at_manager-delivered_a : {w : ℕ} (config : Config) (log : Log w) (h : Abst
 at_manager-delivered_a {w} config log h sys c terms width is client =
     let known = at_manager-matched config log h.mail h.request h.state sys is in
     delivery-a config log h sys c terms
-    (λ (step : Step w). IsManagerOf config (delivered config c channel.A step.outcome sys h) step.after.manager)
+    (λ (step : Step w). IsManagerOf config (abstract_delivery config c channel.A step.outcome sys h) step.after.manager)
     width is
     client (λ e. known) (λ x queue e waits. known) (λ x queue beats arrives moves.
     let comes = coming-arrival config log h sys c x queue width is beats arrives moves in
     let k : ℕ = arrives.next.k in
     let after : End w = end_after config c k arrives.request sys.manager in
-    subst (IsManagerOf config (delivered config c channel.A (outcome.Moved x) sys h))
+    subst (IsManagerOf config (abstract_delivery config c channel.A (outcome.Moved x) sys h))
     (sym (manager-with_messages (reaction config (link_of c) x sys.manager).handed
     (with_manager after (with_channel c channel.A queue sys))))
     (moved-a config h sys c x queue (λ (i : AbstractState w). IsManagerOf config i after) beats arrives
@@ -394,8 +395,8 @@ pub carried-delivered_a : {w : ℕ} (config : Config) (log : Log w) (h : Abstrac
     (stepped config (Deliver (link_of c) channel.A) sys).after
 carried-delivered_a {w} config log h sys c terms width is client =
     delivery-a config log h sys c terms (λ (step : Step w).
-    ChannelRelation (delivered config c channel.A step.outcome sys h).mail
-    (delivered config c channel.A step.outcome sys h).state step.after) width is client
+    ChannelRelation (abstract_delivery config c channel.A step.outcome sys h).mail
+    (abstract_delivery config c channel.A step.outcome sys h).state step.after) width is client
     (λ e. is.carried) (λ x queue e waits. is.carried) (λ x queue beats arrives moves.
     let comes = coming-arrival config log h sys c x queue width is beats arrives moves in
     let k : ℕ = arrives.next.k in
@@ -426,8 +427,8 @@ pub beside-delivered_a : {w : ℕ} (config : Config) (log : Log w) (h : Abstract
 unfolding performing accesses_answered
 beside-delivered_a {w} config log h sys c terms machine width is client beside =
     delivery-a config log h sys c terms
-    (λ (step : Step w). MemoryRelation (delivered config c channel.A step.outcome sys h).mail
-    (delivered config c channel.A step.outcome sys h).state
+    (λ (step : Step w). MemoryRelation (abstract_delivery config c channel.A step.outcome sys h).mail
+    (abstract_delivery config c channel.A step.outcome sys h).state
     (performing (accesses_answered step.handed) machine)) width is client (λ e. beside)
     (λ x queue e waits. beside) (λ x queue beats arrives moves.
     let comes = coming-arrival config log h sys c x queue width is beats arrives moves in

@@ -29,32 +29,32 @@ use Rattle.tl_params.specs.declared.param.Grow.TheVariants as grow
 use Rattle.tl_params.specs.declared.param.Prune.TheVariants as prune
 use Rattle.tl_params.specs.declared.perm.Perm.TheVariants as perm
 use Rattle.tl_params.specs.declared.profile.Profile.TheVariants as profile
-use Rattle.tl_rules.specs.statement.Conformance.{Trace, comes_in_request, comes_in_grant, same_perm}
+use Rattle.tl_rules.specs.statement.Conformance.{Trace, comes_in_release, comes_in_request, comes_in_grant, same_perm}
 use Rattle.tl_rules.specs.statement.History.{block_at, is_acquire}
 use Rattle.tl_client.specs.statement.Ask as ask
 use Rattle.tl_client.specs.statement.Ask.{same_bytes}
 use Rattle.tl_client.specs.statement.Offer as offer
 use Rattle.tl_client.specs.statement.Requests.{open_beat}
 use Rattle.tl_manager.specs.statement.Holders.{recorded, cap_probed}
-use Rattle.tl_manager.specs.code.Releases.{comes_of, comes_with}
+use Rattle.tl_manager.specs.code.Releases.{comes_of}
 use Rattle.tl_manager.specs.statement.Service as service
 use Rattle.tl_manager.specs.statement.Service.{services, service_of_block}
 use Rattle.tl_manager.specs.statement.Reaction as manager_reaction
 use Rattle.tl_manager.specs.statement.Offer as manager_offer
 use Rattle.tl_coherence.specs.refinement.Carried.{spelled}
-use Rattle.tl_coherence.specs.refinement.MonitorRelation.{is_requested, is_let, is_let_by, is_sunk}
+use Rattle.tl_coherence.specs.refinement.MonitorRelation.{is_requested, is_release_pending, is_let_by, is_sunk}
 use Rattle.tl_coherence.specs.refinement.AbstractStep.{AbstractState, first_abstract_state, abstract_step, some_below}
 use Rattle.tl_coherence.specs.protocol.Invariant.{is_of, acquires_of, serves_of, acquires_with, serves_with}
 use Rattle.tl_coherence.specs.protocol.Invariant.{releases_with, tracks_with}
 use Rattle.tl_coherence.specs.refinement.ClientRelation.{comes_granting}
 use Rattle.tl_coherence.specs.refinement.ManagerRelation.{is_own, client_in}
-use Rattle.tl_coherence.specs.refinement.ChannelRelation.{receiver}
-use Rattle.tl_coherence.specs.protocol.Phase.{ok, same_cap, is_unprobed, is_unreleased}
+use Rattle.tl_coherence.specs.statement.Delivery.{receiver}
+use Rattle.tl_coherence.specs.protocol.Phase.{ok, same_cap, is_unprobed, is_unreleased, is_whole}
 use Rattle.tl_coherence.specs.protocol.Protocol.{Service, Free, Waits, GrantSent, GrantTaken, State, view, is_wanting}
 use Rattle.tl_coherence.specs.protocol.Protocol.{is_granting, is_acknowledging, is_unserved, is_answered}
 use Rattle.tl_coherence.specs.refinement.PacketMessages.{AccessMessages, block_message, messages_on, probe_beat}
 use Rattle.tl_coherence.specs.refinement.SourceRelation.{is_served, is_granted, cap_waited}
-use Rattle.tl_coherence.specs.refinement.SimulationRelation.{asked_by, is_storing}
+use Rattle.tl_coherence.specs.refinement.SimulationRelation.{asked_by}
 use Rattle.tl_coherence.proofs.examples.Checks.{Past, begun, next, all_below, failed, same_beats, performs}
 use Rattle.tl_coherence.proofs.examples.Play.{Line, Does, Drains, world, deliver, load, store, acquire, whole, release}
 use Rattle.tl_coherence.proofs.examples.Play.{access}
@@ -111,7 +111,7 @@ kept blocks s sys c =
     all_below blocks (λ n.
     implies (not (same_perm ((s.block n).pair c).held perm.None))
     (copied ((sys.clients c).copies n) ((s.block n).copy c))
-    && implies (is_storing ((s.block n).pair c).acquiring) (copied ((sys.clients c).waiting n) ((s.block n).waiting c)))
+    && implies (is_whole ((s.block n).pair c).acquiring) (copied ((sys.clients c).waiting n) ((s.block n).waiting c)))
 
 -- ---- the manager's end
 
@@ -156,7 +156,7 @@ served blocks sources trackers s t c =
     all_below sources (λ i.
     beq (pending (RequestSource i) (on_link c t))
     (is_served c (s.uses c i) s || comes_in_request i (unfinished channel.A (on_link c t)))
-    && beq (pending (ReleaseSource i) (on_link c t)) (comes_with i (unfinished channel.C (on_link c t))))
+    && beq (pending (ReleaseSource i) (on_link c t)) (comes_in_release i (unfinished channel.C (on_link c t))))
     && (all_below trackers (λ i. beq (pending (GrantSink i) (on_link c t)) (is_granted c (s.tracked i) s))
     && all_below blocks (λ n.
     beq (pending (ReleaseOf n) (on_link c t)) (comes_of n (unfinished channel.C (on_link c t)))
@@ -172,7 +172,7 @@ flowed {w} blocks sources trackers mail s sys t c =
     ((s.block n).pair c).recorded)
     && (beq (pending (AcquireOf n) t)
     (is_wanting ((s.block n).pair c).acquiring && not (is_unserved (view (s.block n).service c)))
-    && (beq (pending (ReleaseOf n) t) (is_let ((s.block n).release_source c) (rest channel.C)
+    && (beq (pending (ReleaseOf n) t) (is_release_pending ((s.block n).release_source c) (rest channel.C)
     ((s.block n).pair c).letting)
     && (beq (pending (GrantAckOf n) t) (is_acknowledging (view (s.block n).service c) || comes_granting n
     (asked_by mail s c) (rest channel.D))

@@ -64,7 +64,7 @@ release_size prune.TtoB source n truth m e = sym (ap size_of e)
 release_size prune.TtoN source n truth m e = sym (ap size_of e)
 release_size prune.BtoN source n truth m e = sym (ap size_of e)
 
-release_rendered : {w : ℕ} (c n : ℕ) (b : Block (List ℕ)) → IsWidth w → IsLong b
+pub release_rendered : {w : ℕ} (c n : ℕ) (b : Block (List ℕ)) → IsWidth w → IsLong b
     → (m : MessageC w) × (block_message Release c n b ≡ message.C m)
     × IsAbout false n (prune_code (prune_told (b.pair c).letting))
     (same_perm (prune_left (prune_told (b.pair c).letting)) perm.Trunk) b.truth m

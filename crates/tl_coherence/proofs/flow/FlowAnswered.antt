@@ -2,7 +2,8 @@
 use Rattle.tl_coherence.proofs.flow.Imports.{Beat, BeatA, BeatC, BeatD, Channel, History, ReleaseSource, Perm}
 use Rattle.tl_coherence.proofs.flow.Imports.{comes_in_grant, begins, ends, block_at, pending, is_grant, is_release_ack}
 use Rattle.tl_coherence.proofs.flow.Imports.{asks_for, request_of, release_of, probe_of, grant_sink, MonitorRelation}
-use Rattle.tl_coherence.proofs.flow.Imports.{is_requested, is_let, is_let_by, is_sunk, is_of, comes_granting, NoRelease}
+use Rattle.tl_coherence.proofs.flow.Imports.{is_requested, is_release_pending, is_let_by}
+use Rattle.tl_coherence.proofs.flow.Imports.{is_sunk, is_of, comes_granting, NoRelease}
 use Rattle.tl_coherence.proofs.flow.Imports.{ReleaseAcked, AcquirePhase, Service, Block, State, SourceState, SourceFree}
 use Rattle.tl_coherence.proofs.flow.Imports.{view, is_granting, is_acknowledging, is_answered, is_wanting, is_unserved}
 use Rattle.tl_coherence.proofs.flow.Imports.{probe_beat, cap_waited}
@@ -250,7 +251,7 @@ flowed-let_go {w} {X} c n y asked asked' rest rest' s s' t first_is last_is rest
 
     was_let : pending (ReleaseSource y.source) t ≡ true
     was_let = before.release_sources y.source ∙ ap (λ (o : Option ℕ). is_let_by c y.source (rest channel.C) o s)
-        of_block ∙ ap (is_let y.source (rest channel.C)) is.letting
+        of_block ∙ ap (is_release_pending y.source (rest channel.C)) is.letting
 
     names : (m : ℕ) → releases m (release_of y.source t) ≡ (n == m)
     names m = of_releases n m (release_of y.source t) (before.released y.source n of_block was_let)
@@ -260,7 +261,7 @@ flowed-let_go {w} {X} c n y asked asked' rest rest' s s' t first_is last_is rest
     releases_at = each-block (λ m z. let_of c (rest channel.C) z ≡ step true true false
         (is_release_ack y.opcode && releases m (release_of y.source t))
         (let_of c (rest channel.C) (s.block m))) n s s' is.elsewhere
-        (ap (is_let ((s'.block n).release_source c) (rest channel.C)) is.letting_is
+        (ap (is_release_pending ((s'.block n).release_source c) (rest channel.C)) is.letting_is
         ∙ sym (closed (is_release_ack y.opcode) (releases n (release_of y.source t)) (let_of c (rest channel.C) b)
         is.ack (names n ∙ same_number n)))
         (λ m ne. sym (unclosed_by (is_release_ack y.opcode) (releases m (release_of y.source t))
@@ -311,8 +312,10 @@ flowed-let_go {w} {X} c n y asked asked' rest rest' s s' t first_is last_is rest
     rest_same : (i : ℕ) (o : Option ℕ) → s.lets c i ≡ o → (y.source == i) ≡ false
         → is_let_by c i (rest' channel.C) o s' ≡ is_let_by c i (rest channel.C) o s
     rest_same i None e f = refl
-    rest_same i (Some m) e f = ap (λ (l : List (Beat w)). is_let i l ((s'.block m).pair c).letting) (rests channel.C)
-        ∙ ap (λ (z : Block X). is_let i (rest channel.C) (z.pair c).letting) (is.elsewhere m (other_source i m e f))
+    rest_same i (Some m) e f = ap (λ (l : List (Beat w)). is_release_pending i l ((s'.block m).pair c).letting)
+        (rests channel.C)
+        ∙ ap (λ (z : Block X). is_release_pending i (rest channel.C) (z.pair c).letting)
+        (is.elsewhere m (other_source i m e f))
 
     lets : (i : ℕ) (z : Bool) → (y.source == i) ≡ z → is_let_by c i (rest' channel.C) (s'.lets c i) s' ≡ step true true
         false

@@ -1,6 +1,7 @@
 -- What is delivered on a link, as an event leaves it alone: each value of it is as before.
 use Rattle.tl_coherence.proofs.flow.Imports.{Beat, BeatA, Channel, History, is_grant, asks_for, MonitorRelation}
-use Rattle.tl_coherence.proofs.flow.Imports.{is_requested, is_let, is_let_by, is_sunk, comes_granting, ReleasePhase}
+use Rattle.tl_coherence.proofs.flow.Imports.{is_requested, is_release_pending, is_let_by}
+use Rattle.tl_coherence.proofs.flow.Imports.{is_sunk, comes_granting, ReleasePhase}
 use Rattle.tl_coherence.proofs.flow.Imports.{Block, State, SourceState, SourceFree, Asked, InService, Replied, Acquires}
 use Rattle.tl_coherence.proofs.flow.Imports.{view, is_granting, is_acknowledging, is_answered, is_wanting, is_unserved}
 use Rattle.tl_coherence.proofs.flow.Imports.{cap_waited}
@@ -82,7 +83,7 @@ pub let_by-same : {w : ℕ} {X : Type 0} (c i : ℕ) (rest : List (Beat w)) (o :
     → ((n : ℕ) → ((s'.block n).pair c).letting ≡ ((s.block n).pair c).letting)
     → is_let_by c i rest o s' ≡ is_let_by c i rest o s
 let_by-same c i rest None s s' h = refl
-let_by-same c i rest (Some n) s s' h = ap (is_let i rest) (h n)
+let_by-same c i rest (Some n) s s' h = ap (is_release_pending i rest) (h n)
 
 -- a part of a Grant was delivered of a block that is granted alone
 abbrev pub IsComing : {w : ℕ} {X : Type 0} → (ℕ → Option (BeatA w)) → List (Beat w) → ℕ → State X → Type 0
@@ -125,8 +126,10 @@ flowed-aside {w} {X} asked asked' rest d s s' t is = flowed-untouched asked aske
   release_sources = λ i. ap (λ (o : Option ℕ). is_let_by d i (rest channel.C) o s') (is.lets i) ∙ let_by-same d i
       (rest channel.C) (s.lets d i) s s' (λ n. (is.blocks n).letting);
   lets = λ i n e f. sym (is.lets i) ∙ f;
-  releases = λ n. ap (λ (i : ℕ). is_let i (rest channel.C) ((s'.block n).pair d).letting) (is.blocks n).source
-      ∙ ap (λ (l : ReleasePhase). is_let ((s.block n).release_source d) (rest channel.C) l) (is.blocks n).letting;
+  releases = λ n. ap (λ (i : ℕ). is_release_pending i (rest channel.C) ((s'.block n).pair d).letting)
+      (is.blocks n).source
+      ∙ ap (λ (l : ReleasePhase). is_release_pending ((s.block n).release_source d) (rest channel.C) l)
+      (is.blocks n).letting;
   sinks = is.sinks;
   grants = λ n. either_same (is.blocks n).acknowledging (comes-same n asked asked' (rest channel.D) is.asked_is);
   probes = λ n. (is.blocks n).answered;

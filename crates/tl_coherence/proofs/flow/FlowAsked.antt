@@ -1,6 +1,7 @@
 -- What is delivered on a client's link stays as it is when the client itself is asked for something.
 use Rattle.tl_coherence.proofs.flow.Imports.{Beat, BeatA, Channel, Grow, Prune, comes_in_request, comes_in_release}
-use Rattle.tl_coherence.proofs.flow.Imports.{is_requested, is_let, is_let_by, is_of, comes_granting, ClientBlock}
+use Rattle.tl_coherence.proofs.flow.Imports.{is_requested, is_release_pending, is_let_by}
+use Rattle.tl_coherence.proofs.flow.Imports.{is_of, comes_granting, ClientBlock}
 use Rattle.tl_coherence.proofs.flow.Imports.{NoAcquire, ReleasePhase, NoRelease, ReleaseSent, after_release, Block}
 use Rattle.tl_coherence.proofs.flow.Imports.{State, SourceState, SourceFree, Asked, Acquires, view, is_acknowledging}
 use Rattle.tl_coherence.proofs.flow.Imports.{is_answered, is_granting, is_wanting, is_unserved, access_asked}
@@ -87,7 +88,8 @@ untouched-acquire_asked {w} {X} c n source whole g bytes asked asked' rest s clo
   release_sources = λ i. let_by-same c i (rest channel.C) (s.lets c i) s s'
       (set-part (λ (z : Block X). (z.pair c).letting) n new s.block letting_same);
   lets = λ i m e f. f;
-  releases = set-part (let_of c (rest channel.C)) n new s.block (ap (is_let (b.release_source c) (rest channel.C))
+  releases = set-part (let_of c (rest channel.C)) n new s.block
+      (ap (is_release_pending (b.release_source c) (rest channel.C))
       letting_same);
   sinks = λ i. sunk-as c i (rest channel.D) (s.tracked i) s s' (set-part (sunk_in c i (rest channel.D)) n new s.block
       refl);
@@ -142,9 +144,9 @@ untouched-release_asked {w} {X} c n source r asked asked' rest s free none kept 
   release_sources = lets;
   lets = λ i m e f. still i m e f;
   releases = set-part (let_of c (rest channel.C)) n new s.block
-      (ap (λ (l : ReleasePhase). is_let (new.release_source c) (rest channel.C) l) letting_is
+      (ap (λ (l : ReleasePhase). is_release_pending (new.release_source c) (rest channel.C) l) letting_is
       ∙ ap (λ (j : ℕ). comes_in_release j (rest channel.C)) (set-same c source b.release_source) ∙ none
-      ∙ sym (ap (is_let (b.release_source c) (rest channel.C)) kept));
+      ∙ sym (ap (is_release_pending (b.release_source c) (rest channel.C)) kept));
   sinks = λ i. sunk-as c i (rest channel.D) (s.tracked i) s s' (set-part (sunk_in c i (rest channel.D)) n new s.block
       refl);
   grants = λ m. ap (λ (z : Bool). is_acknowledging (view (s'.block m).service c) || z)
@@ -177,7 +179,8 @@ untouched-release_asked {w} {X} c n source r asked asked' rest s free none kept 
     others i (Some m) e = elim (cases_eq m n) [
       | inl here ↦ absurd (let no : (n == n) ≡ false = rw here at e in let yes : true ≡ false =
           sym (same_number n) ∙ no in cc)
-      | inr other ↦ set-each (λ j z. (j ≡ n → ⊥) → is_let i (rest channel.C) (z.pair c).letting ≡ is_let i
+      | inr other ↦ set-each (λ j z. (j ≡ n → ⊥)
+          → is_release_pending i (rest channel.C) (z.pair c).letting ≡ is_release_pending i
           (rest channel.C) ((s.block j).pair c).letting) n new
           s.block (λ ne. absurd (ne refl)) (λ j ne f. refl) m other
     ]
@@ -186,8 +189,9 @@ untouched-release_asked {w} {X} c n source r asked asked' rest s free none kept 
     lets i = elim (cases_eq i source) [
       | inl here ↦ rw here (ap (λ (o : Option ℕ). is_let_by c source (rest channel.C) o s')
           (set_at-same c source (Some n) s.lets)
-          ∙ ap (λ (z : Block X). is_let source (rest channel.C) (z.pair c).letting) (set-same n new s.block) ∙ ap
-          (is_let source (rest channel.C)) letting_is ∙ none
+          ∙ ap (λ (z : Block X). is_release_pending source (rest channel.C) (z.pair c).letting) (set-same n new s.block)
+          ∙ ap
+          (is_release_pending source (rest channel.C)) letting_is ∙ none
           ∙ sym (ap (λ (o : Option ℕ). is_let_by c source (rest channel.C) o s) free))
       | inr other ↦ ap (λ (o : Option ℕ). is_let_by c i (rest channel.C) o s')
           (set_at-else c source i (Some n) s.lets other c) ∙ others i (s.lets c i) (unused i)

@@ -19,9 +19,9 @@ use Rattle.tl_burst.specs.declared.message.Message.TheVariants as message
 use Rattle.tl_manager.specs.statement.Holders.{cap_probed}
 use Rattle.tl_coherence.specs.refinement.AbstractStep.{with_state, some_below, performs, probes_some, access_taken}
 use Rattle.tl_coherence.specs.refinement.AbstractStep.{request_taken, is_unheld, gift, acquire_taken, granted_after}
-use Rattle.tl_coherence.specs.refinement.AbstractStep.{last_taken, ack_taken, is_whole, taken_by_client}
+use Rattle.tl_coherence.specs.refinement.AbstractStep.{last_taken, ack_taken, taken_by_client}
 use Rattle.tl_coherence.specs.protocol.Invariant.{cap_asked}
-use Rattle.tl_coherence.specs.protocol.Phase.{is_unacquired}
+use Rattle.tl_coherence.specs.protocol.Phase.{is_unacquired, is_whole}
 use Rattle.tl_coherence.specs.protocol.PhaseSteps.{is_granted_data}
 use Rattle.tl_coherence.specs.protocol.Protocol.{on, is_probed, report_grants}
 use Rattle.tl_coherence.proofs.client.AsideAll.{Leaves, is_for_manager, leaves-at_manager, leaves-at_client}

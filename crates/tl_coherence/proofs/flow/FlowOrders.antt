@@ -4,7 +4,8 @@ use Rattle.tl_coherence.proofs.flow.Imports.{channel_of, unfinished, Level, Cap,
 use Rattle.tl_coherence.proofs.flow.Imports.{prune_left, report_code, broken_in_order, broken_after, comes_in_request}
 use Rattle.tl_coherence.proofs.flow.Imports.{comes_in_release, comes_in_grant, same_perm, block_at, is_acquire}
 use Rattle.tl_coherence.proofs.flow.Imports.{is_probe_ack, is_release, held, pending, illegal, MonitorRelation}
-use Rattle.tl_coherence.proofs.flow.Imports.{is_requested, is_let, is_let_by, is_sunk, comes_granting, View, Idle}
+use Rattle.tl_coherence.proofs.flow.Imports.{is_requested, is_release_pending, is_let_by}
+use Rattle.tl_coherence.proofs.flow.Imports.{is_sunk, comes_granting, View, Idle}
 use Rattle.tl_coherence.proofs.flow.Imports.{ReleasePhase, NoRelease, ReleaseSent, ReleaseAcked, AcquirePhase}
 use Rattle.tl_coherence.proofs.flow.Imports.{NoAcquire, ProbeAnswered, State, SourceState, Asked, Acquires, view}
 use Rattle.tl_coherence.proofs.flow.Imports.{is_granting, is_acknowledging, is_answered, is_acked, is_wanting}
@@ -63,7 +64,7 @@ acquire-flows {w} p c n x asked rest s t flowed whole acquires block used idle k
     (λ (v : View). not (is_unserved v)) idle)
     (flowed.acquires n ∙ ap (λ (v : View). is_wanting ((s.block n).pair c).acquiring && not (is_unserved v))
     idle ∙ and-false (is_wanting ((s.block n).pair c).acquiring))
-    (flowed.releases n ∙ ap (is_let ((s.block n).release_source c) (rest channel.C)) kept)
+    (flowed.releases n ∙ ap (is_release_pending ((s.block n).release_source c) (rest channel.C)) kept)
     (held_as c n asked rest s t flowed (ap is_granting idle)) grows
 
 -- ---- channel B
@@ -90,7 +91,7 @@ probe-flows {w} p c n x asked rest s t flowed whole block unanswered open_ none_
 -- ---- channel C
 
 unlet : {w : ℕ} (source : ℕ) (rest : List (Beat w)) (l : ReleasePhase) → rest ≡ [] → is_acked l ≡ false
-    → is_let source rest l ≡ false
+    → is_release_pending source rest l ≡ false
 unlet source rest NoRelease e f = refl
 unlet source rest (ReleaseSent r) e f = ap (comes_in_release source) e
 unlet source rest ReleaseAcked e f = absurd cc

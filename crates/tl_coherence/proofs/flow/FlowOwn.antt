@@ -1,4 +1,5 @@
 -- What is delivered on a link, as a beat of it is: each value of it is that of the protocol afterwards.
+use Rattle.tl_coherence.specs.protocol.Phase.{is_whole}
 use Rattle.tl_coherence.proofs.flow.Imports.{IsWidth, Beat, Channel, Message, MessageA, MessageC, beat_of, History, on}
 use Rattle.tl_coherence.proofs.flow.Imports.{grown, completes, Config, Cap, block_at, MonitorRelation, AbstractState}
 use Rattle.tl_coherence.proofs.flow.Imports.{kind_taken, Log, ClientBlock, AcquirePhase, AcquireOpen, after_probe}
@@ -14,7 +15,7 @@ use Rattle.tl_beat.specs.declared.channel.Channel.TheVariants as channel
 use Rattle.tl_burst.specs.declared.message.Message.TheVariants as message
 use Rattle.tl_burst.specs.declared.message.MessageE.{MessageE}
 use Rattle.tl_coherence.specs.refinement.AbstractStep.{with_state, some_below, request_taken, is_unheld, gift}
-use Rattle.tl_coherence.specs.refinement.AbstractStep.{acquire_taken, is_whole, taken_by_client}
+use Rattle.tl_coherence.specs.refinement.AbstractStep.{acquire_taken, taken_by_client}
 use Rattle.tl_coherence.specs.protocol.Invariant.{cap_asked}
 use Rattle.tl_coherence.specs.protocol.PhaseSteps.{is_granted_data}
 use Rattle.tl_coherence.specs.protocol.Protocol.{packets_on, is_probed}

@@ -1,6 +1,7 @@
 -- What is delivered on a link, as a Probe is.
 use Rattle.tl_coherence.proofs.flow.Imports.{Beat, BeatA, Channel, History, Cap, comes_in_grant, begins, ends, block_at}
-use Rattle.tl_coherence.proofs.flow.Imports.{release_of, probe_of, grant_sink, MonitorRelation, is_requested, is_let}
+use Rattle.tl_coherence.proofs.flow.Imports.{release_of, probe_of, grant_sink, MonitorRelation}
+use Rattle.tl_coherence.proofs.flow.Imports.{is_requested, is_release_pending}
 use Rattle.tl_coherence.proofs.flow.Imports.{is_let_by, is_sunk, comes_granting, View, Other, ClientBlock, after_probe}
 use Rattle.tl_coherence.proofs.flow.Imports.{Service, Block, State, view, is_granting, is_acknowledging, is_answered}
 use Rattle.tl_coherence.proofs.flow.Imports.{is_wanting, is_unserved, probe_taken, probed_block, probe_beat, cap_waited}
@@ -66,7 +67,8 @@ flowed-probe {w} {X} c n k toks asked asked' rest rest' s t first last rests ask
       sizes = λ i m e f. ap (option_map (λ z. z.size)) (released-of i y t) ∙ before.sizes i m e
           (before.release_sources i ∙ sym (lets i) ∙ f);
       releases = λ m. ap (λ (r : List (Beat w)). let_of c r (s'.block m)) (rests channel.C)
-          ∙ set-part (let_of c (rest channel.C)) n new s.block (ap (is_let (b.release_source c) (rest channel.C))
+          ∙ set-part (let_of c (rest channel.C)) n new s.block
+          (ap (is_release_pending (b.release_source c) (rest channel.C))
           letting_same) m;
       sinks = λ i. ap (λ (r : List (Beat w)). is_sunk c i r (s.tracked i) s') (rests channel.D) ∙ sunk_same i
           (s.tracked i);

@@ -2,7 +2,8 @@
 use Rattle.tl_coherence.proofs.flow.Imports.{Beat, BeatA, BeatC, Channel, History, ReleaseSource, Prune, Perm}
 use Rattle.tl_coherence.proofs.flow.Imports.{comes_in_release, comes_in_grant, begins, ends, block_at, pending}
 use Rattle.tl_coherence.proofs.flow.Imports.{is_probe_ack, is_release, release_of, reported, MonitorRelation}
-use Rattle.tl_coherence.proofs.flow.Imports.{is_requested, is_let, is_let_by, is_sunk, comes_granting, is_of}
+use Rattle.tl_coherence.proofs.flow.Imports.{is_requested, is_release_pending}
+use Rattle.tl_coherence.proofs.flow.Imports.{is_let_by, is_sunk, comes_granting, is_of}
 use Rattle.tl_coherence.proofs.flow.Imports.{ReleasePhase, NoRelease, ReleaseSent, ReleaseAcked, AcquirePhase}
 use Rattle.tl_coherence.proofs.flow.Imports.{is_unreleased, Service, Block, State, view, is_granting, is_acknowledging}
 use Rattle.tl_coherence.proofs.flow.Imports.{is_answered, is_wanting, is_unserved, probe_beat, cap_waited, grant_sink-c}
@@ -90,13 +91,13 @@ unopened first last true q p e = rw e (step_quiet first last p)
 unopened first last false q p e = step_quiet first last p
 
 let_now : {w : ℕ} (i : ℕ) (last : Bool) (r : Prune) (rest : List (Beat w)) (l : ReleasePhase) → l ≡ letting_after last r
-    → comes_in_release i rest ≡ not last → is_let i rest l ≡ true
-let_now i true r rest l e f = ap (is_let i rest) e
-let_now i false r rest l e f = ap (is_let i rest) e ∙ f
+    → comes_in_release i rest ≡ not last → is_release_pending i rest l ≡ true
+let_now i true r rest l e f = ap (is_release_pending i rest) e
+let_now i false r rest l e f = ap (is_release_pending i rest) e ∙ f
 
 let_then : {w : ℕ} (i : ℕ) (first : Bool) (r : Prune) (rest : List (Beat w)) (l : ReleasePhase) → l ≡ ReleaseSent r
-    → comes_in_release i rest ≡ not first → is_let i rest l ≡ not first
-let_then i first r rest l e f = ap (is_let i rest) e ∙ f
+    → comes_in_release i rest ≡ not first → is_release_pending i rest l ≡ not first
+let_then i first r rest l e f = ap (is_release_pending i rest) e ∙ f
 
 pub with_true : (p q : Bool) → q ≡ true → (p && q) ≡ p
 with_true true q e = e
@@ -104,7 +105,7 @@ with_true false q e = refl
 
 let_other : {w : ℕ} (i : ℕ) (rest rest' : List (Beat w)) (l : ReleasePhase)
     → (is_unreleased l ≡ false → comes_in_release i rest' ≡ comes_in_release i rest)
-    → is_let i rest' l ≡ is_let i rest l
+    → is_release_pending i rest' l ≡ is_release_pending i rest l
 let_other i rest rest' NoRelease h = refl
 let_other i rest rest' (ReleaseSent r) h = h refl
 let_other i rest rest' ReleaseAcked h = refl
@@ -279,12 +280,12 @@ flowed-release {w} {X} c n r y first last asked rest rest' s s' t first_is last_
         (rw same (same_number y.source)) (then_by i o e same))
     lets_with i None e (inr ne) = sym (unopened first last (is_release y.opcode) (y.source == i) false (another i ne))
     lets_with i (Some m) e (inr ne) =
-        ap (λ (z : Block X). is_let i (rest' channel.C) (z.pair c).letting)
+        ap (λ (z : Block X). is_release_pending i (rest' channel.C) (z.pair c).letting)
         (is.elsewhere m (λ f. let g : (n == n) ≡ false = sym (rw (e, f) refl) ∙ of_no_block i ne in
         let h : true ≡ false = sym (same_number n) ∙ g in cc))
         ∙ let_other i (rest channel.C) (rest' channel.C) ((s.block m).pair c).letting (λ begun. comes_other i ne)
         ∙ sym (unopened first last (is_release y.opcode) (y.source == i)
-        (is_let i (rest channel.C) ((s.block m).pair c).letting) (another i ne))
+        (is_release_pending i (rest channel.C) ((s.block m).pair c).letting) (another i ne))
 
     lets : (i : ℕ) → is_let_by c i (rest' channel.C) (s'.lets c i) s' ≡ step first last
         (is_release y.opcode && (y.source == i)) false (is_let_by c i (rest channel.C) (s.lets c i) s)

@@ -1,7 +1,8 @@
 -- What is delivered on a link, as the last beat of a ProbeAck is.
 use Rattle.tl_coherence.proofs.flow.Imports.{Beat, BeatA, BeatC, Channel, History, Report, Perm, comes_in_release}
 use Rattle.tl_coherence.proofs.flow.Imports.{comes_in_grant, begins, ends, block_at, is_probe_ack, is_release, probe_of}
-use Rattle.tl_coherence.proofs.flow.Imports.{reported, MonitorRelation, is_requested, is_let, is_let_by, is_sunk}
+use Rattle.tl_coherence.proofs.flow.Imports.{reported, MonitorRelation, is_requested}
+use Rattle.tl_coherence.proofs.flow.Imports.{is_release_pending, is_let_by, is_sunk}
 use Rattle.tl_coherence.proofs.flow.Imports.{ClientBlock, after_report, Service, Block, State, view, is_granting}
 use Rattle.tl_coherence.proofs.flow.Imports.{is_acknowledging, is_answered, is_wanting, is_unserved, report_taken}
 use Rattle.tl_coherence.proofs.flow.Imports.{reported_block, probe_beat, cap_waited, Packet, grant_sink-c, probe_of-c}
@@ -133,7 +134,8 @@ flowed-report {w} {X} c n r toks y first asked rest rest' s t first_is last_is r
     releases m =
         let_rest ((s'.block m).release_source c) (rest channel.C) (rest' channel.C) ((s'.block m).pair c).letting
         (comes ((s'.block m).release_source c))
-        ∙ set-part (let_of c (rest channel.C)) n new s.block (ap (is_let (b.release_source c) (rest channel.C))
+        ∙ set-part (let_of c (rest channel.C)) n new s.block
+        (ap (is_release_pending (b.release_source c) (rest channel.C))
         letting_same) m
 
     sunk_same : (i : ℕ) (o : Option ℕ) → is_sunk c i (rest channel.D) o s' ≡ is_sunk c i (rest channel.D) o s

@@ -5,7 +5,8 @@ use Rattle.tl_coherence.proofs.flow.Imports.{illegal, level_of, RequestSource, R
 use Rattle.tl_coherence.proofs.flow.Imports.{prune_code, report_code, report_left, on_link, comes_in_request}
 use Rattle.tl_coherence.proofs.flow.Imports.{comes_in_release, comes_in_grant, broken_in_order, same_perm, broken_after}
 use Rattle.tl_coherence.proofs.flow.Imports.{is_release, held, pending, request_of, same_block, IsCarried, flow}
-use Rattle.tl_coherence.proofs.flow.Imports.{is_requested, is_sunk, is_let, is_let_by, is_busy, Log, View, ReleasePhase}
+use Rattle.tl_coherence.proofs.flow.Imports.{is_requested, is_sunk, is_release_pending}
+use Rattle.tl_coherence.proofs.flow.Imports.{is_let_by, is_busy, Log, View, ReleasePhase}
 use Rattle.tl_coherence.proofs.flow.Imports.{NoRelease, ReleaseSent, ReleaseAcked, AcquirePhase, AcquireOpen}
 use Rattle.tl_coherence.proofs.flow.Imports.{is_unreleased, Service, GrantSent, is_answered, is_acked, is_granting}
 use Rattle.tl_coherence.proofs.flow.Imports.{is_acknowledging, State, SourceState, Asked, Acquires, view, packet, shown}
@@ -372,7 +373,8 @@ flow-ack {w} config log mail request s sys c n h flowed let_ acked whole =
     refl live
     ((flowed c).sizes source n let_ live)
   where
-    let_acked : (x : ReleasePhase) (source : ℕ) (rest : List (Beat w)) → is_acked x ≡ true → is_let source rest x ≡ true
+    let_acked : (x : ReleasePhase) (source : ℕ) (rest : List (Beat w)) → is_acked x ≡ true
+        → is_release_pending source rest x ≡ true
     let_acked ReleaseAcked source rest e = refl
     let_acked NoRelease source rest e = absurd cc
     let_acked (ReleaseSent r) source rest e = absurd cc

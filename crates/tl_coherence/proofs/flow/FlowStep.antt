@@ -1,7 +1,8 @@
 -- What is delivered on a link, with one more beat: each value of it is as the beat leaves it.
 use Rattle.tl_coherence.proofs.flow.Imports.{Beat, BeatA, Channel, History, unfinished, on, grown, RequestSource}
 use Rattle.tl_coherence.proofs.flow.Imports.{ReleaseSource, Perm, begins, ends, pending, held, block_at, request_of}
-use Rattle.tl_coherence.proofs.flow.Imports.{release_of, probe_of, grant_sink, MonitorRelation, is_requested, is_let}
+use Rattle.tl_coherence.proofs.flow.Imports.{release_of, probe_of, grant_sink, MonitorRelation}
+use Rattle.tl_coherence.proofs.flow.Imports.{is_requested, is_release_pending}
 use Rattle.tl_coherence.proofs.flow.Imports.{is_let_by, is_sunk, comes_granting, Block, State, view, is_granting}
 use Rattle.tl_coherence.proofs.flow.Imports.{is_acknowledging, is_answered, is_wanting, is_unserved, probe_beat}
 use Rattle.tl_coherence.proofs.flow.Imports.{cap_waited}
@@ -53,7 +54,7 @@ abbrev pub acquired_by : {X : Type 0} → ℕ → Block X → Bool
 acquired_by c b = is_wanting (b.pair c).acquiring && not (is_unserved (view b.service c))
 
 abbrev pub let_of : {w : ℕ} {X : Type 0} → ℕ → List (Beat w) → Block X → Bool
-let_of c rest b = is_let (b.release_source c) rest (b.pair c).letting
+let_of c rest b = is_release_pending (b.release_source c) rest (b.pair c).letting
 
 abbrev pub granted_by : {w : ℕ} {X : Type 0} → ℕ → ℕ → (ℕ → Option (BeatA w)) → List (Beat w) → Block X → Bool
 granted_by c n asked rest b = is_acknowledging (view b.service c) || comes_granting n asked rest

@@ -48,7 +48,7 @@ taken-flows n (Deliver link ch) outcome.Stalled t = refl
 taken-flows n (Deliver link ch) outcome.NoSuchClient t = refl
 taken-flows n (Ask client op) o t = refl
 
-trace-flows : {w : ℕ} (n : ℕ) (log : Log w) → on_link n (trace_of log) ≡ flow n log
+pub trace-flows : {w : ℕ} (n : ℕ) (log : Log w) → on_link n (trace_of log) ≡ flow n log
 unfolding on_link flow trace_of
 trace-flows n [] = refl
 trace-flows n (x ∷ log) = taken-flows n x.0 x.1 (trace_of log) ∙ ap (λ (t : History _). taken_on n x.0 x.1 ++ t)

@@ -54,9 +54,10 @@ pub use Rattle.tl_coherence.specs.protocol.Protocol.{release_taken, releasing_bl
 pub use Rattle.tl_coherence.specs.protocol.Protocol.{served_block, shown, taken_block, view}
 pub use Rattle.tl_coherence.specs.refinement.AbstractStep.{AbstractState, kind_taken}
 pub use Rattle.tl_coherence.specs.refinement.Carried.{IsCarried}
-pub use Rattle.tl_coherence.specs.refinement.ChannelRelation.{receiver}
+pub use Rattle.tl_coherence.specs.statement.Delivery.{receiver}
 pub use Rattle.tl_coherence.specs.refinement.ClientRelation.{comes_granting}
-pub use Rattle.tl_coherence.specs.refinement.MonitorRelation.{MonitorRelation, is_let, is_let_by, is_requested, is_sunk}
+pub use Rattle.tl_coherence.specs.refinement.MonitorRelation.{MonitorRelation, is_release_pending}
+pub use Rattle.tl_coherence.specs.refinement.MonitorRelation.{is_let_by, is_requested, is_sunk}
 pub use Rattle.tl_coherence.specs.refinement.PacketMessages.{AccessMessages, cap_sent, message_of, message_of_kind}
 pub use Rattle.tl_coherence.specs.refinement.PacketMessages.{probe_beat, prune_told, report_told}
 unfoldable pub use Rattle.tl_coherence.specs.refinement.PacketMessages.{block_message}

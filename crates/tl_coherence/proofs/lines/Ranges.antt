@@ -42,7 +42,8 @@ use Rattle.tl_coherence.specs.refinement.PacketMessages.{AccessMessages, acquire
 use Rattle.tl_coherence.specs.refinement.PacketMessages.{prune_told, block_message, report_told}
 use Rattle.tl_coherence.specs.statement.System.{System, terms_at}
 use Rattle.tl_coherence.specs.protocol.Packet.{Kind, Request, Acquire, Probe, ProbeAck, Release, Answer, Grant}
-use Rattle.tl_coherence.specs.protocol.Packet.{ReleaseAck, GrantAck, Packet, count, is, one_if}
+use Rattle.tl_manager.specs.laws.Pending.{one_if}
+use Rattle.tl_coherence.specs.protocol.Packet.{ReleaseAck, GrantAck, Packet, count, is}
 use Rattle.tl_coherence.specs.refinement.SimulationRelation.{AreLanes, SimulationRelation, is_caching}
 use Rattle.tl_coherence.proofs.memory.Bytes.{IsRangedMachine, IsRangedOpen, IsRangedReply}
 use Rattle.tl_coherence.proofs.protocol.Capacities.{AreBounded, acquire_named, answer_named, grant_ack_named}

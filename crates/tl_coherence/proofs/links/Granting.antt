@@ -27,9 +27,9 @@ use Rattle.tl_manager.specs.statement.Service.{is_access_answer}
 use Rattle.tl_manager.proofs.blocks.Recording.{cap-gives}
 use Rattle.tl_coherence.specs.declared.event.Outcome.TheVariants as outcome
 use Rattle.tl_coherence.specs.refinement.MemoryRelation.{IsOpened, op_of}
-use Rattle.tl_coherence.specs.refinement.AbstractStep.{abstract_step, is_whole, kind_taken, taken_by_client}
+use Rattle.tl_coherence.specs.refinement.AbstractStep.{abstract_step, kind_taken, taken_by_client}
 use Rattle.tl_coherence.specs.statement.Machine.{Open, Requests}
-use Rattle.tl_coherence.specs.protocol.Phase.{ClientBlock, AcquirePhase, NoAcquire, AcquireOpen}
+use Rattle.tl_coherence.specs.protocol.Phase.{ClientBlock, AcquirePhase, NoAcquire, AcquireOpen, is_whole}
 use Rattle.tl_coherence.specs.protocol.PhaseSteps.{after_grant}
 use Rattle.tl_coherence.specs.protocol.Protocol.{Service, Block, SourceState, Acquires, taken_block}
 use Rattle.tl_coherence.specs.protocol.Packet.{Packet}

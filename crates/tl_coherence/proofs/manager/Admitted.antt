@@ -45,7 +45,8 @@ use Rattle.tl_coherence.specs.protocol.Invariant.{tracks_with}
 use Rattle.tl_coherence.specs.protocol.Protocol.{is_releasing, is_unserved, shown}
 use Rattle.tl_coherence.specs.refinement.Carried.{IsCarried}
 use Rattle.tl_coherence.specs.refinement.PacketMessages.{message_of, report_told, prune_told}
-use Rattle.tl_coherence.specs.protocol.Packet.{count, one_if, is}
+use Rattle.tl_manager.specs.laws.Pending.{one_if}
+use Rattle.tl_coherence.specs.protocol.Packet.{count, is}
 use Rattle.tl_coherence.specs.refinement.SimulationRelation.{AreLanes}
 use Rattle.tl_coherence.proofs.manager.Arrivals.{link_of}
 use Rattle.tl_coherence.proofs.queues.Facts.{asked_alone, acquire_fits}

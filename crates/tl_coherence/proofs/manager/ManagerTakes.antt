@@ -33,7 +33,8 @@ use Rattle.tl_manager.proofs.pending.LinkHistories.{whole-e}
 use Rattle.tl_coherence.specs.protocol.Phase.{ProbeAnswered, ReleaseSent, is_unreleased, same_report}
 use Rattle.tl_coherence.specs.protocol.Protocol.{is_answered}
 use Rattle.tl_coherence.specs.refinement.PacketMessages.{message_of, message_of_kind}
-use Rattle.tl_coherence.specs.protocol.Packet.{is, one_if, count}
+use Rattle.tl_manager.specs.laws.Pending.{one_if}
+use Rattle.tl_coherence.specs.protocol.Packet.{is, count}
 use Rattle.tl_coherence.proofs.queues.Carried.{IsNext}
 use Rattle.tl_coherence.proofs.queues.Facts.{is_other, report_fits, own_alone, release_begins}
 use Rattle.tl_coherence.proofs.manager.Orders.{report-legal}

@@ -14,8 +14,8 @@ use Rattle.tl_client.specs.declared.reply.Reply.{Reply}
 use Rattle.tl_client.specs.declared.reply.Reply.TheVariants as reply
 use Rattle.tl_client.specs.statement.Ask.{copy_stored, whole_grow}
 use Rattle.tl_client.specs.statement.Send.{access}
-use Rattle.tl_coherence.specs.refinement.AbstractStep.{asked, is_whole, taken_by_client}
-use Rattle.tl_coherence.specs.protocol.Phase.{ProbeSent}
+use Rattle.tl_coherence.specs.refinement.AbstractStep.{asked, taken_by_client}
+use Rattle.tl_coherence.specs.protocol.Phase.{ProbeSent, is_whole}
 use Rattle.tl_coherence.specs.protocol.PhaseSteps.{after_acquire, after_release, after_probe, after_grant}
 use Rattle.tl_coherence.specs.protocol.PhaseSteps.{after_release_ack}
 use Rattle.tl_coherence.specs.protocol.Protocol.{shown, acquiring_block, releasing_block, stored_block, probed_block}

@@ -21,9 +21,9 @@ use Rattle.tl_coherence.specs.declared.event.Event.TheVariants.{Ask, Deliver}
 use Rattle.tl_coherence.specs.declared.event.Outcome.TheVariants as outcome
 use Rattle.tl_coherence.specs.statement.Draining.{is_moving}
 use Rattle.tl_coherence.specs.refinement.AbstractStep as follow
-use Rattle.tl_coherence.specs.refinement.AbstractStep.{abstract_step_by, is_last, packet_taken, delivered}
+use Rattle.tl_coherence.specs.refinement.AbstractStep.{abstract_step_by, is_last, packet_taken, abstract_delivery}
 use Rattle.tl_coherence.specs.refinement.AbstractStep.{abstract_step}
-use Rattle.tl_coherence.specs.refinement.ChannelRelation.{receiver}
+use Rattle.tl_coherence.specs.statement.Delivery.{receiver}
 use Rattle.tl_coherence.specs.protocol.Protocol as protocol
 use Rattle.tl_coherence.specs.protocol.Protocol.{packets_on}
 use Rattle.tl_coherence.specs.statement.Step.{Step, handed_by, judged, is_to_client, client_of, stepped}

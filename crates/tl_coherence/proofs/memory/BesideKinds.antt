@@ -16,9 +16,10 @@ use Rattle.tl_params.specs.declared.profile.Profile.{Profile}
 use Rattle.tl_client.specs.declared.operation.Op.TheVariants as op
 use Rattle.tl_coherence.specs.refinement.MemoryRelation.{op_of, IsOpened, IsLet}
 use Rattle.tl_coherence.specs.refinement.AbstractStep.{answers, probes_some, access_taken, request_taken, acquire_taken}
-use Rattle.tl_coherence.specs.refinement.AbstractStep.{granted_after, last_taken, ack_taken, is_whole}
+use Rattle.tl_coherence.specs.refinement.AbstractStep.{granted_after, last_taken, ack_taken}
 use Rattle.tl_coherence.specs.protocol.Invariant.{acquires_of, IsInvariant}
-use Rattle.tl_coherence.specs.protocol.Phase.{ProbeAnswered, AcquirePhase, NoAcquire, is_unreleased, is_unprobed}
+use Rattle.tl_coherence.specs.protocol.Phase.{ProbeAnswered, AcquirePhase, NoAcquire}
+use Rattle.tl_coherence.specs.protocol.Phase.{is_unreleased, is_unprobed, is_whole}
 use Rattle.tl_coherence.specs.protocol.PhaseSteps.{after_served, after_grant_sent, after_report, after_release_ack}
 use Rattle.tl_coherence.specs.protocol.PhaseSteps.{after_grant}
 use Rattle.tl_coherence.specs.protocol.Protocol.{Service, Free, Waits, GrantSent, GrantTaken, is_wanting, written}

@@ -9,7 +9,8 @@ pub use Rattle.tl_rules.specs.statement.History.{block_at}
 pub use Rattle.tl_client.specs.statement.Endpoint.{EndConfig}
 pub use Rattle.tl_coherence.specs.bound.Rank.{is_let, is_used, open_releases, open_requests}
 pub use Rattle.tl_coherence.specs.declared.event.Outcome.{Outcome}
-pub use Rattle.tl_coherence.specs.protocol.Packet.{Acquire, Packet, Release, ReleaseAck, Request, one_if}
+pub use Rattle.tl_manager.specs.laws.Pending.{one_if}
+pub use Rattle.tl_coherence.specs.protocol.Packet.{Acquire, Packet, Release, ReleaseAck, Request}
 pub use Rattle.tl_coherence.specs.protocol.Protocol.{Acquires, Asked, SourceFree, SourceState, State, packet}
 pub use Rattle.tl_coherence.specs.refinement.AbstractStep.{AbstractState, abstract_step}
 pub use Rattle.tl_coherence.specs.refinement.SimulationRelation.{SimulationRelation, is_caching}

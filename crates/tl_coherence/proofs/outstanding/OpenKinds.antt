@@ -18,9 +18,9 @@ use Rattle.tl_manager.specs.statement.Holders.{cap_probed}
 use Rattle.tl_coherence.specs.refinement.AbstractStep as follow
 use Rattle.tl_coherence.specs.refinement.AbstractStep.{with_state, some_below, probes_some, access_taken, request_taken}
 use Rattle.tl_coherence.specs.refinement.AbstractStep.{acquire_taken, is_unheld, gift, granted_after, last_taken}
-use Rattle.tl_coherence.specs.refinement.AbstractStep.{ack_taken, is_whole, taken_by_client, kind_taken}
+use Rattle.tl_coherence.specs.refinement.AbstractStep.{ack_taken, taken_by_client, kind_taken}
 use Rattle.tl_coherence.specs.protocol.Invariant.{IsInvariant, cap_asked, serves_with}
-use Rattle.tl_coherence.specs.protocol.Phase.{AcquirePhase, NoAcquire, AcquireOpen, is_unprobed}
+use Rattle.tl_coherence.specs.protocol.Phase.{AcquirePhase, NoAcquire, AcquireOpen, is_unprobed, is_whole}
 use Rattle.tl_coherence.specs.protocol.PhaseSteps.{is_granted_data}
 use Rattle.tl_coherence.specs.protocol.Protocol.{Service, Free, Waits, GrantSent, GrantTaken, Block, Link, InService}
 use Rattle.tl_coherence.specs.protocol.Protocol.{Replied, on, is_probed, with_probe, answered_link, served_link}

@@ -34,7 +34,7 @@ use Rattle.tl_coherence.specs.declared.event.Outcome.TheVariants as outcome
 use Rattle.tl_coherence.specs.statement.Draining.{is_moving}
 use Rattle.tl_coherence.specs.refinement.AbstractStep.{abstract_step_by, kind_taken, packet_taken}
 use Rattle.tl_coherence.specs.statement.Load.{ends_request, ends_release}
-use Rattle.tl_coherence.specs.refinement.ChannelRelation.{receiver}
+use Rattle.tl_coherence.specs.statement.Delivery.{receiver}
 use Rattle.tl_coherence.specs.protocol.Protocol.{Block, is_on, on}
 use Rattle.tl_coherence.specs.refinement.PacketMessages.{message_of, message_of_kind, block_message}
 use Rattle.tl_coherence.specs.statement.Step.{Step, is_to_client, outcome_of, stepped, stepped_at, delivered}

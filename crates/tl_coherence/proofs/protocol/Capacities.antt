@@ -232,10 +232,10 @@ module _ {X : Type 0} (caching : ℕ → Bool) (s : State X) (c n : ℕ) (inv : 
 -- ---- the channels
 
 -- the token goes by the source of its Release
-abbrev is_let : Kind → Bool
-is_let Release = true
-is_let ReleaseAck = true
-is_let _ = false
+abbrev is_of_release : Kind → Bool
+is_of_release Release = true
+is_of_release ReleaseAck = true
+is_of_release _ = false
 
 -- the token goes by the tracker of its block
 abbrev is_tracked : Kind → Bool
@@ -321,7 +321,7 @@ module _ {X : Type 0} (caching : ℕ → Bool) (s : State X) (c sources trackers
 
   -- a Release by its source, and its ReleaseAck
   released_token : (ch : Channel) (x : Packet) (k : Kind) → x.kind ≡ k → is_on ch k ≡ true
-      → IsThere x (packets_on ch (s.link c)) → is_let k ≡ true
+      → IsThere x (packets_on ch (s.link c)) → is_of_release k ≡ true
       → (of_block k (s.lets c (name s c k x.number)) ≡ Some x) × (name s c k x.number < sources)
   released_token ch x Release e on_it there which =
       let let_by = release_named caching s c x.number inv (shown_there caching s c ch Release x.number inv on_it
@@ -333,7 +333,7 @@ module _ {X : Type 0} (caching : ℕ → Bool) (s : State X) (c sources trackers
       (rw let_by (ap (λ (y : Packet). Some y) (token-is x ReleaseAck e)), bounds.releases _ x.number let_by)
   released_token ch x k e on_it there which = absurd cc
 
-  released_there : (ch : Channel) (k : Kind) (x : Packet) → is_on ch k ≡ true → is_let k ≡ true
+  released_there : (ch : Channel) (k : Kind) (x : Packet) → is_on ch k ≡ true → is_of_release k ≡ true
       → IsThere x (packets_on ch (s.link c)) → x.kind ≡ k
       → (of_block k (s.lets c (name s c x.kind x.number)) ≡ Some x) × (name s c x.kind x.number < sources)
   released_there ch k x on_it which there e =

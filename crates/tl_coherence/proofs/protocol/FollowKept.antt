@@ -34,10 +34,10 @@ use Rattle.tl_manager.specs.statement.Holders.{cap_probed}
 use Rattle.tl_manager.proofs.blocks.Written.{bytes_are}
 use Rattle.tl_coherence.specs.refinement.AbstractStep.{AbstractState, with_state, asked, some_below, bytes_at, performs}
 use Rattle.tl_coherence.specs.refinement.AbstractStep.{probes_some, access_taken, request_taken, is_unheld, gift}
-use Rattle.tl_coherence.specs.refinement.AbstractStep.{acquire_taken, granted_after, last_taken, ack_taken, is_whole}
+use Rattle.tl_coherence.specs.refinement.AbstractStep.{acquire_taken, granted_after, last_taken, ack_taken}
 use Rattle.tl_coherence.specs.refinement.AbstractStep.{taken_by_client, kind_taken}
 use Rattle.tl_coherence.specs.protocol.Invariant.{AreOutside}
-use Rattle.tl_coherence.specs.protocol.Phase.{grow_fits}
+use Rattle.tl_coherence.specs.protocol.Phase.{grow_fits, is_whole}
 use Rattle.tl_coherence.specs.protocol.Protocol.{is_probed, acquire_served, acquire_granted, report_taken, grant_taken}
 use Rattle.tl_coherence.specs.refinement.PacketMessages.{cap_sent, report_told, prune_told}
 use Rattle.tl_coherence.proofs.queues.Phases.{and_left, and_right}
@@ -88,7 +88,7 @@ some-one (suc n) test e = go (test n) refl e (λ f. some-one n test f)
     go false f g h = h g
 
 -- who isn't a client has nothing, and isn't probed
-unprobed : (clients : ℕ) (caching : ℕ → Bool) (c : ℕ) (own : Bool) (k : Cap) (pair : ℕ → ClientBlock)
+pub unprobed : (clients : ℕ) (caching : ℕ → Bool) (c : ℕ) (own : Bool) (k : Cap) (pair : ℕ → ClientBlock)
     → ((d : ℕ) → clients ≤ d → caching d ≡ false) → AreOutside caching pair
     → some_below clients (λ d. is_probed c own k (pair d).recorded d) ≡ false → (d : ℕ) → (own && (d == c)) ≡ false
     → is_above k (pair d).recorded ≡ false

@@ -16,7 +16,8 @@ pub use Rattle.tl_coherence.specs.protocol.Invariant.{IsAskedCap, IsInvariant, I
 pub use Rattle.tl_coherence.specs.protocol.Invariant.{cap_asked, is_asked, is_of, is_out, is_replied, releases_with}
 pub use Rattle.tl_coherence.specs.protocol.Invariant.{resting, serves_of, serves_with, tracks_with}
 pub use Rattle.tl_coherence.specs.protocol.Packet.{Acquire, Answer, Grant, GrantAck, Kind, Packet, Probe, ProbeAck}
-pub use Rattle.tl_coherence.specs.protocol.Packet.{Release, ReleaseAck, Request, one_if, set, set_at}
+pub use Rattle.tl_manager.specs.laws.Pending.{one_if}
+pub use Rattle.tl_coherence.specs.protocol.Packet.{Release, ReleaseAck, Request, set, set_at}
 unfoldable pub use Rattle.tl_coherence.specs.protocol.Packet.{count}
 pub use Rattle.tl_coherence.specs.protocol.Phase.{Acknowledging, AcquireOpen, AcquirePhase, ClientBlock, GrantedOther}
 pub use Rattle.tl_coherence.specs.protocol.Phase.{Granting, Idle, NoAcquire, NoProbe, NoRelease, Other, Own}

@@ -18,7 +18,8 @@ unfoldable pub use Rattle.tl_rules.specs.statement.Legality.{beats_from}
 pub use Rattle.tl_client.specs.statement.Endpoint.{EndConfig}
 pub use Rattle.tl_coherence.specs.protocol.Invariant.{IsInvariant, is_asked, is_replied}
 pub use Rattle.tl_coherence.specs.protocol.Packet.{Acquire, Answer, Grant, GrantAck, Kind, Packet, Probe, ProbeAck}
-pub use Rattle.tl_coherence.specs.protocol.Packet.{Release, ReleaseAck, Request, is, one_if, same_kind, set}
+pub use Rattle.tl_manager.specs.laws.Pending.{one_if}
+pub use Rattle.tl_coherence.specs.protocol.Packet.{Release, ReleaseAck, Request, is, same_kind, set}
 unfoldable pub use Rattle.tl_coherence.specs.protocol.Packet.{count}
 pub use Rattle.tl_coherence.specs.protocol.Phase.{Acknowledging, AcquireOpen, ClientBlock, GrantedOther, Granting, Idle}
 pub use Rattle.tl_coherence.specs.protocol.Phase.{NoAcquire, NoProbe, Other, Own, ProbeAnswered, ProbePhase}
@@ -26,7 +27,8 @@ pub use Rattle.tl_coherence.specs.protocol.Phase.{ReleasePhase, ReleaseSent, Vie
 unfoldable pub use Rattle.tl_coherence.specs.protocol.Phase.{ok}
 pub use Rattle.tl_coherence.specs.protocol.Protocol.{State, is_on, packet, packets_on, shown}
 pub use Rattle.tl_coherence.specs.refinement.Carried.{IsCarried}
-pub use Rattle.tl_coherence.specs.refinement.ChannelRelation.{ChannelRelation, receiver}
+pub use Rattle.tl_coherence.specs.refinement.ChannelRelation.{ChannelRelation}
+pub use Rattle.tl_coherence.specs.statement.Delivery.{receiver}
 pub use Rattle.tl_coherence.specs.refinement.Move.{AreMoved, IsMoved, Move, Pops, Pushes, Stays}
 pub use Rattle.tl_coherence.specs.refinement.PacketMessages.{AccessMessages, message_of}
 pub use Rattle.tl_coherence.specs.statement.Step.{is_to_client}

@@ -12,7 +12,8 @@ use Rattle.tl_coherence.specs.refinement.Move.{Move}
 use Rattle.tl_coherence.specs.protocol.Phase.{ReleasePhase, NoRelease, ReleaseSent, ReleaseAcked}
 use Rattle.tl_coherence.specs.bound.Rank.{probing_weight}
 use Rattle.tl_coherence.specs.protocol.Protocol.{is_wanting, is_unserved, shown}
-use Rattle.tl_coherence.specs.protocol.Packet.{Kind, one_if}
+use Rattle.tl_manager.specs.laws.Pending.{one_if}
+use Rattle.tl_coherence.specs.protocol.Packet.{Kind}
 use Rattle.tl_coherence.proofs.queues.Channels.{IsShowing}
 use Rattle.tl_coherence.proofs.rank.RankDecreases.{owed_use, owed_use', owed_let, owed_let', clients, use-no-more}
 use Rattle.tl_coherence.proofs.rank.RankDecreases.{probes-no-more}

@@ -16,7 +16,8 @@ use Rattle.tl_coherence.specs.refinement.AbstractStep.{some_below}
 use Rattle.tl_coherence.specs.protocol.Phase.{ReleasePhase, NoRelease, ReleaseSent, ReleaseAcked, is_unprobed}
 use Rattle.tl_coherence.specs.bound.Rank.{total, probing_weight, use_weight, client_weight, is_used, is_let}
 use Rattle.tl_coherence.specs.bound.Rank.{open_requests, open_releases}
-use Rattle.tl_coherence.specs.protocol.Packet.{Kind, one_if}
+use Rattle.tl_manager.specs.laws.Pending.{one_if}
+use Rattle.tl_coherence.specs.protocol.Packet.{Kind}
 use Rattle.tl_coherence.proofs.protocol.FollowKept.{some-none, some-one}
 use Rattle.tl_coherence.proofs.queues.Sums.{total-le, total-const, probes-light, one-at-most}
 use Rattle.tl_coherence.proofs.queues.Tokens.{same_number}

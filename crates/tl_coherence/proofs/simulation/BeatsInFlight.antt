@@ -43,7 +43,7 @@ use Rattle.tl_client.specs.laws.Sound.{IsSound, corrupt_in}
 use Rattle.tl_client.specs.statement.Send.{release, probe_ack}
 use Rattle.tl_manager.specs.statement.Handing.{Handed}
 use Rattle.tl_manager.specs.code.Kept as manager
-use Rattle.tl_manager.specs.code.Kept.{Each, illegal_at, IsClean, IsFilled, AreLawful}
+use Rattle.tl_manager.specs.code.Kept.{Each, illegal_at, IsClean, AreLawful}
 use Rattle.tl_manager.specs.statement.Offer.{level_of}
 use Rattle.tl_manager.proofs.messages.Lawful.{IsHandable, no_bit}
 use Rattle.tl_coherence.specs.statement.System.{with_message}
@@ -180,21 +180,13 @@ good-message {w} config c l m width level sound ours inside long i lt =
 
 -- ---- messages that the manager hands out
 
-block_of_filled : {w : ℕ} (m : Message w) → IsFilled m → HasBlock m
-block_of_filled (message.A m) filled = filled
-block_of_filled (message.B m) filled = filled
-block_of_filled (message.C m) filled = filled
-block_of_filled (message.D m) filled = filled
-block_of_filled (message.E m) filled = tt
-
 pub good-handed : {w : ℕ} (config : Config) (handed : Handed w) → IsWidth w → Each (IsHandable config) handed
     → Each (λ x. (i : ℕ) → i < beats_of x.1 → IsGood config x.0.0 (beat_of x.1 i)) handed
 good-handed config [] width each = tt
 good-handed config (x ∷ handed) width each = (
   (λ i lt. record {
     sound = each.0.beats i lt;
-    lanes =
-        lanes_are (beat_of x.1 i) (typed-beat x.1 i width (block_of_filled x.1 each.0.filled) lt);
+    lanes = lanes_are (beat_of x.1 i) (typed-beat x.1 i width each.0.filled lt);
   }),
   good-handed config
       handed width each.1,

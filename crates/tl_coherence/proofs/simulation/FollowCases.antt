@@ -13,7 +13,7 @@ use Rattle.tl_client.specs.statement.Ask as ask
 use Rattle.tl_coherence.specs.declared.event.Event.{Event}
 use Rattle.tl_coherence.specs.declared.event.Event.TheVariants.{Ask}
 use Rattle.tl_coherence.specs.declared.event.Outcome.{Outcome}
-use Rattle.tl_coherence.specs.refinement.AbstractStep.{delivered, abstract_step_by, abstract_step, is_last}
+use Rattle.tl_coherence.specs.refinement.AbstractStep.{abstract_delivery, abstract_step_by, abstract_step, is_last}
 use Rattle.tl_coherence.specs.refinement.AbstractStep.{packet_taken}
 use Rattle.tl_coherence.proofs.client.Askable.{askable}
 use Rattle.tl_coherence.proofs.client.AnswersKept.{AreAnswered, answered-asked, answered-kind_taken}
@@ -43,7 +43,8 @@ pub delivered-cases : {w : ℕ} (config : Config) (log : Log w) (mail : AccessMe
     → SimulationRelation config log mail request s sys → P (shadow_of mail request s)
     → ((x : Beat w) (queue : List (Beat w)) (d : IsDelivery config mail s sys link ch x queue)
     → P (taken_of config mail request s sys link.0 d.first.kind d.first.number d.first.rest))
-    → P (delivered config link.0 ch (stepped config (Deliver link ch) sys).outcome sys (shadow_of mail request s))
+    → P (abstract_delivery config link.0 ch (stepped config (Deliver link ch) sys).outcome sys
+    (shadow_of mail request s))
 delivered-cases {w} config log mail request s sys link ch P width h none kinds = go (sys.channels link.0 ch) refl
   where
     before : AbstractState w

@@ -27,7 +27,8 @@ pub use Rattle.tl_coherence.specs.protocol.Protocol.{Acquires, Asked, Block, Fre
 pub use Rattle.tl_coherence.specs.protocol.Protocol.{Replied, Service, SourceFree, SourceState, State, Waits, is_on, on}
 pub use Rattle.tl_coherence.specs.protocol.Protocol.{packet, packets_on, shown}
 pub use Rattle.tl_coherence.specs.refinement.AbstractStep.{AbstractState, asked, kind_taken}
-pub use Rattle.tl_coherence.specs.refinement.ChannelRelation.{ChannelRelation, receiver}
+pub use Rattle.tl_coherence.specs.refinement.ChannelRelation.{ChannelRelation}
+pub use Rattle.tl_coherence.specs.statement.Delivery.{receiver}
 pub use Rattle.tl_coherence.specs.refinement.Move.{Move, Stays}
 pub use Rattle.tl_coherence.specs.refinement.PacketMessages.{AccessMessages, message_of}
 unfoldable pub use Rattle.tl_coherence.specs.refinement.PacketMessages.{block_message}

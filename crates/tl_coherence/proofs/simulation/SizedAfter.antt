@@ -22,16 +22,16 @@ use Rattle.tl_client.specs.statement.Send.{access}
 use Rattle.tl_client.proofs.caching_client.Stores.{word_room, length-stored}
 use Rattle.tl_manager.proofs.messages.Filled.{length-bytes}
 use Rattle.tl_coherence.specs.refinement.AbstractStep.{performs, access_taken, request_taken, acquire_taken}
-use Rattle.tl_coherence.specs.refinement.AbstractStep.{granted_after, last_taken, is_whole, taken_by_client}
+use Rattle.tl_coherence.specs.refinement.AbstractStep.{granted_after, last_taken, taken_by_client}
 use Rattle.tl_coherence.specs.protocol.Invariant.{is_asked}
-use Rattle.tl_coherence.specs.protocol.Phase.{ClientBlock, AcquirePhase, AcquireOpen}
+use Rattle.tl_coherence.specs.protocol.Phase.{ClientBlock, AcquirePhase, AcquireOpen, is_whole}
 use Rattle.tl_coherence.specs.protocol.PhaseSteps.{after_acquire, after_release, after_served, after_grant_sent}
 use Rattle.tl_coherence.specs.protocol.PhaseSteps.{after_probe, after_report, after_release_taken, after_release_ack}
 use Rattle.tl_coherence.specs.protocol.PhaseSteps.{after_grant}
 use Rattle.tl_coherence.specs.protocol.Protocol.{acquiring_block, stored_block, performed_block, served_block}
 use Rattle.tl_coherence.specs.protocol.Protocol.{ended_block, granted_block, granted_pair, taken_block, granted_truth}
 use Rattle.tl_coherence.specs.protocol.Protocol.{freed_block}
-use Rattle.tl_coherence.specs.refinement.SimulationRelation.{AreSized, IsRequest, IsSourced, is_storing}
+use Rattle.tl_coherence.specs.refinement.SimulationRelation.{AreSized, IsRequest, IsSourced}
 use Rattle.tl_coherence.proofs.simulation.Sized.{each-set_at}
 use Rattle.tl_coherence.proofs.queues.Tokens.{same_number, set-same, set-other, set-each, set-part, holds-first}
 use Rattle.tl_coherence.proofs.protocol.BothParts.{is_asked-is}
@@ -232,22 +232,22 @@ sized_block n new block here before = λ i. set-each (λ j b. AreSized b) n new 
 
 -- where no more bytes wait than before
 sized_same : (old new : Block (List ℕ)) → length new.truth ≡ 64 → ((c : ℕ) → new.waiting c ≡ old.waiting c)
-    → ((c : ℕ) → is_storing (new.pair c).acquiring ≡ true → is_storing (old.pair c).acquiring ≡ true) → AreSized old
+    → ((c : ℕ) → is_whole (new.pair c).acquiring ≡ true → is_whole (old.pair c).acquiring ≡ true) → AreSized old
     → AreSized new
 sized_same old new long waiting storing h =
     record { truth = long; waiting = λ c e. ap length (waiting c) ∙ h.waiting c (storing c e) }
 
 -- one client's pair changes, and not what it acquires
 still_acquires : (c : ℕ) (p : ClientBlock) (f : ℕ → ClientBlock) → p.acquiring ≡ (f c).acquiring → (d : ℕ)
-    → is_storing (set c p f d).acquiring ≡ true → is_storing (f d).acquiring ≡ true
-still_acquires c p f same d e = sym (ap is_storing (set-part (λ (q : ClientBlock). q.acquiring) c p f same d)) ∙ e
+    → is_whole (set c p f d).acquiring ≡ true → is_whole (f d).acquiring ≡ true
+still_acquires c p f same d e = sym (ap is_whole (set-part (λ (q : ClientBlock). q.acquiring) c p f same d)) ∙ e
 
 sized_pair : (c : ℕ) (p : ClientBlock) (old new : Block (List ℕ)) → new.pair ≡ set c p old.pair
     → p.acquiring ≡ (old.pair c).acquiring → new.truth ≡ old.truth
     → new.waiting ≡ old.waiting → AreSized old → AreSized new
 sized_pair c p old new pairs same truth waiting h =
     sized_same old new (ap length truth ∙ h.truth) (λ d. ap (λ (f : ℕ → List ℕ). f d) waiting)
-    (λ d e. still_acquires c p old.pair same d (ap (λ (f : ℕ → ClientBlock). is_storing (f d).acquiring) (sym pairs)
+    (λ d e. still_acquires c p old.pair same d (ap (λ (f : ℕ → ClientBlock). is_whole (f d).acquiring) (sym pairs)
     ∙ e)) h
 
 sized_served : (r : ℕ) (own : Bool) (source tracker : ℕ) (k : Cap) (b : Block (List ℕ)) → AreSized b
@@ -255,8 +255,8 @@ sized_served : (r : ℕ) (own : Bool) (source tracker : ℕ) (k : Cap) (b : Bloc
 sized_served r own source tracker k b h = sized_same b (served_block r own source tracker k b) h.truth (λ c. refl)
     (λ c e. go c (own && (c == r)) e) h
   where
-    go : (c : ℕ) (x : Bool) → is_storing (if x then b.pair c else after_served k (b.pair c)).acquiring ≡ true
-        → is_storing (b.pair c).acquiring ≡ true
+    go : (c : ℕ) (x : Bool) → is_whole (if x then b.pair c else after_served k (b.pair c)).acquiring ≡ true
+        → is_whole (b.pair c).acquiring ≡ true
     go c true e = e
     go c false e = e
 
@@ -268,15 +268,15 @@ sized_granted_block c q r d k b h = sized_same b (granted_block c q r d k b) h.t
     reported : ℕ → ClientBlock
     reported = set c (after_report r (b.pair c)) b.pair
 
-    storing : (i : ℕ) → (i ≡ q) ⊎ (i ≡ q → ⊥) → is_storing (granted_pair c q r k b.pair i).acquiring ≡ true
-        → is_storing (b.pair i).acquiring ≡ true
+    storing : (i : ℕ) → (i ≡ q) ⊎ (i ≡ q → ⊥) → is_whole (granted_pair c q r k b.pair i).acquiring ≡ true
+        → is_whole (b.pair i).acquiring ≡ true
     storing i (inl same) e = let f : (set q (after_grant_sent k (b.pair q)) reported q).acquiring
         ≡ (b.pair q).acquiring =
         ap (λ (p : ClientBlock). p.acquiring) (set-same q (after_grant_sent k (b.pair q)) reported) in
-        ap (λ (j : ℕ). is_storing (b.pair j).acquiring) same ∙ sym (ap is_storing f) ∙ ap
-        (λ (j : ℕ). is_storing (set q (after_grant_sent k (b.pair q)) reported j).acquiring) (sym same) ∙ e
+        ap (λ (j : ℕ). is_whole (b.pair j).acquiring) same ∙ sym (ap is_whole f) ∙ ap
+        (λ (j : ℕ). is_whole (set q (after_grant_sent k (b.pair q)) reported j).acquiring) (sym same) ∙ e
     storing i (inr other) e = still_acquires c (after_report r (b.pair c)) b.pair refl i
-        (sym (ap (λ (p : ClientBlock). is_storing p.acquiring) (set-other q i (after_grant_sent k (b.pair q)) reported
+        (sym (ap (λ (p : ClientBlock). is_whole p.acquiring) (set-other q i (after_grant_sent k (b.pair q)) reported
         other)) ∙ e)
 
 sized_taken_block : (c : ℕ) (d : Bool) (k : Cap) (b : Block (List ℕ)) → AreSized b
@@ -287,16 +287,16 @@ sized_taken_block c d k b h = sized_same b (taken_block c (is_whole (b.pair c).a
     bytes : (x : AcquirePhase) → (b.pair c).acquiring ≡ x
         → length (granted_truth (is_whole x) (b.waiting c) b.truth) ≡ 64
     bytes NoAcquire e = h.truth
-    bytes (AcquireOpen true g) e = h.waiting c (ap is_storing e)
+    bytes (AcquireOpen true g) e = h.waiting c (ap is_whole e)
     bytes (AcquireOpen false g) e = h.truth
 
-    storing : (i : ℕ) → (i ≡ c) ⊎ (i ≡ c → ⊥) → is_storing (set c (after_grant k (b.pair c)) b.pair i).acquiring ≡ true
-        → is_storing (b.pair i).acquiring ≡ true
-    storing i (inl same) e = absurd (let f : is_storing (set c (after_grant k (b.pair c)) b.pair c).acquiring ≡ true =
+    storing : (i : ℕ) → (i ≡ c) ⊎ (i ≡ c → ⊥) → is_whole (set c (after_grant k (b.pair c)) b.pair i).acquiring ≡ true
+        → is_whole (b.pair i).acquiring ≡ true
+    storing i (inl same) e = absurd (let f : is_whole (set c (after_grant k (b.pair c)) b.pair c).acquiring ≡ true =
         rw same at e in let g : false ≡ true =
-        sym (ap (λ (p : ClientBlock). is_storing p.acquiring) (set-same c (after_grant k (b.pair c)) b.pair)) ∙ f in cc)
+        sym (ap (λ (p : ClientBlock). is_whole p.acquiring) (set-same c (after_grant k (b.pair c)) b.pair)) ∙ f in cc)
     storing i (inr other) e =
-        sym (ap (λ (p : ClientBlock). is_storing p.acquiring) (set-other c i (after_grant k (b.pair c)) b.pair other))
+        sym (ap (λ (p : ClientBlock). is_whole p.acquiring) (set-other c i (after_grant k (b.pair c)) b.pair other))
         ∙ e
 
 -- ---- messages that are taken
@@ -422,14 +422,14 @@ sized_acquiring c source whole g bytes b long h = record { truth = h.truth; wait
     after : ClientBlock
     after = after_acquire whole g (b.pair c)
 
-    go : (d : ℕ) → (d ≡ c) ⊎ (d ≡ c → ⊥) → is_storing (set c after b.pair d).acquiring ≡ true
+    go : (d : ℕ) → (d ≡ c) ⊎ (d ≡ c → ⊥) → is_whole (set c after b.pair d).acquiring ≡ true
         → length (set c bytes b.waiting d) ≡ 64
     go d (inl same) e =
-        let f : whole ≡ true = sym (ap (λ (p : ClientBlock). is_storing p.acquiring) (set-same c after b.pair)) ∙ ap
-        (λ (j : ℕ). is_storing (set c after b.pair j).acquiring) (sym same) ∙ e in
+        let f : whole ≡ true = sym (ap (λ (p : ClientBlock). is_whole p.acquiring) (set-same c after b.pair)) ∙ ap
+        (λ (j : ℕ). is_whole (set c after b.pair j).acquiring) (sym same) ∙ e in
         rw same (ap length (set-same c bytes b.waiting) ∙ long f)
     go d (inr other) e = ap length (set-other c d bytes b.waiting other) ∙ h.waiting d
-        (sym (ap (λ (p : ClientBlock). is_storing p.acquiring) (set-other c d after b.pair other)) ∙ e)
+        (sym (ap (λ (p : ClientBlock). is_whole p.acquiring) (set-other c d after b.pair other)) ∙ e)
 
 pub sized-asked : {w : ℕ} (caching : ℕ → Bool) (c : ℕ) (o : Op w) (r : Reply) (h : AbstractState w)
     → IsInvariant caching h.state → IsTypedOp o → IsSizedAsk c o r h

@@ -3,7 +3,7 @@ use Rattle.tl_coherence.proofs.theorem.Imports.{IsWidth, Beat, Link, Channel, Me
 use Rattle.tl_coherence.proofs.theorem.Imports.{Log, system_after, Machine, one_memory_after, System}
 use Rattle.tl_coherence.proofs.theorem.Imports.{SimulationRelation}
 use Rattle.std.proofs.Common.{◌≡◌, ℕ, Bool, true, false, List, [], ◌∷◌, Option, Some, None, refl, sym, ◌∙◌, ap, subst}
-use Rattle.std.proofs.Common.{inl}
+use Rattle.std.proofs.Common.{◌⊎◌, inl, inr}
 use Rattle.std.specs.Prelude.{All, Ok}
 use Rattle.std.proofs.lemmas.List.Elements.{All-head}
 use Rattle.tl_beat.specs.declared.beat.Beat.TheVariants as beat
@@ -16,8 +16,9 @@ use Rattle.tl_client.specs.statement.Endpoint.{EndConfig}
 use Rattle.tl_manager.specs.code.Kept as manager
 use Rattle.tl_manager.specs.statement.Reaction.{reaction}
 use Rattle.tl_manager.proofs.calls.Events.{reaction-ack}
+use Rattle.tl_coherence.specs.refinement.MemoryRelation.{IsAccess}
 use Rattle.tl_coherence.specs.statement.Draining.{is_moving}
-use Rattle.tl_coherence.specs.statement.Machine.{Performs, moved}
+use Rattle.tl_coherence.specs.statement.Machine.{Performs, Requests, moved}
 use Rattle.tl_coherence.specs.statement.OneMemory.{performing, accesses_answered}
 use Rattle.tl_coherence.specs.statement.Step.{Step, stepped, handed_by, is_to_client}
 use Rattle.tl_coherence.specs.statement.System.{terms_at}
@@ -57,6 +58,19 @@ performs-none : {w : ℕ} (l : List (ℕ × ℕ)) (m : Machine w) → l ≡ [] �
 unfolding Performs performing
 performs-none l m e = rw e refl
 
+-- at most one access is answered, which the step of the machine leaves as it is
+abbrev pub IsAnswering : {w : ℕ} → List (ℕ × ℕ) → AbstractState w → Machine w → Machine w → Type 0
+IsAnswering l h before next = (l ≡ [])
+    ⊎ ((q : ℕ) × (source : ℕ) × (l ≡ (q, source) ∷ [])
+    × IsAccess source (h.mail.request q source) None (before.opened q Requests source) × (next ≡ before))
+
+performs-answering : {w : ℕ} (l : List (ℕ × ℕ)) (h : AbstractState w) (before next : Machine w)
+    → IsAnswering l h before next → Performs l next (performing l next)
+performs-answering l h before next (inl none) = performs-none l next none
+performs-answering {w} l h before next (inr (q, source, one, opened, still)) =
+    subst (λ (m : Machine w). Performs l m (performing l m)) (sym still)
+    (once-performs l h before (inr (q, source, one, opened)))
+
 still-none : {w : ℕ} (config : Config) (link : Link) (ch : Channel) (sys : System w)
     → is_moving (stepped config (Deliver link ch) sys).outcome ≡ false
     → accesses_answered (stepped config (Deliver link ch) sys).handed ≡ []
@@ -68,15 +82,13 @@ ack-none : {w : ℕ} (config : Config) (link : Link) (x : Beat w) (sys : System 
 unfolding accesses_answered
 ack-none config link x sys y e = rw (e, reaction-ack config link y sys.manager) refl
 
-pub performs-delivered : {w : ℕ} (config : Config) (log : Log w) (link : Link) (ch : Channel) (h : AbstractState w)
+pub answering-delivered : {w : ℕ} (config : Config) (log : Log w) (link : Link) (ch : Channel) (h : AbstractState w)
     → IsWidth w → SimulationRelation config log h.mail h.request h.state (system_after config log)
-    → Performs (accesses_answered (stepped config (Deliver link ch) (system_after config log)).handed)
+    → IsAnswering (accesses_answered (stepped config (Deliver link ch) (system_after config log)).handed) h
+    (one_memory_after config log)
     (moved (Deliver link ch) (stepped config (Deliver link ch) (system_after config log)).outcome
     (one_memory_after config log))
-    (one_memory_after config ((Deliver link ch, (stepped config (Deliver link ch) (system_after config log)).outcome)
-    ∷ log))
-unfolding one_memory_after
-performs-delivered {w} config log link ch h width is = go (is_moving (stepped config (Deliver link ch) sys).outcome)
+answering-delivered {w} config log link ch h width is = go (is_moving (stepped config (Deliver link ch) sys).outcome)
     refl
   where
     sys : System w
@@ -90,10 +102,8 @@ performs-delivered {w} config log link ch h width is = go (is_moving (stepped co
 
     Then : Channel → Type 0
     Then at =
-        Performs (accesses_answered (stepped config (Deliver link at) sys).handed)
+        IsAnswering (accesses_answered (stepped config (Deliver link at) sys).handed) h m
         (moved (Deliver link at) (stepped config (Deliver link at) sys).outcome m)
-        (performing (accesses_answered (stepped config (Deliver link at) sys).handed)
-        (moved (Deliver link at) (stepped config (Deliver link at) sys).outcome m))
 
     head : (at : Channel) (x : Beat w) (queue : List (Beat w)) → sys.channels c at ≡ x ∷ queue
         → manager.IsSound config (record { 0 = c }, x)
@@ -114,9 +124,8 @@ performs-delivered {w} config log link ch h width is = go (is_moving (stepped co
         subst (IsFitAnswer config.blocks) t.answer
         (fit-taken config.blocks x (sys.clients c) (head at x queue beats).inside
         (copy-long config log h.mail h.request h.state sys is c)) in
-        performs-none (accesses_answered (stepped config (Deliver link at) sys).handed) _
-        (ap (λ (s : Step w). accesses_answered s.handed) t.step_is ∙ fit-quiet config.blocks c t.verdict_is t.message
-        fit)
+        inl (ap (λ (s : Step w). accesses_answered s.handed) t.step_is
+        ∙ fit-quiet config.blocks c t.verdict_is t.message fit)
 
     -- the manager takes it
     up : (at : Channel) (terms : EndConfig) (x : Beat w) (queue : List (Beat w)) → is_to_client at ≡ false
@@ -130,12 +139,10 @@ performs-delivered {w} config log link ch h width is = go (is_moving (stepped co
         ap (λ (s : Step w). accesses_answered s.handed) t.step_is in
         let still : moved (Deliver link at) (stepped config (Deliver link at) sys).outcome m ≡ m =
         ap (λ (s : Step w). moved (Deliver link at) s.outcome m) t.step_is in
-        subst (λ (l : List (ℕ × ℕ)). Performs l (moved (Deliver link at) (stepped config (Deliver link at) sys).outcome
-        m)
-        (performing l (moved (Deliver link at) (stepped config (Deliver link at) sys).outcome m))) (sym same)
-        (subst (λ (i : Machine w). Performs (accesses_answered (reaction config link x sys.manager).handed) i
-        (performing (accesses_answered (reaction config link x sys.manager).handed) i)) (sym still)
-        (once-performs (accesses_answered (reaction config link x sys.manager).handed) h m once))
+        elim once [
+          | inl none ↦ inl (same ∙ none)
+          | inr one ↦ inr (one.0, one.1, same ∙ one.2, one.3, still)
+        ]
 
     moves : (at : Channel) (terms : EndConfig) (beats : List (Beat w)) → terms_at config c ≡ Some terms
         → sys.channels c at ≡ beats
@@ -169,5 +176,18 @@ performs-delivered {w} config log link ch h width is = go (is_moving (stepped co
 
     go : (b : Bool) → is_moving (stepped config (Deliver link ch) sys).outcome ≡ b → Then ch
     go true moving = found (terms_at config c) refl moving
-    go false still = performs-none (accesses_answered (stepped config (Deliver link ch) sys).handed) _
-        (still-none config link ch sys still)
+    go false still = inl (still-none config link ch sys still)
+
+pub performs-delivered : {w : ℕ} (config : Config) (log : Log w) (link : Link) (ch : Channel) (h : AbstractState w)
+    → IsWidth w → SimulationRelation config log h.mail h.request h.state (system_after config log)
+    → Performs (accesses_answered (stepped config (Deliver link ch) (system_after config log)).handed)
+    (moved (Deliver link ch) (stepped config (Deliver link ch) (system_after config log)).outcome
+    (one_memory_after config log))
+    (one_memory_after config ((Deliver link ch, (stepped config (Deliver link ch) (system_after config log)).outcome)
+    ∷ log))
+unfolding one_memory_after
+performs-delivered config log link ch h width is =
+    performs-answering (accesses_answered (stepped config (Deliver link ch) (system_after config log)).handed) h
+    (one_memory_after config log)
+    (moved (Deliver link ch) (stepped config (Deliver link ch) (system_after config log)).outcome
+    (one_memory_after config log)) (answering-delivered config log link ch h width is)

@@ -10,7 +10,8 @@ use Rattle.tl_coherence.specs.protocol.Phase.{ProbeAnswered, ReleasePhase, NoRel
 use Rattle.tl_coherence.specs.protocol.Protocol.{Block, State, SourceState, SourceFree, Asked, InService, Replied}
 use Rattle.tl_coherence.specs.protocol.Protocol.{Acquires, view}
 use Rattle.tl_coherence.specs.statement.System.{terms_at}
-use Rattle.tl_coherence.specs.protocol.Packet.{Kind, Request, Acquire, ProbeAck, Release, Answer, Grant, one_if}
+use Rattle.tl_manager.specs.laws.Pending.{one_if}
+use Rattle.tl_coherence.specs.protocol.Packet.{Kind, Request, Acquire, ProbeAck, Release, Answer, Grant}
 
 -- f 0 + .. + f (n - 1)
 unfoldable pub total : ℕ → (ℕ → ℕ) → ℕ

@@ -1,4 +1,5 @@
 -- What is on a channel, the next to be taken first: for each message a key, which names what it is of.
+use Rattle.tl_manager.specs.laws.Pending.{one_if}
 use Rattle.std.specs.Prelude.{ℕ, Bool, true, false, List, [], ◌∷◌, ◌==◌, ◌&&◌, ◌+◌, ◌≡◌, if◌then◌else◌, ⊤}
 
 -- accesses and their answers go by the source, all others by the block
@@ -32,10 +33,6 @@ same_kind _ _ = false
 -- the token is this one
 abbrev pub is : Kind → ℕ → Packet → Bool
 is k n x = same_kind x.kind k && (n == x.number)
-
-abbrev pub one_if : Bool → ℕ
-one_if true = 1
-one_if false = 0
 
 -- how often it stands there
 unfoldable pub count : Kind → ℕ → List Packet → ℕ

@@ -38,8 +38,8 @@ use Rattle.tl_coherence.specs.declared.event.Outcome.{Outcome}
 use Rattle.tl_coherence.specs.declared.event.Outcome.TheVariants as outcome
 use Rattle.tl_coherence.specs.statement.Draining.{is_moving}
 use Rattle.tl_coherence.specs.protocol.Invariant.{resting, cap_asked}
-use Rattle.tl_coherence.specs.refinement.ChannelRelation.{receiver}
-use Rattle.tl_coherence.specs.protocol.Phase.{ClientBlock, AcquirePhase, NoAcquire, AcquireOpen, is_unprobed}
+use Rattle.tl_coherence.specs.statement.Delivery.{receiver}
+use Rattle.tl_coherence.specs.protocol.Phase.{ClientBlock, AcquirePhase, NoAcquire, AcquireOpen, is_unprobed, is_whole}
 use Rattle.tl_coherence.specs.protocol.PhaseSteps.{is_granted_data, after_report}
 use Rattle.tl_coherence.specs.protocol.Protocol.{Service, Free, Waits, GrantSent, Block, State, Link, SourceFree}
 use Rattle.tl_coherence.specs.protocol.Protocol.{packets_on, is_probed, written, access_asked, acquire_asked}
@@ -219,10 +219,6 @@ ack_taken clients profile c n r rest h =
 
 -- ---- a client takes a Grant
 
-abbrev pub is_whole : AcquirePhase → Bool
-is_whole (AcquireOpen whole g) = whole
-is_whole NoAcquire = false
-
 abbrev pub taken_by_client : {w : ℕ} → ℕ → ℕ → Service → List Packet → AbstractState w → AbstractState w
 taken_by_client c n (GrantSent q d k) rest h =
     with_state (grant_taken c n (is_whole ((h.state.block n).pair c).acquiring) d k rest h.state) h
@@ -256,8 +252,8 @@ abbrev pub is_last : {w : ℕ} → List (Beat w) → List (Beat w) → Bool
 is_last [] rest = false
 is_last (x ∷ beats) rest = completes x rest
 
-abbrev pub delivered : {w : ℕ} → Config → ℕ → Channel → Outcome w → System w → AbstractState w → AbstractState w
-delivered config c ch o sys h =
+abbrev pub abstract_delivery : {w : ℕ} → Config → ℕ → Channel → Outcome w → System w → AbstractState w → AbstractState w
+abstract_delivery config c ch o sys h =
     if is_moving o && is_last (sys.channels c ch) (unfinished ch (receiver ch c sys))
     then packet_taken config (least_untaken (trackers_of (services sys.manager.trace))) c
     (packets_on ch (h.state.link c)) h
@@ -265,7 +261,7 @@ delivered config c ch o sys h =
 
 abbrev pub abstract_step_by : {w : ℕ} → Config → Event w → Outcome w → System w → AbstractState w → AbstractState w
 abstract_step_by config (Ask c o) (outcome.Replied r) sys h = asked c o r h
-abstract_step_by config (Deliver link ch) o sys h = delivered config link.0 ch o sys h
+abstract_step_by config (Deliver link ch) o sys h = abstract_delivery config link.0 ch o sys h
 abstract_step_by config _ o sys h = h
 
 -- the protocol after an event of the world, before which it was so

@@ -28,14 +28,14 @@ is_requested c source rest Replied s = true
 is_requested c source rest (Acquires n) s = not (is_unserved (view (s.block n).service c))
 
 -- the same of the Release with this source, where `rest` is that of channel C
-abbrev pub is_let : {w : ℕ} → ℕ → List (Beat w) → ReleasePhase → Bool
-is_let source rest NoRelease = false
-is_let source rest (ReleaseSent r) = comes_in_release source rest
-is_let source rest ReleaseAcked = true
+abbrev pub is_release_pending : {w : ℕ} → ℕ → List (Beat w) → ReleasePhase → Bool
+is_release_pending source rest NoRelease = false
+is_release_pending source rest (ReleaseSent r) = comes_in_release source rest
+is_release_pending source rest ReleaseAcked = true
 
 abbrev pub is_let_by : {w : ℕ} {X : Type 0} → ℕ → ℕ → List (Beat w) → Option ℕ → State X → Bool
 is_let_by c source rest None s = false
-is_let_by c source rest (Some n) s = is_let source rest ((s.block n).pair c).letting
+is_let_by c source rest (Some n) s = is_release_pending source rest ((s.block n).pair c).letting
 
 -- some of the Grant with this sink was delivered, where `rest` is that of channel D, and its GrantAck wasn't
 abbrev pub is_sunk : {w : ℕ} {X : Type 0} → ℕ → ℕ → List (Beat w) → Option ℕ → State X → Bool
@@ -62,7 +62,7 @@ pub record MonitorRelation {w : ℕ} {X : Type 0} (asked : ℕ → Option (BeatA
       → option_map (λ x. block_at x.address) (release_of source t) ≡ Some n
   pub sizes : (source n : ℕ) → s.lets c source ≡ Some n → pending (ReleaseSource source) t ≡ true
       → option_map (λ x. x.size) (release_of source t) ≡ Some 6
-  pub releases : (n : ℕ) → pending (ReleaseOf n) t ≡ is_let ((s.block n).release_source c) (rest channel.C)
+  pub releases : (n : ℕ) → pending (ReleaseOf n) t ≡ is_release_pending ((s.block n).release_source c) (rest channel.C)
       ((s.block n).pair c).letting
   pub sinks : (sink : ℕ) → pending (GrantSink sink) t ≡ is_sunk c sink (rest channel.D) (s.tracked sink) s
   pub grants : (n : ℕ) → pending (GrantAckOf n) t ≡ (is_acknowledging (view (s.block n).service c) || comes_granting n

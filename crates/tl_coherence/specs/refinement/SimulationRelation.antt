@@ -28,7 +28,7 @@ use Rattle.tl_manager.specs.code.Kept as manager
 use Rattle.tl_manager.specs.code.Kept.{illegal_message_at}
 use Rattle.tl_manager.specs.statement.Service.{is_access_answer}
 use Rattle.tl_manager.specs.statement.Offer.{level_of}
-use Rattle.tl_coherence.specs.protocol.Phase.{ClientBlock, AcquirePhase, NoAcquire, AcquireOpen}
+use Rattle.tl_coherence.specs.protocol.Phase.{ClientBlock, AcquirePhase, NoAcquire, AcquireOpen, is_whole}
 use Rattle.tl_coherence.specs.protocol.Packet.{Acquire}
 use Rattle.tl_coherence.specs.protocol.Protocol.{Service, Waits, GrantSent, Block, State, SourceState, SourceFree}
 use Rattle.tl_coherence.specs.protocol.Protocol.{Asked, InService, Replied, Acquires}
@@ -42,7 +42,8 @@ use Rattle.tl_coherence.specs.statement.Flow.{flow}
 use Rattle.tl_coherence.specs.refinement.MonitorRelation.{MonitorRelation}
 use Rattle.tl_coherence.specs.statement.Log.{Log}
 use Rattle.tl_coherence.specs.statement.OneMemory.{one_memory_after}
-use Rattle.tl_coherence.specs.refinement.ChannelRelation.{ChannelRelation, receiver}
+use Rattle.tl_coherence.specs.refinement.ChannelRelation.{ChannelRelation}
+use Rattle.tl_coherence.specs.statement.Delivery.{receiver}
 use Rattle.tl_coherence.specs.statement.System.{System, terms_at}
 
 abbrev pub is_c : Option Level → Bool
@@ -74,11 +75,6 @@ asked_by mail s c source = asked_for (s.uses c source) (mail.request c source)
 abbrev pub request_source : {w : ℕ} → Message w → Option ℕ
 request_source (message.A m) = Some m.source
 request_source _ = None
-
--- the Acquire that is open is for a store of the whole block
-abbrev pub is_storing : AcquirePhase → Bool
-is_storing (AcquireOpen whole g) = whole
-is_storing NoAcquire = false
 
 -- the lanes of a beat are as many as its width
 abbrev pub AreLanes : {w : ℕ} → Beat w → Type 0
@@ -134,7 +130,7 @@ IsGivenAsked p _ pair = ⊤
 -- the bytes of each block
 pub record AreSized (b : Block (List ℕ)) : Type 0 where
   pub truth : length b.truth ≡ 64
-  pub waiting : (c : ℕ) → is_storing (b.pair c).acquiring ≡ true → length (b.waiting c) ≡ 64
+  pub waiting : (c : ℕ) → is_whole (b.pair c).acquiring ≡ true → length (b.waiting c) ≡ 64
 
 -- What is kept of the whole after this log: `s` is the state of the protocol, `mail` the accesses and their answers,
 -- and `request` the request that has each block in service.
@@ -159,7 +155,7 @@ pub record SimulationRelation {w : ℕ} (config : Config) (log : Log w) (mail : 
   pub accounted : (c : ℕ) → IsAccounted (sys.clients c).past
   pub copies : (c n : ℕ) → same_perm ((s.block n).pair c).held perm.None ≡ false
       → (sys.clients c).copies n ≡ Some ((s.block n).copy c)
-  pub waiting : (c n : ℕ) → is_storing ((s.block n).pair c).acquiring ≡ true
+  pub waiting : (c n : ℕ) → is_whole ((s.block n).pair c).acquiring ≡ true
       → (sys.clients c).waiting n ≡ Some ((s.block n).waiting c)
   pub live : (c : ℕ) → (sys.clients c).closed ≡ false
   -- the manager

@@ -1,5 +1,5 @@
 -- What has been delivered, on one link and on all.
-use Rattle.std.specs.Prelude.{ℕ, List, [], ◌∷◌, ◌++◌, ◌==◌, if◌then◌else◌}
+use Rattle.std.specs.Prelude.{ℕ, List, [], ◌∷◌, ◌++◌, ◌==◌, if◌then◌else◌, ⊤}
 use Rattle.tl_beat.specs.declared.beat.Beat.{Beat}
 use Rattle.tl_burst.specs.statement.Messages.{History}
 use Rattle.tl_rules.specs.statement.Conformance.{Trace}
@@ -30,3 +30,13 @@ taken_at _ _ = []
 unfoldable pub trace_of : {w : ℕ} → Log w → Trace w
 trace_of [] = []
 trace_of (x ∷ log) = taken_at x.0 x.1 ++ trace_of log
+
+-- the beat of a link that was taken after this log, where one was, is so
+abbrev pub IsTaken : {w : ℕ} → (Log w → ℕ → Beat w → Type 0) → Log w → Trace w → Type 0
+IsTaken P log [] = ⊤
+IsTaken P log (x ∷ rest) = P log x.0.0 x.1
+
+-- each beat that was taken on a link is so after what had happened before it
+unfoldable pub EachTaken : {w : ℕ} → (Log w → ℕ → Beat w → Type 0) → Log w → Type 0
+EachTaken P [] = ⊤
+EachTaken P (x ∷ log) = IsTaken P log (taken_at x.0 x.1) × EachTaken P log

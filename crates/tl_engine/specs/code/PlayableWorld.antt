@@ -16,7 +16,3 @@ Contained w = WorldState w (AnyClient w) BitDirectory
 -- all this has happened to the world
 abbrev pub Reaches : {w : ℕ} → Config → Contained w → Log w → Type 0
 Reaches config world log = IsReached KnowsAny any_terms perm_of_bits config world log
-
--- events have happened to the world, and nothing else since it was made
-abbrev pub IsPlayable : {w : ℕ} → Contained w → Type 0
-IsPlayable {w} world = (config : Config) × (log : Log w) × Reaches config world log

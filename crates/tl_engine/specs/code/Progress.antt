@@ -1,12 +1,12 @@
 -- How far an input has been judged. `knows` and `tells` are those of the handler's trait, `was` and
 -- `is` the text appended before and after a call, behind a text `before` that has been written already.
-use Rattle.std.specs.Prelude.{◌≡◌, ◌≤◌, ◌<◌, ℕ, ◌+◌, List, [], ◌∷◌, ◌++◌, ◌-◌, ◌^◌, ◌⊎◌, length, count_by, ◌==◌}
+use Rattle.std.specs.Prelude.{◌≡◌, ◌≤◌, ◌<◌, ℕ, ◌+◌, List, [], ◌∷◌, ◌++◌, ◌-◌, ◌^◌, ◌⊎◌, length, count_by, ◌==◌, ⊤}
 use Rattle.tl_engine.specs.declared.fault.Fault.{Fault}
 use Rattle.tl_engine.specs.declared.lines.Lines.{Lines}
 use Rattle.tl_engine.specs.declared.status.Status.{Status}
 use Rattle.tl_engine.specs.declared.status.Status.TheVariants.{Clean, Broken}
 use Rattle.tl_engine.specs.declared.status.ToolFault.{ToolFault}
-use Rattle.tl_engine.specs.declared.status.ToolFault.TheVariants.{Memory, Read}
+use Rattle.tl_engine.specs.declared.status.ToolFault.TheVariants.{Memory, Read, Write}
 use Rattle.tl_engine.specs.statement.Fault.{fault_text}
 use Rattle.tl_engine.specs.code.Judging.{GoesOn}
 use Rattle.tl_engine.specs.code.Lines.{lines_of, LacksLf}
@@ -84,3 +84,15 @@ FinishesInput knows tells state was is Broken =
 -- lines are given up for want of memory, or for want of a number after 2^64 - 1 lines
 abbrev pub GivesUp : ℕ → ToolFault → Type 0
 GivesUp count fault = (fault ≡ Memory) ⊎ ((fault ≡ Read) × (count ≡ 2 ^ 64 - 1))
+
+-- no number is left for the line behind these
+abbrev pub RunsOut : List ℕ → Type 0
+RunsOut read = 2 ^ 64 - 1 ≤ ended_lines read
+
+-- a piece is given up for want of memory, or for want of a number for a line of it
+abbrev pub GivesUpWithin : {H : Type 0} → (H → List (List ℕ) → List ℕ → Type 0) → Lines H → List ℕ → List ℕ → ToolFault
+    → Type 0
+GivesUpWithin knows state piece was Memory = ⊤
+GivesUpWithin knows state piece was Read =
+    (read before : List ℕ) → Progress knows state read (before ++ was) → RunsOut (read ++ piece)
+GivesUpWithin knows state piece was Write = ⊥

@@ -1,10 +1,11 @@
 -- The text of an input under each command.
-use Rattle.std.specs.Prelude.{ℕ, List}
+use Rattle.std.specs.Prelude.{◌≡◌, ◌⊎◌, ◌-◌, ℕ, List, [], ◌++◌, length}
 use Rattle.tl_command.specs.declared.command.Command.{Command}
 use Rattle.tl_command.specs.declared.command.Command.TheVariants.{Decode, Monitor, Explain, Run}
 use Rattle.tl_engine.specs.declared.status.Status.{Status}
+use Rattle.tl_engine.specs.declared.status.Status.TheVariants.{Clean}
 use Rattle.tl_engine.specs.statement.Decoded.{DecodesTo}
-use Rattle.tl_engine.specs.statement.Judged.{Judged}
+use Rattle.tl_engine.specs.statement.Judged.{Judged, clean_text}
 use Rattle.tl_engine.specs.statement.Played.{Played}
 use Rattle.tl_engine.specs.statement.Width.{bytes_of}
 
@@ -14,3 +15,15 @@ text_told (Decode width) = DecodesTo (bytes_of width)
 text_told Monitor = Judged
 text_told Explain = Judged
 text_told (Run trace) = Played trace
+
+-- what the end of an input of n lines adds, none of which is at fault
+abbrev pub end_text : Command → ℕ → List ℕ
+end_text (Decode width) n = []
+end_text Monitor n = clean_text (n - 1)
+end_text Explain n = clean_text (n - 1)
+end_text (Run trace) n = []
+
+-- the text of these lines, of which none is at fault, before the end of the input
+abbrev pub text_so_far : Command → List (List ℕ) → List ℕ → Type 0
+text_so_far command lines text =
+    ((lines ≡ []) × (text ≡ [])) ⊎ text_told command lines (text ++ end_text command (length lines)) Clean

@@ -1,6 +1,7 @@
 -- The readable line, from the places of the fields in the beat line. A field before the data stands at
 -- a fixed place.
-use Rattle.std.specs.Prelude.{⊤, ℕ, ◌+◌, ◌-◌, List, [], ◌∷◌, ◌++◌, length, take, codes, unwrap_or, slice_index, slice_range, ◌≤◌, Option, None, Some}
+use Rattle.std.specs.Prelude.{⊤, ℕ, ◌+◌, ◌-◌, List, [], ◌∷◌, ◌++◌, length, take, codes}
+use Rattle.std.specs.Prelude.{unwrap_or, slice_index, slice_range, ◌≤◌, Option, None, Some}
 
 -- at most 13 bytes, where there are some
 abbrev pub IsShort : Option (List ℕ) → Type 0
@@ -13,7 +14,8 @@ head_text line name param = take 5 line ++ name ++ 32 ∷ [] ++ unwrap_or param 
 
 -- size and source, and what stands before the next field
 unfoldable pub size_and_source : List ℕ → List ℕ → List ℕ
-size_and_source line next = codes " size=" ++ slice_index line 9 ∷ (codes " source=" ++ slice_index line 11 ∷ slice_index line 12 ∷ next)
+size_and_source line next =
+    codes " size=" ++ slice_index line 9 ∷ (codes " source=" ++ slice_index line 11 ∷ slice_index line 12 ∷ next)
 
 -- the eight digits from the fifteenth byte on
 unfoldable pub address_text : List ℕ → List ℕ → List ℕ
@@ -23,7 +25,8 @@ address_text line next =
 
 -- data and corrupt, which end a line
 unfoldable pub tail_text : List ℕ → List ℕ
-tail_text tail = codes " data=" ++ take (length tail - 3) tail ++ (codes " corrupt=" ++ slice_index tail (length tail - 2) ∷ 10 ∷ [])
+tail_text tail = codes " data=" ++ take (length tail - 3)
+    tail ++ (codes " corrupt=" ++ slice_index tail (length tail - 2) ∷ 10 ∷ [])
 
 unfoldable pub request_text : ℕ → List ℕ → List ℕ → Option (List ℕ) → List ℕ
 request_text mask line name param =
@@ -32,12 +35,14 @@ request_text mask line name param =
 
 unfoldable pub release_text : List ℕ → List ℕ → Option (List ℕ) → List ℕ
 release_text line name param =
-    head_text line name param ++ size_and_source line (address_text line []) ++ tail_text (slice_range line 23 (length line))
+    head_text line name param ++ size_and_source line (address_text line []) ++ tail_text
+    (slice_range line 23 (length line))
 
 unfoldable pub response_text : List ℕ → List ℕ → Option (List ℕ) → List ℕ
 response_text line name param =
     head_text line name param
-    ++ size_and_source line (codes " sink=" ++ slice_index line 14 ∷ slice_index line 15 ∷ (codes " denied=" ++ slice_index line 17 ∷ []))
+    ++ size_and_source line (codes " sink=" ++ slice_index line 14 ∷ slice_index line
+    15 ∷ (codes " denied=" ++ slice_index line 17 ∷ []))
     ++ tail_text (slice_range line 19 (length line))
 
 unfoldable pub acknowledgement_text : List ℕ → List ℕ

@@ -1,5 +1,6 @@
 -- What a recorder keeps of the beats before the one at fault.
-use Rattle.std.specs.Prelude.{ℕ, Bool, true, false, not, ◌&&◌, ◌||◌, List, [], ◌∷◌, ◌==◌, ◌+◌, ◌≡◌, if◌then◌else◌, length, nat_lt, Option, Some, None}
+use Rattle.std.specs.Prelude.{ℕ, Bool, true, false, not, ◌&&◌, ◌||◌, List, [], ◌∷◌, ◌==◌}
+use Rattle.std.specs.Prelude.{◌+◌, ◌≡◌, if◌then◌else◌, length, nat_lt, Option, Some, None}
 use Rattle.tl_beat.specs.declared.beat.Beat.{Beat}
 use Rattle.tl_beat.specs.declared.beat.Beat.TheVariants as beat
 use Rattle.tl_beat.specs.declared.beat.BeatA.{BeatA}
@@ -9,9 +10,11 @@ use Rattle.tl_beat.specs.declared.channel.Channel.{Channel}
 use Rattle.tl_beat.specs.declared.channel.Channel.TheVariants as channel
 use Rattle.tl_burst.specs.statement.Messages.{History, burst_length, unfinished}
 use Rattle.tl_params.specs.declared.key.Key.{Key}
-use Rattle.tl_params.specs.declared.key.Key.TheVariants.{RequestSource, ReleaseSource, AcquireOf, ReleaseOf, GrantSink, GrantAckOf, ProbeOf}
+use Rattle.tl_params.specs.declared.key.Key.TheVariants.{RequestSource, ReleaseSource, AcquireOf}
+use Rattle.tl_params.specs.declared.key.Key.TheVariants.{ReleaseOf, GrantSink, GrantAckOf, ProbeOf}
 use Rattle.tl_rules.specs.statement.Conformance.{Trace, on_link}
-use Rattle.tl_rules.specs.statement.History.{begins, ends, block_at, is_acquire, is_grant, is_probe, is_probe_ack, is_release, is_release_ack, request_of, release_of}
+use Rattle.tl_rules.specs.statement.History.{begins, ends, block_at, is_acquire, is_grant, is_probe}
+use Rattle.tl_rules.specs.statement.History.{is_probe_ack, is_release, is_release_ack, request_of, release_of}
 use Rattle.tl_monitor.specs.code.Count.{at}
 use Rattle.tl_explain.specs.declared.told.Told.{Told}
 use Rattle.tl_beat.specs.statement.Control.{control_of}
@@ -25,7 +28,8 @@ use Rattle.tl_explain.specs.declared.turns.Moment.{Moment}
 use Rattle.tl_explain.specs.declared.turns.Subject.{Subject}
 use Rattle.tl_explain.specs.declared.turns.Turns.{Turns}
 use Rattle.tl_explain.specs.declared.recorder.Recorder.{Recorder}
-use Rattle.tl_explain.specs.statement.Evidence.{told, is_open, last_opening, last_closing, last_saying, burst_opening, mention_of}
+use Rattle.tl_explain.specs.statement.Evidence.{told, is_open, last_opening, last_closing}
+use Rattle.tl_explain.specs.statement.Evidence.{last_saying, burst_opening, mention_of}
 
 -- ---- bursts
 
@@ -69,13 +73,15 @@ burst_after m completes burst = if completes then None else Some (begun_with m b
 
 -- with a beat that may be of another channel
 abbrev pub burst_with : Channel → Told → Bool → Option Begun → Option Begun
-burst_with ch m completes burst = if same_channel ch (channel_in m.mention.control) then burst_after m completes burst else burst
+burst_with ch m completes burst = if same_channel ch (channel_in m.mention.control) then burst_after m completes burst
+    else burst
 
 -- this is the burst that is unfinished on the channel of link n
 abbrev pub IsBegun : {w : ℕ} → Option Begun → ℕ → Channel → Trace w → Type 0
 IsBegun None n ch t = unfinished ch (on_link n t) ≡ []
 IsBegun {w} (Some b) n ch t =
-    (newest : Beat w) × (earlier : List (Beat w)) × (unfinished ch (on_link n t) ≡ newest ∷ earlier) × (b.newest ≡ control_of newest)
+    (newest : Beat w) × (earlier : List (Beat w)) × (unfinished ch (on_link n t) ≡ newest ∷ earlier)
+    × (b.newest ≡ control_of newest)
     × (length (unfinished ch (on_link n t)) ≡ b.came) × (burst_opening n ch t ≡ Some b.first.mention)
 
 -- ---- keys
@@ -101,7 +107,8 @@ abbrev pub block_of : {w : ℕ} → Beat w → History w → Option ℕ
 block_of (beat.A x) t = Some (block_at x.address)
 block_of (beat.B x) t = Some (block_at x.address)
 block_of (beat.C x) t = Some (block_at x.address)
-block_of (beat.D x) t = if is_release_ack x.opcode then block_released (release_of x.source t) else block_asked (request_of x.source t)
+block_of (beat.D x) t = if is_release_ack x.opcode then block_released (release_of x.source t) else block_asked
+    (request_of x.source t)
 block_of (beat.E x) t = None
 
 -- the block of the last request with this source, and of the last Release, with one more beat
@@ -110,7 +117,8 @@ asked_next first (beat.A x) s before = if first && (x.source == s) then Some (bl
 asked_next first _ s before = before
 
 abbrev pub released_next : {w : ℕ} → Bool → Beat w → ℕ → Option ℕ → Option ℕ
-released_next first (beat.C x) s before = if first && (is_release x.opcode && (x.source == s)) then Some (block_at x.address) else before
+released_next first (beat.C x) s before = if first && (is_release x.opcode && (x.source == s)) then Some
+    (block_at x.address) else before
 released_next first _ s before = before
 
 -- a message of this block that begins with a beat opens the key
@@ -124,7 +132,8 @@ opens_by (GrantAckOf k) (control.D x) block = is_grant x.opcode && is_number k b
 opens_by (ProbeOf k) (control.B x) block = is_probe x.opcode && is_number k block
 opens_by _ _ block = false
 
--- a message of this block that is complete with a beat closes the key, where the last Grant that opened it had this sink
+-- a message of this block that is complete with a beat closes the key, where the last Grant that opened it had this
+-- sink
 abbrev pub closes_by : Key → Control → Option ℕ → Option ℕ → Bool
 closes_by (RequestSource s) (control.D x) block granted = not (is_release_ack x.opcode) && (x.source == s)
 closes_by (ReleaseSource s) (control.D x) block granted = is_release_ack x.opcode && (x.source == s)

@@ -8,8 +8,10 @@ use Rattle.tl_beat.specs.declared.opcode.OpC.{OpC}
 use Rattle.tl_beat.specs.declared.opcode.OpC.TheVariants as c
 use Rattle.tl_beat.specs.declared.opcode.OpD.{OpD}
 use Rattle.tl_beat.specs.declared.opcode.OpD.TheVariants as d
-use Rattle.tl_params.specs.statement.Names.{arithmetic_name, cap_name, grow_name, intent_name, logical_name, prune_name, report_name}
-use Rattle.tl_params.specs.statement.Param.{arithmetic_of, cap_of, grow_of, intent_of, logical_of, prune_of, report_named}
+use Rattle.tl_params.specs.statement.Names.{arithmetic_name, cap_name, grow_name, intent_name}
+use Rattle.tl_params.specs.statement.Names.{logical_name, prune_name, report_name}
+use Rattle.tl_params.specs.statement.Param.{arithmetic_of, cap_of, grow_of, intent_of}
+use Rattle.tl_params.specs.statement.Param.{logical_of, prune_of, report_named}
 
 -- the standard's name of a param on channel A, where the opcode has one
 abbrev pub a_param_name : OpA → ℕ → Option (List ℕ)

@@ -71,6 +71,11 @@ breaks_at_first _ _ _ _ = false
 abbrev pub order_rules : List Rule
 order_rules = H1 ∷ H2 ∷ H3 ∷ H4 ∷ H5 ∷ H6 ∷ H7 ∷ H8 ∷ H9 ∷ H10 ∷ H11 ∷ H12 ∷ H13 ∷ []
 
+-- the first of these rules that the beat breaks
+abbrev pub first_broken : {w : ℕ} → Profile → List Rule → Beat w → History w → Option Rule
+first_broken p [] x t = None
+first_broken p (rule ∷ rules) x t = first_if (breaks_at_first p rule x t) rule (first_broken p rules x t)
+
 -- the beat breaks the rule of order after the history t, an H rule where it begins a message and S1 where it doesn't
 abbrev pub Breaks : {w : ℕ} → Profile → Rule → Beat w → History w → Type 0
 Breaks p S1 x t = (begins x t ≡ false) × (breaks_burst x (unfinished (channel_of x) t) ≡ true)
@@ -259,11 +264,22 @@ convicted p x (WrongProbe probe) = rule_of_probe x probe.mention.control
 convicted p x (Misreport probe h) = rule_of_report x probe.mention.control h.perm
 convicted p x (Differs b) = first_if (not (has_control x b.newest)) S1 None
 
--- the rules of which a reason is told wherever they are the first that a beat breaks
+-- The rules of order but H2 and H8: of them a reason is told wherever they are the first that a beat breaks. Of H2 and
+-- H8
+-- one is told where no beat before is at fault: the message that isn't complete is then that which opened the key.
 abbrev pub is_always_told : Rule → Bool
+is_always_told S1 = true
+is_always_told H1 = true
 is_always_told H3 = true
+is_always_told H4 = true
+is_always_told H5 = true
 is_always_told H6 = true
+is_always_told H7 = true
+is_always_told H9 = true
+is_always_told H10 = true
+is_always_told H11 = true
 is_always_told H12 = true
+is_always_told H13 = true
 is_always_told _ = false
 
 -- ---- what is recorded for a verdict

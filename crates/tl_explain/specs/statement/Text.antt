@@ -17,20 +17,26 @@ param_text name param = unwrap_or name (digits 1 param)
 abbrev pub text_fields : {w : ℕ} → Link → Beat w → List (List ℕ)
 text_fields {w} link (A x) =
     digits 2 link.0 ∷ letter channel.A ∷ a_name x.opcode ∷ param_text (a_param_name x.opcode x.param) x.param
-    ∷ (codes "size=" ++ digits 1 x.size) ∷ (codes "source=" ++ digits 2 x.source) ∷ (codes "address=" ++ digits 8 x.address)
-    ∷ (codes "mask=" ++ digits (w / 4) x.mask) ∷ (codes "data=" ++ lanes_text x.lanes) ∷ (codes "corrupt=" ++ bit_text x.corrupt) ∷ []
+    ∷ (codes "size=" ++ digits 1 x.size) ∷ (codes "source=" ++ digits 2 x.source) ∷ (codes "address=" ++ digits 8
+    x.address)
+    ∷ (codes "mask=" ++ digits (w / 4) x.mask) ∷ (codes "data=" ++ lanes_text x.lanes) ∷ (codes "corrupt=" ++ bit_text
+    x.corrupt) ∷ []
 text_fields {w} link (B x) =
     digits 2 link.0 ∷ letter channel.B ∷ b_name x.opcode ∷ param_text (b_param_name x.opcode x.param) x.param
-    ∷ (codes "size=" ++ digits 1 x.size) ∷ (codes "source=" ++ digits 2 x.source) ∷ (codes "address=" ++ digits 8 x.address)
-    ∷ (codes "mask=" ++ digits (w / 4) x.mask) ∷ (codes "data=" ++ lanes_text x.lanes) ∷ (codes "corrupt=" ++ bit_text x.corrupt) ∷ []
+    ∷ (codes "size=" ++ digits 1 x.size) ∷ (codes "source=" ++ digits 2 x.source) ∷ (codes "address=" ++ digits 8
+    x.address)
+    ∷ (codes "mask=" ++ digits (w / 4) x.mask) ∷ (codes "data=" ++ lanes_text x.lanes) ∷ (codes "corrupt=" ++ bit_text
+    x.corrupt) ∷ []
 text_fields {w} link (C x) =
     digits 2 link.0 ∷ letter channel.C ∷ c_name x.opcode ∷ param_text (c_param_name x.opcode x.param) x.param
-    ∷ (codes "size=" ++ digits 1 x.size) ∷ (codes "source=" ++ digits 2 x.source) ∷ (codes "address=" ++ digits 8 x.address)
+    ∷ (codes "size=" ++ digits 1 x.size) ∷ (codes "source=" ++ digits 2 x.source) ∷ (codes "address=" ++ digits 8
+    x.address)
     ∷ (codes "data=" ++ lanes_text x.lanes) ∷ (codes "corrupt=" ++ bit_text x.corrupt) ∷ []
 text_fields {w} link (D x) =
     digits 2 link.0 ∷ letter channel.D ∷ d_name x.opcode ∷ param_text (d_param_name x.opcode x.param) x.param
     ∷ (codes "size=" ++ digits 1 x.size) ∷ (codes "source=" ++ digits 2 x.source) ∷ (codes "sink=" ++ digits 2 x.sink)
-    ∷ (codes "denied=" ++ bit_text x.denied) ∷ (codes "data=" ++ lanes_text x.lanes) ∷ (codes "corrupt=" ++ bit_text x.corrupt) ∷ []
+    ∷ (codes "denied=" ++ bit_text x.denied) ∷ (codes "data=" ++ lanes_text x.lanes) ∷ (codes "corrupt=" ++ bit_text
+    x.corrupt) ∷ []
 text_fields {w} link (E x) =
     digits 2 link.0 ∷ letter channel.E ∷ codes "GrantAck" ∷ (codes "sink=" ++ digits 2 x.sink) ∷ []
 

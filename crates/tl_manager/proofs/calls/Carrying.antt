@@ -2,7 +2,7 @@
 use Rattle.tl_manager.proofs.Imports.{IsWidth, Beat, Link, Channel, first_if, Message, IsBurst, History, channel_of}
 use Rattle.tl_manager.proofs.Imports.{breaks_burst, unfinished, is_empty, Config, Perm, Profile, S1, on_link}
 use Rattle.tl_manager.proofs.Imports.{broken_in_order, broken_order, ends, next_rule, is_of_clients, IsComplete}
-use Rattle.tl_manager.proofs.Imports.{with_handed, IsBlockState, Each, IsSound, IsFilled, IsKept, Knows, IsPassed}
+use Rattle.tl_manager.proofs.Imports.{with_handed, IsBlockState, Each, IsSound, HasBlock, IsKept, Knows, IsPassed}
 use Rattle.tl_manager.proofs.Imports.{reaction, End, taken, IsLinkState, ManagerState, LinkState}
 use Rattle.std.proofs.Common.{◌≡◌, ℕ, ◌==◌, Bool, true, false, List, [], ◌∷◌, length, Some, None, refl, sym, ap, ◌∙◌}
 use Rattle.std.proofs.Common.{inl, inr}
@@ -123,7 +123,7 @@ last-is config link link_state x e last ok is at =
 pub is-complete : {w : ℕ} (config : Config) (link : Link) (link_state : LinkState w) (x : Beat w) (m : Message w)
     (e : End w) → IsWidth w → IsPassed config link x e.trace → IsKept config e
     → IsLinkState config link_state link.0 e → true ≡ completes x (burst_for link_state.requests link_state.reports x)
-    → IsBurst m (x ∷ burst_for link_state.requests link_state.reports x) → IsFilled m → IsComplete config link x m e
+    → IsBurst m (x ∷ burst_for link_state.requests link_state.reports x) → HasBlock m → IsComplete config link x m e
 is-complete config link link_state x m e width ok kept is last burst filled = record {
   taken = is_taken config link x e width ok kept;
   last = last-is config link link_state x e true ok is last;

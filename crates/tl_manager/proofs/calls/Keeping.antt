@@ -2,7 +2,7 @@
 use Rattle.tl_manager.proofs.Imports.{IsWidth, Beat, BeatA, Link, Channel, Message, A, B, C, D, E, beats_of, beat_of}
 use Rattle.tl_manager.proofs.Imports.{begun, burst_of, channel_of, unfinished, burst_length, Config, Trace, on_link}
 use Rattle.tl_manager.proofs.Imports.{ends, block_at, Level, illegal, is_one_of, beats-positive, Handed, with_handed}
-use Rattle.tl_manager.proofs.Imports.{Each, AreApart, IsSound, IsTyped, IsFilled, IsPerformable, illegal_at}
+use Rattle.tl_manager.proofs.Imports.{Each, AreApart, IsSound, IsTyped, HasBlock, IsPerformable, illegal_at}
 use Rattle.tl_manager.proofs.Imports.{illegal_message_at, blocks_of, IsKept, request_if, request_carried, Service}
 use Rattle.tl_manager.proofs.Imports.{is_ended_by, least_untaken, trackers_of, with_service, services_after, services}
 use Rattle.tl_manager.proofs.Imports.{service_of_block, is_in_service, reaction, End, fresh, level_of, Judgement}
@@ -327,7 +327,7 @@ recorded-offered config link ch x e client block width typed before =
 -- ---- what is handed out is lawful
 
 lawful_message : {w : ℕ} (config : Config) (x : Link × Message w) → IsWidth w → IsHandable config x
-    → (illegal_message_at (level_of config x.0.0) x.1 ≡ None) × IsClean x.1 × IsFilled x.1
+    → (illegal_message_at (level_of config x.0.0) x.1 ≡ None) × IsClean x.1 × HasBlock x.1
     × IsBlankAfter (beats_of x.1) x.1
 lawful_message {w} config x width ok =
     let first = leveled (level_of config x.0.0) (beat_of x.1 0) (ok.beats 0 (beats-positive x.1 width)).lawful in (
@@ -351,7 +351,7 @@ lawful_as Waits config link ch x e width typed is before = tt
 lawful_as Passes config link ch x e width typed is before =
     let ok = passed config link ch x e typed is in
     each_weaker (IsHandable config) (λ y. (illegal_message_at (level_of config y.0.0) y.1 ≡ None) × IsClean y.1
-    × IsFilled y.1
+    × HasBlock y.1
     × IsBlankAfter (beats_of y.1) y.1) (reaction config link x e).handed (λ y h. lawful_message config y width h)
     (reaction_handable config link x e width ok.sound before.sound)
 

@@ -2,7 +2,7 @@
 use Rattle.tl_manager.proofs.Imports.{IsWidth, Link, OpA, OpD, Message, A, D, MessageA, MessageD, beats_of, beat_of}
 use Rattle.tl_manager.proofs.Imports.{IsZeroFrom, Config, Level, Cap, Memory, answer_of, bytes_from, block_at}
 use Rattle.tl_manager.proofs.Imports.{is_acquire, a_of_level, a_has_size, cap_code, access_answer, release_ack}
-use Rattle.tl_manager.proofs.Imports.{grant_opcode, probe_of_block, IsSound, IsFilled, Service, is_access_answer}
+use Rattle.tl_manager.proofs.Imports.{grant_opcode, probe_of_block, IsSound, HasBlock, Service, is_access_answer}
 use Rattle.tl_manager.proofs.Imports.{is_from_client, level_of}
 use Rattle.std.proofs.Common.{◌≡◌, ℕ, ◌*◌, ◌-◌, ◌/◌, ◌%◌, ◌^◌, ◌<◌, Bool, true, false, ◌&&◌, List, Some, None, refl}
 use Rattle.std.proofs.Common.{◌∙◌, arith, inl, inr}
@@ -33,7 +33,7 @@ pub record IsHandable {w : ℕ} (config : Config) (x : Link × Message w) : Type
   pub ours : is_from_client (beat_of x.1 0) ≡ false
   pub beats : (i : ℕ) → i < beats_of x.1 → IsSound config (x.0, beat_of x.1 i)
   pub clean : IsClean x.1
-  pub filled : IsFilled x.1
+  pub filled : HasBlock x.1
   pub blank : IsBlankAfter (beats_of x.1) x.1
 
 pub no_bit : (i : ℕ) → bit 0 i ≡ false

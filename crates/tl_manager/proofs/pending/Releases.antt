@@ -14,7 +14,8 @@ use Rattle.tl_burst.specs.declared.message.MessageB.{MessageB}
 use Rattle.tl_burst.proofs.ControlFields.{control_c}
 use Rattle.tl_params.specs.declared.key.Key.TheVariants.{ReleaseSource, ReleaseOf}
 use Rattle.tl_rules.specs.statement.History.{release_of, releases}
-use Rattle.tl_manager.specs.code.Releases.{comes_with, comes_of, IsNamed, IsAnswered}
+use Rattle.tl_manager.specs.code.Releases.{comes_of, NamesBlock, IsAnswered}
+use Rattle.tl_rules.specs.statement.Conformance.{comes_in_release}
 use Rattle.tl_rules.proofs.Sent.{release_of-other}
 use Rattle.tl_rules.proofs.Tables.{neither}
 
@@ -40,7 +41,7 @@ all_c (beat.E x ∷ t) = all_c t
 -- ---- beats of other channels
 
 named-same : {w : ℕ} (t u : History w) (burst : List (Beat w)) → ((s : ℕ) → release_of s u ≡ release_of s t)
-    → IsNamed t burst → IsNamed u burst
+    → NamesBlock t burst → NamesBlock u burst
 named-same t u [] same ok = tt
 named-same t u (beat.A x ∷ burst) same ok = tt
 named-same t u (beat.B x ∷ burst) same ok = tt
@@ -87,7 +88,7 @@ later mine false before = refl
 first_carried : {w : ℕ} (x : BeatC w) (t : History w) → IsAnswered t → unfinished channel.C t ≡ [] → IsCarried x t
 unfolding pending release_of
 first_carried x t ok none = record {
-  sources = λ s. rw (none, ok.sources s ∙ ap (comes_with s) none)
+  sources = λ s. rw (none, ok.sources s ∙ ap (comes_in_release s) none)
       (opened (is_release x.opcode && (x.source == s)) (1 == burst_length (beat.C x)));
   blocks = λ k. rw (none, ok.blocks k ∙ ap (comes_of k) none) (opened (is_release x.opcode && (block_at x.address == k))
       (1 == burst_length (beat.C x)));
@@ -99,11 +100,11 @@ next_carried : {w : ℕ} (x y : BeatC w) (burst : List (Beat w)) (t : History w)
 unfolding pending release_of
 next_carried x y burst t ok is same =
     let fields = control_c x y (rw same refl) in
-    let named = subst (IsNamed t) is ok.named in
+    let named = subst (NamesBlock t) is ok.named in
     record {
       sources = λ s. rw is (later (is_release x.opcode && (x.source == s))
           (length (beat.C y ∷ burst) + 1 == burst_length (beat.C x))
-          (pending (ReleaseSource s) t)) ∙ ok.sources s ∙ ap (comes_with s) is ∙ rw (fields.0, fields.3) refl;
+          (pending (ReleaseSource s) t)) ∙ ok.sources s ∙ ap (comes_in_release s) is ∙ rw (fields.0, fields.3) refl;
       blocks = λ k. rw is (later (is_release x.opcode && (block_at x.address == k))
           (length (beat.C y ∷ burst) + 1 == burst_length (beat.C x))
           (pending (ReleaseOf k) t)) ∙ ok.blocks k ∙ ap (comes_of k) is ∙ rw (fields.0, fields.4) refl;
@@ -133,18 +134,18 @@ carried p x t ok e = carried_from p x t (unfinished channel.C t) refl (all_c t) 
 pub not_last : {w : ℕ} (x : BeatC w) (t : History w) → IsCarried x t
     → unfinished channel.C (beat.C x ∷ t) ≡ beat.C x ∷ unfinished channel.C t → IsAnswered (beat.C x ∷ t)
 not_last x t c is = record {
-  sources = λ s. c.sources s ∙ ap (comes_with s) (sym is);
+  sources = λ s. c.sources s ∙ ap (comes_in_release s) (sym is);
   blocks = λ k. c.blocks k ∙ ap (comes_of k) (sym is);
-  named = subst (IsNamed (beat.C x ∷ t)) (sym is) c.named;
+  named = subst (NamesBlock (beat.C x ∷ t)) (sym is) c.named;
 }
 
 -- after the last beat of a message that is no Release
 pub no_release : {w : ℕ} (x : BeatC w) (t : History w) → IsCarried x t → unfinished channel.C (beat.C x ∷ t) ≡ []
     → is_release x.opcode ≡ false → IsAnswered (beat.C x ∷ t)
 no_release x t c is other = record {
-  sources = λ s. c.sources s ∙ rw other refl ∙ ap (comes_with s) (sym is);
+  sources = λ s. c.sources s ∙ rw other refl ∙ ap (comes_in_release s) (sym is);
   blocks = λ k. c.blocks k ∙ rw other refl ∙ ap (comes_of k) (sym is);
-  named = subst (IsNamed (beat.C x ∷ t)) (sym is) tt;
+  named = subst (NamesBlock (beat.C x ∷ t)) (sym is) tt;
 }
 
 -- ---- messages that are handed out
@@ -160,10 +161,10 @@ answered-b m t width none ok =
     let same = unfinished-sent_other channel.C (B m) t refl in
     record {
       sources = λ s. pending-sent_b (ReleaseSource s) m t none (beats-positive (B m) width) ∙ ok.sources s ∙ ap
-          (comes_with s) (sym same);
+          (comes_in_release s) (sym same);
       blocks = λ k. pending-sent_b (ReleaseOf k) m t none (beats-positive (B m) width) ∙ ok.blocks k ∙ ap (comes_of k)
           (sym same);
-      named = subst (IsNamed (sent (B m) t)) (sym same) (named-same t (sent (B m) t) (unfinished channel.C t)
+      named = subst (NamesBlock (sent (B m) t)) (sym same) (named-same t (sent (B m) t) (unfinished channel.C t)
           (λ s. release_of-other s (B m) t (beats_of (B m)) refl) ok.named);
     }
 
@@ -173,10 +174,10 @@ answered-d m t width none other ok =
     let same = unfinished-sent_other channel.C (D m) t refl in
     record {
       sources = λ s. pending-sent_d (ReleaseSource s) m t none (beats-positive (D m) width) ∙ rw other refl ∙ ok.sources
-          s ∙ ap (comes_with s) (sym same);
+          s ∙ ap (comes_in_release s) (sym same);
       blocks = λ k. pending-sent_d (ReleaseOf k) m t none (beats-positive (D m) width) ∙ rw other refl ∙ ok.blocks
           k ∙ ap (comes_of k) (sym same);
-      named = subst (IsNamed (sent (D m) t)) (sym same) (named-same t (sent (D m) t) (unfinished channel.C t)
+      named = subst (NamesBlock (sent (D m) t)) (sym same) (named-same t (sent (D m) t) (unfinished channel.C t)
           (λ s. release_of-other s (D m) t (beats_of (D m)) refl) ok.named);
     }
 
@@ -199,12 +200,12 @@ released {w} x m t width c release last none ack source =
       sources = λ s. pending-sent_d (ReleaseSource s) m (beat.C x ∷ t) none (beats-positive (D m) width)
           ∙ chosen (x.source == s) (is_release_ack m.opcode && (m.source == s))
           (pending (ReleaseSource s) (beat.C x ∷ t)) (c.sources s ∙ rw release refl) (rw (ack, source) refl)
-          ∙ ap (comes_with s) (sym same);
+          ∙ ap (comes_in_release s) (sym same);
       blocks = λ k. pending-sent_d (ReleaseOf k) m (beat.C x ∷ t) none (beats-positive (D m) width)
           ∙ chosen (block_at x.address == k)
           (is_release_ack m.opcode && releases k (release_of m.source (beat.C x ∷ t)))
           (pending (ReleaseOf k) (beat.C x ∷ t))
           (c.blocks k ∙ rw release refl) (rw (ack, source) (c.named k release))
           ∙ ap (comes_of k) (sym same);
-      named = subst (IsNamed (sent (D m) (beat.C x ∷ t))) (sym same) tt;
+      named = subst (NamesBlock (sent (D m) (beat.C x ∷ t))) (sym same) tt;
     }

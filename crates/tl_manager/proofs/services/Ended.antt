@@ -9,7 +9,7 @@ use Rattle.std.specs.Prelude.{map}
 use Rattle.std.proofs.lemmas.Bool.{eq-eqb}
 use Rattle.tl_beat.specs.declared.channel.Channel.TheVariants as channel
 use Rattle.tl_rules.proofs.Sent.{ends-at, not_last, is_last}
-use Rattle.tl_manager.specs.laws.After.{without_answered, without_all, services_after}
+use Rattle.tl_manager.specs.laws.After.{without_answered, without_all, services_left}
 use Rattle.tl_manager.proofs.calls.Reactions.{reaction_handable}
 use Rattle.tl_manager.proofs.pending.Handed.{after_sent, beats_on_link, whole-after_sent, whole-taken}
 use Rattle.tl_manager.proofs.judging.Judged.{passed}
@@ -84,7 +84,7 @@ services-handed config (x ∷ handed) t width each whole =
 
 services_as : {w : ℕ} (j : Judgement) (config : Config) (link : Link) (ch : Channel) (x : Beat w) (e : End w)
     → IsWidth w → IsTyped x → judged config link ch x e ≡ j → IsKept config e
-    → services (offered_as j config link x e).1.trace ≡ services_after (offered_as j config link x e).0 (link, x)
+    → services (offered_as j config link x e).1.trace ≡ services_left (offered_as j config link x e).0 (link, x)
     e.trace
 services_as (Breaks r) config link ch x e width typed is before = refl
 services_as Waits config link ch x e width typed is before = refl
@@ -96,7 +96,7 @@ services_as Passes config link ch x e width typed is before =
 
 pub services-offered : {w : ℕ} (config : Config) (link : Link) (ch : Channel) (x : Beat w) (e : End w) → IsWidth w
     → IsTyped x → IsKept config e
-    → services (offered config link ch x e).1.trace ≡ services_after (offered config link ch x e).0 (link, x) e.trace
+    → services (offered config link ch x e).1.trace ≡ services_left (offered config link ch x e).0 (link, x) e.trace
 unfolding offered
 services-offered config link ch x e width typed before = services_as (judged config link ch x e) config link ch x e
     width typed refl before

@@ -10,7 +10,7 @@ use Rattle.tl_params.specs.declared.config.Config.{Config}
 use Rattle.tl_rules.specs.statement.Conformance.{on_link}
 use Rattle.tl_rules.specs.statement.History.{ends, block_at}
 use Rattle.tl_manager.specs.code.BlockState.{IsPlaced}
-use Rattle.tl_manager.specs.code.Kept.{IsFilled}
+use Rattle.tl_rules.specs.laws.Typed.{HasBlock}
 use Rattle.tl_manager.specs.code.Ready.{IsTaken}
 use Rattle.tl_manager.specs.statement.End.{End}
 
@@ -20,7 +20,7 @@ pub record IsComplete {w : ℕ} (config : Config) (link : Link) (x : Beat w) (me
     pub taken : IsTaken config link x e
     pub last : ends x (on_link link.0 e.trace) ≡ true
     pub burst : IsBurst message (x ∷ unfinished (channel_of x) (on_link link.0 e.trace))
-    pub filled : IsFilled message
+    pub filled : HasBlock message
 
 -- where there are this many blocks and clients, what is due for it can be done
 abbrev pub IsDue : {w : ℕ} → ℕ → ℕ → Link → Message w → Type 0

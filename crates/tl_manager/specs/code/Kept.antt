@@ -19,6 +19,7 @@ use Rattle.tl_rules.specs.statement.History.{block_at, is_acquire, pending}
 use Rattle.tl_params.specs.declared.key.Key.TheVariants.{GrantSink}
 use Rattle.tl_rules.specs.statement.Conformance.{on_link}
 use Rattle.tl_rules.specs.statement.Legality.{illegal, illegal_message, is_one_of}
+use Rattle.tl_rules.specs.laws.Typed.{HasBlock}
 use Rattle.tl_manager.specs.statement.Handing.{Handed}
 use Rattle.tl_manager.specs.laws.Pending.{IsSteady}
 use Rattle.tl_manager.specs.code.Releases.{IsAnswered}
@@ -69,18 +70,10 @@ IsClean (message.C m) = m.corrupt ≡ 0
 IsClean (message.D m) = (m.corrupt ≡ 0) × (m.denied ≡ false)
 IsClean (message.E m) = ⊤
 
--- its payload has 64 bytes
-abbrev pub IsFilled : {w : ℕ} → Message w → Type 0
-IsFilled (message.A m) = length m.payload ≡ 64
-IsFilled (message.B m) = length m.payload ≡ 64
-IsFilled (message.C m) = length m.payload ≡ 64
-IsFilled (message.D m) = length m.payload ≡ 64
-IsFilled (message.E m) = ⊤
-
 -- messages that break no L rule at their links and are clean, with 64 bytes that are zero where no beat carries them
 abbrev pub AreLawful : {w : ℕ} → Config → Handed w → Type 0
 AreLawful config handed =
-    Each (λ x. (illegal_message_at (level_of config x.0.0) x.1 ≡ None) × IsClean x.1 × IsFilled x.1
+    Each (λ x. (illegal_message_at (level_of config x.0.0) x.1 ≡ None) × IsClean x.1 × HasBlock x.1
     × IsBlankAfter (beats_of x.1) x.1) handed
 
 -- what the manager hands out in this answer is so

@@ -27,10 +27,10 @@ without_all [] services = services
 without_all (x ∷ handed) services = without_all handed (without_answered x services)
 
 -- the services after a beat that was answered so, where the trace before it was t
-abbrev pub services_after : {w : ℕ} → Reception w → Link × Beat w → Trace w → List (Service w)
-services_after (Refused rule) x t = services t
-services_after Stalled x t = services t
-services_after (Sent handed) x t = without_all handed (services (x ∷ t))
+abbrev pub services_left : {w : ℕ} → Reception w → Link × Beat w → Trace w → List (Service w)
+services_left (Refused rule) x t = services t
+services_left Stalled x t = services t
+services_left (Sent handed) x t = without_all handed (services (x ∷ t))
 
 -- ---- one link
 

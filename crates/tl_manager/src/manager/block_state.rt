@@ -1,7 +1,8 @@
 //! The blocks of the map: their bytes, what each client is recorded to hold of them, and the requests
 //! in service.
 
-ghost use Rattle.std.specs.Prelude.{ℕ, ◌≡◌, ◌≢◌, ◌⊎◌, ◌<◌, ◌≤◌, ◌==◌, ◌&&◌, ◌*◌, if◌then◌else◌, ◌^◌, ◌∷◌, [], not, length, true, false, Some, None};
+ghost use Rattle.std.specs.Prelude.{ℕ, ◌≡◌, ◌≢◌, ◌⊎◌, ◌<◌, ◌≤◌, ◌==◌, ◌&&◌, ◌*◌, if◌then◌else◌};
+ghost use Rattle.std.specs.Prelude.{◌^◌, ◌∷◌, [], not, length, true, false, Some, None};
 ghost use Rattle.std.specs.Int.{bit_at};
 ghost use Rattle.tl_beat.specs.statement.Width.{IsWidth};
 ghost use Rattle.tl_beat.specs.declared.beat.Beat.{Beat};
@@ -70,7 +71,8 @@ fn without(word: u16, client: u8) -> u16
 
 impl<const W: usize, D: Directory> BlockState<W, D> {
     ghost use Rattle.tl_manager.specs.code.Complete.{IsComplete, IsDue};
-    ghost use Rattle.tl_manager.specs.code.BlockState.{IsBlockState, IsBlockStateWithout, IsReportedBlockState, IsDone, IsPlaced, IsPlacedIn, IsReadyAt, IsReport, IsMessage};
+    ghost use Rattle.tl_manager.specs.code.BlockState.{IsBlockState, IsBlockStateWithout, IsReportedBlockState};
+    ghost use Rattle.tl_manager.specs.code.BlockState.{IsDone, IsPlaced, IsPlacedIn, IsReadyAt, IsReport, IsMessage};
     ghost use Rattle.tl_manager.specs.code.Tracked.{service_with};
     ghost use Rattle.tl_manager.specs.code.Trackers.{tracker_at};
 
@@ -91,7 +93,8 @@ impl<const W: usize, D: Directory> BlockState<W, D> {
         requires block { block_at request.now.address < D.blocks self.now.directory }
         requires small { block_at request.now.address < 2 ^ 16 }
         requires client { link.0 < 16 }
-        ensures { (c : ℕ) → bit_at result c ≡ bit_if (is_above cap (D.perm_of self.now.directory (block_at request.now.address) c)
+        ensures { (c : ℕ) → bit_at result c
+            ≡ bit_if (is_above cap (D.perm_of self.now.directory (block_at request.now.address) c)
             && not (is_acquire request.now.opcode && (link.0 == c))) }
     {
         let above = self.above(cap, block_at(request.address) as u16);
@@ -108,10 +111,12 @@ impl<const W: usize, D: Directory> BlockState<W, D> {
         requires client { link.0 < D.clients self.old.directory }
         requires small { block < 2 ^ 16 }
         ensures here { D.perm_of self.new.directory block link.0 ≡ perm }
-        ensures others { (b c : ℕ) → (b ≢ block) ⊎ (c ≢ link.0) → D.perm_of self.new.directory b c ≡ D.perm_of self.old.directory b c }
+        ensures others { (b c : ℕ) → (b ≢ block) ⊎ (c ≢ link.0) → D.perm_of self.new.directory b c
+            ≡ D.perm_of self.old.directory b c }
         ensures blocks { D.blocks self.new.directory ≡ D.blocks self.old.directory }
         ensures clients { D.clients self.new.directory ≡ D.clients self.old.directory }
-        ensures rest { (self.new.profile ≡ self.old.profile) × (self.new.trackers ≡ self.old.trackers) × (self.new.blocks ≡ self.old.blocks) }
+        ensures rest { (self.new.profile ≡ self.old.profile) × (self.new.trackers ≡ self.old.trackers)
+            × (self.new.blocks ≡ self.old.blocks) }
     {
         self.directory.set(block as u16, link.0, perm);
     }
@@ -134,12 +139,14 @@ impl<const W: usize, D: Directory> BlockState<W, D> {
         requires width { IsWidth W }
         requires number { number < 8 }
         requires acquires { is_acquire request.now.opcode ≡ true }
-        requires placed { IsPlaced (length self.old.blocks.bytes.items) (D.clients self.old.directory) link request.now }
+        requires placed { IsPlaced (length self.old.blocks.bytes.items) (D.clients self.old.directory) link
+            request.now }
         requires blocks { length self.old.blocks.bytes.items ≤ D.blocks self.old.directory }
         requires few { length self.old.blocks.bytes.items ≤ 1024 }
         ensures done { (config : Config) (t : Trace W) (memory : Memory) → IsReadyAt config number link request.now t →
             IsBlockStateWithout number D.perm_of config self.old t memory →
-            IsDone D.perm_of config self.new (result ∷ []) t (performed config (service_with number link request.now) t memory) }
+            IsDone D.perm_of config self.new (result ∷ []) t (performed config (service_with number link request.now) t
+            memory) }
         ensures blocks { D.blocks self.new.directory ≡ D.blocks self.old.directory }
         ensures clients { D.clients self.new.directory ≡ D.clients self.old.directory }
         ensures count { length self.new.blocks.bytes.items ≡ length self.old.blocks.bytes.items }
@@ -160,10 +167,12 @@ impl<const W: usize, D: Directory> BlockState<W, D> {
         requires width { IsWidth W }
         requires number { number < 8 }
         requires access { is_acquire request.now.opcode ≡ false }
-        requires placed { IsPlaced (length self.old.blocks.bytes.items) (D.clients self.old.directory) link request.now }
+        requires placed { IsPlaced (length self.old.blocks.bytes.items) (D.clients self.old.directory) link
+            request.now }
         ensures done { (config : Config) (t : Trace W) (memory : Memory) → IsReadyAt config number link request.now t →
             IsBlockStateWithout number D.perm_of config self.old t memory →
-            IsDone D.perm_of config self.new (result ∷ []) t (performed config (service_with number link request.now) t memory) }
+            IsDone D.perm_of config self.new (result ∷ []) t (performed config (service_with number link request.now) t
+            memory) }
         ensures directory { self.new.directory ≡ self.old.directory }
         ensures count { length self.new.blocks.bytes.items ≡ length self.old.blocks.bytes.items }
     {
@@ -176,12 +185,14 @@ impl<const W: usize, D: Directory> BlockState<W, D> {
     fn answer(&mut self, number: u8, link: Link, request: &MessageA<W>) -> Outbox<W>
         requires width { IsWidth W }
         requires number { number < 8 }
-        requires placed { IsPlaced (length self.old.blocks.bytes.items) (D.clients self.old.directory) link request.now }
+        requires placed { IsPlaced (length self.old.blocks.bytes.items) (D.clients self.old.directory) link
+            request.now }
         requires blocks { length self.old.blocks.bytes.items ≤ D.blocks self.old.directory }
         requires few { length self.old.blocks.bytes.items ≤ 1024 }
         ensures done { (config : Config) (t : Trace W) (memory : Memory) → IsReadyAt config number link request.now t →
             IsBlockStateWithout number D.perm_of config self.old t memory →
-            IsDone D.perm_of config self.new (messages_of result) t (performed config (service_with number link request.now) t memory) }
+            IsDone D.perm_of config self.new (messages_of result) t
+            (performed config (service_with number link request.now) t memory) }
         ensures blocks { D.blocks self.new.directory ≡ D.blocks self.old.directory }
         ensures clients { D.clients self.new.directory ≡ D.clients self.old.directory }
         ensures count { length self.new.blocks.bytes.items ≡ length self.old.blocks.bytes.items }
@@ -199,13 +210,15 @@ impl<const W: usize, D: Directory> BlockState<W, D> {
         requires width { IsWidth W }
         requires number { number < 8 }
         requires client { link.0 < 16 }
-        requires placed { IsPlaced (length self.old.blocks.bytes.items) (D.clients self.old.directory) link request.now }
+        requires placed { IsPlaced (length self.old.blocks.bytes.items) (D.clients self.old.directory) link
+            request.now }
         requires blocks { length self.old.blocks.bytes.items ≤ D.blocks self.old.directory }
         requires few { length self.old.blocks.bytes.items ≤ 1024 }
         ensures done { (config : Config) (t : Trace W) (memory : Memory) → length config.clients.items ≤ 16 →
             IsReadyAt config number link request.now t → IsBlockStateWithout number D.perm_of config self.old t memory →
             IsDone D.perm_of config self.new (messages_of result) t
-            (begun_with config (Holders.cap_probed request.now.opcode request.now.param) (service_with number link request.now) t memory) }
+            (begun_with config (Holders.cap_probed request.now.opcode request.now.param)
+            (service_with number link request.now) t memory) }
         ensures blocks { D.blocks self.new.directory ≡ D.blocks self.old.directory }
         ensures clients { D.clients self.new.directory ≡ D.clients self.old.directory }
         ensures count { length self.new.blocks.bytes.items ≡ length self.old.blocks.bytes.items }
@@ -235,12 +248,15 @@ impl<const W: usize, D: Directory> BlockState<W, D> {
     fn settle(&mut self, link: Link, block: u32) -> Outbox<W>
         requires width { IsWidth W }
         requires client { link.0 < 16 }
-        requires placed { (n : ℕ) → IsPlacedIn (length self.old.blocks.bytes.items) (D.clients self.old.directory) (tracker_at self.old.trackers n) }
+        requires placed { (n : ℕ) →
+            IsPlacedIn (length self.old.blocks.bytes.items) (D.clients self.old.directory)
+            (tracker_at self.old.trackers n) }
         requires blocks { length self.old.blocks.bytes.items ≤ D.blocks self.old.directory }
         requires few { length self.old.blocks.bytes.items ≤ 1024 }
         ensures done { (config : Config) (x : BeatC W) (e : End W) (memory : Memory) → IsReport config link block x e →
             IsReportedBlockState D.perm_of config self.old e.trace ((link, Beat.C x) ∷ e.trace) memory →
-            IsDone D.perm_of config self.new (messages_of result) ((link, Beat.C x) ∷ e.trace) (finish config block ((link, Beat.C x) ∷ e.trace) memory) }
+            IsDone D.perm_of config self.new (messages_of result) ((link, Beat.C x) ∷ e.trace)
+            (finish config block ((link, Beat.C x) ∷ e.trace) memory) }
         ensures blocks { D.blocks self.new.directory ≡ D.blocks self.old.directory }
         ensures clients { D.clients self.new.directory ≡ D.clients self.old.directory }
         ensures count { length self.new.blocks.bytes.items ≡ length self.old.blocks.bytes.items }
@@ -277,12 +293,15 @@ impl<const W: usize, D: Directory> BlockState<W, D> {
         requires client { link.0 < 16 }
         requires covered { link.0 < D.clients self.old.directory }
         requires inside { block_at message.now.address < length self.old.blocks.bytes.items }
-        requires placed { (n : ℕ) → IsPlacedIn (length self.old.blocks.bytes.items) (D.clients self.old.directory) (tracker_at self.old.trackers n) }
+        requires placed { (n : ℕ) →
+            IsPlacedIn (length self.old.blocks.bytes.items) (D.clients self.old.directory)
+            (tracker_at self.old.trackers n) }
         requires blocks { length self.old.blocks.bytes.items ≤ D.blocks self.old.directory }
         requires few { length self.old.blocks.bytes.items ≤ 1024 }
         ensures done { (config : Config) (x : BeatC W) (e : End W) → IsMessage config link x message.now e →
             IsBlockState D.perm_of config self.old e.trace e.memory →
-            IsDone D.perm_of config self.new (messages_of result) ((link, Beat.C x) ∷ e.trace) (reaction config link (Beat.C x) e) }
+            IsDone D.perm_of config self.new (messages_of result) ((link, Beat.C x) ∷ e.trace)
+            (reaction config link (Beat.C x) e) }
         ensures blocks { D.blocks self.new.directory ≡ D.blocks self.old.directory }
         ensures clients { D.clients self.new.directory ≡ D.clients self.old.directory }
         ensures count { length self.new.blocks.bytes.items ≡ length self.old.blocks.bytes.items }
@@ -302,7 +321,8 @@ impl<const W: usize, D: Directory> BlockState<W, D> {
     /// Takes the GrantAck with this sink, which ends the service of its Acquire.
     fn acknowledge(&mut self, sink: u8)
         requires { sink < 8 }
-        ensures done { (config : Config) (link : Link) (x : BeatE) (e : End W) → x.sink ≡ sink → IsTaken config link (Beat.E x) e →
+        ensures done { (config : Config) (link : Link) (x : BeatE) (e : End W) → x.sink ≡ sink →
+            IsTaken config link (Beat.E x) e →
             IsBlockState D.perm_of config self.old e.trace e.memory →
             IsBlockState D.perm_of config self.new ((link, Beat.E x) ∷ e.trace) e.memory }
         ensures directory { self.new.directory ≡ self.old.directory }
@@ -315,12 +335,14 @@ impl<const W: usize, D: Directory> BlockState<W, D> {
     fn serve(&mut self, link: Link, request: &MessageA<W>) -> Outbox<W>
         requires width { IsWidth W }
         requires client { link.0 < 16 }
-        requires placed { IsPlaced (length self.old.blocks.bytes.items) (D.clients self.old.directory) link request.now }
+        requires placed { IsPlaced (length self.old.blocks.bytes.items) (D.clients self.old.directory) link
+            request.now }
         requires blocks { length self.old.blocks.bytes.items ≤ D.blocks self.old.directory }
         requires few { length self.old.blocks.bytes.items ≤ 1024 }
         requires trackers { self.old.trackers.count ≤ 8 }
         ensures done { (config : Config) (x : Beat W) (e : End W) → length config.clients.items ≤ 16 →
-            IsComplete config link x (Message.A request.now) e → IsBlockState D.perm_of config self.old e.trace e.memory →
+            IsComplete config link x (Message.A request.now) e →
+            IsBlockState D.perm_of config self.old e.trace e.memory →
             IsDone D.perm_of config self.new (messages_of result) ((link, x) ∷ e.trace) (reaction config link x e) }
         ensures blocks { D.blocks self.new.directory ≡ D.blocks self.old.directory }
         ensures clients { D.clients self.new.directory ≡ D.clients self.old.directory }
@@ -338,7 +360,9 @@ impl<const W: usize, D: Directory> BlockState<W, D> {
         requires client { link.0 < 16 }
         requires covered { link.0 < D.clients self.old.directory }
         requires due { IsDue (length self.old.blocks.bytes.items) (D.clients self.old.directory) link message.now }
-        requires placed { (n : ℕ) → IsPlacedIn (length self.old.blocks.bytes.items) (D.clients self.old.directory) (tracker_at self.old.trackers n) }
+        requires placed { (n : ℕ) →
+            IsPlacedIn (length self.old.blocks.bytes.items) (D.clients self.old.directory)
+            (tracker_at self.old.trackers n) }
         requires blocks { length self.old.blocks.bytes.items ≤ D.blocks self.old.directory }
         requires few { length self.old.blocks.bytes.items ≤ 1024 }
         requires trackers { self.old.trackers.count ≤ 8 }

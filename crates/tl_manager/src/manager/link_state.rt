@@ -5,10 +5,10 @@ ghost use Rattle.tl_beat.specs.statement.Width.{IsWidth, IsWidth-prop};
 ghost use Rattle.tl_burst.specs.statement.Burst.{IsBurst};
 ghost use Rattle.tl_burst.specs.statement.Messages.{breaks_burst};
 ghost use Rattle.tl_burst.specs.statement.Part.{IsTakeable, part_of, completes};
-ghost use Rattle.tl_rules.specs.statement.Conformance.{comes_in_request};
+ghost use Rattle.tl_rules.specs.statement.Conformance.{comes_in_release, comes_in_request};
 ghost use Rattle.tl_manager.specs.code.BurstFor.{burst_for, burst_with};
 ghost use Rattle.tl_manager.specs.statement.Offer.{is_from_client};
-ghost use Rattle.tl_manager.specs.code.Releases.{comes_with, comes_of};
+ghost use Rattle.tl_manager.specs.code.Releases.{comes_of};
 ghost use Rattle.tl_manager.specs.code.Probed.{probe_in};
 ghost use Rattle.tl_manager.specs.code.Tracking.{request_in};
 
@@ -78,8 +78,10 @@ impl<const W: usize> LinkState<W> {
         ensures reports { self.new.reports ≡ burst_with Channel.C beat.now self.old.reports }
         ensures level { self.new.level ≡ self.old.level }
         ensures closed { self.new.closed ≡ self.old.closed }
-        ensures completes { is_some result ≡ completes beat.now (burst_for self.old.requests self.old.reports beat.now) }
-        ensures message { IfSome result (λ m. IsBurst m (beat.now ∷ burst_for self.old.requests self.old.reports beat.now)) }
+        ensures completes { is_some result
+            ≡ completes beat.now (burst_for self.old.requests self.old.reports beat.now) }
+        ensures message { IfSome result
+            (λ m. IsBurst m (beat.now ∷ burst_for self.old.requests self.old.reports beat.now)) }
     {
         match beat {
             Beat::A(_) => self.requests.take(beat).unwrap_or(None),
@@ -103,7 +105,7 @@ impl<const W: usize> LinkState<W> {
     /// Whether the message of channel C that isn't complete is a Release with this source.
     fn comes_with(&self, source: u8) -> bool
         requires { IsWidth W }
-        ensures { result ≡ comes_with source self.now.reports }
+        ensures { result ≡ comes_in_release source self.now.reports }
     {
         match self.reports.newest() {
             Some(Beat::C(x)) => is_release(x.opcode) && x.source == source,

@@ -1,6 +1,7 @@
 //! The links of a manager, and its blocks.
 
-ghost use Rattle.std.specs.Prelude.{ℕ, ◌≡◌, ◌<◌, ◌≤◌, ◌||◌, nat_le, is_none, IfOk, map, OnOk, Ok, Err, true, false, length};
+ghost use Rattle.std.specs.Prelude.{ℕ, ◌≡◌, ◌<◌, ◌≤◌, ◌||◌, nat_le, is_none, IfOk};
+ghost use Rattle.std.specs.Prelude.{map, OnOk, Ok, Err, true, false, length};
 ghost use Rattle.tl_beat.specs.statement.Width.{IsWidth};
 ghost use Rattle.tl_burst.specs.statement.Part.{IsTakeable};
 ghost use Rattle.tl_beat.specs.declared.beat.Link.{Link};
@@ -64,7 +65,8 @@ fn is_waiting(judged: Result<Admission, Rule>) -> bool
 
 /// Whether a beat is of a request: no other ever has to wait.
 fn may_wait<const W: usize>(beat: &Beat<W>) -> bool
-    ensures { result ≡ false → (config : Config) (link : Link) (t : Trace W) → Offer.must_wait config link beat.now t ≡ false }
+    ensures { result ≡ false → (config : Config) (link : Link) (t : Trace W) → Offer.must_wait config link beat.now t
+        ≡ false }
 {
     matches!(beat, Beat::A(_))
 }
@@ -81,7 +83,8 @@ fn link_states_for<const W: usize>(
     alloc: Global,
     clients: &[ClientConfig],
 ) -> Result<Vec<LinkState<W>>, AllocError>
-    ensures { IfOk result (λ link_states. link_states.items ≡ map (λ client. fresh_link_state client.level) clients.now) }
+    ensures { IfOk result (λ link_states. link_states.items
+        ≡ map (λ client. fresh_link_state client.level) clients.now) }
 {
     let mut link_states = Vec::new(alloc);
     for client in clients {
@@ -137,7 +140,8 @@ impl<const W: usize, D: Directory> ManagerState<W, D> {
 
     /// Whether a beat is the last of a request that can't be served yet.
     fn must_wait(&self, beat: &Beat<W>, part: Part) -> bool
-        ensures { (config : Config) (e : End W) (link : Link) → Knows D.perm_of self.now config e → IsPartOf beat.now part (on_link link.0 e.trace) →
+        ensures { (config : Config) (e : End W) (link : Link) → Knows D.perm_of self.now config e →
+            IsPartOf beat.now part (on_link link.0 e.trace) →
             result ≡ Offer.must_wait config link beat.now e.trace }
     {
         match beat {
@@ -156,8 +160,10 @@ impl<const W: usize, D: Directory> ManagerState<W, D> {
     ) -> Option<Rule>
         requires known { IsManager D.perm_of D.blocks D.clients self.now }
         requires link { link.0 < length self.now.link_states.items }
-        ensures { (config : Config) (e : End W) → Knows D.perm_of self.now config e → IsLinkState config link_state.now link.0 e →
-            IsPartOf beat.now part (on_link link.0 e.trace) → result ≡ broken_in_order config.profile beat.now (on_link link.0 e.trace) }
+        ensures { (config : Config) (e : End W) → Knows D.perm_of self.now config e →
+            IsLinkState config link_state.now link.0 e →
+            IsPartOf beat.now part (on_link link.0 e.trace) →
+            result ≡ broken_in_order config.profile beat.now (on_link link.0 e.trace) }
     {
         if !is_first(part) {
             return None;
@@ -181,7 +187,8 @@ impl<const W: usize, D: Directory> ManagerState<W, D> {
         requires link { link.0 < length self.now.link_states.items }
         requires takeable { IsTakeable beat.now }
         requires theirs { Offer.is_from_client beat.now ≡ true }
-        ensures { (config : Config) (e : End W) → Knows D.perm_of self.now config e → IsLinkState config link_state.now link.0 e →
+        ensures { (config : Config) (e : End W) → Knows D.perm_of self.now config e →
+            IsLinkState config link_state.now link.0 e →
             result ≡ admission_of (judged_in_order config link beat.now e.trace) }
     {
         let Ok(part) = link_state.part(beat) else {
@@ -252,7 +259,8 @@ impl<const W: usize, D: Directory> ManagerState<W, D> {
         requires known { IsManager D.perm_of D.blocks D.clients self.old }
         requires link { link.0 < length self.old.link_states.items }
         requires takeable { IsTakeable beat.now }
-        requires passes { (config : Config) (e : End W) → Knows D.perm_of self.old config e → (ch : Channel) × (judged config link ch beat.now e ≡ Offer.Passes) }
+        requires passes { (config : Config) (e : End W) → Knows D.perm_of self.old config e →
+            (ch : Channel) × (judged config link ch beat.now e ≡ Offer.Passes) }
         ensures handed { (config : Config) (e : End W) → Knows D.perm_of self.old config e →
             messages_of result ≡ (reaction config link beat.now e).handed }
         ensures knows { (config : Config) (e : End W) → Knows D.perm_of self.old config e →

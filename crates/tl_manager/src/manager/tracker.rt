@@ -193,7 +193,8 @@ impl<const W: usize> Trackers<W> {
     /// Changes what one tracker keeps.
     pub fn set(&mut self, number: u8, tracker: Tracker<W>)
         requires { number < 8 }
-        ensures trackers { (n : ℕ) → tracker_at self.new n ≡ (if number == n then tracker.entry else tracker_at self.old n) }
+        ensures trackers { (n : ℕ) →
+            tracker_at self.new n ≡ (if number == n then tracker.entry else tracker_at self.old n) }
         ensures count { self.new.count ≡ self.old.count }
     {
         self.all[usize::from(number)] = tracker;

@@ -3,7 +3,8 @@
 ghost use Rattle.std.specs.Prelude.{◌≡◌, length};
 ghost use Rattle.tl_beat.specs.statement.Width.{IsWidth};
 ghost use Rattle.tl_burst.specs.statement.Part.{IsTakeable};
-ghost use Rattle.tl_manager.specs.code.Kept.{IsFilled, IsTyped};
+ghost use Rattle.tl_manager.specs.code.Kept.{IsTyped};
+ghost use Rattle.tl_rules.specs.laws.Typed.{HasBlock};
 
 use tl_beat::beat::Beat;
 use tl_burst::message::Message;
@@ -20,7 +21,7 @@ fn prove_wide<const W: usize>(lanes: &[u8; W])
 
 /// The payload of a message has 64 bytes.
 pub fn prove_filled<const W: usize>(message: &Message<W>)
-    ensures { IsFilled message.now }
+    ensures { HasBlock message.now }
 {
     match message {
         Message::A(x) => prove_long(&x.payload),

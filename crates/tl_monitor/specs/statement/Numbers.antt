@@ -29,8 +29,8 @@ numbers t =
     ∷ []
 
 -- how many of all of them there are on a link; none on one without a level
-abbrev pub entries_of : {w : ℕ} → List Level → Link → Trace w → ℕ
-entries_of levels link t = if nat_lt link.0 (length levels) then sum (numbers (on_link link.0 t)) else 0
+abbrev pub entry_count : {w : ℕ} → List Level → Link → Trace w → ℕ
+entry_count levels link t = if nat_lt link.0 (length levels) then sum (numbers (on_link link.0 t)) else 0
 
 -- one number has become more
 abbrev pub AnyMore : List ℕ → List ℕ → Type 0

@@ -14,6 +14,7 @@ use Rattle.tl_schedule.specs.declared.line.Line.{Line}
 use Rattle.tl_schedule.specs.declared.line.Line.TheVariants as line_of
 use Rattle.tl_schedule.specs.statement.EventLine.{SpellsLine, drain_line}
 use Rattle.tl_schedule.specs.statement.Schedule.{schedule_line}
+use Rattle.tl_engine.specs.code.Parts.{AppendsPart}
 use Rattle.tl_engine.specs.statement.Played.{HeadsSchedule}
 
 -- ---- an event of the world that a configuration names
@@ -67,3 +68,8 @@ pub record IsScheduleOf (w : ℕ) (version : Version) (config : Config) (n : ℕ
 abbrev pub WritesSchedule : ℕ → Version → Config → ℕ → Option (List ℕ) → Option (List ℕ) → Type 0
 WritesSchedule w version config n old new = (text : List ℕ) × IsScheduleOf w version config n text
     × Appends old new text
+
+-- a beginning of such a schedule was written
+abbrev pub WritesPart : ℕ → Version → Config → ℕ → Option (List ℕ) → Option (List ℕ) → Type 0
+WritesPart w version config n old new = (text : List ℕ) × IsScheduleOf w version config n text
+    × AppendsPart old new text

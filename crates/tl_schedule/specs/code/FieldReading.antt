@@ -3,20 +3,18 @@ use denote.Ref.{Bor}
 use Rattle.std.specs.Prelude.{◌≡◌, ℕ, zero, suc, ◌+◌, ◌*◌, Bool, true, false, List, [], ◌∷◌, Option, Some, None, nat_le}
 use Rattle.std.specs.Prelude.{if◌then◌else◌}
 use Rattle.tl_beat.specs.statement.Digits.{is_digit, digit_value}
+use Rattle.tl_beat.specs.code.FromLeft.{digit_of}
 use Rattle.tl_beat.specs.statement.Line.{pieces}
 use Rattle.tl_schedule.specs.code.Then.{◌>>=◌}
 
 -- ---- digits
-
-abbrev pub hex_in : ℕ → Option ℕ
-hex_in c = if is_digit c then Some (digit_value c) else None
 
 abbrev pub with_rest : {A : Type 0} → List ℕ → A → Option (A × List ℕ)
 with_rest rest a = Some (a, rest)
 
 abbrev pub hex_at : List ℕ → Option (ℕ × List ℕ)
 hex_at [] = None
-hex_at (c ∷ cs) = hex_in c >>= with_rest cs
+hex_at (c ∷ cs) = digit_of c >>= with_rest cs
 
 -- n digits behind a number, and nothing behind them
 unfoldable pub number_in : ℕ → ℕ → List ℕ → Option ℕ
@@ -30,7 +28,7 @@ byte_of rest high low = Some (16 * high + low, rest)
 abbrev pub pair_at : List ℕ → Option (ℕ × List ℕ)
 pair_at [] = None
 pair_at (c ∷ []) = None
-pair_at (c ∷ d ∷ cs) = hex_in c >>= λ high. hex_in d >>= λ low. byte_of cs high low
+pair_at (c ∷ d ∷ cs) = digit_of c >>= λ high. digit_of d >>= λ low. byte_of cs high low
 
 -- n bytes before others, the last byte first, and nothing behind them
 unfoldable pub pairs_in : List ℕ → ℕ → List ℕ → Option (List ℕ)

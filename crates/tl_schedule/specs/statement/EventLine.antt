@@ -18,6 +18,7 @@ use Rattle.tl_params.specs.declared.param.Prune.{Prune}
 use Rattle.tl_params.specs.statement.Names.{arithmetic_name, grow_name, intent_name, logical_name, prune_name}
 use Rattle.tl_params.specs.statement.Param.{arithmetic_code, intent_code, logical_code}
 use Rattle.tl_client.specs.declared.operation.Op.TheVariants as op
+use Rattle.tl_client.specs.statement.Offer.{padded}
 use Rattle.tl_coherence.specs.declared.event.Event.{Event}
 use Rattle.tl_coherence.specs.declared.event.Event.TheVariants as event
 use Rattle.tl_schedule.specs.declared.line.EventFault.{EventFault}
@@ -122,10 +123,6 @@ Fits w (Deliver link channel) = HasRoom 2 link
 
 -- ---- the event that it means
 
--- bytes, and zeros behind them
-abbrev pub filled : List ℕ → List ℕ
-filled bytes = bytes ++ replicate (64 - length bytes) 0
-
 -- 64 bytes in their lanes: where an access has fewer than a beat they lie in the lanes from its
 -- address on, and what would pass the last lane is dropped
 abbrev pub placed : ℕ → ℕ → ℕ → List ℕ → List ℕ
@@ -136,7 +133,7 @@ placed w size address bytes =
 
 -- the payload of an access with these bytes
 abbrev pub payload_of : ℕ → ℕ → ℕ → List ℕ → List ℕ
-payload_of w size address bytes = placed w size address (filled bytes)
+payload_of w size address bytes = placed w size address (padded bytes)
 
 -- a mask of the lanes that carry a byte of an access, in this many beats
 abbrev pub lanes_of : ℕ → ℕ → ℕ → ℕ → ℕ

@@ -1,5 +1,5 @@
 -- When blocks were last free, and requests complete, counted in beats, and the tables of it.
-use Rattle.std.specs.Prelude.{ℕ, zero, suc, Bool, true, false, [], ◌∷◌, ◌&&◌, ◌≡◌, ◌<◌, ◌==◌, if◌then◌else◌, List}
+use Rattle.std.specs.Prelude.{ℕ, suc, Bool, true, false, [], ◌∷◌, ◌&&◌, ◌≡◌, ◌<◌, if◌then◌else◌, List}
 use Rattle.std.specs.Prelude.{length, Option, Some, None, is_some, is_none, slice_index_or}
 use Rattle.std.specs.BTreeMap.{is_at}
 use Rattle.std.specs.Map.{lookup}
@@ -21,7 +21,7 @@ use Rattle.tl_together.specs.declared.breach.Breach.TheVariants.{OfLink}
 use Rattle.tl_together.specs.declared.fault.JudgeFault.{JudgeFault}
 use Rattle.tl_together.specs.declared.fault.JudgeFault.TheVariants as judge
 use Rattle.tl_together.specs.declared.windows.Window.{Window}
-use Rattle.tl_together.specs.statement.Coherence.{is_free}
+use Rattle.tl_rules.specs.statement.Windows.{is_free}
 
 -- how many beats had been taken when the request with this source was last complete and before wasn't
 unfoldable pub asked_at : {w : ℕ} → ℕ → ℕ → Trace w → ℕ

@@ -1,55 +1,23 @@
 -- What the links of a manager owe each other: the rules of memory, over the one trace of all their beats.
-use Rattle.std.specs.Prelude.{ℕ, zero, suc, Bool, true, false, not, [], ◌∷◌, ◌==◌, ◌&&◌, ◌||◌, if◌then◌else◌, List}
-use Rattle.std.specs.Prelude.{length, Option, Some, None, is_some}
+use Rattle.std.specs.Prelude.{ℕ, Bool, true, false, not, [], ◌∷◌, ◌&&◌, if◌then◌else◌, List, length, Option, Some, None}
 use Rattle.tl_beat.specs.declared.beat.Beat.{Beat}
 use Rattle.tl_beat.specs.declared.beat.Beat.TheVariants as beat
 use Rattle.tl_beat.specs.declared.beat.BeatD.{BeatD}
 use Rattle.tl_beat.specs.declared.beat.Link.{Link}
-use Rattle.tl_beat.specs.declared.opcode.OpA.{OpA}
-use Rattle.tl_beat.specs.declared.opcode.OpA.TheVariants as a
 use Rattle.tl_beat.specs.declared.opcode.OpD.{OpD}
 use Rattle.tl_beat.specs.declared.opcode.OpD.TheVariants as d
 use Rattle.tl_params.specs.declared.level.Level.{Level}
-use Rattle.tl_params.specs.declared.perm.Perm.{Perm}
-use Rattle.tl_params.specs.declared.perm.Perm.TheVariants as perm
 use Rattle.tl_params.specs.declared.profile.Profile.{Profile}
 use Rattle.tl_params.specs.declared.rule.Rule.{Rule}
 use Rattle.tl_rules.specs.code.Open.{open_request}
 use Rattle.tl_rules.specs.declared.past.Request.{Request}
-use Rattle.tl_rules.specs.statement.Conformance.{Trace, on_link, same_perm, broken_on_link}
-use Rattle.tl_rules.specs.statement.History.{begins, held, is_grant, capped}
+use Rattle.tl_rules.specs.statement.Conformance.{Trace, on_link, broken_on_link}
+use Rattle.tl_rules.specs.statement.History.{begins, is_grant, capped}
+use Rattle.tl_rules.specs.statement.Windows.{is_free, needs, has_window}
 use Rattle.tl_together.specs.declared.breach.MemoryRule.{MemoryRule}
 use Rattle.tl_together.specs.declared.breach.MemoryRule.TheVariants.{M1, M4}
 use Rattle.tl_together.specs.declared.breach.Breach.{Breach}
 use Rattle.tl_together.specs.declared.breach.Breach.TheVariants.{OfLink, OfMemory}
-
--- ---- who may hold a block beside whom
-
--- beside one who has so much of a block, another may hold so much
-abbrev pub leaves : Perm → Perm → Bool
-leaves perm.Trunk p = same_perm p perm.None
-leaves perm.Branch p = not (same_perm p perm.Trunk)
-leaves perm.None p = true
-
--- the link is the one that is spared, where one is
-abbrev pub is_spared : ℕ → Option ℕ → Bool
-is_spared n None = false
-is_spared n (Some own) = own == n
-
--- After t each of the first n links, but the one that is spared, holds no more of the block than may
--- be held beside one who has so much of it.
-unfoldable pub is_free : {w : ℕ} → ℕ → Option ℕ → Perm → ℕ → Trace w → Bool
-is_free zero spared given block t = true
-is_free (suc n) spared given block t =
-    is_free n spared given block t && (is_spared n spared || leaves given (held block (on_link n t)))
-
--- ---- accesses
-
--- what an access needs of its block, as one who holds it would: to read it, or to write it
-abbrev pub needs : OpA → Perm
-needs a.Get = perm.Branch
-needs a.Intent = perm.None
-needs _ = perm.Trunk
 
 -- the answer to an access that reads or writes
 abbrev pub is_access_ack : OpD → Bool
@@ -57,13 +25,9 @@ is_access_ack d.AccessAck = true
 is_access_ack d.AccessAckData = true
 is_access_ack _ = false
 
--- Since the request with this source, which is pending on the link, is complete there has been a moment
--- at which the block was free for one who needs so much of it.
-unfoldable pub has_window : {w : ℕ} → ℕ → ℕ → ℕ → Perm → ℕ → Trace w → Bool
-has_window n link source given block [] = false
-has_window n link source given block (x ∷ t) =
-    is_some (open_request source (on_link link (x ∷ t))) && (is_free n None given block (x ∷ t) || has_window n link
-    source given block t)
+-- the answer to an access that was performed; one that is denied wasn't
+abbrev pub is_performed : {w : ℕ} → BeatD w → Bool
+is_performed x = is_access_ack x.opcode && not x.denied
 
 -- ---- the rules of memory
 
@@ -82,7 +46,7 @@ broken_access n link x (Some asked) t = if has_window n link x.source (needs ask
 abbrev pub broken_response : {w : ℕ} → ℕ → ℕ → BeatD w → Trace w → Option MemoryRule
 broken_response n link x t =
     if is_grant x.opcode then broken_grant n link x (open_request x.source (on_link link t)) t else
-    if is_access_ack x.opcode then broken_access n link x (open_request x.source (on_link link t)) t else None
+    if is_performed x then broken_access n link x (open_request x.source (on_link link t)) t else None
 
 -- the rule of memory that a beat breaks after t, on one of n links
 abbrev pub broken_memory : {w : ℕ} → ℕ → ℕ → Beat w → Trace w → Option MemoryRule

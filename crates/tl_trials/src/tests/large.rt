@@ -7,6 +7,7 @@ use crate::text::device::{Narrow, Slow};
 use std::alloc::{AllocError, Global};
 use std::cell::Cell;
 use std::io::{self, Read, Write};
+use std::process::Abort;
 use std::test::Fail;
 use tl_engine::command::Command;
 use tl_engine::status::Status;
@@ -139,8 +140,9 @@ fn append_blocks(schedule: &mut Vec<u8>) -> io::Result<()> {
 }
 
 /// What is written of the large schedule, of 259 lines and one at fault behind them, whose reader
-/// fails where it is asked for more.
-fn played(alloc: Global, trace: bool) -> Result<Vec<u8>, Fail> {
+/// fails where it is asked for more. The same is written where it comes in one piece, all of whose
+/// text waits.
+fn played(rt: &impl Abort, alloc: Global, trace: bool) -> Result<Vec<u8>, Fail> {
     let mut schedule = Vec::new(alloc);
     writeln!(&mut schedule, "tlsched 1 1024 8 {CLIENTS}")?;
     append_accesses(&mut schedule)?;
@@ -149,6 +151,10 @@ fn played(alloc: Global, trace: bool) -> Result<Vec<u8>, Fail> {
     let mut reader = Slow::new(schedule.as_slice(), true);
     let mut text = Vec::new(alloc);
     let _ = run_tool(alloc, Command::Run { trace }, &mut reader, &mut text)?;
+    let mut reader = schedule.as_slice();
+    let mut at_once = Vec::new(alloc);
+    let _ = run_tool(alloc, Command::Run { trace }, &mut reader, &mut at_once)?;
+    assert!(rt; at_once.as_slice() == text.as_slice());
     Ok(text)
 }
 
@@ -164,7 +170,7 @@ fn lines_that_end(text: &[u8], end: &[u8]) -> usize {
 /// and 6 * 80 Acquires, each with GrantAck.
 #[test]
 fn plays_a_large_schedule(rt: HostRuntime) -> Result<(), Fail> {
-    let text = played(rt.alloc(), false)?;
+    let text = played(&rt, rt.alloc(), false)?;
     let text = text.as_slice();
     assert!(rt; text.ends_with(b"\ndrained 1088\nline 260 F8\n"));
     assert_eq!(rt;
@@ -190,7 +196,7 @@ fn plays_a_large_schedule(rt: HostRuntime) -> Result<(), Fail> {
 /// Its trace is one in which the monitor finds no fault.
 #[test]
 fn traces_a_large_schedule(rt: HostRuntime) -> Result<(), Fail> {
-    let text = played(rt.alloc(), true)?;
+    let text = played(&rt, rt.alloc(), true)?;
     assert!(rt; text.ends_with(b"\nline 260 F8\n"));
     let end = text.len().saturating_sub(12);
     let mut reader = &text.as_slice()[..end];

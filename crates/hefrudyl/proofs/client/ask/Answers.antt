@@ -1,4 +1,4 @@
-use Rattle.std.proofs.Common.{refl, rules}
+use Rattle.std.proofs.Common.{refl}
 use Rattle.std.specs.Prelude.{Ok, Err}
 use Rattle.hefrudyl.proofs.Called.{asked_as}
 use Rattle.hefrudyl.proofs.client.ask.Goals as goal

@@ -12,13 +12,13 @@ returns-in-Err g c =
 pub returns-in-Ok-Err : goal.returns-in-Ok-Err
 returns-in-Ok-Err g c =
     offered_as c.args.port.now c.offer.new.self c.args.picture.now c.in-Some.beat c.args.reception.now
-    c.args.reception.now c.of.result
+    c.args.reception.now c.broken.result
     c.in-Some.ensures (
       Ok (Err c.in-Ok-Err.rule),
       record {
         offers = search (rules, c.in-Ok-Err.ensures);
         answers =
-            c.of.ensures;
+            c.broken.ensures;
         reception_is = refl;
       },
     )
@@ -26,13 +26,13 @@ returns-in-Ok-Err g c =
 pub returns-in-Ok-Ok : goal.returns-in-Ok-Ok
 returns-in-Ok-Ok g c =
     offered_as c.args.port.now c.offer.new.self c.args.picture.now c.in-Some.beat c.args.reception.now
-    c.of-in-Ok-Ok.result _
+    c.of.result _
     c.in-Some.ensures (
       Ok (Ok c.in-Ok-Ok.verdict),
       record {
         offers = search (rules, c.in-Ok-Ok.ensures);
         answers = refl;
         reception_is =
-            c.of-in-Ok-Ok.ensures;
+            c.of.ensures;
       },
     )

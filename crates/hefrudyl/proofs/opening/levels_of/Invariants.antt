@@ -1,5 +1,5 @@
 use Rattle.std.proofs.Common.{◌≡◌, ◌++◌, map, drop}
-use Rattle.hefrudyl.specs.statement.Opened.{level_at}
+use Rattle.tl_pictures.specs.statement.Codes.{level_at}
 use Rattle.hefrudyl.proofs.opening.levels_of.Given as goal
 
 abbrev pub invariant-loop-code : goal.invariant-loop-code

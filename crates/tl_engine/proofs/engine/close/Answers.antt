@@ -1,5 +1,7 @@
 use Rattle.std.proofs.lemmas.Result.{err_from_is_err_and}
 use Rattle.tl_engine.proofs.Runs.{fails_unjudged, fails_closing}
+use Rattle.tl_engine.proofs.GivenUp.{unfinished, unwritten_at_end}
+use Rattle.tl_engine.proofs.Parts.{short_part}
 use Rattle.tl_engine.proofs.engine.close.Goals as goal
 
 pub returns-in_err-status-clause-err : goal.returns-in_err-status-clause-err
@@ -11,5 +13,18 @@ pub returns-in_err-write_all-clause-err : goal.returns-in_err-write_all-clause-e
 returns-in_err-write_all-clause-err g c =
     let p = err_from_is_err_and c.from_residual-in_err-write_all.result c.from_residual-in_err-write_all.ensures.1 in
     rw p.1 (fails_closing g.H.LineHandler.knows g.H.LineHandler.tells _ _ c.finish.new.out.items _ _
+    (rw c.requires.empty at c.in_ok-status.ensures.finishes)
+    (short_part _ _ _ (rw c.deref.ensures.value at c.in_err-write_all.ensures.err)))
+
+pub returns-in_err-status-clause-fault : goal.returns-in_err-status-clause-fault
+returns-in_err-status-clause-fault g c =
+    let p = err_from_is_err_and c.from_residual.result c.from_residual.ensures.1 in
+    rw (p.1, p.2) (unfinished g.H.LineHandler.knows g.H.LineHandler.tells _ _ _ c.in_err-status.ensures.fault)
+
+pub returns-in_err-write_all-clause-fault : goal.returns-in_err-write_all-clause-fault
+returns-in_err-write_all-clause-fault g c =
+    let p = err_from_is_err_and c.from_residual-in_err-write_all.result c.from_residual-in_err-write_all.ensures.1 in
+    rw (p.1, p.2, c.in_err-write_all.ensures.fault) (unwritten_at_end g.H.LineHandler.knows g.H.LineHandler.tells _ _
+    c.finish.new.out.items _ _
     (rw c.requires.empty at c.in_ok-status.ensures.finishes)
     (rw c.deref.ensures.value at c.in_err-write_all.ensures.err))

@@ -4,6 +4,8 @@ use Rattle.std.proofs.KnownBytes.{Appends-nil, Consumes-nil, Keeps-refl}
 use Rattle.std.proofs.lemmas.Result.{err_from_is_err_and}
 use Rattle.tl_engine.proofs.Runs.{fails_at_start, fails_reading, fails_passing, ends_broken, goes_on, closed_ok}
 use Rattle.tl_engine.proofs.Runs.{closed_err}
+use Rattle.tl_engine.proofs.GivenUp.{given_up_at_start, given_up_reading, given_up_passing, given_up_closing}
+use Rattle.tl_engine.proofs.GivenUp.{piece_or_end}
 use Rattle.tl_engine.proofs.engine.handle_input.Goals as goal
 
 pub returns-in_err-chunk-clause-err : goal.returns-in_err-chunk-clause-err
@@ -60,3 +62,31 @@ loop-preserved g c = record {
 pub returns-clause-err : goal.returns-clause-err
 returns-clause-err g c = fails_reading g.H.LineHandler.knows g.H.LineHandler.tells _ _ _ _ _ c.loop.invariant.so_far
     c.requires.total _ (Keeps-refl _)
+
+pub returns-in_err-chunk-clause-fault : goal.returns-in_err-chunk-clause-fault
+returns-in_err-chunk-clause-fault g c =
+    let p = err_from_is_err_and c.from_residual.result c.from_residual.ensures.1 in
+    rw (p.1, p.2) (given_up_at_start g.H.LineHandler.knows g.H.LineHandler.tells _ _ _ c.requires.begins)
+
+pub returns-in_err-count-clause-fault : goal.returns-in_err-count-clause-fault
+returns-in_err-count-clause-fault g c =
+    let p = err_from_is_err_and c.from_residual-in_err-count.result c.from_residual-in_err-count.ensures.1 in
+    rw (p.1, p.2, c.in_err-count.ensures.fault) (given_up_reading g.H.LineHandler.knows g.H.LineHandler.tells _ _ _ _ _
+    c.loop.invariant.so_far _ c.in_err-count.ensures.err)
+
+pub returns-then-count-eq0-clause-fault : goal.returns-then-count-eq0-clause-fault
+returns-then-count-eq0-clause-fault g c =
+    given_up_closing g.H.LineHandler.knows g.H.LineHandler.tells _ _ _ _ _ c.loop.invariant.so_far _ _ _ _ _
+    c.if-count-eq0.true c.in_ok-count.ensures.ok
+    (c.in_ok-count.ensures.end (ap Ok c.if-count-eq0.true)) c.close.ensures.fault
+
+pub returns-in_err-pass-clause-fault : goal.returns-in_err-pass-clause-fault
+returns-in_err-pass-clause-fault g c =
+    let p = err_from_is_err_and c.from_residual-in_err-pass.result c.from_residual-in_err-pass.ensures.1 in
+    rw (p.1, p.2) (given_up_passing g.H.LineHandler.knows g.H.LineHandler.tells _ _ _ _ _ c.loop.invariant.so_far
+    _ _ _ _ c.in_ok-count.ensures.ok (piece_or_end _ _ _ (search rules) (search rules))
+    (rw c.deref.ensures.value at c.in_err-pass.ensures.fault))
+
+pub returns-clause-fault : goal.returns-clause-fault
+returns-clause-fault g c =
+    given_up_reading g.H.LineHandler.knows g.H.LineHandler.tells _ _ _ _ _ c.loop.invariant.so_far _ (Keeps-refl _)

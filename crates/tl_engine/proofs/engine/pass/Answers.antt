@@ -1,5 +1,7 @@
 use Rattle.std.proofs.lemmas.Result.{err_from_is_err_and}
 use Rattle.tl_engine.proofs.Runs.{fails_unjudged, fails_written}
+use Rattle.tl_engine.proofs.GivenUp.{unjudged, unwritten}
+use Rattle.tl_engine.proofs.Parts.{short_part}
 use Rattle.tl_engine.proofs.engine.pass.Goals as goal
 
 pub returns-in_err-status-clause-err : goal.returns-in_err-status-clause-err
@@ -11,5 +13,20 @@ pub returns-in_err-write_all-clause-err : goal.returns-in_err-write_all-clause-e
 returns-in_err-write_all-clause-err g c =
     let p = err_from_is_err_and c.from_residual-in_err-write_all.result c.from_residual-in_err-write_all.ensures.1 in
     rw p.1 (fails_written g.H.LineHandler.knows g.H.LineHandler.tells c.requires.total _ _ c.feed.new.self _
+    c.feed.new.out.items _ _
+    (rw c.requires.empty at c.in_ok-status.ensures.feeds)
+    (short_part _ _ _ (rw c.deref.ensures.value at c.in_err-write_all.ensures.err)))
+
+pub returns-in_err-status-clause-fault : goal.returns-in_err-status-clause-fault
+returns-in_err-status-clause-fault g c =
+    let p = err_from_is_err_and c.from_residual.result c.from_residual.ensures.1 in
+    rw (p.1, p.2) (unjudged g.H.LineHandler.knows g.H.LineHandler.tells _ _ _ _
+    (rw c.requires.empty at c.in_err-status.ensures.fault))
+
+pub returns-in_err-write_all-clause-fault : goal.returns-in_err-write_all-clause-fault
+returns-in_err-write_all-clause-fault g c =
+    let p = err_from_is_err_and c.from_residual-in_err-write_all.result c.from_residual-in_err-write_all.ensures.1 in
+    rw (p.1, p.2, c.in_err-write_all.ensures.fault) (unwritten g.H.LineHandler.knows g.H.LineHandler.tells _ _
+    c.feed.new.self _
     c.feed.new.out.items _ _
     (rw c.requires.empty at c.in_ok-status.ensures.feeds) (rw c.deref.ensures.value at c.in_err-write_all.ensures.err))

@@ -1,7 +1,7 @@
 use Rattle.std.proofs.Common.{rules, take-add, ◌+◌}
 use Rattle.std.proofs.lemmas.List.{take_rest}
 use Rattle.std.proofs.KnownBytes.{Appends-trans, Appends-kept}
-use Rattle.tl_engine.proofs.Parts.{part_of}
+use Rattle.tl_engine.proofs.Parts.{short_of}
 use Rattle.tl_engine.proofs.output.write_all.Goals as goal
 
 pub loop-done-preserved : goal.loop-done-preserved
@@ -12,9 +12,10 @@ loop-done-preserved g c = record {
 
 pub returns-in-Err-clause-err : goal.returns-in-Err-clause-err
 returns-in-Err-clause-err g c =
-    part_of _ _ c.loop-done.done _ (Appends-kept _ _ _ _ c.loop-done.invariant.written c.in-Err.ensures.bytes)
+    short_of _ _ c.loop-done.done _ (search rules) (Appends-kept _ _ _ _ c.loop-done.invariant.written
+    c.in-Err.ensures.bytes)
 
 pub returns-then-n-eq0-clause-err : goal.returns-then-n-eq0-clause-err
 returns-then-n-eq0-clause-err g c =
-    part_of _ _ (c.loop-done.done + c.in-Ok.n) _
+    short_of _ _ (c.loop-done.done + c.in-Ok.n) _ (search rules)
     (rw take-add (Appends-trans _ _ _ _ _ c.loop-done.invariant.written (rw take_rest at c.in-Ok.ensures.bytes)))

@@ -1,35 +1,26 @@
 use Rattle.std.proofs.Common.{rules, ◌≡◌, ◌≤◌, sym, inl, inr, arith}
 use Rattle.tl_coherence.specs.statement.Load.{load}
-use Rattle.tl_coherence.specs.statement.Movable.{drained}
-use Rattle.tl_engine.specs.code.PlayableWorld.{IsPlayable}
 use Rattle.tl_engine.proofs.Played.{delivered-none, delivered-more, drains-all}
 use Rattle.tl_engine.proofs.play.deliver_all.Goals as goal
 
 pub loop-count-init : goal.loop-count-init
 loop-count-init g c = λ config log r. delivered-none c.args.trace config log c.args.world.now c.args.out.now.items r
 
-pub play_event-requires : goal.play_event-requires
-play_event-requires g c =
-    let (config, log, reached) = c.requires.playable in
-    let playable : IsPlayable c.loop-count.world =
-    (config, drained config c.loop-count.count log, (c.loop-count.invariant config log reached).reached) in
-    search (rules, playable)
-
 pub loop-count-preserved : goal.loop-count-preserved
 loop-count-preserved g c = λ config log r.
     let so_far = c.loop-count.invariant config log r in
     delivered-more c.args.trace config log c.loop-count.world _ _ c.loop-count.out.items _ c.loop-count.count
     c.in-Some.link c.in-Some.channel so_far
-    (search (rules, c.in-Some.ensures.next config _ so_far.reached)) c.in_ok-play_event-in-Some.ensures.happens
+    (search (rules, c.in-Some.ensures.next config _ so_far.reached)) c.in_ok-play_event-in-Some.ensures
 
-pub returns-in-None-clause-drains : goal.returns-in-None-clause-drains
-returns-in-None-clause-drains g c = λ config log r.
+pub returns-in-None : goal.returns-in-None
+returns-in-None g c = λ config log r.
     let so_far = c.loop-count.invariant config log r in
     drains-all c.args.trace config log _ _ _ c.loop-count.count r.given so_far
     (inl (sym (c.in-None.ensures.next config _ so_far.reached)))
 
-pub returns-clause-drains : goal.returns-clause-drains
-returns-clause-drains g c = λ config log r.
+pub returns : goal.returns
+returns g c = λ config log r.
     let so_far = c.loop-count.invariant config log r in
     let all : c.loop-count.count ≡ c.load-load.result = omega arith in
     let load_is = c.load-load.ensures.load config log r in

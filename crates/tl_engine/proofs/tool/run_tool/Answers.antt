@@ -1,7 +1,18 @@
-use Rattle.std.proofs.Common.{refl}
+use Rattle.std.proofs.Common.{rules, ◌≡◌, refl, false, true}
 use Rattle.tl_engine.proofs.Decoded.{decodes_more, judged_line}
 use Rattle.tl_engine.proofs.Judged.{judged_total}
 use Rattle.tl_engine.proofs.Playing.{played-total}
+use Rattle.tl_command.specs.declared.command.Command.TheVariants.{Decode, Monitor, Explain, Run}
+use Rattle.tl_params.specs.declared.width.Width.TheVariants.{Four, Eight, Sixteen}
+use Rattle.tl_engine.specs.declared.decoder.Decoder.{Decoder}
+use Rattle.tl_engine.specs.statement.Decoded.{DecodesBefore, DecodesTo}
+use Rattle.tl_engine.specs.statement.Judged.{Judged}
+use Rattle.tl_engine.specs.statement.Played.{Played}
+use Rattle.tl_engine.specs.statement.Told.{text_so_far}
+use Rattle.tl_engine.specs.code.Playing.{KnowsSchedule}
+use Rattle.tl_engine.specs.code.Watching.{KnowsLines}
+use Rattle.tl_engine.proofs.GivenUp.{given_up_told}
+use Rattle.tl_engine.proofs.SoFar.{decoded_so_far, judged_so_far, played_so_far}
 use Rattle.tl_engine.proofs.tool.run_tool.Goals as goal
 
 pub handle_input-requires-clause-total : goal.handle_input-requires-clause-total
@@ -24,3 +35,47 @@ handle_input-requires-in-Run-false-clause-total g c = played-total 0
 
 pub handle_input-requires-in-Run-true-clause-total : goal.handle_input-requires-in-Run-true-clause-total
 handle_input-requires-in-Run-true-clause-total g c = played-total 1
+
+pub returns-in-Four-clause-fault : goal.returns-in-Four-clause-fault
+returns-in-Four-clause-fault g c =
+    rw (c.in-Decode.is, c.in-Four.is) (given_up_told {H = Decoder 4} (λ _ lines text. DecodesBefore 4 lines text)
+    (DecodesTo 4) (text_so_far (Decode Four)) (λ lines text known. decoded_so_far Four lines text known.1)
+    _ _ _ _ _ c.handle_input.ensures.fault)
+
+pub returns-in-Eight-clause-fault : goal.returns-in-Eight-clause-fault
+returns-in-Eight-clause-fault g c =
+    rw (c.in-Decode.is, c.in-Eight.is) (given_up_told {H = Decoder 8} (λ _ lines text. DecodesBefore 8 lines text)
+    (DecodesTo 8) (text_so_far (Decode Eight)) (λ lines text known. decoded_so_far Eight lines text known.1)
+    _ _ _ _ _ c.handle_input-in-Eight.ensures.fault)
+
+pub returns-in-Sixteen-clause-fault : goal.returns-in-Sixteen-clause-fault
+returns-in-Sixteen-clause-fault g c =
+    rw (c.in-Decode.is, c.in-Sixteen.is) (given_up_told {H = Decoder 16} (λ _ lines text. DecodesBefore 16 lines text)
+    (DecodesTo 16) (text_so_far (Decode Sixteen)) (λ lines text known. decoded_so_far Sixteen lines text known.1)
+    _ _ _ _ _ c.handle_input-in-Sixteen.ensures.fault)
+
+pub returns-in-Monitor-clause-fault : goal.returns-in-Monitor-clause-fault
+returns-in-Monitor-clause-fault g c =
+    rw c.in-Monitor.is (given_up_told KnowsLines Judged (text_so_far Monitor)
+    (λ lines text known. judged_so_far known.0 lines text known.1)
+    _ _ _ _ _ c.handle_input-in-Monitor.ensures.fault)
+
+pub returns-in-Explain-clause-fault : goal.returns-in-Explain-clause-fault
+returns-in-Explain-clause-fault g c =
+    rw c.in-Explain.is (given_up_told KnowsLines Judged (text_so_far Explain)
+    (λ lines text known. judged_so_far known.0 lines text known.1)
+    _ _ _ _ _ c.handle_input-in-Explain.ensures.fault)
+
+pub returns-in-Run-false-clause-fault : goal.returns-in-Run-false-clause-fault
+returns-in-Run-false-clause-fault g c =
+    let shown : c.in-Run-false.trace ≡ false = search rules in
+    rw (c.in-Run-false.is, shown) (given_up_told (KnowsSchedule {n = 0}) (Played false) (text_so_far (Run false))
+    (λ lines text known. played_so_far 0 known.0 lines text known.1)
+    _ _ _ _ _ c.handle_input-in-Run-false.ensures.fault)
+
+pub returns-in-Run-true-clause-fault : goal.returns-in-Run-true-clause-fault
+returns-in-Run-true-clause-fault g c =
+    let shown : c.in-Run-true.trace ≡ true = search rules in
+    rw (c.in-Run-true.is, shown) (given_up_told (KnowsSchedule {n = 1}) (Played true) (text_so_far (Run true))
+    (λ lines text known. played_so_far 1 known.0 lines text known.1)
+    _ _ _ _ _ c.handle_input-in-Run-true.ensures.fault)

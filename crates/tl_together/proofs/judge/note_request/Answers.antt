@@ -1,4 +1,4 @@
-use Rattle.std.proofs.Common.{refl, sym, ap, ◌∙◌}
+use Rattle.std.proofs.Common.{sym, ap, ◌∙◌}
 use Rattle.std.specs.Prelude.{is_some, not}
 use Rattle.tl_together.proofs.Noted.{notes_kept, notes_set, its_source}
 use Rattle.tl_together.proofs.judge.note_request.Goals as goal

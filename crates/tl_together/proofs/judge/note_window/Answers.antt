@@ -1,4 +1,4 @@
-use Rattle.std.proofs.Common.{refl, sym, ap, ◌∙◌, subst}
+use Rattle.std.proofs.Common.{ap, ◌∙◌, subst}
 use Rattle.std.specs.Prelude.{if◌then◌else◌}
 use Rattle.std.proofs.lemmas.Result.{on_ok_weaker}
 use Rattle.tl_monitor.specs.statement.Knows.{LeavesOthers}
@@ -20,9 +20,12 @@ returns-clause-noted g c =
     c.args.windows.now.moments.entries _ c.args.link c.args.beat.now
     (λ levels p t k fine. subst (λ o. LeavesOthers o c.args.beat.now (on_link c.args.link.0 t)) c.in-Some.is
     (c.block_of.ensures levels p t _ k fine))
-    c.is_free-reading.result c.is_free-writing.result
-    c.is_free-reading.ensures c.is_free-writing.ensures
-    (c.latest.ensures ∙ ap (λ v. if c.is_free-reading.result then c.args.moment else v.reading) c.get-old.ensures)
-    (c.latest-2.ensures ∙ ap (λ v. if c.is_free-writing.result then c.args.moment else v.writing) c.get-old.ensures)
+    c.freedom_of-free.result.reading c.freedom_of-free.result.writing
+    (λ levels p t k links_is. (c.freedom_of-free.ensures levels p t k links_is).0)
+    (λ levels p t k links_is. (c.freedom_of-free.ensures levels p t k links_is).1)
+    (c.latest.ensures ∙ ap (λ v. if c.freedom_of-free.result.reading then c.args.moment else v.reading)
+    c.get-old.ensures)
+    (c.latest-2.ensures ∙ ap (λ v. if c.freedom_of-free.result.writing then c.args.moment else v.writing)
+    c.get-old.ensures)
     h)
     c.set.ensures.changed

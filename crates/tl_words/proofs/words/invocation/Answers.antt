@@ -1,4 +1,4 @@
-use Rattle.std.proofs.Common.{ap, ap₂, refl, sym, codes, Bool, true, false, inl, inr, ◌≡◌, ◌∙◌, List, map, subst}
+use Rattle.std.proofs.Common.{ap, ap₂, refl, rules, sym, Bool, true, false, inl, ◌≡◌, ◌∙◌, List, map, subst}
 use Rattle.std.proofs.Common.{Result, Ok, Err}
 use Rattle.std.specs.Prelude.{IfErr, Option, Some, None, option_map, Box, if◌then◌else◌}
 use Rattle.std.specs.Result.{IsErrAnd}
@@ -11,13 +11,13 @@ use Rattle.clap.specs.declared.parser.matches.ArgMatches.{ArgMatches}
 use Rattle.clap.specs.declared.parser.matches.ArgMatches.TheViews.{out-ArgMatches, out-SubCommand}
 use Rattle.clap.specs.declared.parser.matches.SubCommand.{SubCommand}
 use Rattle.clap.proofs.OnLiterals.{clap_on_literals}
-use Rattle.clap.proofs.WalkLemmas.{first_value-rows}
 use Rattle.clap.specs.Words.{takes}
 use Rattle.clap.specs.declared.error.Error.{Error}
 use Rattle.tl_words.specs.declared.words.WordsFault.{WordsFault}
 use Rattle.tl_words.specs.declared.words.WordsFault.TheVariants as words
-use Rattle.tl_words.specs.Refused.{AreRefused, IsRefusal, command_given, is_want_of_memory, words_fault}
-use Rattle.tl_words.specs.Tool.{tool_of, command_named}
+use Rattle.tl_words.specs.Refused.{AreRefused, IsRefusal, is_want_of_memory, words_fault}
+use Rattle.tl_words.proofs.Tasks.{drawn_so, named_random, task_given, task_refused, undrawn_so}
+use Rattle.tl_words.specs.Tool.{tool_of}
 use Rattle.tl_words.proofs.words.invocation.Goals as goal
 
 simple : is_simple tool_of ≡ true
@@ -37,7 +37,7 @@ names_are : {Z : Type 0} (o : Option (Box SubCommand Z)) → option_map (λ b. (
 names_are None = refl
 names_are (Some b) = refl
 
-refusal : (texts : List Text) (memory : Bool) (e : Error) → AreRefused texts
+refusal : (texts : List Text) (memory : Bool) (e : Error) → AreRefused texts e
     → IsRefusal texts (if memory then words.Memory else words.Usage e)
 refusal texts true e is = tt
 refusal texts false e is = is
@@ -50,11 +50,6 @@ unparsed texts e passes = go (takes tool_of texts) refl
     go : (b : Bool) → takes tool_of texts ≡ b → IsRefusal texts (words_fault e)
     go true is = rw (passes is) tt
     go false is = refusal texts (is_want_of_memory (kind_of e)) e (inl is)
-
--- the same words name the same command
-named_alike : (name : Text) {a b c x y z : Option Text} → a ≡ x → b ≡ y → c ≡ z
-    → command_named name x y z ≡ command_named name a b c
-named_alike name p q r = cc
 
 -- the subcommand with its entries that `clap` found
 chosen : (texts : List Text) (a : App) (m : ArgMatches) (name : Text) (rows : List Row) → a ≡ tool_of
@@ -71,24 +66,6 @@ converted : {A : Type 0} (texts : List Text) (r : Result A WordsFault) (fault : 
 converted texts (Ok x) fault h is = tt
 converted texts (Err f) fault h is = subst (IsRefusal texts) (sym h) is
 
-pub returns-clause-given : goal.returns-clause-given
-returns-clause-given c =
-    let texts = map string_bytes c.args.words.now in
-    let rows = rows_of (found_of c.in-Some.found.now) in
-    let h = c.in_ok-matches.ensures.ok.2 (ap is_simple c.in_ok-tool.ensures ∙ simple) in (
-      c.in-Some.name.now,
-      rows,
-      chosen texts _ c.in_ok-matches.matches c.in-Some.name.now rows c.in_ok-tool.ensures h.1 c.in-Some.ensures.name
-          c.in-Some.ensures.rows,
-      named_alike c.in-Some.name.now
-          (c.get_str-width.ensures ∙ first_value-rows (found_of c.in-Some.found.now) (codes "width"))
-          (c.get_str-trace.ensures ∙ first_value-rows (found_of c.in-Some.found.now) (codes "trace"))
-          (c.get_str-name_of_file.ensures ∙ first_value-rows (found_of c.in-Some.found.now) (codes "FILE")) ∙ sym
-          c.in-Some-command_named.ensures,
-      c.in_ok-file.ensures ∙ c.get_str-name_of_file.ensures ∙ first_value-rows (found_of c.in-Some.found.now)
-          (codes "FILE"),
-    )
-
 pub returns-in_err-matches-clause-refused : goal.returns-in_err-matches-clause-refused
 returns-in_err-matches-clause-refused c =
     let texts = map string_bytes c.args.words.now in
@@ -98,16 +75,42 @@ returns-in_err-matches-clause-refused c =
     (λ is. ap is_want_of_memory
     (c.in_err-matches.ensures.passes (ap (λ (a : App). takes a texts) c.in_ok-tool.ensures ∙ is))))
 
-pub returns-in_default-command_named-clause-refused : goal.returns-in_default-command_named-clause-refused
-returns-in_default-command_named-clause-refused c =
+pub returns-then-eq-clause-given : goal.returns-then-eq-clause-given
+returns-then-eq-clause-given c =
     let texts = map string_bytes c.args.words.now in
     let rows = rows_of (found_of c.in-Some.found.now) in
-    let h = c.in_ok-matches.ensures.ok.2 (ap is_simple c.in_ok-tool.ensures ∙ simple) in
-    let is = chosen texts _ c.in_ok-matches.matches c.in-Some.name.now rows c.in_ok-tool.ensures h.1
-    c.in-Some.ensures.name c.in-Some.ensures.rows in
-    inr (ap command_given is
-    ∙ named_alike c.in-Some.name.now
-    (c.get_str-width.ensures ∙ first_value-rows (found_of c.in-Some.found.now) (codes "width"))
-    (c.get_str-trace.ensures ∙ first_value-rows (found_of c.in-Some.found.now) (codes "trace"))
-    (c.get_str-name_of_file.ensures ∙ first_value-rows (found_of c.in-Some.found.now) (codes "FILE")) ∙ sym
-    c.in_default-command_named.ensures)
+    let is = chosen texts _ c.in_ok-matches.matches c.in-Some.name.now rows c.in_ok-tool.ensures
+    (c.in_ok-matches.ensures.ok.2 (ap is_simple c.in_ok-tool.ensures ∙ simple)).1 c.in-Some.ensures.name
+    c.in-Some.ensures.rows in
+    task_given texts c.in-Some.name.now rows is c.draw.result
+    (drawn_so c.in-Some.name.now rows c.draw.result (named_random c.in-Some.name.now (search rules))
+    c.draw.ensures.drawn)
+
+pub returns-then-eq-clause-refused : goal.returns-then-eq-clause-refused
+returns-then-eq-clause-refused c =
+    let texts = map string_bytes c.args.words.now in
+    let rows = rows_of (found_of c.in-Some.found.now) in
+    let is = chosen texts _ c.in_ok-matches.matches c.in-Some.name.now rows c.in_ok-tool.ensures
+    (c.in_ok-matches.ensures.ok.2 (ap is_simple c.in_ok-tool.ensures ∙ simple)).1 c.in-Some.ensures.name
+    c.in-Some.ensures.rows in
+    task_refused texts c.in-Some.name.now rows is c.draw.result
+    (undrawn_so c.in-Some.name.now rows c.draw.result (named_random c.in-Some.name.now (search rules))
+    c.draw.ensures.wrong)
+
+pub returns-clause-given : goal.returns-clause-given
+returns-clause-given c =
+    let texts = map string_bytes c.args.words.now in
+    let rows = rows_of (found_of c.in-Some.found.now) in
+    let is = chosen texts _ c.in_ok-matches.matches c.in-Some.name.now rows c.in_ok-tool.ensures
+    (c.in_ok-matches.ensures.ok.2 (ap is_simple c.in_ok-tool.ensures ∙ simple)).1 c.in-Some.ensures.name
+    c.in-Some.ensures.rows in
+    task_given texts c.in-Some.name.now rows is c.read.result c.read.ensures.read
+
+pub returns-clause-refused : goal.returns-clause-refused
+returns-clause-refused c =
+    let texts = map string_bytes c.args.words.now in
+    let rows = rows_of (found_of c.in-Some.found.now) in
+    let is = chosen texts _ c.in_ok-matches.matches c.in-Some.name.now rows c.in_ok-tool.ensures
+    (c.in_ok-matches.ensures.ok.2 (ap is_simple c.in_ok-tool.ensures ∙ simple)).1 c.in-Some.ensures.name
+    c.in-Some.ensures.rows in
+    task_refused texts c.in-Some.name.now rows is c.read.result c.read.ensures.wrong

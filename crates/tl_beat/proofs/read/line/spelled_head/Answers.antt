@@ -4,9 +4,7 @@ use Rattle.tl_beat.proofs.read.line.spelled_head.Goals as goal
 
 pub returns-else-not-link_is-source_is : goal.returns-else-not-link_is-source_is
 returns-else-not-link_is-source_is c =
-    head_places c.args.bytes.now _ _ _ _ _ _ _ (search rules) (search rules) (search rules) (search rules)
+    head_places c.args.bytes.now _ _ _ _ _ _ _ c.in-32.len_at_least (search rules) (search rules) (search rules)
     (search rules)
     (search rules) c.value-l1.ensures c.value-l0.ensures c.value-opcode.ensures c.value-param.ensures
-    c.value-size.ensures c.value-s1.ensures
-    c.value-s0.ensures (search rules) (search rules) (search rules) (search rules) (search rules) (search rules)
-    (search rules)
+    c.value-size.ensures c.value-s1.ensures c.value-s0.ensures c.if-not-link_is-source_is.false

@@ -1,6 +1,8 @@
 use Rattle.std.proofs.Common.{◌≡◌, ◌++◌, [], refl, ◌∙◌, ap, append_assoc}
 use Rattle.std.specs.Prelude.{List, ℕ}
 use Rattle.std.proofs.lemmas.List.{append-nil}
+use Rattle.std.proofs.lemmas.Result.{err_from_is_err_and}
+use Rattle.tl_engine.proofs.GivenUp.{gives_up_last, gives_up_within}
 use Rattle.tl_engine.proofs.Progress.{feeds_then, feeds_until, feeds_last}
 use Rattle.tl_engine.proofs.lines.Lines.feed.Goals as goal
 
@@ -29,3 +31,14 @@ loop-line-preserved g c =
 pub returns-clause-feeds : goal.returns-clause-feeds
 returns-clause-feeds g c = feeds_last g.H.LineHandler.knows g.H.LineHandler.tells _ _ _ _ c.loop-line.invariant.0
     c.loop-line.rest.now _ _ _ _ c.loop-line.invariant.1 c.loop-line.invariant.2 c.keep.ensures.feeds
+
+pub returns-in_err-take_line-clause-fault : goal.returns-in_err-take_line-clause-fault
+returns-in_err-take_line-clause-fault g c =
+    let p = err_from_is_err_and c.from_residual.result c.from_residual.ensures.1 in
+    let so_far = c.loop-line.invariant in
+    rw (p.1, p.2) (gives_up_within g.H.LineHandler.knows g.H.LineHandler.tells _ _ so_far.0 c.loop-line.rest.now _ _ _ _
+    so_far.1 so_far.2 c.in_err-take_line.ensures.fault)
+
+pub returns-clause-fault : goal.returns-clause-fault
+returns-clause-fault g c = gives_up_last g.H.LineHandler.knows g.H.LineHandler.tells _ _ _ c.loop-line.invariant.0
+    c.loop-line.rest.now _ _ _ c.loop-line.invariant.1 c.loop-line.invariant.2 c.keep.ensures.fault

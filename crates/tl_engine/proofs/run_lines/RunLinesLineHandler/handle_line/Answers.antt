@@ -12,14 +12,14 @@ returns-in-Some g c = rw c.in-Waiting.is (header-opened g.row.TRACES _ c.in-Some
 
 pub returns-in-Four : goal.returns-in-Four
 returns-in-Four g c = rw c.in-Four.is (judged Four (λ m lines text k. k) (λ m lines text k. k) c.in-Four.world
-    c.play.new.self c.args.line.now _ _ c.play.result c.play.ensures)
+    c.play.new.world c.args.line.now _ _ c.play.result c.play.ensures)
 
 pub returns-in-Eight : goal.returns-in-Eight
 returns-in-Eight g c = rw c.in-Eight.is (judged Eight (λ m lines text k. k)
-    (λ m lines text k. k) c.in-Eight.world c.play-in-Eight.new.self c.args.line.now _ _ c.play-in-Eight.result
+    (λ m lines text k. k) c.in-Eight.world c.play-in-Eight.new.world c.args.line.now _ _ c.play-in-Eight.result
     c.play-in-Eight.ensures)
 
 pub returns-in-Sixteen : goal.returns-in-Sixteen
 returns-in-Sixteen g c = rw c.in-Sixteen.is (judged Sixteen (λ m lines text k. k)
-    (λ m lines text k. k) c.in-Sixteen.world c.play-in-Sixteen.new.self c.args.line.now _ _ c.play-in-Sixteen.result
+    (λ m lines text k. k) c.in-Sixteen.world c.play-in-Sixteen.new.world c.args.line.now _ _ c.play-in-Sixteen.result
     c.play-in-Sixteen.ensures)

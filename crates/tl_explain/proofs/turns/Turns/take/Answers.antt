@@ -10,5 +10,6 @@ returns c = λ w x t is turns. record {
   sink_is = c.note-5.ensures w _ x t is turns.sink_is;
   grant_ack_is = c.note-6.ensures w _ x t is turns.grant_ack_is;
   probe_is = c.note-7.ensures w _ x t is turns.probe_is;
-  said_is = said_next c.args.self.now.said c.note_said.new.said _ _ c.args.moment.now x t is turns.said_is c.note_said.ensures;
+  said_is = said_next c.args.self.now.said c.note_said.new.said _ _ c.args.moment.now x t is turns.said_is
+      c.note_said.ensures;
 }

@@ -1,4 +1,4 @@
-use Rattle.std.proofs.Common.{length, true, false, ap, sym, ◌∙◌}
+use Rattle.std.proofs.Common.{length, true, false}
 use Rattle.tl_together.proofs.Answered.{grant_is}
 use Rattle.tl_together.proofs.judge.Judge.broken_grant.Goals as goal
 

@@ -1,4 +1,4 @@
-use Rattle.std.proofs.Common.{length, true, false, ap, sym, ◌∙◌, refl}
+use Rattle.std.proofs.Common.{length, ap, sym, ◌∙◌}
 use Rattle.std.specs.Prelude.{is_some}
 use Rattle.tl_together.proofs.Answered.{no_response, asked_is, a_grant, an_access, another}
 use Rattle.tl_together.proofs.judge.Judge.broken_response.Goals as goal
@@ -16,17 +16,17 @@ returns-then-is_grant g c = λ levels p t k lt.
     asked c.is_grant.ensures c.if-is_grant.true
     (c.broken_grant.ensures levels p t k)
 
-pub returns-then-not-is_access_ack : goal.returns-then-not-is_access_ack
-returns-then-not-is_access_ack g c = λ levels p t k lt.
-    another (length levels) c.args.link.0 c.args.x.now t c.is_grant.result c.is_access_ack.result c.is_grant.ensures
+pub returns-then-not-is_performed : goal.returns-then-not-is_performed
+returns-then-not-is_performed g c = λ levels p t k lt.
+    another (length levels) c.args.link.0 c.args.x.now t c.is_grant.result c.is_performed.result c.is_grant.ensures
     c.if-is_grant.false
-    c.is_access_ack.ensures c.if-not-is_access_ack.true
+    c.is_performed.ensures c.if-not-is_performed.true
 
 pub returns : goal.returns
 returns g c = λ levels p t k lt.
     let asked = asked_is levels c.args.link c.args.x.now.source t c.in_ok-asked.asked lt
     (c.in_ok-asked.ensures levels p t _ k.monitor_is) in
-    an_access (length levels) c.args.link.0 c.args.x.now t c.in_ok-asked.asked c.is_grant.result c.is_access_ack.result
+    an_access (length levels) c.args.link.0 c.args.x.now t c.in_ok-asked.asked c.is_grant.result c.is_performed.result
     c.broken_access.result asked
-    c.is_grant.ensures c.if-is_grant.false c.is_access_ack.ensures c.if-not-is_access_ack.false
+    c.is_grant.ensures c.if-is_grant.false c.is_performed.ensures c.if-not-is_performed.false
     (c.broken_access.ensures levels p t k lt (ap is_some asked))

@@ -1,4 +1,4 @@
-use Rattle.std.proofs.Common.{◌≡◌, ℕ, refl, sym, ap, ◌∙◌, length}
+use Rattle.std.proofs.Common.{◌≡◌, ℕ, sym, ap, ◌∙◌, length}
 use Rattle.std.specs.Prelude.{Some, None}
 use Rattle.tl_together.specs.code.Windows.{asked_in, last_in}
 use Rattle.tl_together.proofs.Answered.{window_free, window_asked}

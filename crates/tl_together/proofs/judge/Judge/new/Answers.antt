@@ -1,4 +1,4 @@
-use Rattle.std.proofs.Common.{refl, arith, rules}
+use Rattle.std.proofs.Common.{refl, rules}
 use Rattle.tl_together.proofs.Judging.{new_knows}
 use Rattle.tl_together.proofs.judge.Judge.new.Goals as goal
 

@@ -1,6 +1,5 @@
-use Rattle.std.proofs.Common.{◌≡◌, refl, sym, ap, ◌∙◌, ◌+◌, arith, rules}
+use Rattle.std.proofs.Common.{◌≡◌, refl, ap, ◌∙◌, ◌+◌, rules}
 use Rattle.std.specs.Prelude.{None}
-use Rattle.std.proofs.lemmas.Grind.{common_steps}
 use Rattle.tl_together.specs.statement.Coherence.{first_broken}
 use Rattle.tl_together.specs.statement.Knows.{broken}
 use Rattle.tl_together.proofs.Judging.{taken, refused, refused_knows, judged_fault, fine_on_link, open_still}

@@ -1,0 +1,113 @@
+//! What C may do with a manager.
+
+ghost use Rattle.std.specs.Prelude.{◌≡◌, None};
+ghost use Rattle.hefrudyl.specs.statement.Handled.{ManagerOpenTold, AdmitTold, StallsAtTold, NextAtTold, PopAtTold};
+ghost use Rattle.hefrudyl.specs.statement.Handled.{ClosedAtTold};
+
+use crate::handle::Handle;
+use crate::session::Session;
+use std::alloc::Global;
+use std::mem;
+use tl_pictures::answer::Answer;
+use tl_pictures::config::LinkConfig;
+use tl_pictures::picture::Picture;
+
+/// Makes a manager of these links on this many blocks, with this many trackers, behind a handle that
+/// holds nothing.
+#[unsafe(no_mangle)]
+pub extern "C" fn tl_manager_new(
+    alloc: Global,
+    manager: &mut Handle,
+    links: &[LinkConfig],
+    blocks: u16,
+    trackers: u8,
+    width: u8,
+    profile: u8,
+) -> Answer
+    ensures { ManagerOpenTold manager.old.place.value manager.new.place.value links.now blocks trackers
+        width profile result }
+{
+    opened!(
+        alloc,
+        manager,
+        Session::open_manager(alloc, links, blocks, trackers, width, profile)
+    )
+}
+
+/// Offers a manager a beat of a link.
+#[unsafe(no_mangle)]
+pub extern "C" fn tl_manager_offer(
+    alloc: Global,
+    manager: &mut Handle,
+    link: u8,
+    beat: &Picture,
+    taken: &mut u8,
+) -> Answer
+    ensures { AdmitTold link beat.now taken.old taken.new result manager.old.place.value manager.new.place.value }
+{
+    answered!(alloc, manager, session => session.offer_on(link, beat, taken))
+}
+
+/// Asks whether a beat of a link would have to wait.
+#[unsafe(no_mangle)]
+pub extern "C" fn tl_manager_stalls(
+    alloc: Global,
+    manager: &mut Handle,
+    link: u8,
+    beat: &Picture,
+    stalled: &mut u8,
+) -> Answer
+    ensures { StallsAtTold link beat.now stalled.old stalled.new result manager.old.place.value
+        manager.new.place.value }
+{
+    answered!(alloc, manager, session => session.stalls_on(link, beat, stalled))
+}
+
+/// Shows the next beat that a manager has to send on a channel of a link, 0 for A to 4 for E.
+#[unsafe(no_mangle)]
+pub extern "C" fn tl_manager_next(
+    alloc: Global,
+    manager: &mut Handle,
+    link: u8,
+    channel: u8,
+    beat: &mut Picture,
+) -> Answer
+    ensures { NextAtTold link channel beat.old beat.new result manager.old.place.value manager.new.place.value }
+{
+    answered!(alloc, manager, session => session.next_on(link, channel, beat))
+}
+
+/// Shows the next beat that a manager has to send on a channel of a link, which is sent now.
+#[unsafe(no_mangle)]
+pub extern "C" fn tl_manager_pop(
+    alloc: Global,
+    manager: &mut Handle,
+    link: u8,
+    channel: u8,
+    beat: &mut Picture,
+) -> Answer
+    ensures { PopAtTold link channel beat.old beat.new result manager.old.place.value manager.new.place.value }
+{
+    answered!(alloc, manager, session => session.pop_on(link, channel, beat))
+}
+
+/// Tells whether a link of a manager takes no beats: one was refused, or there is no such link.
+#[unsafe(no_mangle)]
+pub extern "C" fn tl_manager_closed(
+    alloc: Global,
+    manager: &mut Handle,
+    link: u8,
+    is_closed: &mut u8,
+) -> Answer
+    ensures { ClosedAtTold link is_closed.old is_closed.new result manager.old.place.value manager.new.place.value }
+{
+    answered!(alloc, manager, session => session.closed_on(link, is_closed))
+}
+
+/// Frees what a handle holds, which then holds nothing.
+#[unsafe(no_mangle)]
+pub extern "C" fn tl_manager_free(alloc: Global, manager: &mut Handle)
+    ensures { manager.new.place.value ≡ None }
+{
+    let _session = mem::replace(manager, Handle::empty(alloc)).into_box();
+}

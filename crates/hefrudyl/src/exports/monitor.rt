@@ -1,0 +1,68 @@
+//! What C may do with a monitor.
+
+ghost use Rattle.std.specs.Prelude.{◌≡◌, None};
+ghost use Rattle.hefrudyl.specs.statement.Handled.{MonitorOpenTold, PushTold, LineTold, EntriesTold};
+
+use crate::handle::Handle;
+use crate::session::Session;
+use std::alloc::Global;
+use std::mem;
+use tl_pictures::answer::Answer;
+use tl_pictures::picture::Picture;
+
+/// Makes a monitor of links of these levels, 0 for UL, 1 for UH and 2 for C, behind a handle that
+/// holds nothing.
+#[unsafe(no_mangle)]
+pub extern "C" fn tl_monitor_new(
+    alloc: Global,
+    monitor: &mut Handle,
+    levels: &[u8],
+    width: u8,
+    profile: u8,
+) -> Answer
+    ensures { MonitorOpenTold monitor.old.place.value monitor.new.place.value levels.now width profile result }
+{
+    opened!(alloc, monitor, Session::open(alloc, levels, width, profile))
+}
+
+/// Judges a beat of a link.
+#[unsafe(no_mangle)]
+pub extern "C" fn tl_monitor_push(
+    alloc: Global,
+    monitor: &mut Handle,
+    link: u8,
+    beat: &Picture,
+) -> Answer
+    ensures { PushTold link beat.now result monitor.old.place.value monitor.new.place.value }
+{
+    answered!(alloc, monitor, session => session.push(link, beat))
+}
+
+/// Judges the beat of a line of a trace, its line feed included.
+#[unsafe(no_mangle)]
+pub extern "C" fn tl_monitor_push_line(alloc: Global, monitor: &mut Handle, line: &[u8]) -> Answer
+    ensures { LineTold line.now result monitor.old.place.value monitor.new.place.value }
+{
+    answered!(alloc, monitor, session => session.push_line(line))
+}
+
+/// Tells how many keys are pending on a link, and how many blocks are held there.
+#[unsafe(no_mangle)]
+pub extern "C" fn tl_monitor_entries(
+    alloc: Global,
+    monitor: &mut Handle,
+    link: u8,
+    entries: &mut u64,
+) -> Answer
+    ensures { EntriesTold link entries.old entries.new result monitor.old.place.value monitor.new.place.value }
+{
+    answered!(alloc, monitor, session => session.entries(link, entries))
+}
+
+/// Frees what a handle holds, which then holds nothing.
+#[unsafe(no_mangle)]
+pub extern "C" fn tl_monitor_free(alloc: Global, monitor: &mut Handle)
+    ensures { monitor.new.place.value ≡ None }
+{
+    let _session = mem::replace(monitor, Handle::empty(alloc)).into_box();
+}

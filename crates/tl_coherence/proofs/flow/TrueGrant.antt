@@ -1,0 +1,79 @@
+-- Each beat of a GrantData has bytes of the one memory.
+use Rattle.tl_coherence.proofs.flow.Imports.{Beat, BeatD, History, channel_of, unfinished, Config, Log, AbstractState}
+use Rattle.tl_coherence.proofs.flow.Imports.{SimulationRelation, flow}
+use Rattle.std.proofs.Common.{◌≡◌, ℕ, Bool, true, false, List, ◌∷◌, refl, sym, ◌∙◌, ap, subst}
+use Rattle.std.specs.Prelude.{length}
+use Rattle.tl_beat.specs.declared.beat.Beat.TheVariants as beat
+use Rattle.tl_beat.specs.declared.channel.Channel.TheVariants as channel
+use Rattle.tl_beat.specs.declared.opcode.OpD.TheVariants as opd
+use Rattle.tl_burst.specs.statement.Burst.{d_beat_of, lanes_at}
+use Rattle.tl_rules.specs.statement.Effect.{IsBlock}
+use Rattle.tl_rules.specs.statement.History.{grants}
+use Rattle.tl_manager.specs.statement.Handing.{grant_opcode}
+use Rattle.tl_coherence.specs.statement.Flow.{trace_of}
+use Rattle.tl_coherence.specs.statement.Headline.{IsGiven}
+use Rattle.tl_coherence.specs.statement.Log.{system_after}
+use Rattle.tl_coherence.specs.statement.OneMemory.{one_memory_after}
+use Rattle.tl_coherence.specs.statement.TrueGrants.{IsTrueGrant, TrueGrants}
+use Rattle.tl_coherence.proofs.deliveries.Matching.{shadow}
+use Rattle.tl_coherence.proofs.flow.FlowTaken.{each-taken}
+use Rattle.tl_coherence.proofs.flow.FlowTraces.{trace-flows}
+use Rattle.tl_coherence.proofs.flow.Flows.{flowed}
+use Rattle.tl_coherence.proofs.flow.NextOnD.{IsGrantBeat, grant-next}
+use Rattle.tl_coherence.proofs.links.FromInvariant.{matched-given}
+use Rattle.tl_coherence.proofs.protocol.HeadOfD.{IsGrantDue, grant_message}
+
+with_data_only : (x : Bool) → grant_opcode x ≡ opd.GrantData → x ≡ true
+with_data_only true e = refl
+with_data_only false e = absurd cc
+
+true-next : {w : ℕ} (config : Config) (log : Log w) → IsGiven config log → (c : ℕ) (y : BeatD w) (queue : List (Beat w))
+    → (system_after config log).channels c channel.D ≡ beat.D y ∷ queue
+    → (n : ℕ) → grants n y (flow c log) ≡ true → y.opcode ≡ opd.GrantData
+    → (bytes : List ℕ) × IsBlock (one_memory_after config log).memory n bytes
+    × (y.lanes ≡ lanes_at true w bytes (length (unfinished channel.D (flow c log))))
+true-next {w} config log given c y queue beats n granted with_data =
+    ((h.state.block n).truth, is.beside.memory n, lanes)
+  where
+    h : AbstractState w
+    h = shadow config log
+
+    is : SimulationRelation config log h.mail h.request h.state (system_after config log)
+    is = matched-given config log given
+
+    k : ℕ
+    k = length (unfinished channel.D (flow c log))
+
+    grant : IsGrantBeat c n h.state y k
+    grant = grant-next config log h c y queue given.width is (flowed config log given.width given.typed given.is_log)
+        beats n granted
+
+    due : IsGrantDue c n h.state
+    due = grant.due
+
+    data_too : due.data_too ≡ true
+    data_too = with_data_only due.data_too (sym (ap (λ (z : BeatD w). z.opcode) grant.beat_is) ∙ with_data)
+
+    lanes : y.lanes ≡ lanes_at true w (h.state.block n).truth k
+    lanes = ap (λ (z : BeatD w). z.lanes) grant.beat_is
+        ∙ ap (λ (x : Bool). (d_beat_of (grant_message {w = w} x due.k ((h.state.block n).source c)
+        (h.state.block n).tracker (h.state.block n).truth) k).lanes) data_too
+
+true-moved : {w : ℕ} (config : Config) (log : Log w) → IsGiven config log → (c : ℕ) (x : Beat w) (queue : List (Beat w))
+    → (system_after config log).channels c (channel_of x) ≡ x ∷ queue
+    → IsTrueGrant (one_memory_after config log).memory c x (trace_of log)
+true-moved {w} config log given c (beat.D y) queue beats = λ n granted with_data.
+    subst (λ (t : History w). (bytes : List ℕ) × IsBlock (one_memory_after config log).memory n bytes
+    × (y.lanes ≡ lanes_at true w bytes (length (unfinished channel.D t)))) (sym (trace-flows c log))
+    (true-next config log given c y queue beats n
+    (subst (λ (t : History w). grants n y t ≡ true) (trace-flows c log) granted) with_data)
+true-moved config log given c (beat.A y) queue beats = tt
+true-moved config log given c (beat.B y) queue beats = tt
+true-moved config log given c (beat.C y) queue beats = tt
+true-moved config log given c (beat.E y) queue beats = tt
+
+pub true_grants : {w : ℕ} → TrueGrants w
+true_grants config log given =
+    each-taken config
+    (λ earlier link x. IsTrueGrant (one_memory_after config earlier).memory link x (trace_of earlier))
+    (true-moved config) log given

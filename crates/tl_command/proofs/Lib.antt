@@ -1,0 +1,3 @@
+mod ClientWords
+mod NumberWords
+pub mod RandomOptions

@@ -1,0 +1,18 @@
+//! What the words of the program ask for.
+
+use crate::command::Command;
+use crate::random::Options;
+
+/// What the words of the program ask for.
+#[derive(Drop)]
+pub enum Task {
+    /// A command over the file of this name, or over standard input.
+    Read {
+        command: Command,
+        file: Option<String>,
+    },
+    /// A random schedule.
+    Draw {
+        options: Options,
+    },
+}

@@ -1,0 +1,51 @@
+-- The text before the end of the input, under each command.
+use Rattle.std.proofs.Common.{◌≡◌, ℕ, ◌-◌, List, [], length, refl, arith, inl, inr}
+use Rattle.std.proofs.lemmas.List.{append-nil}
+use Rattle.tl_command.specs.declared.command.Command.TheVariants.{Decode, Monitor, Run}
+use Rattle.tl_monitor.specs.declared.monitor.Monitor.{Monitor as Judge}
+use Rattle.tl_params.specs.declared.width.Width.{Width}
+use Rattle.tl_engine.specs.declared.monitor_lines.MonitorLines.{MonitorLines}
+use Rattle.tl_engine.specs.declared.monitor_lines.MonitorLines.TheVariants as watching
+use Rattle.tl_engine.specs.declared.run_lines.RunLines.{RunLines}
+use Rattle.tl_engine.specs.declared.run_lines.RunLines.TheVariants as playing
+use Rattle.tl_engine.specs.declared.status.Status.TheVariants.{Clean}
+use Rattle.tl_engine.specs.code.PlayableWorld.{Contained}
+use Rattle.tl_engine.specs.code.Playing.{KnowsPlay, KnowsSchedule, is_trace}
+use Rattle.tl_engine.specs.code.Watching.{KnowsLines, KnowsTrace}
+use Rattle.tl_engine.specs.statement.Decoded.{Decodes, DecodesBefore}
+use Rattle.tl_engine.specs.statement.Judged.{JudgedAfter, clean_text}
+use Rattle.tl_engine.specs.statement.Played.{PlayedAfter}
+use Rattle.tl_engine.specs.statement.Told.{text_so_far}
+use Rattle.tl_engine.specs.statement.Width.{bytes_of}
+
+pub decoded_so_far : (width : Width) (lines : List (List ℕ)) (text : List ℕ) → DecodesBefore (bytes_of width) lines text
+    → text_so_far (Decode width) lines text
+unfolding Decodes
+decoded_so_far width lines text before = inr (rw (append-nil lines) at (before [] [] Clean (refl, refl)))
+
+watched_so_far : {w : ℕ} (m : Judge w) (lines : List (List ℕ)) (text : List ℕ) → KnowsTrace m lines text
+    → text_so_far Monitor lines text
+unfolding JudgedAfter
+watched_so_far m lines text k =
+    let beats : length lines - 1 ≡ length k.trace = omega (arith, k.counted) in
+    inr (rw beats (rw (append-nil lines) at (k.before [] (clean_text (length k.trace)) Clean (refl, refl))))
+
+pub judged_so_far : (h : MonitorLines) (lines : List (List ℕ)) (text : List ℕ) → KnowsLines h lines text
+    → text_so_far Monitor lines text
+judged_so_far (watching.Waiting alloc) lines text known = inl known
+judged_so_far (watching.Four m) lines text known = watched_so_far m lines text known
+judged_so_far (watching.Eight m) lines text known = watched_so_far m lines text known
+judged_so_far (watching.Sixteen m) lines text known = watched_so_far m lines text known
+
+world_so_far : {w : ℕ} (n : ℕ) (world : Contained w) (lines : List (List ℕ)) (text : List ℕ)
+    → KnowsPlay (is_trace n) world lines text
+    → text_so_far (Run (is_trace n)) lines text
+unfolding PlayedAfter
+world_so_far n world lines text k = inr (rw (append-nil lines) at (k.before [] [] Clean (refl, refl)))
+
+pub played_so_far : (n : ℕ) (h : RunLines n) (lines : List (List ℕ)) (text : List ℕ) → KnowsSchedule h lines text
+    → text_so_far (Run (is_trace n)) lines text
+played_so_far n (playing.Waiting alloc) lines text known = inl known
+played_so_far n (playing.Four world) lines text known = world_so_far n world lines text known
+played_so_far n (playing.Eight world) lines text known = world_so_far n world lines text known
+played_so_far n (playing.Sixteen world) lines text known = world_so_far n world lines text known

@@ -1,0 +1,40 @@
+-- What an explanation starts from: what the first reading found.
+use Rattle.std.specs.Prelude.{◌≡◌, ℕ, ◌+◌, List, Option, Some, None, ⊤}
+use Rattle.tl_beat.specs.declared.fault.LineFault.TheVariants.{F1}
+use Rattle.tl_explain.specs.declared.told.Spelling.{Spelling}
+use Rattle.tl_engine.specs.declared.examiner.Found.{Found}
+use Rattle.tl_engine.specs.declared.fault.Fault.{Fault}
+use Rattle.tl_engine.specs.declared.fault.Fault.TheVariants.{Header as NoHeader, Line}
+use Rattle.tl_engine.specs.declared.header.Header.{Header}
+use Rattle.tl_engine.specs.declared.status.Status.{Status}
+use Rattle.tl_engine.specs.declared.status.Status.TheVariants.{Clean, Broken}
+use Rattle.tl_engine.specs.statement.Explained.{ExplainsFault}
+use Rattle.tl_engine.specs.statement.Fault.{fault_text}
+
+-- what the line behind a header and the good lines is at fault for
+abbrev pub fault_behind : Option (Fault × Spelling) → Fault
+fault_behind None = Line F1
+fault_behind (Some fault) = fault.0
+
+-- what was found at fault
+abbrev pub fault_in : Option Header → Option (Fault × Spelling) → Fault
+fault_in None fault = NoHeader
+fault_in (Some header) fault = fault_behind fault
+
+abbrev pub fault_of : Found → Fault
+fault_of found = fault_in found.header found.fault
+
+-- the verdict is that of what was found
+abbrev pub IsVerdict : Found → Status → List ℕ → Type 0
+IsVerdict found Clean verdict = ⊤
+IsVerdict found Broken verdict = verdict ≡ fault_text (found.good + 1) (fault_of found)
+
+-- what was read explains what was found behind a header
+abbrev pub ExplainsFound : Option (List ℕ) → Option (List ℕ) → ℕ → Option (Fault × Spelling) → Status → Type 0
+ExplainsFound old new good fault Clean = ⊤
+ExplainsFound old new good fault Broken = ExplainsFault old new (good + 1) (fault_behind fault)
+
+-- what was read explains what was found
+abbrev pub ExplainsStatus : Option (List ℕ) → Option (List ℕ) → Found → Status → Type 0
+ExplainsStatus old new found Clean = ⊤
+ExplainsStatus old new found Broken = ExplainsFault old new (found.good + 1) (fault_of found)

@@ -1,0 +1,79 @@
+-- What stands behind the verdict that a beat breaks a rule of order.
+use Rattle.std.specs.Prelude.{◌≡◌, ℕ, ◌+◌, Bool, true, false, List, [], ◌∷◌, ◌++◌, length, Option, Some, ⊤}
+use Rattle.std.specs.Io.KnownBytes.{Consumes}
+use Rattle.tl_beat.specs.declared.beat.Beat.{Beat}
+use Rattle.tl_beat.specs.declared.beat.Link.{Link}
+use Rattle.tl_beat.specs.statement.Line.{Spells}
+use Rattle.tl_params.specs.declared.level.Level.{Level}
+use Rattle.tl_params.specs.declared.profile.Profile.{Profile}
+use Rattle.tl_params.specs.declared.rule.Rule.{Rule}
+use Rattle.tl_params.specs.declared.rule.Rule.TheVariants.{L1, L2, L3, L4, L5, L6, L7}
+use Rattle.tl_params.specs.declared.width.Width.{Width}
+use Rattle.tl_rules.specs.statement.Conformance.{Trace}
+use Rattle.tl_explain.specs.declared.reason.Reason.{Reason}
+use Rattle.tl_explain.specs.statement.Reasons.{IsEvidence, convicted}
+use Rattle.tl_engine.specs.code.Lines.{lines_of}
+use Rattle.tl_engine.specs.declared.fault.Fault.{Fault}
+use Rattle.tl_engine.specs.declared.fault.Fault.TheVariants.{Rule as Breaks}
+use Rattle.tl_engine.specs.declared.status.Status.{Status}
+use Rattle.tl_engine.specs.declared.status.Status.TheVariants.{Clean, Broken}
+use Rattle.tl_engine.specs.statement.Fault.{fault_text}
+use Rattle.tl_engine.specs.statement.Trace.{SpellsHeader}
+use Rattle.tl_engine.specs.statement.Width.{bytes_of}
+
+-- the lines spell the beats of t, the newest of which, the first of t, is that of the last line
+unfoldable pub AreLinesOf : {w : ℕ} → Trace w → List (List ℕ) → Type 0
+AreLinesOf [] lines = lines ≡ []
+AreLinesOf (x ∷ t) lines =
+    (front : List (List ℕ)) × (line : List ℕ) × (lines ≡ front ++ line ∷ []) × Spells line x.0 x.1 × AreLinesOf t front
+
+-- What was read of a file, from these bytes on, explains why its line n breaks the rule: the lines before it are a
+-- header
+-- and those of the beats of a trace; line n spells the beat; what the reason tells of that trace is so, and from it and
+-- the
+-- beat alone the rule is broken. All this stands whatever follows what was read.
+pub record IsExplained (old new : Option (List ℕ)) (n : ℕ) (rule : Rule) : Type 0 where
+  pub width : Width
+  pub profile : Profile
+  pub levels : List Level
+  pub read : List ℕ
+  pub consumed : Consumes old new read
+  pub header : List ℕ
+  pub names : SpellsHeader header width profile levels
+  pub bytes : ℕ
+  pub of_width : bytes_of width ≡ bytes
+  pub trace : Trace bytes
+  pub before : List (List ℕ)
+  pub spelled : AreLinesOf trace before
+  pub line : List ℕ
+  pub stands : (more : List ℕ) → (behind : List (List ℕ))
+      × (lines_of (read ++ more) ≡ (header ∷ before) ++ line ∷ behind)
+  pub number : n ≡ length trace + 2
+  pub link : Link
+  pub beat : Beat bytes
+  pub spells : Spells line link beat
+  pub reason : Reason
+  pub evidence : IsEvidence link.0 beat reason trace
+  pub convicts : convicted profile beat reason ≡ Some rule
+
+-- the rule isn't one of legality, which a beat breaks by itself
+abbrev pub is_of_order : Rule → Bool
+is_of_order L1 = false
+is_of_order L2 = false
+is_of_order L3 = false
+is_of_order L4 = false
+is_of_order L5 = false
+is_of_order L6 = false
+is_of_order L7 = false
+is_of_order _ = true
+
+-- what was read of a file explains why its line n is at fault for this, where a rule of order is broken
+abbrev pub ExplainsFault : Option (List ℕ) → Option (List ℕ) → ℕ → Fault → Type 0
+ExplainsFault old new n (Breaks rule) = is_of_order rule ≡ true → IsExplained old new n rule
+ExplainsFault old new n _ = ⊤
+
+-- what was read of a file explains the verdict, where it is that a beat breaks a rule of order
+abbrev pub Explains : Option (List ℕ) → Option (List ℕ) → List ℕ → Status → Type 0
+Explains old new verdict Clean = ⊤
+Explains old new verdict Broken = (n : ℕ) × (fault : Fault) × (verdict ≡ fault_text n fault)
+    × ExplainsFault old new n fault

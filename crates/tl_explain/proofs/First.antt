@@ -1,0 +1,499 @@
+-- Where a rule is the first that a beat breaks, a reason is told.
+use Rattle.std.proofs.Common.{◌≡◌, ℕ, ◌==◌, ◌&&◌, ◌||◌, ◌∷◌, List, true, false, Bool, not, refl, sym, ap, ap₂, ◌∙◌}
+use Rattle.std.proofs.Common.{subst, inl, inr, ◌⊎◌}
+use Rattle.std.specs.Prelude.{Option, Some, None, is_none, is_some, if◌then◌else◌}
+use Rattle.tl_beat.specs.declared.beat.Beat.{Beat}
+use Rattle.tl_beat.specs.declared.beat.Beat.TheVariants as beat
+use Rattle.tl_beat.specs.declared.beat.BeatA.{BeatA}
+use Rattle.tl_beat.specs.declared.beat.BeatB.{BeatB}
+use Rattle.tl_beat.specs.declared.beat.BeatC.{BeatC}
+use Rattle.tl_beat.specs.declared.beat.BeatD.{BeatD}
+use Rattle.tl_beat.specs.declared.beat.BeatE.{BeatE}
+use Rattle.tl_beat.specs.declared.beat.Link.{Link}
+use Rattle.tl_beat.specs.declared.channel.Channel.TheVariants as channel
+use Rattle.tl_beat.specs.statement.Control.{control_of, has_control}
+use Rattle.tl_beat.specs.statement.First.{first_if}
+use Rattle.tl_beat.specs.statement.Opcode.{c_carries_data}
+use Rattle.tl_burst.specs.statement.Messages.{History, breaks_burst, channel_of, unfinished}
+use Rattle.tl_burst.specs.statement.Part.{is_empty}
+use Rattle.tl_params.specs.declared.key.Key.{Key}
+use Rattle.tl_params.specs.declared.key.Key.TheVariants.{RequestSource, ReleaseSource, AcquireOf, ReleaseOf, GrantSink}
+use Rattle.tl_params.specs.declared.key.Key.TheVariants.{GrantAckOf, ProbeOf}
+use Rattle.tl_params.specs.declared.level.Level.{Level}
+use Rattle.tl_params.specs.declared.profile.Profile.{Profile}
+use Rattle.tl_params.specs.declared.rule.Rule.{Rule}
+use Rattle.tl_params.specs.declared.rule.Rule.TheVariants.{A1, A2, A3, L1, L2, L3, L4, L5, L6, L7, S1, H1, H2, H3, H4}
+use Rattle.tl_params.specs.declared.rule.Rule.TheVariants.{H5, H6, H7, H8, H9, H10, H11, H12, H13}
+use Rattle.tl_params.specs.statement.Param.{prune_of}
+use Rattle.tl_rules.specs.statement.Conformance.{Trace, admits, answers, answers_wrong_probe, broken_in_order}
+use Rattle.tl_rules.specs.statement.Conformance.{broken_order, comes_in_grant, comes_in_release, comes_in_request}
+use Rattle.tl_rules.specs.statement.Conformance.{grows_from, has_request, is_legal, is_probe_block, misgrants}
+use Rattle.tl_rules.specs.statement.Conformance.{misreports, on_link, prunes_from, size_asked}
+use Rattle.tl_rules.specs.statement.History.{begins, block_at, held, is_acquire, is_grant, is_probe, is_probe_ack}
+use Rattle.tl_rules.specs.statement.History.{is_release, is_release_ack, pending, probe_of, request_of}
+use Rattle.tl_explain.specs.declared.bursts.Begun.{Begun}
+use Rattle.tl_explain.specs.declared.reason.Reason.{Reason}
+use Rattle.tl_explain.specs.declared.recorder.Recorder.{Recorder}
+use Rattle.tl_explain.specs.declared.told.Mention.{Mention}
+use Rattle.tl_explain.specs.declared.told.Told.{Told}
+use Rattle.tl_explain.specs.declared.turn.Turn.{Turn}
+use Rattle.tl_explain.specs.code.Chosen.{differs_by, first_reason, for_acknowledgement, for_answer, for_message}
+use Rattle.tl_explain.specs.code.Chosen.{for_message_c, for_probe, for_probe_ack, for_release, for_request, held_by}
+use Rattle.tl_explain.specs.code.Chosen.{is_of_bursts, kind_by, missing_by, probe_by, reason_by, unless_held}
+use Rattle.tl_explain.specs.code.Chosen.{where_missing, where_pending}
+use Rattle.tl_explain.specs.code.Recorded.{IsBegun, IsRecord, IsTurn, burst_on, open_message, opens_by}
+use Rattle.tl_explain.specs.statement.Evidence.{is_open, mention_of}
+use Rattle.tl_explain.specs.statement.Reasons.{HasBlockAsked, IsSubject, comes_in, is_always_told, opening_channel}
+use Rattle.tl_explain.proofs.Found.{both_true, decides, grant_told, not_false, not_true, opened, perm_is}
+use Rattle.tl_explain.proofs.Found.{probe_told, report_told, request_told, same_true, size_told}
+use Rattle.tl_explain.proofs.Rests.{pending_open}
+use Rattle.tl_explain.proofs.Sound.{ack_turn, acquire_turn, opened_some, probe_turn, release_of_turn, release_turn}
+use Rattle.tl_explain.proofs.Sound.{sink_turn, source_turn}
+use Rattle.tl_explain.proofs.WholeBursts.{burst_opened, none_comes}
+
+is_one : {A : Type 0} {x y : A} → Some x ≡ Some y → x ≡ y
+is_one e = cc
+
+or_three : (a b c : Bool) → (a || (b || c)) ≡ true → ((a || b) ≡ true) ⊎ (c ≡ true)
+or_three true b c e = inl refl
+or_three false true c e = inl refl
+or_three false false c e = inr e
+
+or_true : (a b : Bool) → (a || b) ≡ true → (a ≡ true) ⊎ (b ≡ true)
+or_true true b e = inl refl
+or_true false b e = inr e
+
+and_false : (a b : Bool) → (a && b) ≡ false → (a ≡ false) ⊎ (b ≡ false)
+and_false true b e = inr e
+and_false false b e = inl refl
+
+either_told : (a b : Option Reason) → (is_some a ≡ true) ⊎ (is_some b ≡ true) → is_some (first_reason a b) ≡ true
+either_told (Some x) b e = refl
+either_told None b (inl e) = absurd cc
+either_told None b (inr e) = e
+
+-- ---- what is told of a key
+
+opens_it : {w : ℕ} (k : Key) (y : Beat w) (u : List (Beat w)) → comes_in k (y ∷ u) ≡ true
+    → opens_by k (control_of y) None ≡ true
+opens_it (RequestSource s) (beat.A x) u e = e
+opens_it (RequestSource s) (beat.B x) u e = absurd cc
+opens_it (RequestSource s) (beat.C x) u e = absurd cc
+opens_it (RequestSource s) (beat.D x) u e = absurd cc
+opens_it (RequestSource s) (beat.E x) u e = absurd cc
+opens_it (ReleaseSource s) (beat.A x) u e = absurd cc
+opens_it (ReleaseSource s) (beat.B x) u e = absurd cc
+opens_it (ReleaseSource s) (beat.C x) u e = e
+opens_it (ReleaseSource s) (beat.D x) u e = absurd cc
+opens_it (ReleaseSource s) (beat.E x) u e = absurd cc
+opens_it (GrantSink s) (beat.A x) u e = absurd cc
+opens_it (GrantSink s) (beat.B x) u e = absurd cc
+opens_it (GrantSink s) (beat.C x) u e = absurd cc
+opens_it (GrantSink s) (beat.D x) u e = e
+opens_it (GrantSink s) (beat.E x) u e = absurd cc
+opens_it (AcquireOf k) y u e = absurd cc
+opens_it (ReleaseOf k) y u e = absurd cc
+opens_it (GrantAckOf k) y u e = absurd cc
+opens_it (ProbeOf k) y u e = absurd cc
+
+module _ {w : ℕ} (n : ℕ) (t : Trace w) (k : Key) (turn : Turn) (is : IsTurn turn n k t) where
+  abbrev now : History w
+  now = on_link n t
+
+  pending_told : pending k now ≡ true → is_some (where_pending k turn) ≡ true
+  pending_told e = let m = opened n t k turn is e in rw m.1 refl
+
+  free_told : (b : Option Begun) → pending k now ≡ false → is_some (where_missing k turn b) ≡ true
+  free_told b e = go turn.opening turn.closing (ap₂ is_open is.opening_is is.closing_is ∙ sym (pending_open n k t) ∙ e)
+    where
+      go : (o c : Option Told) → is_open (mention_of o) (mention_of c) ≡ false
+          → is_some (missing_by k o c (if is_open (mention_of o) (mention_of c) then o else None) b) ≡ true
+      go None c f = refl
+      go (Some m) None f = absurd cc
+      go (Some m) (Some c) f = rw f refl
+
+  unfinished_told : (p : Profile) (b : Option Begun) → IsBegun b n (opening_channel k) t → pending k now ≡ true
+      → comes_in k (unfinished (opening_channel k) now) ≡ true → (v : Level) → is_legal v p now ≡ true
+      → is_some (where_missing k turn b) ≡ true
+  unfinished_told p None begun e comes v clean = absurd (none_comes w k (ap (comes_in k) (sym begun) ∙ comes))
+  unfinished_told p (Some b) begun e comes v clean =
+      unfinished_is turn.opening turn.closing (open_message turn) m.0 b of.1 m.1 line opens_key
+    where
+      unfinished_is : (o c q : Option Told) (m : Told) (b : Begun) → o ≡ Some m → q ≡ Some m
+          → (b.first.mention.line == m.mention.line) ≡ true → opens_by k b.newest None ≡ true
+          → is_some (missing_by k o c q (Some b)) ≡ true
+      unfinished_is o c q m b f g here opens = rw (f, g, here, opens) refl
+
+      m : (m : Told) × (open_message turn ≡ Some m)
+      m = opened n t k turn is e
+
+      of : (is_open (mention_of turn.opening) (mention_of turn.closing) ≡ true) × (turn.opening ≡ Some m.0)
+      of = opened_some turn.opening turn.closing m.0 m.1
+
+      same : b.first.mention ≡ m.0.mention
+      same = is_one (sym begun.5 ∙ sym (burst_opened n k v p t clean comes) ∙ sym is.opening_is
+          ∙ ap mention_of of.1)
+
+      line : (b.first.mention.line == m.0.mention.line) ≡ true
+      line = same_true b.first.mention.line m.0.mention.line (ap (λ (z : Mention). z.line) same)
+
+      opens_key : opens_by k b.newest None ≡ true
+      opens_key = rw begun.3 (opens_it k begun.0 begun.1 (rw begun.2 at comes))
+
+-- ---- a reason of messages is of no rule of bursts
+
+no_message_c : {w : ℕ} (x : BeatC w) (r : Recorder) (a b : Bool)
+    → is_some (if a then for_release S1 x r else if b then for_probe_ack S1 x r else None) ≡ true → ⊥
+no_message_c x r true b e = absurd cc
+no_message_c x r false true e = absurd cc
+no_message_c x r false false e = absurd cc
+
+no_message : {w : ℕ} (p : Profile) (r : Recorder) (x : Beat w) → is_some (for_message p S1 x r) ≡ true → ⊥
+no_message p r (beat.A x) e = absurd cc
+no_message p r (beat.B x) e = absurd cc
+no_message p r (beat.C x) e = no_message_c x r (is_release x.opcode) (is_probe_ack x.opcode) e
+no_message p r (beat.D x) e = absurd cc
+no_message p r (beat.E x) e = absurd cc
+
+not_of_bursts : {w : ℕ} (p : Profile) (r : Recorder) (rule : Rule) (x : Beat w)
+    → is_some (for_message p rule x r) ≡ true → is_of_bursts rule ≡ false
+not_of_bursts p r S1 x e = absurd (no_message p r x e)
+not_of_bursts p r A1 x e = refl
+not_of_bursts p r A2 x e = refl
+not_of_bursts p r A3 x e = refl
+not_of_bursts p r L1 x e = refl
+not_of_bursts p r L2 x e = refl
+not_of_bursts p r L3 x e = refl
+not_of_bursts p r L4 x e = refl
+not_of_bursts p r L5 x e = refl
+not_of_bursts p r L6 x e = refl
+not_of_bursts p r L7 x e = refl
+not_of_bursts p r H1 x e = refl
+not_of_bursts p r H2 x e = refl
+not_of_bursts p r H3 x e = refl
+not_of_bursts p r H4 x e = refl
+not_of_bursts p r H5 x e = refl
+not_of_bursts p r H6 x e = refl
+not_of_bursts p r H7 x e = refl
+not_of_bursts p r H8 x e = refl
+not_of_bursts p r H9 x e = refl
+not_of_bursts p r H10 x e = refl
+not_of_bursts p r H11 x e = refl
+not_of_bursts p r H12 x e = refl
+not_of_bursts p r H13 x e = refl
+
+-- ---- the rules
+
+module _ {w : ℕ} (p : Profile) (r : Recorder) (t : Trace w) (rec : IsRecord r t) where
+  abbrev l : ℕ
+  l = r.subject.link.0
+
+  abbrev h : History w
+  h = on_link l t
+
+  -- the rule is one of which a reason is told always, or no beat before is at fault
+  abbrev IsToldOf : Rule → Type 0
+  IsToldOf rule = (is_always_told rule ≡ true) ⊎ ((v : Level) × (is_legal v p h ≡ true))
+
+  either_pending : (k : ℕ) → r.subject.block ≡ k → (pending (AcquireOf k) h || pending (ReleaseOf k) h) ≡ true
+      → is_some (first_reason (where_pending (AcquireOf k) r.turns.acquire) (where_pending (ReleaseOf k)
+      r.turns.release)) ≡ true
+  either_pending k of some =
+      either_told (where_pending (AcquireOf k) r.turns.acquire) (where_pending (ReleaseOf k) r.turns.release)
+      (elim (or_true (pending (AcquireOf k) h) (pending (ReleaseOf k) h) some) [
+        | inl one ↦ inl (pending_told l t (AcquireOf k) r.turns.acquire (acquire_turn p r t rec k of) one)
+        | inr other ↦ inr (pending_told l t (ReleaseOf k) r.turns.release (release_of_turn p r t rec k of) other)
+      ])
+
+  of_a : (rule : Rule) (x : BeatA w) → r.subject.source ≡ x.source → r.subject.block ≡ block_at x.address
+      → broken_order p (beat.A x) h ≡ Some rule → is_some (for_request rule x r) ≡ true
+  unfolding broken_order
+  of_a rule x source block e = elim (decides (pending (RequestSource x.source) h) H1 _ rule e) [
+    | inl one ↦ subst (λ (q : Rule). is_some (for_request q x r) ≡ true) one.1
+        (pending_told l t (RequestSource x.source) r.turns.request (source_turn p r t rec x.source source) one.0)
+    | inr two ↦ elim (decides (is_acquire x.opcode && (pending (AcquireOf (block_at x.address)) h || pending
+        (ReleaseOf (block_at x.address)) h)) H4 _ rule two.1) [
+          | inl four ↦
+              let both = both_true (is_acquire x.opcode) (pending (AcquireOf (block_at x.address)) h || pending
+              (ReleaseOf (block_at x.address)) h) four.0 in
+              subst (λ (q : Rule). is_some (for_request q x r) ≡ true) four.1
+              (rw both.0 (either_pending (block_at x.address) block both.1))
+          | inr five ↦ elim (decides (is_acquire x.opcode && not (grows_from x.param (held (block_at x.address) h))) H5
+              None
+              rule five.1) [
+                | inl bad ↦
+                    let both = both_true (is_acquire x.opcode) (not (grows_from x.param (held (block_at x.address) h)))
+                    bad.0 in
+                    let fits = not_true (grows_from x.param (held (block_at x.address) h)) both.1 in
+                    subst (λ (q : Rule). is_some (for_request q x r) ≡ true) bad.1
+                    (rw (both.0, perm_is p r t rec (block_at x.address) block, fits) refl)
+                | inr none ↦ absurd cc
+              ]
+        ]
+  ]
+
+  of_b : (rule : Rule) (x : BeatB w) → r.subject.block ≡ block_at x.address
+      → broken_order p (beat.B x) h ≡ Some rule → is_some (for_probe rule x r) ≡ true
+  unfolding broken_order
+  of_b rule x block e = elim (decides (is_probe x.opcode && (pending (ProbeOf (block_at x.address)) h || pending
+      (GrantAckOf (block_at x.address)) h)) H9 None rule e) [
+        | inl bad ↦
+            let both = both_true (is_probe x.opcode) (pending (ProbeOf (block_at x.address)) h || pending
+            (GrantAckOf (block_at x.address)) h) bad.0 in
+            subst (λ (q : Rule). is_some (for_probe q x r) ≡ true) bad.1
+            (rw both.0 (either_told (where_pending (ProbeOf (block_at x.address)) r.turns.probe)
+            (where_pending (GrantAckOf (block_at x.address)) r.turns.grant_ack)
+            (elim (or_true (pending (ProbeOf (block_at x.address)) h) (pending (GrantAckOf (block_at x.address)) h)
+            both.1) [
+              | inl one ↦ inl (pending_told l t (ProbeOf (block_at x.address)) r.turns.probe
+                  (probe_turn p r t rec (block_at x.address) block) one)
+              | inr other ↦ inr (pending_told l t (GrantAckOf (block_at x.address)) r.turns.grant_ack
+                  (ack_turn p r t rec (block_at x.address) block) other)
+            ])))
+        | inr none ↦ absurd cc
+      ]
+
+  of_release : (rule : Rule) (x : BeatC w) → r.subject.source ≡ x.source → r.subject.block ≡ block_at x.address
+      → first_if (pending (ReleaseSource x.source) h) H1
+      (first_if (pending (AcquireOf (block_at x.address)) h
+      || (pending (ReleaseOf (block_at x.address)) h || not
+      (prunes_from (prune_of x.param) (held (block_at x.address) h)))) H13 None) ≡ Some rule
+      → is_some (for_release rule x r) ≡ true
+  of_release rule x source block e = elim (decides (pending (ReleaseSource x.source) h) H1 _ rule e) [
+    | inl one ↦ subst (λ (q : Rule). is_some (for_release q x r) ≡ true) one.1
+        (pending_told l t (ReleaseSource x.source) r.turns.release_with_source
+        (release_turn p r t rec x.source source) one.0)
+    | inr two ↦ elim (decides (pending (AcquireOf (block_at x.address)) h
+        || (pending (ReleaseOf (block_at x.address)) h || not
+        (prunes_from (prune_of x.param) (held (block_at x.address) h)))) H13 None rule two.1) [
+          | inl bad ↦ subst (λ (q : Rule). is_some (for_release q x r) ≡ true) bad.1
+              (either_told (first_reason (where_pending (AcquireOf (block_at x.address)) r.turns.acquire)
+              (where_pending (ReleaseOf (block_at x.address)) r.turns.release))
+              (unless_held (prunes_from (prune_of x.param) (held_by r.turns.said).perm) (held_by r.turns.said))
+              (pruned bad.0))
+          | inr none ↦ absurd cc
+        ]
+  ]
+    where
+      pruned : (pending (AcquireOf (block_at x.address)) h
+          || (pending (ReleaseOf (block_at x.address)) h || not
+          (prunes_from (prune_of x.param) (held (block_at x.address) h)))) ≡ true
+          → (is_some (first_reason (where_pending (AcquireOf (block_at x.address)) r.turns.acquire)
+          (where_pending (ReleaseOf (block_at x.address)) r.turns.release)) ≡ true)
+          ⊎ (is_some (unless_held (prunes_from (prune_of x.param) (held_by r.turns.said).perm)
+          (held_by r.turns.said)) ≡ true)
+      pruned bad = elim (or_three (pending (AcquireOf (block_at x.address)) h)
+          (pending (ReleaseOf (block_at x.address)) h)
+          (not (prunes_from (prune_of x.param) (held (block_at x.address) h))) bad) [
+            | inl some ↦ inl (either_pending (block_at x.address) block some)
+            | inr other ↦
+                let fits = not_true (prunes_from (prune_of x.param) (held (block_at x.address) h)) other in
+                inr (rw (perm_is p r t rec (block_at x.address) block, fits) refl)
+          ]
+
+  of_probe_ack : (rule : Rule) (x : BeatC w) → r.subject.block ≡ block_at x.address
+      → first_if (not (pending (ProbeOf (block_at x.address)) h) || answers_wrong_probe x
+      (probe_of (block_at x.address) h)) H10
+      (first_if (pending (ReleaseOf (block_at x.address)) h) H11
+      (first_if (misreports x (probe_of (block_at x.address) h) (held (block_at x.address) h)) H12 None)) ≡ Some rule
+      → is_some (for_probe_ack rule x r) ≡ true
+  of_probe_ack rule x block e = go (pending (ProbeOf (block_at x.address)) h) refl e
+    where
+      turn : IsTurn r.turns.probe l (ProbeOf (block_at x.address)) t
+      turn = probe_turn p r t rec (block_at x.address) block
+
+      none_open : pending (ProbeOf (block_at x.address)) h ≡ false → open_message r.turns.probe ≡ None
+      none_open off =
+          rw (ap₂ is_open turn.opening_is turn.closing_is ∙ sym (pending_open l (ProbeOf (block_at x.address)) t) ∙ off)
+          refl
+
+      wrong : answers_wrong_probe x (probe_of (block_at x.address) h) ≡ true
+          → pending (ProbeOf (block_at x.address)) h ≡ true
+          → is_some (probe_by x r.turns.probe (open_message r.turns.probe)) ≡ true
+      wrong bad on =
+          let m = probe_told p r t rec (block_at x.address) block on in
+          let asked : (c_carries_data x.opcode && not (is_probe_block m.4.0.opcode)) ≡ true = rw m.4.1 at bad in
+          let own : (c_carries_data x.opcode && not (is_probe_block m.2.opcode)) ≡ true = rw m.4.2 asked in
+          rw (m.1, m.3, own) refl
+
+      go : (b : Bool) → pending (ProbeOf (block_at x.address)) h ≡ b
+          → first_if (not b || answers_wrong_probe x (probe_of (block_at x.address) h)) H10
+          (first_if (pending (ReleaseOf (block_at x.address)) h) H11
+          (first_if (misreports x (probe_of (block_at x.address) h) (held (block_at x.address) h)) H12 None)) ≡ Some
+          rule
+          → is_some (for_probe_ack rule x r) ≡ true
+      go false off f = subst (λ (q : Rule). is_some (for_probe_ack q x r) ≡ true) (is_one f)
+          (rw (none_open off) (free_told l t (ProbeOf (block_at x.address)) r.turns.probe turn None off))
+      go true on f = elim (decides (answers_wrong_probe x (probe_of (block_at x.address) h)) H10 _ rule f) [
+        | inl ten ↦ subst (λ (q : Rule). is_some (for_probe_ack q x r) ≡ true) ten.1 (wrong ten.0 on)
+        | inr rest ↦ elim (decides (pending (ReleaseOf (block_at x.address)) h) H11 _ rule rest.1) [
+          | inl eleven ↦ subst (λ (q : Rule). is_some (for_probe_ack q x r) ≡ true) eleven.1
+              (pending_told l t (ReleaseOf (block_at x.address)) r.turns.release
+              (release_of_turn p r t rec (block_at x.address) block) eleven.0)
+          | inr last ↦ elim (decides (misreports x (probe_of (block_at x.address) h) (held (block_at x.address) h)) H12
+              None rule last.1) [
+                | inl twelve ↦ subst (λ (q : Rule). is_some (for_probe_ack q x r) ≡ true) twelve.1
+                    (report_told p r t rec x block on twelve.0)
+                | inr none ↦ absurd cc
+              ]
+        ]
+      ]
+
+  of_c : (rule : Rule) (x : BeatC w) → r.subject.source ≡ x.source → r.subject.block ≡ block_at x.address
+      → broken_order p (beat.C x) h ≡ Some rule → is_some (for_message_c rule x r) ≡ true
+  unfolding broken_order
+  of_c rule x source block e = go (is_release x.opcode) refl (is_probe_ack x.opcode) refl
+    where
+      go : (b : Bool) → is_release x.opcode ≡ b → (c : Bool) → is_probe_ack x.opcode ≡ c
+          → is_some (for_message_c rule x r) ≡ true
+      go true f c g = rw f (of_release rule x source block (rw f at e))
+      go false f true g = rw (f, g) (of_probe_ack rule x block (rw (f, g) at e))
+      go false f false g = let none : None ≡ Some rule = rw (f, g) at e in absurd cc
+
+  -- the request or Release isn't pending, isn't complete, or isn't answered so
+  unasked : (x : BeatD w) → r.subject.source ≡ x.source → has_request x h ≡ false
+      → (v : Level) → is_legal v p h ≡ true → is_some (for_answer p H2 x r) ≡ true
+  unasked x source e v clean = go (is_release_ack x.opcode) refl
+    where
+      asked : IsTurn r.turns.request l (RequestSource x.source) t
+      asked = source_turn p r t rec x.source source
+
+      released : IsTurn r.turns.release_with_source l (ReleaseSource x.source) t
+      released = release_turn p r t rec x.source source
+
+      of_release_source : (b : Bool) → pending (ReleaseSource x.source) h ≡ b
+          → (b && not (comes_in_release x.source (unfinished channel.C h))) ≡ false
+          → is_some (where_missing (ReleaseSource x.source) r.turns.release_with_source r.bursts.c) ≡ true
+      of_release_source false off f =
+          free_told l t (ReleaseSource x.source) r.turns.release_with_source released r.bursts.c off
+      of_release_source true on f =
+          unfinished_told l t (ReleaseSource x.source) r.turns.release_with_source released p r.bursts.c
+          (rec.bursts_are channel.C) on (not_false (comes_in_release x.source (unfinished channel.C h)) f) v clean
+
+      other_kind : pending (RequestSource x.source) h ≡ true → admits x.opcode (request_of x.source h) ≡ false
+          → is_some (kind_by x (open_message r.turns.request)) ≡ true
+      other_kind on bad =
+          let m = request_told p r t rec x.source source on in
+          let asked : answers x.opcode m.4.0.opcode ≡ false = rw m.4.1 at bad in
+          let own : answers x.opcode m.2.opcode ≡ false = rw m.4.2 asked in
+          rw (m.1, m.3, own) refl
+
+      of_request_source : (b : Bool) → pending (RequestSource x.source) h ≡ b
+          → (b && (not (comes_in_request x.source (unfinished channel.A h)) && admits x.opcode
+          (request_of x.source h))) ≡ false
+          → (is_some (where_missing (RequestSource x.source) r.turns.request r.bursts.a) ≡ true)
+          ⊎ (is_some (kind_by x (open_message r.turns.request)) ≡ true)
+      of_request_source false off f =
+          inl (free_told l t (RequestSource x.source) r.turns.request asked r.bursts.a off)
+      of_request_source true on f =
+          elim (and_false (not (comes_in_request x.source (unfinished channel.A h)))
+          (admits x.opcode (request_of x.source h)) f) [
+            | inl late ↦ inl (unfinished_told l t (RequestSource x.source) r.turns.request asked p r.bursts.a
+                (rec.bursts_are channel.A) on (not_false (comes_in_request x.source (unfinished channel.A h)) late)
+                v clean)
+            | inr bad ↦ inr (other_kind on bad)
+          ]
+
+      go : (b : Bool) → is_release_ack x.opcode ≡ b → is_some (for_answer p H2 x r) ≡ true
+      go true ack = rw ack (of_release_source (pending (ReleaseSource x.source) h) refl (rw ack at e))
+      go false ack = rw ack (either_told (where_missing (RequestSource x.source) r.turns.request r.bursts.a)
+          (kind_by x (open_message r.turns.request))
+          (of_request_source (pending (RequestSource x.source) h) refl (rw ack at e)))
+
+  of_d : (rule : Rule) (x : BeatD w) → r.subject.source ≡ x.source → r.subject.sink ≡ x.sink
+      → HasBlockAsked r.subject (beat.D x) t → IsToldOf rule
+      → broken_order p (beat.D x) h ≡ Some rule → is_some (for_answer p rule x r) ≡ true
+  unfolding broken_order
+  of_d rule x source sink asked told e = elim (decides (not (has_request x h)) H2 _ rule e) [
+    | inl two ↦ subst (λ (q : Rule). is_some (for_answer p q x r) ≡ true) two.1
+        (missing (not_true (has_request x h) two.0) (subst IsToldOf (sym two.1) told))
+    | inr one ↦
+        let has = not_false (has_request x h) one.0 in
+        elim (decides (not (x.size == size_asked x h)) H3 _ rule one.1) [
+          | inl size ↦ subst (λ (q : Rule). is_some (for_answer p q x r) ≡ true) size.1
+              (size_told p r t rec x source has (not_true (x.size == size_asked x h) size.0))
+          | inr rest ↦ elim (decides (is_grant x.opcode && misgrants p x (request_of x.source h) h) H6 _ rule rest.1) [
+            | inl grant ↦
+                let both = both_true (is_grant x.opcode) (misgrants p x (request_of x.source h) h) grant.0 in
+                subst (λ (q : Rule). is_some (for_answer p q x r) ≡ true) grant.1
+                (rw both.0 (grant_told p r t rec x source asked has both.0 both.1))
+            | inr last ↦ elim (decides (is_grant x.opcode && pending (GrantSink x.sink) h) H7 None rule last.1) [
+              | inl seven ↦
+                  let both = both_true (is_grant x.opcode) (pending (GrantSink x.sink) h) seven.0 in
+                  subst (λ (q : Rule). is_some (for_answer p q x r) ≡ true) seven.1
+                  (rw both.0 (pending_told l t (GrantSink x.sink) r.turns.sink
+                  (sink_turn p r t rec x.sink sink) both.1))
+              | inr none ↦ absurd cc
+            ]
+          ]
+        ]
+  ]
+    where
+      missing : has_request x h ≡ false → IsToldOf H2 → is_some (for_answer p H2 x r) ≡ true
+      missing not_there (inl never) = absurd cc
+      missing not_there (inr clean) = unasked x source not_there clean.0 clean.1
+
+  of_e : (rule : Rule) (x : BeatE) → r.subject.sink ≡ x.sink → IsToldOf rule
+      → broken_order p (beat.E x) h ≡ Some rule → is_some (for_acknowledgement rule x r) ≡ true
+  unfolding broken_order
+  of_e rule x sink told e = elim (decides (not (pending (GrantSink x.sink) h) || comes_in_grant x.sink
+      (unfinished channel.D h)) H8 None rule e) [
+        | inl bad ↦ subst (λ (q : Rule). is_some (for_acknowledgement q x r) ≡ true) bad.1
+            (ungranted (subst IsToldOf (sym bad.1) told) (pending (GrantSink x.sink) h) refl bad.0)
+        | inr none ↦ absurd cc
+      ]
+    where
+      turn : IsTurn r.turns.sink l (GrantSink x.sink) t
+      turn = sink_turn p r t rec x.sink sink
+
+      ungranted : IsToldOf H8 → (b : Bool) → pending (GrantSink x.sink) h ≡ b
+          → (not b || comes_in_grant x.sink (unfinished channel.D h)) ≡ true
+          → is_some (where_missing (GrantSink x.sink) r.turns.sink r.bursts.d) ≡ true
+      ungranted (inl never) b f bad = absurd cc
+      ungranted (inr clean) false off bad = free_told l t (GrantSink x.sink) r.turns.sink turn r.bursts.d off
+      ungranted (inr clean) true on bad = unfinished_told l t (GrantSink x.sink) r.turns.sink turn p r.bursts.d
+          (rec.bursts_are channel.D) on bad clean.0 clean.1
+
+  of_order : (rule : Rule) (link : Link) (x : Beat w) → IsSubject r.subject link x → HasBlockAsked r.subject x t
+      → IsToldOf rule → broken_order p x h ≡ Some rule → is_some (for_message p rule x r) ≡ true
+  of_order rule link (beat.A x) is asked told e = of_a rule x is.1 is.2 e
+  of_order rule link (beat.B x) is asked told e = of_b rule x is.1 e
+  of_order rule link (beat.C x) is asked told e = of_c rule x is.1 is.2 e
+  of_order rule link (beat.D x) is asked told e = of_d rule x is.1 is.2 asked told e
+  of_order rule link (beat.E x) is asked told e = of_e rule x is.1 told e
+
+  no_burst : (b : Option Begun) (x : Beat w) → begins x h ≡ true → IsBegun b l (channel_of x) t → is_none b ≡ true
+  no_burst None x e begun = refl
+  no_burst (Some b) x e begun = let no : false ≡ true = sym (ap is_empty begun.2) ∙ e in absurd cc
+
+  differs_told : (x : Beat w) (b : Option Begun) → IsBegun b l (channel_of x) t
+      → breaks_burst x (unfinished (channel_of x) h) ≡ true → is_some (differs_by x b) ≡ true
+  differs_told x None begun bad = let no : false ≡ true = sym (ap (breaks_burst x) begun) ∙ bad in absurd cc
+  differs_told x (Some b) begun bad =
+      let other : has_control x b.newest ≡ false =
+      ap (has_control x) begun.3 ∙ not_true (has_control x (control_of begun.0))
+      (sym (ap (breaks_burst x) begun.2) ∙ bad) in
+      rw other refl
+
+  pub told_where_first : (rule : Rule) (link : Link) (x : Beat w) → IsSubject r.subject link x
+      → HasBlockAsked r.subject x t → IsToldOf rule
+      → broken_in_order p x h ≡ Some rule → is_some (reason_by p rule x r) ≡ true
+  told_where_first rule link x is asked told e = go (begins x h) refl e
+    where
+      of_first : is_some (for_message p rule x r) ≡ true → begins x h ≡ true → is_some (reason_by p rule x r) ≡ true
+      of_first some first = rw (
+        not_of_bursts p r rule x some,
+        no_burst (burst_on r.bursts (channel_of x)) x first
+            (rec.bursts_are (channel_of x)),
+      ) some
+
+      go : (b : Bool) → begins x h ≡ b
+          → (if b then broken_order p x h else first_if (breaks_burst x (unfinished (channel_of x) h)) S1 None) ≡ Some
+          rule
+          → is_some (reason_by p rule x r) ≡ true
+      go true first f = of_first (of_order rule link x is asked told f) first
+      go false later f = elim (decides (breaks_burst x (unfinished (channel_of x) h)) S1 None rule f) [
+        | inl bad ↦ subst (λ (q : Rule). is_some (reason_by p q x r) ≡ true) bad.1
+            (differs_told x (burst_on r.bursts (channel_of x)) (rec.bursts_are (channel_of x)) bad.0)
+        | inr none ↦ absurd cc
+      ]

@@ -1,0 +1,9 @@
+pub mod Answer
+pub mod Codes
+pub mod Configured
+pub mod Depicted
+pub mod Named
+pub mod Operation
+pub mod Outcome
+pub mod Picture
+pub mod Written

@@ -1,0 +1,70 @@
+-- The numbers by which C is answered.
+use Rattle.std.specs.Prelude.{ℕ, ◌≡◌, Result, Ok, Err, ⊤}
+use Rattle.tl_params.specs.declared.rule.Rule.{Rule}
+use Rattle.tl_params.specs.declared.rule.Rule.TheVariants.{L1, L2, L3, L4, L5, L6, L7, S1, H1, H2, H3, H4, H5, H6, H7}
+use Rattle.tl_params.specs.declared.rule.Rule.TheVariants.{H8, H9, H10, H11, H12, H13, A1, A2, A3}
+use Rattle.tl_monitor.specs.declared.fault.MonitorFault.{MonitorFault}
+use Rattle.tl_monitor.specs.declared.fault.MonitorFault.TheVariants.{Levels, Broken, Memory, Closed}
+use Rattle.tl_pictures.specs.declared.answer.Answer.{Answer}
+
+-- the rules of level, burst, history and agents, each from the number before its first
+abbrev pub rule_number : Rule → ℕ
+rule_number L1 = 1
+rule_number L2 = 2
+rule_number L3 = 3
+rule_number L4 = 4
+rule_number L5 = 5
+rule_number L6 = 6
+rule_number L7 = 7
+rule_number S1 = 8
+rule_number H1 = 9
+rule_number H2 = 10
+rule_number H3 = 11
+rule_number H4 = 12
+rule_number H5 = 13
+rule_number H6 = 14
+rule_number H7 = 15
+rule_number H8 = 16
+rule_number H9 = 17
+rule_number H10 = 18
+rule_number H11 = 19
+rule_number H12 = 20
+rule_number H13 = 21
+rule_number A1 = 22
+rule_number A2 = 23
+rule_number A3 = 24
+
+abbrev pub answer : ℕ → Answer
+answer code = record { code = code; rule = 0 }
+
+-- done; a beat that breaks a rule; bad input; no memory; a monitor that is closed
+abbrev pub ok : Answer
+ok = answer 0
+
+abbrev pub broken : Rule → Answer
+broken rule = record { code = 1; rule = rule_number rule }
+
+abbrev pub bad : Answer
+bad = answer 2
+
+abbrev pub no_memory : Answer
+no_memory = answer 3
+
+abbrev pub closed : Answer
+closed = answer 4
+
+-- there is nothing of what was asked for
+abbrev pub nothing : Answer
+nothing = answer 5
+
+-- the answer to a beat that a monitor judged
+abbrev pub answer_of : Result ⊤ MonitorFault → Answer
+answer_of (Ok u) = ok
+answer_of (Err Levels) = bad
+answer_of (Err (Broken rule)) = broken rule
+answer_of (Err Memory) = no_memory
+answer_of (Err Closed) = closed
+
+-- bad input, which leaves what was
+abbrev pub IsBad : {A : Type 0} → Answer → A → A → Type 0
+IsBad answer was now = (answer ≡ bad) × (now ≡ was)

@@ -1,0 +1,42 @@
+-- The numbers by which C names levels, profiles, widths, channels and links.
+use Rattle.std.specs.Prelude.{ℕ, Bool, true, ◌&&◌, ◌||◌, ◌==◌, List, [], ◌∷◌, nat_lt, Option, Some, None}
+use Rattle.std.specs.Prelude.{if◌then◌else◌}
+use Rattle.tl_beat.specs.declared.beat.Link.{Link}
+use Rattle.tl_beat.specs.declared.channel.Channel.{Channel}
+use Rattle.tl_beat.specs.declared.channel.Channel.TheVariants as channel
+use Rattle.tl_params.specs.declared.level.Level.{Level}
+use Rattle.tl_params.specs.declared.level.Level.TheVariants as level
+use Rattle.tl_params.specs.declared.profile.Profile.{Profile}
+use Rattle.tl_params.specs.declared.profile.Profile.TheVariants as profile
+
+-- the level of a code, 0 for UL, 1 for UH, 2 for C
+abbrev pub level_at : ℕ → Level
+level_at code = if code == 0 then level.UL else if code == 1 then level.UH else level.C
+
+-- each is the code of a level
+abbrev pub are_levels : List ℕ → Bool
+are_levels [] = true
+are_levels (code ∷ codes) = nat_lt code 3 && are_levels codes
+
+-- the profile of a code, 1 or 2
+abbrev pub profile_at : ℕ → Profile
+profile_at code = if code == 1 then profile.One else profile.Two
+
+abbrev pub is_profile : ℕ → Bool
+is_profile code = code == 1 || code == 2
+
+-- how many bytes a beat may have
+abbrev pub is_width : ℕ → Bool
+is_width width = width == 4 || width == 8 || width == 16
+
+-- the channel of a code, 0 for A to 4 for E
+abbrev pub channel_at : ℕ → Option Channel
+channel_at code =
+    if code == 0 then Some channel.A else
+    if code == 1 then Some channel.B else
+    if code == 2 then Some channel.C else if code == 3 then Some channel.D else if code == 4 then Some channel.E else
+    None
+
+-- the link of a code, 0 to 15
+abbrev pub link_at : ℕ → Option Link
+link_at code = if nat_lt code 16 then Some (record { 0 = code }) else None

@@ -1,0 +1,84 @@
+//! What C is answered.
+
+ghost use Rattle.std.specs.Prelude.{◌≡◌};
+ghost use Rattle.tl_pictures.specs.statement.Answer.{rule_number, broken, answer_of};
+
+use tl_monitor::fault::MonitorFault;
+use tl_rules::rule::Rule;
+
+/// A code, and the number of the rule that a beat breaks; 0 for none.
+#[repr(C)]
+#[derive(Clone, Copy, Debug, PartialEq, Eq)]
+pub struct Answer {
+    pub code: u8,
+    pub rule: u8,
+}
+
+/// The number of a rule, from 1 on.
+fn number_of(rule: Rule) -> u8
+    ensures { result ≡ rule_number rule }
+{
+    match rule {
+        Rule::L1 => 1,
+        Rule::L2 => 2,
+        Rule::L3 => 3,
+        Rule::L4 => 4,
+        Rule::L5 => 5,
+        Rule::L6 => 6,
+        Rule::L7 => 7,
+        Rule::S1 => 8,
+        Rule::H1 => 9,
+        Rule::H2 => 10,
+        Rule::H3 => 11,
+        Rule::H4 => 12,
+        Rule::H5 => 13,
+        Rule::H6 => 14,
+        Rule::H7 => 15,
+        Rule::H8 => 16,
+        Rule::H9 => 17,
+        Rule::H10 => 18,
+        Rule::H11 => 19,
+        Rule::H12 => 20,
+        Rule::H13 => 21,
+        Rule::A1 => 22,
+        Rule::A2 => 23,
+        Rule::A3 => 24,
+    }
+}
+
+impl Answer {
+    /// Done.
+    pub const OK: Answer = Answer { code: 0, rule: 0 };
+
+    /// Something that was given is out of range, and nothing changed.
+    pub const BAD: Answer = Answer { code: 2, rule: 0 };
+
+    /// There is no memory, and nothing changed.
+    pub const NO_MEMORY: Answer = Answer { code: 3, rule: 0 };
+
+    /// There is nothing of what was asked for.
+    pub const NOTHING: Answer = Answer { code: 5, rule: 0 };
+
+    /// The beat breaks the rule.
+    pub fn broken(rule: Rule) -> Answer
+        ensures { result ≡ broken rule }
+    {
+        Answer {
+            code: 1,
+            rule: number_of(rule),
+        }
+    }
+
+    /// The answer to a beat that a monitor judged.
+    pub fn of(judged: Result<(), MonitorFault>) -> Answer
+        ensures { result ≡ answer_of judged }
+    {
+        match judged {
+            Ok(()) => Answer::OK,
+            Err(MonitorFault::Broken(rule)) => Answer::broken(rule),
+            Err(MonitorFault::Levels) => Answer::BAD,
+            Err(MonitorFault::Memory) => Answer::NO_MEMORY,
+            Err(MonitorFault::Closed) => Answer { code: 4, rule: 0 },
+        }
+    }
+}

@@ -1,0 +1,78 @@
+//! The numbers by which C names levels, profiles, widths, channels and links.
+
+ghost use Rattle.std.specs.Prelude.{◌≡◌};
+ghost use Rattle.tl_pictures.specs.statement.Codes.{level_at, are_levels, profile_at, is_profile};
+ghost use Rattle.tl_pictures.specs.statement.Codes.{is_width, channel_at, link_at};
+
+use tl_beat::beat::Link;
+use tl_beat::channel::Channel;
+use tl_rules::config::MOST_CLIENTS;
+use tl_rules::level::Level;
+use tl_rules::profile::Profile;
+
+/// The level of a code: 0 for UL, 1 for UH, 2 for C.
+pub fn level_of(code: u8) -> Level
+    ensures { result ≡ level_at code }
+{
+    match code {
+        0 => Level::UL,
+        1 => Level::UH,
+        _ => Level::C,
+    }
+}
+
+/// Whether each is the code of a level.
+pub fn are_levels(codes: &[u8]) -> bool
+    ensures { result ≡ are_levels codes.now }
+{
+    codes.iter().all(|code| *code < 3)
+}
+
+/// The profile of a code, 1 or 2.
+pub fn profile_of(code: u8) -> Profile
+    ensures { result ≡ profile_at code }
+{
+    match code {
+        1 => Profile::One,
+        _ => Profile::Two,
+    }
+}
+
+/// Whether it is the code of a profile.
+pub fn is_profile(code: u8) -> bool
+    ensures { result ≡ is_profile code }
+{
+    code == 1 || code == 2
+}
+
+/// Whether a beat may have so many bytes.
+pub fn is_width(width: u8) -> bool
+    ensures { result ≡ is_width width }
+{
+    width == 4 || width == 8 || width == 16
+}
+
+/// The channel of a code, 0 for A to 4 for E.
+pub fn channel_at(code: u8) -> Option<Channel>
+    ensures { result ≡ channel_at code }
+{
+    match code {
+        0 => Some(Channel::A),
+        1 => Some(Channel::B),
+        2 => Some(Channel::C),
+        3 => Some(Channel::D),
+        4 => Some(Channel::E),
+        _ => None,
+    }
+}
+
+/// The link of a code, 0 to 15.
+pub fn link_at(code: u8) -> Option<Link>
+    ensures { result ≡ link_at code }
+{
+    if usize::from(code) < MOST_CLIENTS {
+        Some(Link(code))
+    } else {
+        None
+    }
+}

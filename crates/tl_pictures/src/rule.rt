@@ -1,0 +1,49 @@
+//! The rules that the numbers of answers stand for.
+
+ghost use Rattle.std.specs.Prelude.{◌≡◌};
+ghost use Rattle.tl_pictures.specs.statement.Named.{rule_with, name_of};
+
+use tl_rules::rule::Rule;
+
+/// The rule with a number, from 1 on.
+fn rule_with(number: u8) -> Option<Rule>
+    ensures { result ≡ rule_with number }
+{
+    match number {
+        1 => Some(Rule::L1),
+        2 => Some(Rule::L2),
+        3 => Some(Rule::L3),
+        4 => Some(Rule::L4),
+        5 => Some(Rule::L5),
+        6 => Some(Rule::L6),
+        7 => Some(Rule::L7),
+        8 => Some(Rule::S1),
+        9 => Some(Rule::H1),
+        10 => Some(Rule::H2),
+        11 => Some(Rule::H3),
+        12 => Some(Rule::H4),
+        13 => Some(Rule::H5),
+        14 => Some(Rule::H6),
+        15 => Some(Rule::H7),
+        16 => Some(Rule::H8),
+        17 => Some(Rule::H9),
+        18 => Some(Rule::H10),
+        19 => Some(Rule::H11),
+        20 => Some(Rule::H12),
+        21 => Some(Rule::H13),
+        22 => Some(Rule::A1),
+        23 => Some(Rule::A2),
+        24 => Some(Rule::A3),
+        _ => None,
+    }
+}
+
+/// The name of the rule with a number; nothing where there is none.
+pub fn name_of(number: u8) -> &'static str
+    ensures { result.now ≡ name_of (rule_with number) }
+{
+    match rule_with(number) {
+        None => "",
+        Some(rule) => rule.name(),
+    }
+}

@@ -1,0 +1,75 @@
+-- A manager and the beats that it has still to send, by the definition of a manager's end of its links.
+use Rattle.std.specs.Prelude.{ℕ, List, [], ◌≡◌, ◌++◌, drop, slice_get, Option, Result, Ok, Err, if◌then◌else◌}
+use Rattle.tl_beat.specs.declared.beat.Beat.{Beat}
+use Rattle.tl_beat.specs.declared.beat.Link.{Link}
+use Rattle.tl_beat.specs.declared.channel.Channel.{Channel}
+use Rattle.tl_params.specs.declared.config.Config.{Config}
+use Rattle.tl_params.specs.declared.config.NewFault.{NewFault}
+use Rattle.tl_params.specs.declared.rule.Rule.{Rule}
+use Rattle.tl_manager.specs.code.Directories.{perm_of_bits}
+use Rattle.tl_manager.specs.code.Fresh.{IsNew}
+use Rattle.tl_manager.specs.code.Knows.{Knows}
+use Rattle.tl_manager.specs.declared.manager.admission.Admission.{Admission}
+use Rattle.tl_manager.specs.declared.manager.admission.Admission.TheVariants.{Waits, Passes}
+use Rattle.tl_manager.specs.statement.End.{End, fresh}
+use Rattle.tl_manager.specs.statement.Handing.{Handed}
+use Rattle.tl_manager.specs.statement.Offer.{Reception, Refused, Stalled, Sent, offered}
+use Rattle.tl_ports.specs.declared.manager.ManagerPort.{ManagerPort}
+use Rattle.tl_ports.specs.statement.Waiting.{waiting, handed_all, is_place}
+
+-- the manager has this configuration and has come to this end of its links
+abbrev pub KnowsEnd : {w : ℕ} → ManagerPort w → Config → End w → Type 0
+KnowsEnd port config e = Knows perm_of_bits port.manager config e
+
+-- the beats that wait on a channel of a link, the oldest first
+abbrev pub to_send_on : {w : ℕ} → ℕ → Channel → ManagerPort w → List (Beat w)
+to_send_on link ch port = waiting link ch port.outgoing
+
+-- the next beat to send on a channel of a link
+abbrev pub next_beat_on : {w : ℕ} → ℕ → Channel → ManagerPort w → Option (Beat w)
+next_beat_on link ch port = slice_get (to_send_on link ch port) 0
+
+-- these messages were handed out, each on its link: their beats wait behind those that waited
+abbrev pub HandedOutAll : {w : ℕ} → Handed w → ManagerPort w → ManagerPort w → Type 0
+HandedOutAll handed old new =
+    (link : ℕ) (ch : Channel) → to_send_on link ch new ≡ to_send_on link ch old ++ handed_all link ch handed
+
+-- manager and what waits are as they were
+abbrev pub UnchangedManager : {w : ℕ} → ManagerPort w → ManagerPort w → Type 0
+UnchangedManager old new =
+    (new.manager ≡ old.manager) × ((link : ℕ) (ch : Channel) → to_send_on link ch new ≡ to_send_on link ch old)
+
+-- what is told of a beat, and the messages that are handed out for it
+abbrev pub admission_in : {w : ℕ} → Reception w → Result Admission Rule
+admission_in (Refused rule) = Err rule
+admission_in Stalled = Ok Waits
+admission_in (Sent handed) = Ok Passes
+
+abbrev pub handed_in : {w : ℕ} → Reception w → Handed w
+handed_in (Refused rule) = []
+handed_in Stalled = []
+handed_in (Sent handed) = handed
+
+-- What is told of a beat that is offered: what the definition says of it, and its messages are handed out. Without
+-- memory nothing is offered.
+abbrev pub AdmitTold : {w : ℕ} {E : Type 0} → ManagerPort w → ManagerPort w → Link → Channel → Beat w
+    → Result (Result Admission Rule) E
+    → Type 0
+AdmitTold old new link ch x (Err error) = UnchangedManager old new
+AdmitTold {w} old new link ch x (Ok told) = (config : Config) (e : End w) → KnowsEnd old config e →
+    (told ≡ admission_in (offered config link ch x e).0)
+    × HandedOutAll (handed_in (offered config link ch x e).0) old new
+    × KnowsEnd new config (offered config link ch x e).1
+
+-- the first beat of the channel of the link is gone, and nothing else changed
+abbrev pub PoppedOn : {w : ℕ} → ℕ → Channel → ManagerPort w → ManagerPort w → Type 0
+PoppedOn at channel old new =
+    (new.manager ≡ old.manager)
+    × ((link : ℕ) (ch : Channel) → to_send_on link ch new
+    ≡ (if is_place link ch at channel then drop 1 (to_send_on link ch old) else to_send_on link ch old))
+
+-- a new manager has taken and handed out nothing, and nothing waits; or why there is none
+abbrev pub IsNewManager : {w : ℕ} → Config → Result (ManagerPort w) NewFault → Type 0
+IsNewManager config (Ok port) =
+    KnowsEnd port config fresh × ((link : ℕ) (ch : Channel) → to_send_on link ch port ≡ [])
+IsNewManager {w} config (Err fault) = IsNew {w = w} perm_of_bits config (Err fault)

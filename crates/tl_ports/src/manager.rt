@@ -1,0 +1,93 @@
+//! A manager's end of its links, with the beats that it has still to send.
+
+ghost use Rattle.std.specs.Prelude.{◌≡◌};
+ghost use Rattle.tl_beat.specs.statement.Width.{IsWidth, IsWidth-prop};
+
+use crate::outgoing::Outgoing;
+use std::alloc::{AllocError, Global};
+use tl_beat::beat::{Beat, Link};
+use tl_beat::channel::Channel;
+use tl_manager::bits::BitDirectory;
+use tl_manager::manager::admission::Admission;
+use tl_manager::manager::{Manager, Taken};
+use tl_rules::config::{Config, MOST_CLIENTS, NewFault};
+use tl_rules::rule::Rule;
+
+/// A manager of up to sixteen links, with the beats that it handed out and that wait to be sent.
+#[derive(Drop)]
+pub struct ManagerPort<const W: usize> {
+    pub manager: Manager<W, BitDirectory>,
+    pub outgoing: Outgoing<W>,
+    pub ghost width: { IsWidth W } by { IsWidth-prop W },
+}
+
+/// What comes of a beat that is offered to a manager whose messages wait to be sent.
+pub type Admitted = Result<Result<Admission, Rule>, AllocError>;
+
+impl<const W: usize> ManagerPort<W> {
+    ghost use Rattle.std.specs.Prelude.{is_none};
+    ghost use Rattle.tl_params.specs.declared.config.Config.{Config};
+    ghost use Rattle.tl_manager.specs.statement.End.{End};
+    ghost use Rattle.tl_manager.specs.statement.Offer;
+    ghost use Rattle.tl_ports.specs.statement.Manager.{KnowsEnd, AdmitTold, IsNewManager, PoppedOn, next_beat_on};
+
+    /// A manager of a configuration that has taken and handed out nothing: the first limit that is
+    /// broken, in the order N1 to N4, or want of memory.
+    pub fn new(alloc: Global, config: &Config) -> Result<Self, NewFault>
+        requires { IsWidth W }
+        ensures { IsNewManager config.now result }
+    {
+        config.check()?;
+        let directory = BitDirectory::new(alloc, config.blocks, config.clients.len() as u8)?;
+        let manager = Manager::new(alloc, config, directory)?;
+        let outgoing = Outgoing::new(alloc);
+        Ok(ManagerPort { manager, outgoing })
+    }
+
+    /// Takes a beat of the channel named, stalls it or refuses it as the manager does; what it hands
+    /// out waits to be sent. Where there is no memory nothing is offered, and nothing changes.
+    pub fn offer(&mut self, link: Link, channel: Channel, beat: &Beat<W>) -> Admitted
+        ensures { AdmitTold self.old self.new link channel beat.now result }
+    {
+        self.outgoing.make_room(MOST_CLIENTS)?;
+        match self.manager.offer(link, channel, beat) {
+            Err(rule) => Ok(Err(rule)),
+            Ok(Taken::Stalled) => Ok(Ok(Admission::Waits)),
+            Ok(Taken::Sent(handed)) => {
+                self.outgoing.send_all(handed.as_slice());
+                Ok(Ok(Admission::Passes))
+            }
+        }
+    }
+
+    /// Whether `offer` of the same would stall it.
+    pub fn stalls(&self, link: Link, channel: Channel, beat: &Beat<W>) -> bool
+        ensures { (config : Config) (e : End W) → KnowsEnd self.now config e →
+            result ≡ Offer.stalls config link channel beat.now e }
+    {
+        self.manager.stalls(link, channel, beat)
+    }
+
+    /// The next beat to send on a channel of a link.
+    pub fn next(&self, link: Link, channel: Channel) -> Option<Beat<W>>
+        ensures { result ≡ next_beat_on link.0 channel self.now }
+    {
+        self.outgoing.next(link, channel)
+    }
+
+    /// Takes the next beat to send on a channel of a link, which is sent now.
+    pub fn pop(&mut self, link: Link, channel: Channel) -> Option<Beat<W>>
+        ensures next { result ≡ next_beat_on link.0 channel self.old }
+        ensures rest { PoppedOn link.0 channel self.old self.new }
+    {
+        self.outgoing.pop(link, channel)
+    }
+
+    /// Whether a link takes no beats: it was closed by a refusal, or there is no such link.
+    pub fn closed(&self, link: Link) -> bool
+        ensures { (config : Config) (e : End W) → KnowsEnd self.now config e →
+            result ≡ is_none (Offer.open_level config link e) }
+    {
+        self.manager.closed(link)
+    }
+}

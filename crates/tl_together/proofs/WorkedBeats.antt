@@ -1,0 +1,227 @@
+-- Beats of worked traces, and the first of a trace whose bytes aren't true.
+use Rattle.std.proofs.Common.{ℕ, Bool, refl, true, false, List, [], ◌∷◌, ◌++◌}
+use Rattle.std.specs.Prelude.{if◌then◌else◌, length, replicate, Option, Some, None}
+use Rattle.tl_beat.specs.declared.beat.Beat.{Beat}
+use Rattle.tl_beat.specs.declared.beat.Beat.TheVariants as beat
+use Rattle.tl_beat.specs.declared.beat.Link.{Link}
+use Rattle.tl_beat.specs.declared.opcode.OpA.TheVariants as a
+use Rattle.tl_beat.specs.declared.opcode.OpC.TheVariants as c
+use Rattle.tl_beat.specs.declared.opcode.OpD.TheVariants as d
+use Rattle.tl_rules.specs.statement.Conformance.{Trace}
+use Rattle.tl_together.specs.statement.Bytes.{is_true}
+
+-- ---- beats of block 0
+
+-- eight bytes, each v
+abbrev pub eight : ℕ → List ℕ
+eight v = replicate 8 v
+
+abbrev pub put : {w : ℕ} → ℕ → ℕ → ℕ → List ℕ → ℕ → Link × Beat w
+put link source size bytes mask = (
+  record { 0 = link },
+  beat.A (record {
+    opcode = a.PutFullData;
+    param = 0;
+    size = size;
+    source = source;
+    address = 0;
+    mask = mask;
+    lanes = Some bytes;
+    corrupt = false;
+    carries = refl;
+  }),
+)
+
+abbrev pub done : {w : ℕ} → ℕ → ℕ → ℕ → Link × Beat w
+done link source size = (
+  record { 0 = link },
+  beat.D (record {
+    opcode = d.AccessAck;
+    param = 0;
+    size = size;
+    source = source;
+    sink = 0;
+    denied = false;
+    lanes = None;
+    corrupt = false;
+    carries = refl;
+  }),
+)
+
+abbrev pub get : {w : ℕ} → ℕ → ℕ → ℕ → ℕ → Link × Beat w
+get link source size mask = (
+  record { 0 = link },
+  beat.A (record {
+    opcode = a.Get;
+    param = 0;
+    size = size;
+    source = source;
+    address = 0;
+    mask = mask;
+    lanes = None;
+    corrupt = false;
+    carries = refl;
+  }),
+)
+
+abbrev pub add : {w : ℕ} → ℕ → ℕ → ℕ → List ℕ → ℕ → Link × Beat w
+add link source size bytes mask = (
+  record { 0 = link },
+  beat.A (record {
+    opcode = a.ArithmeticData;
+    param = 4;
+    size = size;
+    source = source;
+    address = 0;
+    mask = mask;
+    lanes = Some bytes;
+    corrupt = false;
+    carries = refl;
+  }),
+)
+
+abbrev pub found : {w : ℕ} → ℕ → ℕ → ℕ → List ℕ → Link × Beat w
+found link source size bytes = (
+  record { 0 = link },
+  beat.D (record {
+    opcode = d.AccessAckData;
+    param = 0;
+    size = size;
+    source = source;
+    sink = 0;
+    denied = false;
+    lanes = Some bytes;
+    corrupt = false;
+    carries = refl;
+  }),
+)
+
+abbrev pub acquire : {w : ℕ} → ℕ → ℕ → ℕ → ℕ → Link × Beat w
+acquire link grow source mask = (
+  record { 0 = link },
+  beat.A (record {
+    opcode = a.AcquireBlock;
+    param = grow;
+    size = 6;
+    source = source;
+    address = 0;
+    mask = mask;
+    lanes = None;
+    corrupt = false;
+    carries = refl;
+  }),
+)
+
+abbrev pub grant_beat : {w : ℕ} → ℕ → ℕ → ℕ → ℕ → List ℕ → Link × Beat w
+grant_beat link cap source sink bytes = (
+  record { 0 = link },
+  beat.D (record {
+    opcode = d.GrantData;
+    param = cap;
+    size = 6;
+    source = source;
+    sink = sink;
+    denied = false;
+    lanes = Some bytes;
+    corrupt = false;
+    carries = refl;
+  }),
+)
+
+abbrev pub acquire_unread : {w : ℕ} → ℕ → ℕ → ℕ → Link × Beat w
+acquire_unread link source mask = (
+  record { 0 = link },
+  beat.A (record {
+    opcode = a.AcquirePerm;
+    param = 1;
+    size = 6;
+    source = source;
+    address = 0;
+    mask = mask;
+    lanes = None;
+    corrupt = false;
+    carries = refl;
+  }),
+)
+
+abbrev pub grant_unread : {w : ℕ} → ℕ → ℕ → ℕ → Link × Beat w
+grant_unread link source sink = (
+  record { 0 = link },
+  beat.D (record {
+    opcode = d.Grant;
+    param = 0;
+    size = 6;
+    source = source;
+    sink = sink;
+    denied = false;
+    lanes = None;
+    corrupt = false;
+    carries = refl;
+  }),
+)
+
+abbrev pub grant_ack : {w : ℕ} → ℕ → ℕ → Link × Beat w
+grant_ack link sink = (record { 0 = link }, beat.E (record { sink = sink }))
+
+abbrev pub release_beat : {w : ℕ} → ℕ → ℕ → List ℕ → Link × Beat w
+release_beat link source bytes = (
+  record { 0 = link },
+  beat.C (record {
+    opcode = c.ReleaseData;
+    param = 1;
+    size = 6;
+    source = source;
+    address = 0;
+    lanes = Some bytes;
+    corrupt = false;
+    carries = refl;
+  }),
+)
+
+abbrev pub part : {w : ℕ} → ℕ → ℕ → ℕ → List ℕ → ℕ → Link × Beat w
+part link source size bytes mask = (
+  record { 0 = link },
+  beat.A (record {
+    opcode = a.PutPartialData;
+    param = 0;
+    size = size;
+    source = source;
+    address = 0;
+    mask = mask;
+    lanes = Some bytes;
+    corrupt = false;
+    carries = refl;
+  }),
+)
+
+-- the beat with corrupt data
+abbrev pub spoilt : {w : ℕ} → Link × Beat w → Link × Beat w
+spoilt (link, beat.C x) = (link, beat.C (record x { corrupt = true }))
+spoilt (link, beat.D x) = (link, beat.D (record x { corrupt = true }))
+spoilt x = x
+
+-- this beat four times: a whole block at 16 bytes a beat
+abbrev pub four : Link × Beat 16 → Trace 16
+four x = x ∷ x ∷ x ∷ x ∷ []
+
+abbrev pub wide : ℕ → List ℕ
+wide v = replicate 16 v
+
+-- a link is granted Trunk of bytes 5, and gives the block back with bytes 9
+abbrev pub given_back : Trace 16 → Trace 16
+given_back rest =
+    acquire 0 1 0 65535 ∷ four (grant_beat 0 0 0 0 (wide 5)) ++ grant_ack 0 0 ∷ four (release_beat 0 1 (wide 9)) ++ rest
+
+-- ---- the first response whose bytes aren't true
+
+abbrev pub is_fine : {w : ℕ} → ℕ → Link × Beat w → Trace w → Bool
+is_fine n (link, beat.D y) t = is_true y.opcode n link.0 y t
+is_fine n (link, _) t = true
+
+-- the place of the first beat whose bytes aren't true after those before it
+unfoldable pub untrue_from : {w : ℕ} → ℕ → Trace w → Trace w → Option ℕ
+untrue_from n before [] = None
+untrue_from n before (x ∷ trace) = if is_fine n x before then untrue_from n (x ∷ before) trace else Some (length before)
+
+abbrev pub untrue : {w : ℕ} → Trace w → Option ℕ
+untrue trace = untrue_from 2 [] trace

@@ -1,0 +1,321 @@
+-- What the bytes of memory may be, by what all links of a manager have carried: what a Grant may tell of
+-- them, and what a read may bring.
+use Rattle.std.specs.Prelude.{ℕ, zero, suc, Bool, true, false, not, [], ◌∷◌, ◌==◌, ◌&&◌, ◌||◌, ◌+◌, ◌-◌, ◌*◌, ◌/◌, ◌%◌}
+use Rattle.std.specs.Prelude.{◌^◌, ◌≤◌, if◌then◌else◌, List, ◌++◌, length, filter, find, slice_get, nat_lt, nat_le}
+use Rattle.std.specs.Prelude.{Option, Some, None, is_some, unwrap_or, min}
+use Rattle.std.proofs.Common.{arith}
+use Rattle.tl_beat.specs.declared.beat.Beat.{Beat}
+use Rattle.tl_beat.specs.declared.beat.Beat.TheVariants as beat
+use Rattle.tl_beat.specs.declared.beat.BeatA.{BeatA}
+use Rattle.tl_beat.specs.declared.beat.BeatD.{BeatD}
+use Rattle.tl_beat.specs.declared.channel.Channel.TheVariants as channel
+use Rattle.tl_beat.specs.declared.opcode.OpA.{OpA}
+use Rattle.tl_beat.specs.declared.opcode.OpA.TheVariants as a
+use Rattle.tl_beat.specs.declared.opcode.OpD.{OpD}
+use Rattle.tl_beat.specs.declared.opcode.OpD.TheVariants as d
+use Rattle.tl_beat.specs.statement.Opcode.{c_carries_data}
+use Rattle.tl_burst.specs.declared.message.Message.TheVariants as message
+use Rattle.tl_burst.specs.declared.message.MessageA.{MessageA}
+use Rattle.tl_burst.specs.statement.Burst.{byte_at, reaches}
+use Rattle.tl_burst.specs.statement.Messages.{History, channel_of, on, unfinished}
+use Rattle.tl_params.specs.declared.perm.Perm.TheVariants as perm
+use Rattle.tl_rules.specs.code.Open.{open_request}
+use Rattle.tl_rules.specs.declared.past.Request.{Request}
+use Rattle.tl_rules.specs.statement.Admission.{is_spoiled, lanes_of}
+use Rattle.tl_rules.specs.statement.Conformance.{Trace, on_link}
+use Rattle.tl_rules.specs.statement.Effect.{Memory, effect}
+use Rattle.tl_rules.specs.statement.History.{block_at, ends, grants, is_release_ack, request_of}
+use Rattle.tl_rules.specs.statement.Windows.{is_free}
+
+-- Moments are numbers of beats: moment n is after the first n beats of the trace.
+
+-- ---- what bursts carry
+
+-- the byte at place p of what a burst's beats carry, the newest beat first, where its beat isn't corrupt
+unfoldable pub carried_byte : {w : ℕ} → List (Beat w) → ℕ → Option ℕ
+carried_byte [] p = None
+carried_byte {w} (x ∷ older) p =
+    if p / w == length older
+    then if is_spoiled x then None else slice_get (lanes_of x) (p % w)
+    else carried_byte older p
+
+-- all that they carry, in order
+unfoldable pub carried_bytes : {w : ℕ} → List (Beat w) → List ℕ
+carried_bytes [] = []
+carried_bytes (x ∷ older) = carried_bytes older ++ lanes_of x
+
+-- the mask of all their bytes
+unfoldable pub carried_mask : {w : ℕ} → List (Beat w) → ℕ
+carried_mask {w} (beat.A x ∷ older) = carried_mask older + x.mask * 2 ^ (w * length older)
+carried_mask _ = 0
+
+-- ---- accesses
+
+-- a request that reads or writes
+abbrev pub is_access : OpA → Bool
+is_access a.AcquireBlock = false
+is_access a.AcquirePerm = false
+is_access a.Intent = false
+is_access _ = true
+
+pub min_small : (n : ℕ) → min n 6 ≤ 6
+min_small n = omega arith
+
+-- an access whose request is complete: its link, its request, whether a beat of that was corrupt, and
+-- the moment at which it was complete
+pub record Access (w : ℕ) : Type 0 where
+  pub link : ℕ
+  pub request : MessageA w
+  pub spoiled : Bool
+  pub asked : ℕ
+
+-- the access that these beats ask for, the newest of which is x
+abbrev pub asked_by : {w : ℕ} → ℕ → BeatA w → List (Beat w) → ℕ → Access w
+asked_by link x burst moment = record {
+  link = link;
+  request = record {
+    opcode = x.opcode;
+    param = x.param;
+    size = min x.size 6;
+    source = x.source;
+    address = x.address;
+    payload = carried_bytes burst;
+    mask = carried_mask burst;
+    corrupt = 0;
+    small = min_small x.size;
+  };
+  spoiled = is_some (find is_spoiled burst);
+  asked = moment;
+}
+
+-- the access is the one with this source on the link
+abbrev pub is_of : {w : ℕ} → ℕ → ℕ → Access w → Bool
+is_of link source access = (access.link == link) && (access.request.source == source)
+
+-- a beat of channel D completes an answer to a request of channel A
+abbrev pub ends_request : {w : ℕ} → BeatD w → History w → Bool
+ends_request x past = not (is_release_ack x.opcode) && ends (beat.D x) past
+
+-- the accesses that are pending with one more beat
+abbrev pub pending_with : {w : ℕ} → ℕ → Beat w → History w → ℕ → List (Access w) → List (Access w)
+pending_with link (beat.A x) past moment before =
+    if is_access x.opcode && ends (beat.A x) past
+    then asked_by link x (beat.A x ∷ unfinished channel.A past) moment ∷ before
+    else before
+pending_with link (beat.D x) past moment before =
+    if ends_request x past then filter (λ access. not (is_of link x.source access)) before else before
+pending_with link _ past moment before = before
+
+-- the accesses whose requests are complete and whose answers aren't
+unfoldable pub pending_accesses : {w : ℕ} → Trace w → List (Access w)
+pending_accesses [] = []
+pending_accesses (x ∷ t) = pending_with x.0.0 x.1 (on_link x.0.0 t) (suc (length t)) (pending_accesses t)
+
+-- the access may write the byte at an address
+abbrev pub writes : {w : ℕ} → OpA → MessageA w → ℕ → Bool
+writes a.PutFullData m address = is_some (byte_at 0 (message.A m) address)
+writes a.PutPartialData m address = is_some (byte_at 0 (message.A m) address)
+writes a.ArithmeticData m address = reaches m.address m.size address
+writes a.LogicalData m address = reaches m.address m.size address
+writes _ m address = false
+
+abbrev pub access_writes : {w : ℕ} → ℕ → Access w → Bool
+access_writes address access = writes access.request.opcode access.request address
+
+-- the memory that an answer found, which has these bytes
+abbrev pub found_memory : {w : ℕ} → MessageA w → List (Beat w) → Memory
+found_memory {w} m burst address = unwrap_or (carried_byte burst (address - w * (m.address / w))) 0
+
+-- what a Put writes, and an atomic that has this answer; where a beat of them is corrupt, anything
+abbrev pub value_written : {w : ℕ} → Access w → List (Beat w) → ℕ → Option ℕ
+value_written access answer address =
+    if access.spoiled || is_some (find is_spoiled answer) then None
+    else Some ((effect (message.A access.request) (found_memory access.request answer)).0 address)
+
+-- what a pending access may write: of an atomic, anything
+abbrev pub pending_value : {w : ℕ} → OpA → Access w → ℕ → Option ℕ
+pending_value a.PutFullData access address = value_written access [] address
+pending_value a.PutPartialData access address = value_written access [] address
+pending_value _ access address = None
+
+-- ---- windows for writing
+
+-- how many windows a block has had since a moment, one that is open counted
+unfoldable pub windows_since : {w : ℕ} → ℕ → ℕ → ℕ → Trace w → ℕ
+windows_since n block asked [] = 0
+windows_since n block asked (x ∷ t) =
+    if nat_lt (suc (length t)) asked then 0 else
+    windows_since n block asked t
+    + (if is_free n None perm.Trunk block (x ∷ t)
+    && ((suc (length t) == asked) || not (is_free n None perm.Trunk block t)) then 1 else 0)
+
+-- the moment at which the window began that is open, since this one
+unfoldable pub window_began : {w : ℕ} → ℕ → ℕ → ℕ → Trace w → ℕ
+window_began n block asked [] = 0
+window_began n block asked (x ∷ t) =
+    if nat_lt asked (suc (length t)) && is_free n None perm.Trunk block t
+    then window_began n block asked t else suc (length t)
+
+-- the last moment at which the block was free
+unfoldable pub last_window : {w : ℕ} → ℕ → ℕ → Trace w → ℕ
+last_window n block [] = 0
+last_window n block (x ∷ t) =
+    if is_free n None perm.Trunk block (x ∷ t) then suc (length t) else last_window n block t
+
+-- ---- what is told of bytes
+
+-- what a byte may be from a moment on: a value, or anything
+pub record Telling : Type 0 where
+  pub value : Option ℕ
+  pub moment : ℕ
+
+-- the request is for writing a whole block, unread
+abbrev pub is_perm_only : OpA → Bool
+is_perm_only a.AcquirePerm = true
+is_perm_only _ = false
+
+abbrev pub asks_unread : {w : ℕ} → Option (BeatA w) → Bool
+asks_unread None = false
+asks_unread (Some x) = is_perm_only x.opcode
+
+-- the response is a Grant that tells what a block has: with data, or to one who writes all of it
+abbrev pub tells_granted : {w : ℕ} → OpD → Option (BeatA w) → Bool
+tells_granted d.GrantData asked = true
+tells_granted d.Grant asked = asks_unread asked
+tells_granted _ asked = false
+
+-- a message that is complete with this beat tells what the bytes of the block are: data that are given
+-- back or granted, and, as anything, a Grant to one who writes all of them
+abbrev pub tells : {w : ℕ} → ℕ → Beat w → History w → Bool
+tells block (beat.C x) past = ends (beat.C x) past && (c_carries_data x.opcode && (block_at x.address == block))
+tells block (beat.D x) past =
+    ends (beat.D x) past && (grants block x past && tells_granted x.opcode (request_of x.source past))
+tells block _ past = false
+
+-- the moment at which the bytes of the block were last told so
+unfoldable pub last_told : {w : ℕ} → ℕ → Trace w → ℕ
+last_told block [] = 0
+last_told block (x ∷ t) = if tells block x.1 (on_link x.0.0 t) then suc (length t) else last_told block t
+
+-- what is told is the value, and no longer so where it was before
+abbrev pub same_value : Option ℕ → Option ℕ → Bool
+same_value None None = true
+same_value (Some u) (Some v) = u == v
+same_value _ _ = false
+
+abbrev pub told_too : Telling → List Telling → List Telling
+told_too now before = now ∷ filter (λ e. not (same_value e.value now.value)) before
+
+-- What a byte may be when the answer to an access is complete that writes it. In one window that is still
+-- open it was performed, and what was told to be finished since that began may have come after it. Where
+-- the last window has closed and the bytes were told since, it is in what was told. Otherwise it may have
+-- been performed before what was told last, or after.
+abbrev pub after_write : {w : ℕ} → ℕ → ℕ → Access w → Telling → Trace w → List Telling → List Telling
+after_write n block access now t before =
+    if is_free n None perm.Trunk block t
+    then if windows_since n block access.asked t == 1
+    then told_too now (filter (λ e. nat_le (window_began n block access.asked t) e.moment) before)
+    else told_too now before
+    else if nat_lt (last_window n block t) (last_told block t) then before else told_too now before
+
+-- the same for the access with this answer, where it is pending and writes the byte at an address
+abbrev pub after_answer : {w : ℕ} → ℕ → ℕ → Option (Access w) → List (Beat w) → Trace w → List Telling → List Telling
+after_answer n address None answer t before = before
+after_answer n address (Some access) answer t before =
+    if access_writes address access
+    then after_write n (block_at address) access
+    (record { value = value_written access answer address; moment = length t }) t before
+    else before
+
+abbrev pub after_beat : {w : ℕ} → ℕ → ℕ → ℕ → Beat w → Trace w → List Telling → List Telling
+after_beat n address link (beat.D x) t before =
+    if ends_request x (on_link link t)
+    then after_answer n address (find (is_of link x.source) (pending_accesses t))
+    (beat.D x ∷ unfinished channel.D (on_link link t)) t before
+    else before
+after_beat n address link _ t before = before
+
+-- what the byte at an address may be, the last told first: at first anything
+unfoldable pub may_be : {w : ℕ} → ℕ → ℕ → Trace w → List Telling
+may_be n address [] = record { value = None; moment = 0 } ∷ []
+may_be n address (x ∷ t) =
+    if tells (block_at address) x.1 (on_link x.0.0 t)
+    then record {
+      value = carried_byte (x.1 ∷ unfinished (channel_of x.1) (on_link x.0.0 t)) (address % 64);
+      moment = length t;
+    } ∷ []
+    else after_beat n address x.0.0 x.1 t (may_be n address t)
+
+-- ---- what may be granted, and read
+
+-- what may be this value, or anything, may be v
+abbrev pub could_be : ℕ → Option ℕ → Bool
+could_be v None = true
+could_be v (Some u) = u == v
+
+-- one of these tellings may be v
+abbrev pub told_as : ℕ → List Telling → Bool
+told_as v tellings = is_some (find (λ e. could_be v e.value) tellings)
+
+-- one of these accesses may write v at the address
+abbrev pub written_as : {w : ℕ} → ℕ → ℕ → List (Access w) → Bool
+written_as address v accesses =
+    is_some (find (λ x. access_writes address x && could_be v (pending_value x.request.opcode x address)) accesses)
+
+-- each of these bytes, the first of which is at this address, passes a test
+unfoldable pub each_from : (ℕ → ℕ → Bool) → ℕ → List ℕ → Bool
+each_from test address [] = true
+each_from test address (v ∷ bytes) = test address v && each_from test (address + 1) bytes
+
+-- the trace before the last k beats of channel D of a link
+unfoldable pub before_last : {w : ℕ} → ℕ → ℕ → Trace w → Trace w
+before_last link zero t = t
+before_last link (suc k) [] = []
+before_last link (suc k) (x ∷ t) =
+    if (x.0.0 == link) && on channel.D x.1 then before_last link k t else before_last link (suc k) t
+
+-- the byte v may be granted after t: it may be so, or be written by a pending access that has had a window
+abbrev pub may_grant : {w : ℕ} → ℕ → Trace w → ℕ → ℕ → Bool
+may_grant n t address v =
+    told_as v (may_be n address t)
+    || written_as address v (filter (λ x. nat_lt 0 (windows_since n (block_at address) x.asked t)) (pending_accesses t))
+
+-- At some moment since an access is complete the byte may have been v, or was being written so by another.
+unfoldable pub may_read : {w : ℕ} → ℕ → Access w → Trace w → ℕ → ℕ → Bool
+may_read n access [] address v = false
+may_read n access (x ∷ t) address v =
+    nat_le access.asked (suc (length t))
+    && (told_as v (may_be n address (x ∷ t))
+    || (written_as address v
+    (filter (λ other. not (is_of access.link access.request.source other)) (pending_accesses (x ∷ t)))
+    || may_read n access t address v))
+
+-- the bytes of beat k of a Grant of the block, which began after t, are such that may be granted
+abbrev pub grants_truly : {w : ℕ} → ℕ → ℕ → ℕ → BeatD w → Trace w → Bool
+grants_truly {w} n block k x t = each_from (may_grant n t) (64 * block + w * k) (lanes_of (beat.D x))
+
+-- the bytes of beat k of the answer to an access, which began after t, are such that it may bring
+abbrev pub reads_truly : {w : ℕ} → ℕ → Option (Access w) → ℕ → BeatD w → Trace w → Bool
+reads_truly n None k x t = true
+reads_truly {w} n (Some access) k x t =
+    each_from (λ address v. not (reaches access.request.address access.request.size address) || may_read n access t
+    address v) (w * (access.request.address / w) + w * k) (lanes_of (beat.D x))
+
+-- M2: a beat of a GrantData that isn't corrupt has bytes that may be granted
+abbrev pub is_true_grant : {w : ℕ} → ℕ → ℕ → BeatD w → Option Request → Trace w → Bool
+is_true_grant n link x None t = true
+is_true_grant n link x (Some asked) t =
+    grants_truly n asked.block (length (unfinished channel.D (on_link link t))) x
+    (before_last link (length (unfinished channel.D (on_link link t))) t)
+
+-- M3: a beat of an AccessAckData that isn't corrupt has bytes that its request may bring
+abbrev pub is_true_read : {w : ℕ} → ℕ → ℕ → BeatD w → Trace w → Bool
+is_true_read n link x t =
+    reads_truly n (find (is_of link x.source) (pending_accesses t)) (length (unfinished channel.D (on_link link t))) x
+    (before_last link (length (unfinished channel.D (on_link link t))) t)
+
+-- the bytes of a response are true after t
+abbrev pub is_true : {w : ℕ} → OpD → ℕ → ℕ → BeatD w → Trace w → Bool
+is_true d.GrantData n link x t = x.corrupt || is_true_grant n link x (open_request x.source (on_link link t)) t
+is_true d.AccessAckData n link x t = x.corrupt || is_true_read n link x t
+is_true _ n link x t = true

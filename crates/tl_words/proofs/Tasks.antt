@@ -1,0 +1,78 @@
+-- What the words of a subcommand ask for.
+use Rattle.std.proofs.Common.{◌≡◌, true, false, List, refl, sym, subst, codes, inr, Result, Ok, Err}
+use Rattle.std.specs.Prelude.{IfErr, IfOk, Option, Some, None}
+use Rattle.std.specs.Str.{bytes_eq}
+use Rattle.std.proofs.lemmas.Slice.Eq.{bytes_eq-Decides}
+use Rattle.clap.specs.Words.{Row, Text, subcommand_of}
+use Rattle.tl_command.specs.declared.random_words.RandomOption.{RandomOption}
+use Rattle.tl_command.specs.declared.task.Task.{Task}
+use Rattle.tl_command.specs.declared.task.Task.TheVariants.{Draw, Read}
+use Rattle.tl_command.specs.statement.RandomWords.{IsWrong, Words}
+use Rattle.tl_command.proofs.RandomOptions.{wrong_for_all}
+use Rattle.tl_words.specs.declared.words.WordsFault.{WordsFault}
+use Rattle.tl_words.specs.declared.words.WordsFault.TheVariants as fault
+use Rattle.tl_words.specs.Refused.{AsksNothing, IsFaultOf, IsRefusal}
+use Rattle.tl_words.specs.Tool.{IsTaskOf, command_in, command_named, tool_of, words_in}
+
+-- the same words name the same command
+pub named_alike : (name : Text) {a b c x y z : Option Text} → a ≡ x → b ≡ y → c ≡ z
+    → command_named name x y z ≡ command_named name a b c
+named_alike name p q r = cc
+
+-- the words of options, one by one
+abbrev pub words : Option Text → Option Text → Option Text → Option Text → Option Text → Option Text → Option Text
+    → Option Text → Words
+words a b c d e f g h = record {
+  seed = a;
+  events = b;
+  clients = c;
+  blocks = d;
+  trackers = e;
+  width = f;
+  profile = g;
+  contend = h;
+}
+
+pub words_alike : {a b c d e f g h k l m n p q r s : Option Text} → a ≡ k → b ≡ l → c ≡ m → d ≡ n → e ≡ p → f ≡ q
+    → g ≡ r → h ≡ s → words a b c d e f g h ≡ words k l m n p q r s
+words_alike t u v w x y z o = rw (t, u, v, w, x, y, z, o) refl
+
+-- a word that stands for nothing asks for nothing
+pub no_draw : (rows : List Row) (option : RandomOption) → IsWrong (words_in rows) option → (task : Task)
+    → ¬ IsTaskOf (codes "random") rows task
+no_draw rows option wrong (Read command file) is = let none = is.0 in absurd cc
+no_draw rows option wrong (Draw options) is = wrong_for_all (words_in rows) option wrong options is.1
+
+-- a name that is no command's, and not `random`, asks for nothing
+pub no_read : (name : Text) (rows : List Row) → command_in name rows ≡ None → bytes_eq name (codes "random") ≡ false
+    → (task : Task) → ¬ IsTaskOf name rows task
+no_read name rows none other (Read command file) is = let some = is.0 in absurd cc
+no_read name rows none other (Draw options) is = let same = is.0 in absurd cc
+
+module _ (texts : List Text) (name : Text) (rows : List Row) (is : subcommand_of tool_of texts ≡ Some (name, rows))
+  where
+    -- what a subcommand's entries ask for is what the words ask for
+    pub task_given : (r : Result Task WordsFault) → IfOk r (IsTaskOf name rows)
+        → IfOk r (λ task. (n : Text) × (rs : List Row) × (subcommand_of tool_of texts ≡ Some (n, rs))
+        × IsTaskOf n rs task)
+    task_given (Ok task) asked = (name, rows, is, asked)
+    task_given (Err fault) asked = tt
+
+    -- where they ask for nothing, the words are refused
+    pub task_refused : (r : Result Task WordsFault) → IfErr r (IsFaultOf name rows) → IfErr r (IsRefusal texts)
+    task_refused (Ok task) none = tt
+    task_refused (Err fault.Memory) none = tt
+    task_refused (Err (fault.Usage error)) none = inr (subst AsksNothing (sym is) none.0, none.1)
+
+-- the name that the words have is `random`
+pub named_random : (name : Text) → bytes_eq name (codes "random") ≡ true → name ≡ codes "random"
+named_random name is = (bytes_eq-Decides name (codes "random")).0 is
+
+-- so what `random` asks for is what a subcommand of this name does
+pub drawn_so : (name : Text) (rows : List Row) (r : Result Task WordsFault) → name ≡ codes "random"
+    → IfOk r (IsTaskOf (codes "random") rows) → IfOk r (IsTaskOf name rows)
+drawn_so name rows r e asked = subst (λ (x : Text). IfOk r (IsTaskOf x rows)) (sym e) asked
+
+pub undrawn_so : (name : Text) (rows : List Row) (r : Result Task WordsFault) → name ≡ codes "random"
+    → IfErr r (IsFaultOf (codes "random") rows) → IfErr r (IsFaultOf name rows)
+undrawn_so name rows r e none = subst (λ (x : Text). IfErr r (IsFaultOf x rows)) (sym e) none

@@ -1,13 +1,15 @@
+mod Zeros
 pub mod Blocks
 pub mod Bursts
 pub mod Checks
 pub mod Handed
 pub mod Lanes
-pub mod Legal
 pub mod Later
+pub mod Legal
 pub mod Local
 pub mod Masks
 pub mod Merges
+pub mod Named
 pub mod Numbers
 pub mod Open
 pub mod Payload
@@ -15,7 +17,6 @@ pub mod Places
 pub mod Rooms
 pub mod Rows
 pub mod Sent
-pub mod Named
 pub mod Sizes
 pub mod Tables
 pub mod Takeable

@@ -1,10 +1,11 @@
 //! Messages that say nothing where no beat carries it.
 
-ghost use Rattle.std.specs.Prelude.{◌≡◌, ◌<◌, ◌≤◌, ◌*◌, ◌^◌, ◌↔◌, IsTrue, if◌then◌else◌};
+ghost use Rattle.std.specs.Prelude.{◌≡◌, ◌<◌, ◌≤◌, ◌*◌, ◌^◌, ◌↔◌, IsTrue, if◌then◌else◌, replicate, take, drop, ◌++◌};
 ghost use Rattle.tl_beat.specs.statement.Width.{IsWidth};
 ghost use Rattle.tl_burst.specs.statement.Burst;
 ghost use Rattle.tl_burst.specs.statement.Burst.{IsBlankAfter, IsZeroFrom};
 
+use std::simd::u8x64;
 use tl_burst::burst::beats_of;
 use tl_burst::message::Message;
 
@@ -57,11 +58,28 @@ fn data_of<const W: usize>(carries_data: bool, beats: u8) -> usize
     if carries_data { W * beats as usize } else { 0 }
 }
 
+/// No byte from this one on is set.
 fn is_zero_from(payload: &[u8; 64], from: usize) -> bool
     requires { from ≤ 64 }
     ensures { IsTrue result ↔ IsZeroFrom from payload.now }
 {
-    payload[from..].iter().all(|byte| *byte == 0)
+    is_zero(&past(payload, from))
+}
+
+/// The bytes from this one on, with zeros before them.
+fn past(payload: &[u8; 64], from: usize) -> [u8; 64]
+    requires { from ≤ 64 }
+    ensures { result ≡ take from (replicate 64 0) ++ drop from payload.now }
+{
+    let mut bytes = [0; 64];
+    bytes[from..].copy_from_slice(&payload[from..]);
+    bytes
+}
+
+fn is_zero(bytes: &[u8; 64]) -> bool
+    ensures { IsTrue result ↔ bytes.now ≡ replicate 64 0 }
+{
+    u8x64::from_array(*bytes).reduce_or() == 0
 }
 
 /// The mask has no bit from this one on.

@@ -1,9 +1,10 @@
 -- Fields cut from a line, and the numbers and bytes that they spell.
 use Rattle.std.proofs.Common.{◌≡◌, ℕ, zero, suc, ◌+◌, ◌*◌, ◌-◌, ◌^◌, ◌<◌, ◌≤◌, Bool, true, false, cond, List, [], ◌∷◌}
-use Rattle.std.proofs.Common.{◌++◌, length, take, drop, replicate, set}
+use Rattle.std.proofs.Common.{◌++◌, length, take, drop, get_or, replicate, set}
 use Rattle.std.proofs.Common.{refl, sym, ap, ◌∙◌, arith, lit<, inl, inr}
 use Rattle.std.proofs.Math.Nat.{pow-le-pow_right}
-use Rattle.std.specs.Prelude.{not, Some, None, option_map, position, ◌==◌}
+use Rattle.std.proofs.Math.Seq.{drop-cons}
+use Rattle.std.specs.Prelude.{not, Option, Some, None, option_map, position, ◌==◌}
 use Rattle.std.specs.List.{position_or_len}
 use Rattle.std.proofs.lemmas.Bool.{cases_lt, lt-ltb}
 use Rattle.std.proofs.lemmas.Bool.Decides.{nat_tests}
@@ -12,8 +13,10 @@ use Rattle.tl_beat.specs.statement.Line.{pieces, onto_first}
 use Rattle.tl_beat.proofs.Pieces.{pieces-some}
 use Rattle.tl_beat.proofs.Spaces.{position_some}
 use Rattle.tl_client.specs.statement.Offer.{padded}
-use Rattle.tl_schedule.specs.code.FieldReading.{hex_at, number_in, pair_at, pairs_in, bytes_in, fields_behind}
-use Rattle.tl_schedule.specs.code.FieldReading.{is_none_left}
+use Rattle.tl_schedule.specs.code.FieldReading.{number_in, pair_at, pairs_in, bytes_in, fields_behind}
+use Rattle.tl_schedule.specs.code.FieldReading.{is_none_left, with_rest}
+use Rattle.tl_schedule.specs.code.Then.{◌>>=◌}
+use Rattle.tl_beat.specs.code.FromLeft.{digit_of}
 
 -- ---- the first field
 
@@ -50,24 +53,39 @@ piece_before xs front back i e f b =
 
 -- ---- numbers
 
-pub number-step : (n w k d : ℕ) (bytes rest : List ℕ) → w ≡ suc k → hex_at bytes ≡ Some (d, rest)
-    → number_in n w bytes ≡ number_in (16 * n + d) k rest
+pub number-step : (n i d : ℕ) (field : List ℕ) → i < length field → digit_of (get_or field i 0) ≡ Some d
+    → number_in n (length field - i) (drop i field) ≡ number_in (16 * n + d) (length field - (i + 1)) (drop (i + 1) field)
 unfolding number_in
-number-step n w k d bytes rest e h = rw (e, h) refl
+number-step n i d field l e =
+    let left : length field - i ≡ suc (length field - (i + 1)) = omega arith in
+    let next : i + 1 ≡ suc i = omega arith in
+    rw (left, drop-cons field i 0 l, e, next) refl
 
-pub number-fails : (n w k : ℕ) (bytes : List ℕ) → w ≡ suc k → hex_at bytes ≡ None → number_in n w bytes ≡ None
+pub number-fails : (n i : ℕ) (field : List ℕ) → i < length field → digit_of (get_or field i 0) ≡ None
+    → number_in n (length field - i) (drop i field) ≡ None
 unfolding number_in
-number-fails n w k bytes e h = rw (e, h) refl
+number-fails n i field l e =
+    let left : length field - i ≡ suc (length field - (i + 1)) = omega arith in
+    rw (left, drop-cons field i 0 l, e) refl
 
-pub number-done : (n w : ℕ) (bytes : List ℕ) → w ≡ 0 → true ≡ (length bytes == 0) → number_in n w bytes ≡ Some n
+pub number-done : (n i : ℕ) (field : List ℕ) → i ≡ length field
+    → number_in n (length field - i) (drop i field) ≡ Some n
 unfolding number_in
-number-done n w [] e none = rw e refl
-number-done n w (c ∷ cs) e none = absurd (grind (arith, nat_tests))
+number-done n i field e =
+    let left : length field - i ≡ 0 = omega arith in
+    rw (left, drop_all i field (omega arith)) refl
 
-pub number-left : (n w : ℕ) (bytes : List ℕ) → w ≡ 0 → false ≡ (length bytes == 0) → number_in n w bytes ≡ None
+pub number-long : (n w : ℕ) (field : List ℕ) → (length field ≡ w → ⊥) → number_in n w field ≡ None
 unfolding number_in
-number-left n w [] e some = absurd (grind (arith, nat_tests))
-number-left n w (c ∷ cs) e some = rw e refl
+number-long n zero [] other = absurd (other refl)
+number-long n zero (c ∷ cs) other = refl
+number-long n (suc w) [] other = refl
+number-long n (suc w) (c ∷ cs) other = by_digit (λ m. number-long m w cs (λ e. other (ap suc e))) (digit_of c)
+  where
+    by_digit : ((m : ℕ) → number_in m w cs ≡ None) → (d : Option ℕ)
+        → (d >>= with_rest cs) >>= (λ d. number_in (16 * n + d.0) w d.1) ≡ None
+    by_digit rest None = refl
+    by_digit rest (Some d) = rest (16 * n + d)
 
 pub fits_in_64 : (c : ℕ) → c ≤ 15 → 16 ^ (c + 1) ≤ 2 ^ 64
 fits_in_64 c le = let more : c + 1 ≤ 16 = omega arith in pow-le-pow_right {n = 16} (lit< tt) {i = c + 1} {j = 16} more

@@ -21,35 +21,18 @@ fn hex(byte: u8) -> Option<u8>
     }
 }
 
-/// The digit at the front, and what follows it.
-fn front_digit(bytes: &[u8]) -> Option<(u8, &[u8])>
-    ensures gives { GivesRest result (hex_at bytes.now) }
-    ensures small { IfSome result (λ x. x.0 < 16) }
-{
-    match bytes {
-        [] => None,
-        [c, rest @ ..] => {
-            let d = hex(*c)?;
-            Some((d, rest))
-        }
-    }
-}
-
 /// The number that a field of this many digits spells.
 pub fn number(field: &[u8], count: u8) -> Option<u64>
     requires { count ≤ 16 }
     ensures value { result ≡ number_in 0 count field.now }
     ensures below { IfSome result (λ n. n < 16 ^ count) }
 {
-    let mut number = 0u64;
-    let mut rest = field;
-    for _ in 0..count {
-        let (d, after) = front_digit(rest)?;
-        number = 16 * number + u64::from(d);
-        rest = after;
-    }
-    if !rest.is_empty() {
+    if field.len() != usize::from(count) {
         return None;
+    }
+    let mut number = 0u64;
+    for i in 0..field.len() {
+        number = 16 * number + u64::from(hex(field[i])?);
     }
     Some(number)
 }

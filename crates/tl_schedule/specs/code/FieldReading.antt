@@ -2,7 +2,6 @@
 use denote.Ref.{Bor}
 use Rattle.std.specs.Prelude.{◌≡◌, ℕ, zero, suc, ◌+◌, ◌*◌, Bool, true, false, List, [], ◌∷◌, Option, Some, None, nat_le}
 use Rattle.std.specs.Prelude.{if◌then◌else◌}
-use Rattle.tl_beat.specs.statement.Digits.{is_digit, digit_value}
 use Rattle.tl_beat.specs.code.FromLeft.{digit_of}
 use Rattle.tl_beat.specs.statement.Line.{pieces}
 use Rattle.tl_schedule.specs.code.Then.{◌>>=◌}

@@ -1,9 +1,9 @@
-use Rattle.std.proofs.Common.{◌≡◌, ◌<◌, ◌-◌, ◌^◌}
+use Rattle.std.proofs.Common.{◌≡◌, ◌<◌, ◌-◌, ◌^◌, drop, length}
 use Rattle.tl_schedule.specs.code.FieldReading.{number_in}
 use Rattle.tl_schedule.proofs.field.number.Given as goal
 
-abbrev pub invariant-loop : goal.invariant-loop
-invariant-loop l = record {
-  same : number_in l.number (l.count - l.counter) l.rest ≡ number_in 0 l.count l.field;
-  below : l.number < 16 ^ l.counter;
+abbrev pub invariant-loop-i : goal.invariant-loop-i
+invariant-loop-i l = record {
+  same : number_in l.number (length l.field - l.i) (drop l.i l.field) ≡ number_in 0 (length l.field) l.field;
+  below : l.number < 16 ^ l.i;
 }

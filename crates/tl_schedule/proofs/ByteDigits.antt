@@ -33,6 +33,12 @@ append-step i bytes old out pair lt two so_far =
     (append_assoc old (lane_digits (drop (suc (length bytes - 1 - i)) bytes))
     (digits 2 (get_or bytes (length bytes - 1 - i) 0)))
 
+-- the two digits, one after the other
+pub both-pushed : (x : ℕ) (text pair : List ℕ) → pair ≡ digits 2 x
+    → (text ++ get_or pair 0 0 ∷ []) ++ get_or pair 1 0 ∷ [] ≡ text ++ pair
+unfolding digits
+both-pushed x text pair two = rw (two, append_assoc) refl
+
 -- bytes of a block are at most those of a size from 6 on
 pub all_shown : (size : ℕ) (bytes : List ℕ) → 6 ≤ size → length bytes ≤ 64 → bytes ≡ take (2 ^ size) bytes
 all_shown size bytes great few =

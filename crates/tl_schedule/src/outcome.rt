@@ -8,6 +8,7 @@ ghost use Rattle.tl_schedule.specs.statement.OutcomeLine.{HasLine, asked_size, b
 ghost use Rattle.tl_schedule.specs.statement.OutcomeLine.{drained_line, finish_text, link_of, outcome_line};
 ghost use Rattle.tl_schedule.specs.statement.OutcomeLine.{outcome_text, perm_name, reply_text, trace_text};
 
+use arrayvec::ArrayVec;
 use itoa::Buffer;
 use std::alloc::AllocError;
 use tl_beat::beat::{Beat, Link};
@@ -35,15 +36,19 @@ fn pair(byte: u8) -> [u8; 2]
     [digit(byte / 16), digit(byte % 16)]
 }
 
-/// Appends the digits of bytes, the last byte first.
+/// Appends the digits of a block's bytes at most, the last byte first.
 fn append_bytes(bytes: &[u8], out: &mut Vec<u8>) -> Result<(), AllocError>
+    requires { length bytes.now ≤ 64 }
     ensures { OnOk result (out.new.items ≡ out.old.items ++ lane_digits bytes.now) }
 {
+    let mut text = ArrayVec::<u8, 128>::new();
     let count = bytes.len();
     for i in 0..count {
-        out.extend_from_slice(&pair(bytes[count - 1 - i]))?;
+        let [high, low] = pair(bytes[count - 1 - i]);
+        text.push(high);
+        text.push(low);
     }
-    Ok(())
+    out.extend_from_slice(&text)
 }
 
 /// How many of these bytes are shown, where `2^size` are.

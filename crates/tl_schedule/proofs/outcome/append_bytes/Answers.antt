@@ -1,12 +1,19 @@
-use Rattle.std.proofs.Common.{◌≡◌, ◌++◌, rules}
-use Rattle.tl_schedule.proofs.ByteDigits.{append-none, append-step}
+use Rattle.std.proofs.Common.{◌≡◌, ◌++◌, [], refl, rules, arith}
+use Rattle.tl_schedule.proofs.ByteDigits.{append-none, append-step, both-pushed}
 use Rattle.tl_schedule.proofs.outcome.append_bytes.Goals as goal
 
 pub loop-i-init : goal.loop-i-init
-loop-i-init c = append-none c.args.bytes.now c.args.out.now.items
+loop-i-init c =
+    let empty : c.new-text.result.items ≡ [] = search rules in
+    record { text = rw empty (append-none c.args.bytes.now []); len = rw empty refl }
 
 pub loop-i-preserved : goal.loop-i-preserved
 loop-i-preserved c =
-    let appended : c.extend_from_slice.new.self.items ≡ c.loop-i.out.items ++ c.pair.result = search rules in
-    rw appended (append-step c.loop-i.i c.args.bytes.now c.args.out.now.items c.loop-i.out.items c.pair.result
-    (search rules) (search rules) c.loop-i.invariant)
+    let pushed : c.push-in-loop-i.new.self.items ≡ c.loop-i.text.items ++ c.pair.result =
+    rw (c.push-in-loop-i.ensures.items, c.push.ensures.items)
+    (both-pushed _ c.loop-i.text.items c.pair.result c.pair.ensures) in
+    record {
+      text = rw pushed (append-step c.loop-i.i c.args.bytes.now [] c.loop-i.text.items c.pair.result (search rules)
+          c.pair.ensures c.loop-i.invariant.text);
+      len = omega (arith, c.push-in-loop-i.ensures.len, c.push.ensures.len, c.loop-i.invariant.len);
+    }

@@ -1,6 +1,6 @@
 -- Why a run is given up, piece by piece.
 use Rattle.std.proofs.Common.{◌≡◌, ◌≤◌, ℕ, zero, suc, ◌+◌, List, [], ◌∷◌, ◌++◌, length, take, refl}
-use Rattle.std.proofs.Common.{arith, append_assoc, inl, inr, false}
+use Rattle.std.proofs.Common.{arith, append_assoc, inl, inr, false, sym, ◌∙◌, ◌≢◌}
 use Rattle.std.specs.Prelude.{◌==◌, Result, Ok, Err, IfErr, Option}
 use Rattle.std.specs.Io.KnownBytes.{Appends, Consumes, IsAtEnd, Keeps}
 use Rattle.std.proofs.KnownBytes.{Appends-trans, Appends-nil, Consumes-trans, Consumes-nil, Consumes-kept}
@@ -30,6 +30,11 @@ pub piece_or_end : (count : ℕ) (chunk : List ℕ) (End : Type 0) → (count ==
 piece_or_end zero chunk End some fits none = absurd cc
 piece_or_end (suc count) [] End some fits none = absurd (omega arith)
 piece_or_end (suc count) (b ∷ chunk) End some fits none = absurd cc
+
+-- no writer makes lines be given up
+pub unwritten_by : (count : ℕ) (fault : ToolFault) → GivesUp count fault → fault ≢ Write
+unwritten_by count fault (inl memory) is = let no : Memory ≡ Write = sym memory ∙ is in absurd cc
+unwritten_by count fault (inr (read, last)) is = let no : Read ≡ Write = sym read ∙ is in absurd cc
 
 module _ {H : Type 0} (knows : H → List (List ℕ) → List ℕ → Type 0) (tells : List (List ℕ) → List ℕ → Status → Type 0)
   where

@@ -20,3 +20,4 @@ pub mod Writable
 mod Told
 mod TraceClean
 mod Unended
+pub mod Unexplained

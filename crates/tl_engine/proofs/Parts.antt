@@ -1,5 +1,6 @@
 -- Bytes that were written in part.
-use Rattle.std.proofs.Common.{◌≡◌, ◌<◌, ℕ, zero, suc, List, [], ◌∷◌, ◌++◌, length, take, drop, append_assoc, sym, arith}
+use Rattle.std.proofs.Common.{◌≡◌, ◌<◌, ℕ, zero, suc, List, [], ◌∷◌, ◌++◌}
+use Rattle.std.proofs.Common.{length, take, drop, append_assoc, refl, sym, arith}
 use Rattle.std.proofs.lemmas.List.{take-append-drop}
 use Rattle.std.proofs.KnownBytes.{Appends-trans}
 use Rattle.std.specs.Io.KnownBytes.{Appends}
@@ -30,3 +31,18 @@ short_of a b n bytes less p = (take n bytes, drop n bytes, take-append-drop n by
     left n [] less none = absurd (omega arith)
     left zero (b ∷ bytes) less none = absurd cc
     left (suc n) (b ∷ bytes) less none = left n bytes (omega arith) none
+
+-- some of the bytes are left where more was to be written
+pub short_longer : (a b : Option (List ℕ)) (one two : List ℕ) → AppendsShort a b one → AppendsShort a b (one ++ two)
+short_longer a b one two (front, rest, cut, some, p) =
+    (front, rest ++ two, rw (← cut) (sym (append_assoc front rest two)), λ none. some (nothing rest two none), p)
+  where
+    nothing : (rest two : List ℕ) → rest ++ two ≡ [] → rest ≡ []
+    nothing [] two none = refl
+    nothing (b ∷ rest) two none = absurd cc
+
+-- bytes that were written, and then some of those that follow are left
+pub short_behind : (a b c : Option (List ℕ)) (one two : List ℕ) → Appends a b one → AppendsShort b c two
+    → AppendsShort a c (one ++ two)
+short_behind a b c one two p (front, rest, cut, some, q) =
+    (one ++ front, rest, rw (append_assoc, cut) refl, some, Appends-trans a b c one front p q)

@@ -6,4 +6,5 @@ pub mod Judged
 pub mod Played
 pub mod Told
 pub mod Trace
+pub mod Unexplained
 pub mod Width

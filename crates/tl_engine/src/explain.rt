@@ -1,14 +1,15 @@
 //! Explains what a recorded trace is judged, by reading it twice.
 
-ghost use Rattle.std.specs.Prelude.{◌≡◌, ◌≢◌, ◌+◌, ◌++◌, [], ℕ, List, Err, IfErr, IfOk, IfSome, Ok, OnOk, not, true};
-ghost use Rattle.std.specs.Io.KnownBytes.{Appends, Consumes};
+ghost use Rattle.std.specs.Prelude.{◌≡◌, ◌≢◌, ◌+◌, ◌++◌, [], ℕ, List, Err, IfErr};
+ghost use Rattle.std.specs.Prelude.{IfOk, IfSome, Ok, OnErr, OnOk, not, true};
+ghost use Rattle.std.specs.Io.KnownBytes.{Appends};
 ghost use Rattle.tl_beat.specs.statement.Width.{IsWidth};
 ghost use Rattle.tl_explain.specs.statement.Reasons.{IsSubject};
-ghost use Rattle.tl_engine.specs.code.Explaining.{ExplainsFound, ExplainsStatus};
-ghost use Rattle.tl_engine.specs.code.Lines.{lines_of};
+ghost use Rattle.tl_engine.specs.code.Explaining.{ExplainsFound, ExplainsStatus, IsVerdict};
+ghost use Rattle.tl_engine.specs.code.Parts.{AppendsShort};
 ghost use Rattle.tl_engine.specs.code.Replaying.{KnowsReplay};
 ghost use Rattle.tl_engine.specs.statement.Explained.{Explains, IsExplained, is_of_order};
-ghost use Rattle.tl_engine.specs.statement.Judged.{Judged};
+ghost use Rattle.tl_engine.specs.statement.Unexplained.{GivesUpExplaining, IsUnjudged, Reaches};
 ghost use Rattle.tl_engine.specs.declared.status.Status.{Status};
 
 use crate::engine::{handle_input, new_chunk, next_piece};
@@ -52,18 +53,32 @@ pub enum ExplainFault {
 }
 
 impl From<ToolFault> for ExplainFault {
+    ghost use Rattle.tl_engine.specs.declared.explain.ExplainFault.{ExplainFault};
+
+    ghost from_gives = { λ tool fault. fault ≡ ExplainFault.Tool tool };
+
     fn from(fault: ToolFault) -> ExplainFault {
         ExplainFault::Tool(fault)
     }
 }
 
 impl From<AllocError> for ExplainFault {
+    ghost use Rattle.tl_engine.specs.declared.explain.ExplainFault.{ExplainFault};
+    ghost use Rattle.tl_engine.specs.declared.status.ToolFault.{ToolFault};
+
+    ghost from_gives = { λ _ fault. fault ≡ ExplainFault.Tool ToolFault.Memory };
+
     fn from(_error: AllocError) -> ExplainFault {
         ExplainFault::Tool(ToolFault::Memory)
     }
 }
 
 impl From<io::Error> for ExplainFault {
+    ghost use Rattle.tl_engine.specs.declared.explain.ExplainFault.{ExplainFault};
+    ghost use Rattle.tl_engine.specs.declared.status.ToolFault.{ToolFault};
+
+    ghost from_gives = { λ _ fault. fault ≡ ExplainFault.Tool ToolFault.Memory };
+
     fn from(_error: io::Error) -> ExplainFault {
         ExplainFault::Tool(ToolFault::Memory)
     }
@@ -75,6 +90,7 @@ fn in_memory(outcome: Result<Status, ToolFault>) -> Result<Status, ToolFault>
     ensures fault { IfErr result (λ fault. fault ≢ ToolFault.Write) }
     ensures done { IfOk outcome (λ status. result ≡ Ok status) }
     ensures other { IfErr outcome (λ fault. fault ≢ ToolFault.Write → result ≡ Err fault) }
+    ensures read { result ≡ Err ToolFault.Read → outcome ≡ Err ToolFault.Read }
 {
     match outcome {
         Err(ToolFault::Write) => Err(ToolFault::Memory),
@@ -84,7 +100,9 @@ fn in_memory(outcome: Result<Status, ToolFault>) -> Result<Status, ToolFault>
 }
 
 /// The beginning of the line of this number, from 1 on, with its LF if it stands there.
-fn fetch<R: Read>(alloc: Global, reader: &mut R, number: u64) -> Result<Vec<u8>, ExplainFault> {
+fn fetch<R: Read>(alloc: Global, reader: &mut R, number: u64) -> Result<Vec<u8>, ExplainFault>
+    ensures fault { IfErr result (λ fault. fault ≢ ExplainFault.Tool ToolFault.Write) }
+{
     let mut chunk = new_chunk(alloc)?;
     let mut line = Vec::new(alloc);
     let mut at = 1u64;
@@ -113,7 +131,9 @@ fn explain_header<R: Read>(
     alloc: Global,
     reader: &mut R,
     out: &mut Vec<u8>,
-) -> Result<(), ExplainFault> {
+) -> Result<(), ExplainFault>
+    ensures fault { IfErr result (λ fault. fault ≢ ExplainFault.Tool ToolFault.Write) }
+{
     let line = fetch(alloc, reader, 1)?;
     if line.len() <= 256 && read_header(&line).is_some() {
         return Err(ExplainFault::Changed);
@@ -131,6 +151,7 @@ fn explain_spelling<const W: usize, R: Read>(
     out: &mut Vec<u8>,
 ) -> Result<(), ExplainFault>
     requires { IsWidth W }
+    ensures fault { IfErr result (λ fault. fault ≢ ExplainFault.Tool ToolFault.Write) }
 {
     let line = fetch(alloc, reader, number)?;
     match read_line::<W>(&line) {
@@ -194,6 +215,7 @@ fn explain_legality<const W: usize, R: Read>(
     out: &mut Vec<u8>,
 ) -> Result<(), ExplainFault>
     requires { IsWidth W }
+    ensures fault { IfErr result (λ fault. fault ≢ ExplainFault.Tool ToolFault.Write) }
 {
     let line = fetch(alloc, reader, number)?;
     let Ok((link, beat)) = read_line::<W>(&line) else {
@@ -256,7 +278,8 @@ fn explain_order<const W: usize, R: Read>(
     out: &mut Vec<u8>,
 ) -> Result<(), ExplainFault>
     requires { IsWidth W }
-    ensures { OnOk result (IsExplained (R.remaining reader.old) (R.remaining reader.new) (found.now.good + 1) rule) }
+    ensures ok { OnOk result (IsExplained (R.remaining reader.old) (R.remaining reader.new) (found.now.good + 1) rule) }
+    ensures fault { IfErr result (λ fault. fault ≢ ExplainFault.Tool ToolFault.Write) }
 {
     let start = start_of::<W>(header, found, line).ok_or(ExplainFault::Changed)?;
     let replay = read_again(alloc, reader, start)?.ok_or(ExplainFault::Changed)?;
@@ -289,6 +312,7 @@ fn explain_clean<const W: usize, R: Read>(
     out: &mut Vec<u8>,
 ) -> Result<(), ExplainFault>
     requires { IsWidth W }
+    ensures fault { IfErr result (λ fault. fault ≢ ExplainFault.Tool ToolFault.Write) }
 {
     let mut ledger = Ledger::new(alloc, header.levels.len())?;
     let mut count = 0u64;
@@ -316,8 +340,9 @@ fn explain_found<const W: usize, R: Read>(
     out: &mut Vec<u8>,
 ) -> Result<(), ExplainFault>
     requires { IsWidth W }
-    ensures { OnOk result (ExplainsFound (R.remaining reader.old) (R.remaining reader.new) found.now.good
+    ensures ok { OnOk result (ExplainsFound (R.remaining reader.old) (R.remaining reader.new) found.now.good
         found.now.fault status) }
+    ensures fault { IfErr result (λ fault. fault ≢ ExplainFault.Tool ToolFault.Write) }
 {
     let number = found.good.saturating_add(1);
     match (status, &found.fault) {
@@ -347,7 +372,8 @@ fn reasons<R: Read>(
     status: Status,
     out: &mut Vec<u8>,
 ) -> Result<(), ExplainFault>
-    ensures { OnOk result (ExplainsStatus (R.remaining reader.old) (R.remaining reader.new) found.now status) }
+    ensures ok { OnOk result (ExplainsStatus (R.remaining reader.old) (R.remaining reader.new) found.now status) }
+    ensures fault { IfErr result (λ fault. fault ≢ ExplainFault.Tool ToolFault.Write) }
 {
     match &found.header {
         None => explain_header(alloc, reader, out),
@@ -359,35 +385,66 @@ fn reasons<R: Read>(
     }
 }
 
+/// Judges what a reader gives. Answers what is found, beside its verdict.
+fn judge<R: Read>(
+    alloc: Global,
+    reader: &mut R,
+    verdict: &mut Vec<u8>,
+) -> Result<(Found, Status), ExplainFault>
+    requires { verdict.old.items ≡ [] }
+    ensures ok { IfOk result (λ both. Reaches (R.remaining reader.old) (R.remaining reader.new) verdict.new.items both.1
+        × IsVerdict both.0 both.1 verdict.new.items) }
+    ensures fault { IfErr result (IsUnjudged (R.remaining reader.old) (R.remaining reader.new)) }
+{
+    let mut found = Found::new();
+    let examiner = Examiner {
+        monitor_lines: MonitorLines::Waiting(alloc),
+        found: &mut found,
+    };
+    let status = in_memory(handle_input(alloc, examiner, reader, verdict))?;
+    if found.is_verdict(alloc, status, verdict.as_slice())? {
+        Ok((found, status))
+    } else {
+        Err(ExplainFault::Changed)
+    }
+}
+
+/// Writes a verdict, and the reasons behind it.
+fn write_both<W: Write>(verdict: &[u8], reasons: &[u8], writer: &mut W) -> Result<(), ToolFault>
+    ensures ok { OnOk result (Appends (W.contents writer.old) (W.contents writer.new) (verdict.now ++ reasons.now)) }
+    ensures err { OnErr result (AppendsShort (W.contents writer.old) (W.contents writer.new)
+        (verdict.now ++ reasons.now)) }
+    ensures fault { IfErr result (λ fault. fault ≡ ToolFault.Write) }
+{
+    write_all(writer, verdict)?;
+    write_all(writer, reasons)
+}
+
 #[tactic(auto, using(crate::proofs::Explaining::explains))]
 /// Writes what `monitor` says of a trace, and behind it why. The two readers are of the same file, each
 /// at its front; the second is read up to the line at fault. Where they differ nothing is written. Where
 /// a rule of order is broken, what the second reader gave has a reason in it for that line and that rule.
+///
+/// Nothing is written before both readings have come to their end: `Write` alone comes behind that, where
+/// some of the text is left. `Read` and `Memory` come of the first reading, before its verdict, where
+/// nothing was read again, or of the second; `Changed` comes behind the verdict.
 pub fn explain_input<R: Read, S: Read, W: Write>(
     alloc: Global,
     first: &mut R,
     second: &mut S,
     writer: &mut W,
 ) -> Result<Status, ExplainFault>
-    ensures { IfOk result (λ status. (read verdict reasons : List ℕ)
-        × Consumes (R.remaining first.old) (R.remaining first.new) read
-        × Judged (lines_of read) verdict status
+    ensures ok { IfOk result (λ status. (verdict reasons : List ℕ)
+        × Reaches (R.remaining first.old) (R.remaining first.new) verdict status
         × Explains (S.remaining second.old) (S.remaining second.new) verdict status
         × Appends (W.contents writer.old) (W.contents writer.new) (verdict ++ reasons)) }
+    ensures fault { IfErr result (GivesUpExplaining (R.remaining first.old) (R.remaining first.new)
+        (S.remaining second.old) (S.remaining second.new) (W.contents writer.old) (W.contents writer.new)) }
 {
-    let mut found = Found::new();
     let mut verdict = Vec::new(alloc);
-    let examiner = Examiner {
-        monitor_lines: MonitorLines::Waiting(alloc),
-        found: &mut found,
-    };
-    let status = in_memory(handle_input(alloc, examiner, first, &mut verdict))?;
-    if !found.is_verdict(alloc, status, verdict.as_slice())? {
-        return Err(ExplainFault::Changed);
-    }
+    let (found, status) = judge(alloc, first, &mut verdict)?;
     let mut why = Vec::new(alloc);
     reasons(alloc, second, &found, status, &mut why)?;
-    write_all(writer, &verdict)?;
-    write_all(writer, &why)?;
+    write_both(&verdict, &why, writer)?;
     Ok(status)
 }

@@ -1,6 +1,6 @@
 //! Reads the lines of a trace again, up to the line at fault, and records what stands before it.
 
-ghost use Rattle.std.specs.Prelude.{◌≡◌, ℕ, List, [], IfOk, IfSome, true, ⊤};
+ghost use Rattle.std.specs.Prelude.{◌≡◌, ◌≢◌, ℕ, List, [], IfErr, IfOk, IfSome, true, ⊤};
 ghost use Rattle.std.specs.Io.KnownBytes.{Consumes};
 ghost use Rattle.tl_engine.specs.code.Replaying.{HasReachedIn, KnowsReplay, ReadsFront};
 ghost use Rattle.tl_engine.specs.code.Replaying.{ReadsLine, TakesBeat, TakesFault, TakesHeader};
@@ -115,14 +115,16 @@ impl<const W: usize> LineHandler for Replay<W> {
     }
 }
 
+#[tactic(auto, using(crate::proofs::GivenUp::unwritten_by))]
 /// Reads a piece, up to the line at fault. Answers `Broken` where a line can't be what it was.
 fn read_piece<const W: usize>(
     lines: &mut Lines<Replay<W>>,
     piece: &[u8],
     out: &mut Vec<u8>,
 ) -> Result<Status, ToolFault>
-    ensures { IfOk result (λ status. status ≡ Clean →
+    ensures ok { IfOk result (λ status. status ≡ Clean →
         ReadsFront lines.old lines.new piece.now out.old.items out.new.items) }
+    ensures fault { IfErr result (λ fault. fault ≢ ToolFault.Write) }
 {
     let mut rest = piece;
     while let Some((line, after)) = first_line(rest) {
@@ -145,8 +147,9 @@ pub fn read_again<const W: usize, R: Read>(
     start: Replay<W>,
 ) -> Result<Option<Replay<W>>, ToolFault>
     requires { KnowsReplay start [] }
-    ensures { IfOk result (λ end. IfSome end (λ replay. (read : List ℕ)
+    ensures ok { IfOk result (λ end. IfSome end (λ replay. (read : List ℕ)
         × Consumes (R.remaining reader.old) (R.remaining reader.new) read × HasReachedIn replay read)) }
+    ensures fault { IfErr result (λ fault. fault ≢ ToolFault.Write) }
 {
     let mut chunk = new_chunk(alloc)?;
     let mut out = Vec::new(alloc);

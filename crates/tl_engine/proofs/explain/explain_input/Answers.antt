@@ -1,5 +1,17 @@
-use Rattle.tl_engine.proofs.Judged.{judged_total}
+use Rattle.std.proofs.lemmas.Result.{err_from_is_err_and}
+use Rattle.tl_engine.proofs.Explaining.{explains}
 use Rattle.tl_engine.proofs.explain.explain_input.Goals as goal
 
-pub handle_input-requires-clause-total : goal.handle_input-requires-clause-total
-handle_input-requires-clause-total g c = λ e. judged_total e.monitor_lines
+pub returns-in_err-write_both-clause-fault : goal.returns-in_err-write_both-clause-fault
+returns-in_err-write_both-clause-fault g c =
+    let p = err_from_is_err_and c.from_residual-in_err-write_both.result c.from_residual-in_err-write_both.ensures.1 in
+    let reached = c.in_ok-found.ensures.ok in
+    rw (p.1, p.2, c.in_err-write_both.ensures.fault) (
+      c.judge.new.verdict.items,
+      c.reasons.new.out.items,
+      c.in_ok-found.status,
+      reached.0,
+      explains _ _ c.in_ok-found.found c.in_ok-found.status c.judge.new.verdict.items reached.1
+          c.in_ok-reasons.ensures.ok,
+      rw (c.deref.ensures.value, c.deref-2.ensures.value) at c.in_err-write_both.ensures.err,
+    )

@@ -2,9 +2,9 @@ use Rattle.std.proofs.Common.{rules}
 use Rattle.tl_engine.proofs.Explaining.{explained}
 use Rattle.tl_engine.proofs.explain.explain_order.Goals as goal
 
-pub returns : goal.returns
-returns g c =
+pub returns-clause-ok : goal.returns-clause-ok
+returns-clause-ok g c =
     explained _ _ c.in_ok-replay.replay c.args.rule c.args.found.now.good c.in-Ok.field-0-0 c.in-Ok.beat
-    c.find_reason.result c.in-Some.reason (rw c.in_ok-replay.ensures.ok_part at c.in_ok-read_again.ensures)
+    c.find_reason.result c.in-Some.reason (rw c.in_ok-replay.ensures.ok_part at c.in_ok-read_again.ensures.ok)
     (search rules) (rw c.line-line.ensures at c.in-Ok.ensures.spelled) (λ t link. c.find_reason.ensures.told t link)
     c.in-Some.is

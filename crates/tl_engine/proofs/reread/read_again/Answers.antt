@@ -10,16 +10,16 @@ loop-init g c = record {
   so_far = ([], Consumes-nil _, rw c.new-out.ensures.items (c.new-lines.ensures c.requires));
 }
 
-pub returns-then-handler : goal.returns-then-handler
-returns-then-handler g c =
+pub returns-then-handler-clause-ok : goal.returns-then-handler-clause-ok
+returns-then-handler-clause-ok g c =
     rw c.into_handler.ensures (reads_to _ _ _ c.loop.lines c.read_piece.new.lines _ _ _ c.loop.invariant.so_far
-    c.in_ok-count.ensures.ok (rw c.deref.ensures.value at (c.in_ok-read_piece.ensures c.in-Clean.is))
+    c.in_ok-count.ensures.ok (rw c.deref.ensures.value at (c.in_ok-read_piece.ensures.ok c.in-Clean.is))
     (ap (λ (r : Replay g.row.W). r.reached) (sym c.handler.ensures) ∙ c.if-handler.true))
 
 pub loop-preserved : goal.loop-preserved
 loop-preserved g c = record {
   room = search rules;
   so_far = reads_on _ _ _ c.loop.lines c.read_piece.new.lines _ _ _ c.loop.invariant.so_far c.in_ok-count.ensures.ok
-      (rw c.deref.ensures.value at (c.in_ok-read_piece.ensures c.in-Clean.is))
+      (rw c.deref.ensures.value at (c.in_ok-read_piece.ensures.ok c.in-Clean.is))
       (ap (λ (r : Replay g.row.W). r.reached) (sym c.handler.ensures) ∙ c.if-handler.false);
 }

@@ -9,8 +9,8 @@ use Rattle.tl_engine.proofs.reread.read_piece.Goals as goal
 pub loop-line-init : goal.loop-line-init
 loop-line-init g c = ([], refl, λ read before p. rw append-nil p)
 
-pub returns-then-handler : goal.returns-then-handler
-returns-then-handler g c = λ clean.
+pub returns-then-handler-clause-ok : goal.returns-then-handler-clause-ok
+returns-then-handler-clause-ok g c = λ clean.
     let so_far = c.loop-line.invariant in
     let cut : (so_far.0 ++ c.in-Some.line.now) ++ c.in-Some.after.now ≡ c.args.piece.now =
     append_assoc so_far.0 c.in-Some.line.now c.in-Some.after.now ∙ ap (λ (rest : List ℕ). so_far.0 ++ rest)
@@ -37,6 +37,6 @@ loop-line-preserved g c =
           (rw c.in-Clean.is at c.in_ok-take_line.ensures.feeds),
     )
 
-pub returns : goal.returns
-returns g c = keeps_rest _ _ _ _ c.loop-line.invariant.0 c.loop-line.rest.now _ _ _ _ c.loop-line.invariant.1
+pub returns-clause-ok : goal.returns-clause-ok
+returns-clause-ok g c = keeps_rest _ _ _ _ c.loop-line.invariant.0 c.loop-line.rest.now _ _ _ _ c.loop-line.invariant.1
     c.loop-line.invariant.2 c.keep.ensures.feeds

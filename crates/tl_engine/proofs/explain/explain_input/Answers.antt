@@ -2,4 +2,4 @@ use Rattle.tl_engine.proofs.Judged.{judged_total}
 use Rattle.tl_engine.proofs.explain.explain_input.Goals as goal
 
 pub handle_input-requires-clause-total : goal.handle_input-requires-clause-total
-handle_input-requires-clause-total g c = λ e. judged_total e.monitor_lines
+handle_input-requires-clause-total g c = λ e. judged_total 0 e.monitor_lines

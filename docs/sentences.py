@@ -30,6 +30,16 @@ for rule in RULES:
         text = re.sub(r"\\\n\s*", "", text).replace("\\n", "\n")
         if text != trace:
             wrong.append("%s%s: the traces differ" % (rule, suffix))
+memory = open("crates/tl_explain/src/memory.rt").read()
+for rule in ["M1", "M4"]:
+    text = re.search(r"MemoryRule::%s => Explanation \{(.*?)\n        \}," % rule, memory, re.S).group(1)
+    field = lambda name: re.sub(r"\\\n\s*", "", re.search(r"\b%s: \"(.*?)\"," % name, text, re.S).group(1)).replace("\\n", "\n")
+    row = re.search(r"^\| %s \| ([^|]*) \| ([^|]*) \| [^|]* \|$" % rule, protocol, re.M)
+    if row is None or (field("messages"), field("sentence")) != row.groups():
+        wrong.append("%s: the sentences differ" % rule)
+    for suffix, name in [("", "wrong"), ("_right", "right")]:
+        if field(name) != open("crates/tl_examples/data/rules/%s%s.trace" % (rule, suffix)).read():
+            wrong.append("%s%s: the traces differ" % (rule, suffix))
 for fault in ["F2", "F3", "F4", "F5", "F6"]:
     row = re.search(r"^\| \d \| %s \| (.*) \|$" % fault, formats, re.M).group(1)
     if row not in named:

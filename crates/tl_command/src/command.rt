@@ -7,8 +7,10 @@ pub use tl_params::width::Width;
 pub enum Command {
     /// Writes a readable line for each beat line of this width.
     Decode { width: Width },
-    /// Judges a recorded trace.
+    /// Judges a recorded trace, each link by itself.
     Monitor,
+    /// Judges a recorded trace of all links of a manager together.
+    Coherent,
     /// Judges a recorded trace, and says why its first line at fault is so.
     Explain,
     /// Plays a schedule: writes what comes of each event, or the trace of it.

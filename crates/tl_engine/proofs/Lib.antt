@@ -6,6 +6,7 @@ pub mod Parts
 pub mod Progress
 pub mod Replaying
 pub mod Runs
+pub mod BeatJudging
 pub mod Decoded
 pub mod Headers
 pub mod Judged
@@ -19,5 +20,7 @@ pub mod SoFar
 pub mod Writable
 mod Told
 mod TraceClean
+mod TraceCoherent
+pub mod TraceQuiet
 mod Unended
 pub mod Unexplained

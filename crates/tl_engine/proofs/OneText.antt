@@ -1,4 +1,4 @@
--- `decode` and `monitor` tell one text of their lines.
+-- `decode`, `monitor` and `coherent` tell one text of their lines.
 use Rattle.std.proofs.Common.{◌≡◌, ℕ, ◌+◌, List, [], ◌∷◌, length, refl, sym, ap, subst, ◌∙◌, inl, inr}
 use Rattle.std.specs.Prelude.{Some, None}
 use Rattle.std.specs.Result.{result_err}
@@ -12,15 +12,15 @@ use Rattle.tl_beat.proofs.Faults.{reading-fault}
 use Rattle.tl_beat.proofs.SpelledLines.{reading-spelled, one-beat}
 use Rattle.tl_params.specs.declared.level.Level.{Level}
 use Rattle.tl_params.specs.declared.profile.Profile.{Profile}
-use Rattle.tl_rules.specs.statement.Conformance.{Trace, broken_on_link}
+use Rattle.tl_rules.specs.statement.Conformance.{Trace}
 use Rattle.tl_params.specs.declared.width.Width.{Width}
 use Rattle.tl_params.specs.declared.width.Width.TheVariants as width
 use Rattle.tl_engine.specs.declared.fault.Fault.{Fault}
-use Rattle.tl_engine.specs.declared.fault.Fault.TheVariants.{Header, Line, Rule as Breaks, Event}
+use Rattle.tl_engine.specs.declared.fault.Fault.TheVariants.{Line}
 use Rattle.tl_engine.specs.declared.status.Status.{Status}
 use Rattle.tl_engine.specs.statement.Decoded.{Decodes}
 use Rattle.tl_engine.specs.statement.Fault.{fault_text}
-use Rattle.tl_engine.specs.statement.Judged.{IsAtFault, Judged, JudgedAfter}
+use Rattle.tl_engine.specs.statement.Judged.{Faults, IsAtFault, JudgedAfter, JudgedBy}
 use Rattle.tl_engine.specs.statement.Width.{bytes_of}
 use Rattle.tl_engine.proofs.Headers.{one_header}
 
@@ -67,44 +67,37 @@ decodes_once w n width (line ∷ lines) text other status another (inr (f, fails
 
 -- ---- traces
 
-module _ {w : ℕ} (width : IsWidth w) (levels : List Level) (p : Profile) where
-  fault_once : (t : Trace w) (line : List ℕ) (f g : Fault) → IsAtFault levels p t line f → IsAtFault levels p t line g
-      → f ≡ g
-  fault_once t line (Line x) (Line y) is so = cc
-  fault_once t line (Line x) (Breaks s) is (l, c, spells, breaks) = absurd (spells_or_fails line l c x width spells is)
-  fault_once t line (Breaks r) (Line y) (k, b, spells, breaks) so = absurd (spells_or_fails line k b y width spells so)
-  fault_once t line (Breaks r) (Breaks s) (k, b, spells, breaks) (l, c, spells_so, breaks_so) =
-      let same = same_beat line k l b c width spells spells_so in
-      let rules : broken_on_link levels p (k, b) t ≡ broken_on_link levels p (l, c) t =
-      ap (λ (x : Link × Beat w). broken_on_link levels p x t) same in
-      cc
-  fault_once t line Header g is so = absurd is
-  fault_once t line (Event x) g is so = absurd is
-  fault_once t line (Line x) Header is so = absurd so
-  fault_once t line (Line x) (Event y) is so = absurd so
-  fault_once t line (Breaks r) Header is so = absurd so
-  fault_once t line (Breaks r) (Event y) is so = absurd so
+module _ {w : ℕ} (faults : Faults) (said : ℕ → List ℕ) (width : IsWidth w) (levels : List Level) (p : Profile) where
+  same_faults : (t : Trace w) (line : List ℕ) (k l : Link) (b d : Beat w) → Spells line k b → Spells line l d
+      → faults w levels p (k, b) t ≡ faults w levels p (l, d) t
+  same_faults t line k l b d s r =
+      ap (λ (x : Link × Beat w). faults w levels p x t) (same_beat line k l b d width s r)
+
+  fault_once : (t : Trace w) (line : List ℕ) (f g : Fault) → IsAtFault faults levels p t line f
+      → IsAtFault faults levels p t line g → f ≡ g
+  fault_once t line f g (inl (x, is, of)) (inl (y, so, of_so)) =
+      let same : x ≡ y = cc in
+      of ∙ ap Line same ∙ sym of_so
+  fault_once t line f g (inl (x, is, of)) (inr (l, c, spells, so)) = absurd (spells_or_fails line l c x width spells is)
+  fault_once t line f g (inr (k, b, spells, is)) (inl (y, so, of)) = absurd (spells_or_fails line k b y width spells so)
+  fault_once t line f g (inr (k, b, spells, is)) (inr (l, c, spells_so, so)) =
+      let same = same_faults t line k l b c spells spells_so in cc
 
   good_or_bad : (t : Trace w) (line : List ℕ) (k : Link) (b : Beat w) (fault : Fault) → Spells line k b
-      → broken_on_link levels p (k, b) t ≡ None → IsAtFault levels p t line fault → ⊥
-  good_or_bad t line k b Header spells good is = is
-  good_or_bad t line k b (Event x) spells good is = is
-  good_or_bad t line k b (Line x) spells good is = spells_or_fails line k b x width spells is
-  good_or_bad t line k b (Breaks r) spells good (l, c, spells_so, breaks) =
-      let same = same_beat line k l b c width spells spells_so in
-      let rules : broken_on_link levels p (k, b) t ≡ broken_on_link levels p (l, c) t =
-      ap (λ (x : Link × Beat w). broken_on_link levels p x t) same in
-      absurd cc
+      → faults w levels p (k, b) t ≡ None → IsAtFault faults levels p t line fault → ⊥
+  good_or_bad t line k b fault spells good (inl (x, is, of)) = spells_or_fails line k b x width spells is
+  good_or_bad t line k b fault spells good (inr (l, c, spells_so, is)) =
+      let same = same_faults t line k l b c spells spells_so in absurd cc
 
   judged_after_once : (t : Trace w) (lines : List (List ℕ)) (text other : List ℕ) (status another : Status)
-      → JudgedAfter levels p t lines text status
-      → JudgedAfter levels p t lines other another → AreOne text other status another
+      → JudgedAfter faults said levels p t lines text status
+      → JudgedAfter faults said levels p t lines other another → AreOne text other status another
   unfolding JudgedAfter
   judged_after_once t [] text other status another d e = (d.0 ∙ sym e.0, d.1 ∙ sym e.1)
   judged_after_once t (line ∷ lines) text other status another (inl (k, b, s, good, d)) (inl (l, c, r, good_so, e)) =
       let same = same_beat line l k c b width r s in
       judged_after_once ((k, b) ∷ t) lines text other status another d
-      (subst (λ (x : Link × Beat w). JudgedAfter levels p (x ∷ t) lines other another) same e)
+      (subst (λ (x : Link × Beat w). JudgedAfter faults said levels p (x ∷ t) lines other another) same e)
   judged_after_once t (line ∷ lines) text other status another (inl (k, b, s, good, d)) (inr (fault, is, says, ends)) =
       absurd (good_or_bad t line k b fault s good is)
   judged_after_once t (line ∷ lines) text other status another (inr (fault, is, says, ends)) (inl (l, c, r, good, e)) =
@@ -121,17 +114,19 @@ is_width_of width.Sixteen = inr (inr refl)
 abbrev Named : Type 0
 Named = (Width × Profile) × List Level
 
-pub judged_once : (lines : List (List ℕ)) (text other : List ℕ) (status another : Status) → Judged lines text status
-    → Judged lines other another → AreOne text other status another
-unfolding Judged
-judged_once [] text other status another d e = (d.0 ∙ sym e.0, d.1 ∙ sym e.1)
-judged_once (line ∷ lines) text other status another (inl (wide, p, levels, s, d)) (inl (wider, q, others, r, e)) =
+pub judged_once : (faults : Faults) (said : ℕ → List ℕ) (lines : List (List ℕ)) (text other : List ℕ)
+    (status another : Status) → JudgedBy faults said lines text status → JudgedBy faults said lines other another
+    → AreOne text other status another
+unfolding JudgedBy
+judged_once faults said [] text other status another d e = (d.0 ∙ sym e.0, d.1 ∙ sym e.1)
+judged_once faults said (line ∷ lines) text other status another (inl (wide, p, levels, s, d))
+    (inl (wider, q, others, r, e)) =
     let same = one_header line wider wide q p others levels r s in
-    judged_after_once (is_width_of wide) levels p [] lines text other status another d
-    (subst (λ (x : Named). JudgedAfter {w = bytes_of x.0.0} x.1 x.0.1 [] lines other another) same e)
-judged_once (line ∷ lines) text other status another (inl (wide, p, levels, s, d)) (inr (none, says, ends)) =
-    absurd (none wide p levels s)
-judged_once (line ∷ lines) text other status another (inr (none, says, ends)) (inl (wide, p, levels, s, e)) =
-    absurd (none wide p levels s)
-judged_once (line ∷ lines) text other status another (inr (none, says, ends)) (inr (none_so, says_so, ends_so)) =
-    (says ∙ sym says_so, ends ∙ sym ends_so)
+    judged_after_once faults said (is_width_of wide) levels p [] lines text other status another d
+    (subst (λ (x : Named). JudgedAfter {w = bytes_of x.0.0} faults said x.1 x.0.1 [] lines other another) same e)
+judged_once faults said (line ∷ lines) text other status another (inl (wide, p, levels, s, d))
+    (inr (none, says, ends)) = absurd (none wide p levels s)
+judged_once faults said (line ∷ lines) text other status another (inr (none, says, ends))
+    (inl (wide, p, levels, s, e)) = absurd (none wide p levels s)
+judged_once faults said (line ∷ lines) text other status another (inr (none, says, ends))
+    (inr (none_so, says_so, ends_so)) = (says ∙ sym says_so, ends ∙ sym ends_so)

@@ -1,9 +1,10 @@
 -- The text before the end of the input, under each command.
 use Rattle.std.proofs.Common.{◌≡◌, ℕ, ◌-◌, List, [], length, refl, arith, inl, inr}
 use Rattle.std.proofs.lemmas.List.{append-nil}
-use Rattle.tl_command.specs.declared.command.Command.TheVariants.{Decode, Monitor, Run}
-use Rattle.tl_monitor.specs.declared.monitor.Monitor.{Monitor as Judge}
+use Rattle.tl_command.specs.declared.command.Command.TheVariants.{Decode, Run}
 use Rattle.tl_params.specs.declared.width.Width.{Width}
+use Rattle.std.specs.Prelude.{Bool, ◌⊎◌, ◌++◌}
+use Rattle.tl_engine.specs.declared.beat_judge.BeatJudge.{BeatJudge}
 use Rattle.tl_engine.specs.declared.monitor_lines.MonitorLines.{MonitorLines}
 use Rattle.tl_engine.specs.declared.monitor_lines.MonitorLines.TheVariants as watching
 use Rattle.tl_engine.specs.declared.run_lines.RunLines.{RunLines}
@@ -11,9 +12,9 @@ use Rattle.tl_engine.specs.declared.run_lines.RunLines.TheVariants as playing
 use Rattle.tl_engine.specs.declared.status.Status.TheVariants.{Clean}
 use Rattle.tl_engine.specs.code.PlayableWorld.{Contained}
 use Rattle.tl_engine.specs.code.Playing.{KnowsPlay, KnowsSchedule, is_trace}
-use Rattle.tl_engine.specs.code.Watching.{KnowsLines, KnowsTrace}
+use Rattle.tl_engine.specs.code.Watching.{JudgedSo, KnowsLines, KnowsTrace, is_together, said_by}
 use Rattle.tl_engine.specs.statement.Decoded.{Decodes, DecodesBefore}
-use Rattle.tl_engine.specs.statement.Judged.{JudgedAfter, clean_text}
+use Rattle.tl_engine.specs.statement.Judged.{JudgedAfter}
 use Rattle.tl_engine.specs.statement.Played.{PlayedAfter}
 use Rattle.tl_engine.specs.statement.Told.{text_so_far}
 use Rattle.tl_engine.specs.statement.Width.{bytes_of}
@@ -23,19 +24,26 @@ pub decoded_so_far : (width : Width) (lines : List (List ℕ)) (text : List ℕ)
 unfolding Decodes
 decoded_so_far width lines text before = inr (rw (append-nil lines) at (before [] [] Clean (refl, refl)))
 
-watched_so_far : {w : ℕ} (m : Judge w) (lines : List (List ℕ)) (text : List ℕ) → KnowsTrace m lines text
-    → text_so_far Monitor lines text
-unfolding JudgedAfter
-watched_so_far m lines text k =
-    let beats : length lines - 1 ≡ length k.trace = omega (arith, k.counted) in
-    inr (rw beats (rw (append-nil lines) at (k.before [] (clean_text (length k.trace)) Clean (refl, refl))))
+-- these lines are judged so far, before what is said of their number at the end
+abbrev SoFar : Bool → List (List ℕ) → List ℕ → Type 0
+SoFar together lines text =
+    ((lines ≡ []) × (text ≡ []))
+    ⊎ JudgedSo together lines (text ++ said_by together (length lines - 1)) Clean
 
-pub judged_so_far : (h : MonitorLines) (lines : List (List ℕ)) (text : List ℕ) → KnowsLines h lines text
-    → text_so_far Monitor lines text
-judged_so_far (watching.Waiting alloc) lines text known = inl known
-judged_so_far (watching.Four m) lines text known = watched_so_far m lines text known
-judged_so_far (watching.Eight m) lines text known = watched_so_far m lines text known
-judged_so_far (watching.Sixteen m) lines text known = watched_so_far m lines text known
+watched_so_far : {w : ℕ} (n : ℕ) (judge : BeatJudge w) (lines : List (List ℕ)) (text : List ℕ)
+    → KnowsTrace (is_together n) judge lines text → SoFar (is_together n) lines text
+unfolding JudgedAfter
+watched_so_far n judge lines text k =
+    let beats : length lines - 1 ≡ length k.trace = omega (arith, k.counted) in
+    inr (rw beats (rw (append-nil lines) at
+    (k.before [] (said_by (is_together n) (length k.trace)) Clean (refl, refl))))
+
+pub judged_so_far : (n : ℕ) (h : MonitorLines n) (lines : List (List ℕ)) (text : List ℕ) → KnowsLines h lines text
+    → SoFar (is_together n) lines text
+judged_so_far n (watching.Waiting alloc) lines text known = inl known
+judged_so_far n (watching.Four judge) lines text known = watched_so_far n judge lines text known
+judged_so_far n (watching.Eight judge) lines text known = watched_so_far n judge lines text known
+judged_so_far n (watching.Sixteen judge) lines text known = watched_so_far n judge lines text known
 
 world_so_far : {w : ℕ} (n : ℕ) (world : Contained w) (lines : List (List ℕ)) (text : List ℕ)
     → KnowsPlay (is_trace n) world lines text

@@ -1,3 +1,4 @@
+pub mod Coherent
 pub mod Decoded
 pub mod Exit
 pub mod Explained

@@ -6,6 +6,7 @@ ghost use Rattle.tl_engine.specs.statement.Judged.{Judged};
 ghost use Rattle.tl_engine.specs.code.Explaining.{IsVerdict, fault_of};
 ghost use Rattle.tl_engine.specs.code.Watching.{KnowsLines};
 
+use crate::beat_judge::BeatJudge;
 use crate::fault::{Fault, append_fault};
 use crate::header::{Header, read_header};
 use crate::line_handler::LineHandler;
@@ -16,7 +17,6 @@ use tl_beat::beat::Beat;
 use tl_beat::fault::LineFault;
 use tl_beat::read::read_line;
 use tl_explain::told::Spelling;
-use tl_monitor::monitor::Monitor;
 use tl_rules::rule::Rule;
 
 /// What was found in a trace.
@@ -32,9 +32,12 @@ pub struct Found {
 }
 
 /// The block of the request that a line's beat answers, where it is a beat of channel D.
-fn block_asked<const W: usize>(monitor: &Monitor<W>, line: &[u8]) -> Option<u32>
+fn block_asked<const W: usize>(judge: &BeatJudge<W>, line: &[u8]) -> Option<u32>
     requires { IsWidth W }
 {
+    let BeatJudge::OfLinks(monitor) = judge else {
+        return None;
+    };
     match read_line::<W>(line) {
         Ok((link, Beat::D(x))) => Some(monitor.request(link, x.source)?.block),
         _ => None,
@@ -42,12 +45,12 @@ fn block_asked<const W: usize>(monitor: &Monitor<W>, line: &[u8]) -> Option<u32>
 }
 
 /// The block of the request that the next line's beat answers.
-fn block_granted(monitor_lines: &MonitorLines, line: &[u8]) -> Option<u32> {
+fn block_granted(monitor_lines: &MonitorLines<0>, line: &[u8]) -> Option<u32> {
     match monitor_lines {
         MonitorLines::Waiting(_) => None,
-        MonitorLines::Four(monitor) => block_asked(monitor, line),
-        MonitorLines::Eight(monitor) => block_asked(monitor, line),
-        MonitorLines::Sixteen(monitor) => block_asked(monitor, line),
+        MonitorLines::Four(judge) => block_asked(judge, line),
+        MonitorLines::Eight(judge) => block_asked(judge, line),
+        MonitorLines::Sixteen(judge) => block_asked(judge, line),
     }
 }
 
@@ -104,7 +107,7 @@ impl Found {
     }
 
     /// Notes the line at fault.
-    fn note_fault(&mut self, line: &[u8], fault: Fault, monitor_lines: &MonitorLines) {
+    fn note_fault(&mut self, line: &[u8], fault: Fault, monitor_lines: &MonitorLines<0>) {
         self.fault = Some((fault, Spelling::of(line)));
         if fault == Fault::Rule(Rule::H6) {
             self.block = block_granted(monitor_lines, line);
@@ -115,7 +118,7 @@ impl Found {
 /// Judges the lines of a trace as a watcher does, and notes what it finds.
 #[derive(Drop)]
 pub struct Examiner<'a> {
-    pub monitor_lines: MonitorLines,
+    pub monitor_lines: MonitorLines<0>,
     pub found: &'a mut Found,
 }
 

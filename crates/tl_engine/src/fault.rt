@@ -1,6 +1,7 @@
 //! What a line can be at fault for.
 
 ghost use Rattle.std.specs.Prelude.{◌≡◌, ◌++◌, OnOk};
+ghost use Rattle.tl_engine.specs.statement.Coherent.{fault_of_breach};
 ghost use Rattle.tl_engine.specs.statement.Fault.{fault_name, fault_text};
 
 use itoa::Buffer;
@@ -8,6 +9,7 @@ use std::alloc::AllocError;
 use tl_beat::fault::LineFault;
 use tl_rules::rule::Rule;
 use tl_schedule::line::EventFault;
+use tl_together::breach::{Breach, MemoryRule};
 
 /// What a line is at fault for.
 #[derive(Clone, Copy, Debug, PartialEq, Eq)]
@@ -16,8 +18,10 @@ pub enum Fault {
     Header,
     /// The line spells no beat.
     Line(LineFault),
-    /// The beat breaks a rule.
+    /// The beat breaks a rule of its link.
     Rule(Rule),
+    /// The beat breaks a rule of memory, and none of its link.
+    MemoryRule(MemoryRule),
     /// The line says no event.
     Event(EventFault),
 }
@@ -33,6 +37,17 @@ impl Fault {
             Fault::Event(EventFault::F1) => "F1",
             Fault::Event(EventFault::F8) => "F8",
             Fault::Rule(rule) => rule.name(),
+            Fault::MemoryRule(rule) => rule.name(),
+        }
+    }
+
+    /// What a beat is at fault for that breaks this rule.
+    pub fn of_breach(breach: Breach) -> Fault
+        ensures { result ≡ fault_of_breach breach }
+    {
+        match breach {
+            Breach::OfLink(rule) => Fault::Rule(rule),
+            Breach::OfMemory(rule) => Fault::MemoryRule(rule),
         }
     }
 }

@@ -1,7 +1,7 @@
 //! What the commands tell of their lines, as laws.
 
 ghost use Rattle.std.specs.Prelude.{◌≡◌, ℕ, true, List};
-ghost use Rattle.tl_engine.specs.laws.Clean.{IsCleanUpTo};
+ghost use Rattle.tl_engine.specs.laws.Clean.{IsClean, IsCoherent, IsUpTo};
 ghost use Rattle.tl_engine.specs.statement.Told.{text_told};
 ghost use Rattle.tl_engine.specs.declared.status.Status.{Status};
 ghost use Rattle.tl_command.specs.declared.command.Command.{Command};
@@ -23,5 +23,11 @@ pub fn always_told()
 /// What `run --trace` writes is a trace in which `monitor` finds no fault, up to the fault that ends it.
 pub fn traces_without_fault()
     ensures { (lines : List (List ℕ)) (text : List ℕ) (status : Status) → text_told (Run true) lines text status →
-        IsCleanUpTo text status }
+        IsUpTo IsClean text status }
+{}
+
+/// It is a trace in which `coherent` finds no fault, up to that fault.
+pub fn traces_coherent()
+    ensures { (lines : List (List ℕ)) (text : List ℕ) (status : Status) → text_told (Run true) lines text status →
+        IsUpTo IsCoherent text status }
 {}

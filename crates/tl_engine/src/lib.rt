@@ -1,6 +1,7 @@
 //! The command's engine: reads lines of text, line by line, and writes what a command says of them.
 #![tactic(auto)]
 
+pub mod beat_judge;
 pub mod decoder;
 pub mod engine;
 pub mod examiner;

@@ -1,87 +1,84 @@
 //! Judges a recorded trace.
 
-ghost use Rattle.std.specs.Prelude.{◌≡◌, ◌++◌, [], false, IfOk, OnOk};
+ghost use Rattle.std.specs.Prelude.{Bool, ◌≡◌, ◌++◌, IfOk, OnOk};
 ghost use Rattle.tl_beat.specs.statement.Width.{IsWidth};
-ghost use Rattle.tl_monitor.specs.statement.Knows.{Knows};
-ghost use Rattle.tl_engine.specs.statement.Judged.{Judged, clean_text};
-ghost use Rattle.tl_engine.specs.code.Watching.{Begins, KnowsLines, Watches};
+ghost use Rattle.tl_engine.specs.code.Watching.{Begins, JudgedSo, KnowsLines, Watches};
+ghost use Rattle.tl_engine.specs.code.Watching.{end_by, is_together, word_by};
 
+use crate::beat_judge::BeatJudge;
 use crate::fault::Fault;
-use crate::header::{Header, read_header};
+use crate::header::read_header;
 use crate::line_handler::LineHandler;
 use itoa::Buffer;
 use std::alloc::{AllocError, Global};
 use tl_beat::fault::LineFault;
 use tl_beat::read::read_line;
-use tl_monitor::fault::MonitorFault;
-use tl_monitor::monitor::Monitor;
 use tl_params::width::Width;
 
-/// Judges the lines of a trace: the header, and then the beats of up to 16 links by a monitor.
+/// Judges the lines of a trace: the header, and then the beats of up to 16 links, of each by itself, or of
+/// all together where `TOGETHER` is 1.
 #[derive(Drop)]
-pub enum MonitorLines {
+pub enum MonitorLines<const TOGETHER: usize> {
     /// The header hasn't been read.
     Waiting(Global),
-    Four(Monitor<4>),
-    Eight(Monitor<8>),
-    Sixteen(Monitor<16>),
+    Four(BeatJudge<4>),
+    Eight(BeatJudge<8>),
+    Sixteen(BeatJudge<16>),
 }
 
-/// A monitor of the links that a header names, 1 to 16, which has seen no beat.
-fn monitor_of<const W: usize>(alloc: Global, header: &Header) -> Result<Monitor<W>, AllocError>
+/// Judges the line of the next beat. A judge that has found one at fault isn't asked again.
+fn watch<const W: usize>(judge: &mut BeatJudge<W>, line: &[u8]) -> Result<Option<Fault>, AllocError>
     requires { IsWidth W }
-    ensures { IfOk result (λ m. Knows m header.now.levels.items header.now.profile [] false) }
+    ensures { IfOk result (λ fault. (together : Bool) → Watches together judge.old judge.new line.now fault) }
 {
-    Monitor::new(alloc, header.levels.as_slice(), header.profile).map_err(|_| AllocError)
-}
-
-/// Judges the line of the next beat. A monitor that has refused a beat isn't asked again.
-fn watch<const W: usize>(monitor: &mut Monitor<W>, line: &[u8]) -> Result<Option<Fault>, AllocError>
-    requires { IsWidth W }
-    ensures { IfOk result (Watches monitor.old monitor.new line.now) }
-{
-    let (link, beat) = match read_line(line) {
-        Ok(read) => read,
-        Err(fault) => return Ok(Some(Fault::Line(fault))),
-    };
-    match monitor.push(link, &beat) {
-        Ok(()) => Ok(None),
-        Err(MonitorFault::Broken(rule)) => Ok(Some(Fault::Rule(rule))),
-        Err(_) => Err(AllocError),
+    match read_line(line) {
+        Ok((link, beat)) => judge.push(link, &beat),
+        Err(fault) => Ok(Some(Fault::Line(fault))),
     }
 }
 
-#[tactic(auto, unfolding(crate::specs::statement::Judged::clean_text))]
-/// Appends `clean N`, where none of N beats is at fault.
-fn append_clean(number: u64, out: &mut Vec<u8>) -> Result<(), AllocError>
-    ensures { OnOk result (out.new.items ≡ out.old.items ++ clean_text number) }
+/// The word of a trace without a fault.
+fn word_by(together: bool) -> &'static str
+    ensures { result.now ≡ word_by together }
+{
+    if together { "coherent " } else { "clean " }
+}
+
+/// Appends what is said of a trace, where none of so many beats is at fault: `clean N`, or, of all links
+/// together, `coherent N`.
+fn append_end(together: bool, number: u64, out: &mut Vec<u8>) -> Result<(), AllocError>
+    ensures { OnOk result (out.new.items ≡ out.old.items ++ end_by together number) }
 {
     let mut digits = Buffer::new();
-    out.extend_from_slice(b"clean ")?;
+    out.extend_from_slice(word_by(together).as_bytes())?;
     out.extend_from_slice(digits.format(number).as_bytes())?;
     out.push(b'\n')?;
     Ok(())
 }
 
 /// Judges the links that a header names. A line of another form names none.
-fn begin(alloc: Global, line: &[u8]) -> Result<Option<MonitorLines>, AllocError>
+fn begin<const TOGETHER: usize>(
+    alloc: Global,
+    line: &[u8],
+) -> Result<Option<MonitorLines<TOGETHER>>, AllocError>
     ensures { IfOk result (Begins line.now) }
 {
     let Some(header) = read_header(line) else {
         return Ok(None);
     };
+    let together = TOGETHER == 1;
     let monitor_lines = match header.width {
-        Width::Four => MonitorLines::Four(monitor_of(alloc, &header)?),
-        Width::Eight => MonitorLines::Eight(monitor_of(alloc, &header)?),
-        Width::Sixteen => MonitorLines::Sixteen(monitor_of(alloc, &header)?),
+        Width::Four => MonitorLines::Four(BeatJudge::new(alloc, together, &header)?),
+        Width::Eight => MonitorLines::Eight(BeatJudge::new(alloc, together, &header)?),
+        Width::Sixteen => MonitorLines::Sixteen(BeatJudge::new(alloc, together, &header)?),
     };
     Ok(Some(monitor_lines))
 }
 
-impl LineHandler for MonitorLines {
+impl<const TOGETHER: usize> LineHandler for MonitorLines<TOGETHER> {
     ghost knows = { KnowsLines };
 
-    ghost tells = { Judged };
+    ghost tells = { JudgedSo (is_together TOGETHER) };
 
     fn handle_line(
         &mut self,
@@ -96,9 +93,9 @@ impl LineHandler for MonitorLines {
                     Ok(None)
                 }
             },
-            MonitorLines::Four(monitor) => watch(monitor, line),
-            MonitorLines::Eight(monitor) => watch(monitor, line),
-            MonitorLines::Sixteen(monitor) => watch(monitor, line),
+            MonitorLines::Four(judge) => watch(judge, line),
+            MonitorLines::Eight(judge) => watch(judge, line),
+            MonitorLines::Sixteen(judge) => watch(judge, line),
         }
     }
 
@@ -113,7 +110,7 @@ impl LineHandler for MonitorLines {
         match self {
             MonitorLines::Waiting(_) => Ok(Some(Fault::Header)),
             _ => {
-                append_clean(count.saturating_sub(1), out)?;
+                append_end(TOGETHER == 1, count.saturating_sub(1), out)?;
                 Ok(None)
             }
         }

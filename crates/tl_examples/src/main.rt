@@ -1,5 +1,5 @@
-//! Judges each trace of data/, plays each schedule, and explains the traces and the rules; writes what
-//! comes of it.
+//! Judges each trace of data/, some of them all links together, plays each schedule, and explains the traces
+//! and the rules; writes what comes of it.
 #![tactic(auto)]
 
 ghost use Rattle.std.specs.Prelude.{IfOk};
@@ -62,6 +62,16 @@ const TRACES: [&str; 44] = [
     "rules/H12_right.trace",
     "rules/H13.trace",
     "rules/H13_right.trace",
+];
+
+/// The traces whose links are judged together.
+const TOGETHER: [&str; 6] = [
+    "two_caches.trace",
+    "wrong_report.trace",
+    "rules/M1.trace",
+    "rules/M1_right.trace",
+    "rules/M4.trace",
+    "rules/M4_right.trace",
 ];
 
 /// The schedules that are played.
@@ -130,9 +140,9 @@ const FAULTS: [&str; 26] = [
 const PENDING: [&str; 2] = ["pending/each_kind.trace", "pending/more_than_twenty.trace"];
 
 /// The names of the rules and faults that are explained.
-const NAMES: [&str; 29] = [
+const NAMES: [&str; 31] = [
     "L1", "L2", "L3", "L4", "L5", "L6", "L7", "S1", "H1", "H2", "H3", "H4", "H5", "H6", "H7", "H8",
-    "H9", "H10", "H11", "H12", "H13", "F1", "F2", "F3", "F4", "F5", "F6", "F7", "F8",
+    "H9", "H10", "H11", "H12", "H13", "M1", "M4", "F1", "F2", "F3", "F4", "F5", "F6", "F7", "F8",
 ];
 
 /// Writes the name of a file, a separator, and what the command tells of the file. Its faults are those
@@ -230,6 +240,7 @@ fn main(rt: HostRuntime) -> ExitCode {
     let run = Command::Run { trace: false };
     let trace = Command::Run { trace: true };
     if tell_all(&rt, Command::Monitor, &TRACES, b": ")
+        && tell_all(&rt, Command::Coherent, &TOGETHER, b" coherent: ")
         && tell_all(&rt, run, &SCHEDULES, b":\n")
         && tell_all(&rt, trace, &TRACED, b" --trace:\n")
         && explain_all(&rt, &TRACES)

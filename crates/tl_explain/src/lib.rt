@@ -10,6 +10,7 @@ mod key;
 pub mod law;
 pub mod ledger;
 pub mod legal;
+mod memory;
 mod missing;
 pub mod named;
 mod names;

@@ -1,10 +1,12 @@
 //! What a rule or a fault says, by its name.
 
-use crate::example::example_of;
+use crate::example::{Example, example_of};
+use crate::memory;
 use crate::sentence::{basis, judged_messages, sentence};
 use std::io;
 use std::io::Write;
 use tl_params::rule::Rule;
+use tl_together::breach::MemoryRule;
 
 /// The rules that traces are judged by, in the order in which they are judged.
 const RULES: [Rule; 21] = [
@@ -68,11 +70,8 @@ fn append_trace(trace: &str, out: &mut Vec<u8>) -> io::Result<()> {
     Ok(())
 }
 
-/// Appends the name of a rule, with the messages that it judges, and its sentence.
-pub fn append_sentence(rule: Rule, out: &mut Vec<u8>) -> io::Result<()> {
-    let name = rule.name();
-    let messages = judged_messages(rule);
-    let sentence = sentence(rule);
+/// Appends the name of a rule, with the messages that it judges, where these are only some, and its sentence.
+fn append_said(name: &str, messages: &str, sentence: &str, out: &mut Vec<u8>) -> io::Result<()> {
     if messages.is_empty() {
         write!(out, "{name}: {sentence}\n")
     } else {
@@ -80,13 +79,16 @@ pub fn append_sentence(rule: Rule, out: &mut Vec<u8>) -> io::Result<()> {
     }
 }
 
-fn tell_rule(rule: Rule, out: &mut Vec<u8>) -> io::Result<()> {
-    append_sentence(rule, out)?;
-    let basis = basis(rule);
-    write!(out, "judged by: {basis}\n")?;
-    let Some(example) = example_of(rule) else {
-        return Ok(());
-    };
+/// Appends the name of a rule of a link, with the messages that it judges, and its sentence.
+pub fn append_sentence(rule: Rule, out: &mut Vec<u8>) -> io::Result<()> {
+    append_said(rule.name(), judged_messages(rule), sentence(rule), out)
+}
+
+fn append_basis(basis: &str, out: &mut Vec<u8>) -> io::Result<()> {
+    write!(out, "judged by: {basis}\n")
+}
+
+fn append_example(example: &Example, out: &mut Vec<u8>) -> io::Result<()> {
     let what = example.what;
     let instead = example.instead;
     write!(
@@ -98,10 +100,30 @@ fn tell_rule(rule: Rule, out: &mut Vec<u8>) -> io::Result<()> {
     append_trace(example.right, out)
 }
 
+fn tell_rule(rule: Rule, out: &mut Vec<u8>) -> io::Result<()> {
+    append_sentence(rule, out)?;
+    append_basis(basis(rule), out)?;
+    match example_of(rule) {
+        None => Ok(()),
+        Some(example) => append_example(&example, out),
+    }
+}
+
+fn tell_memory_rule(rule: MemoryRule, out: &mut Vec<u8>) -> io::Result<()> {
+    let said = memory::explanation_of(rule);
+    append_said(rule.name(), said.messages, said.sentence, out)?;
+    append_basis(said.basis, out)?;
+    append_example(&said.example, out)
+}
+
 /// Appends what is said of the rule or fault of this name. Answers whether there is one.
 pub fn tell_named(name: &str, out: &mut Vec<u8>) -> io::Result<bool> {
     if let Some(rule) = rule_named(name) {
         tell_rule(rule, out)?;
+        return Ok(true);
+    }
+    if let Some(rule) = memory::rule_named(name) {
+        tell_memory_rule(rule, out)?;
         return Ok(true);
     }
     match fault_named(name) {

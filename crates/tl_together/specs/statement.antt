@@ -1,3 +1,4 @@
 pub mod Bytes
 pub mod Coherence
 pub mod Knows
+pub mod Names

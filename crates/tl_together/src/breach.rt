@@ -1,5 +1,8 @@
 //! What a beat of a manager's links may break.
 
+ghost use Rattle.std.specs.Prelude.{◌≡◌};
+ghost use Rattle.tl_together.specs.statement.Names.{memory_rule_name};
+
 use tl_rules::rule::Rule;
 
 /// A rule of memory: what the links of a manager owe each other.
@@ -16,4 +19,16 @@ pub enum MemoryRule {
 pub enum Breach {
     OfLink(Rule),
     OfMemory(MemoryRule),
+}
+
+impl MemoryRule {
+    /// The rule's name.
+    pub fn name(self) -> &'static str
+        ensures { result.now ≡ memory_rule_name self }
+    {
+        match self {
+            Self::M1 => "M1",
+            Self::M4 => "M4",
+        }
+    }
 }

@@ -1,50 +1,100 @@
--- What a handler of traces knows.
-use Rattle.std.specs.Prelude.{◌≡◌, ℕ, ◌+◌, false, List, [], ◌∷◌, ◌++◌, length, Option, Some, None}
+-- What a handler of traces knows, of each link by itself or of all together.
+use Rattle.std.specs.Prelude.{◌≡◌, ℕ, ◌+◌, Bool, true, false, ◌==◌, List, [], ◌∷◌, ◌++◌, length, Option, Some, None}
+use Rattle.std.specs.Prelude.{codes}
+use Rattle.std.specs.Fmt.{decimal}
 use Rattle.tl_beat.specs.declared.beat.Link.{Link}
 use Rattle.tl_beat.specs.declared.beat.Beat.{Beat}
 use Rattle.tl_beat.specs.statement.Line.{Spells}
 use Rattle.tl_params.specs.declared.level.Level.{Level}
 use Rattle.tl_params.specs.declared.profile.Profile.{Profile}
-use Rattle.tl_rules.specs.statement.Conformance.{Trace, broken_on_link}
-use Rattle.tl_monitor.specs.declared.monitor.Monitor.{Monitor}
-use Rattle.tl_monitor.specs.statement.Knows.{Knows}
+use Rattle.tl_rules.specs.statement.Conformance.{Trace}
+use Rattle.tl_monitor.specs.statement.Knows as of_link
+use Rattle.tl_together.specs.statement.Knows as of_all
+use Rattle.tl_engine.specs.declared.beat_judge.BeatJudge.{BeatJudge}
+use Rattle.tl_engine.specs.declared.beat_judge.BeatJudge.TheVariants.{OfLinks, OfAll}
 use Rattle.tl_engine.specs.declared.fault.Fault.{Fault}
 use Rattle.tl_engine.specs.declared.status.Status.{Status}
 use Rattle.tl_engine.specs.declared.monitor_lines.MonitorLines.{MonitorLines}
 use Rattle.tl_engine.specs.declared.monitor_lines.MonitorLines.TheVariants.{Waiting, Four, Eight, Sixteen}
-use Rattle.tl_engine.specs.statement.Judged.{IsAtFault, Judged, JudgedAfter}
+use Rattle.tl_engine.specs.statement.Coherent.{coherent_text, faults_together}
+use Rattle.tl_engine.specs.statement.Judged.{Faults, IsAtFault, JudgedAfter, JudgedBy, clean_text, faults_of_links}
 use Rattle.tl_engine.specs.statement.Trace.{SpellsHeader}
 use Rattle.tl_params.specs.declared.width.Width.{Width}
 
--- what a monitor that knows a trace says of the next line: the line spells a beat that breaks no rule,
--- and the monitor knows the longer trace, or the line is at fault
-abbrev pub Watches : {w : ℕ} → Monitor w → Monitor w → List ℕ → Option Fault → Type 0
-Watches {w} old new line None =
-    (levels : List Level) (p : Profile) (t : Trace w) → Knows old levels p t false
-    → (link : Link) × (beat : Beat w) × Spells line link beat × (broken_on_link levels p (link, beat) t ≡ None)
-    × Knows new levels p ((link, beat) ∷ t) false
-Watches {w} old new line (Some fault) =
-    (levels : List Level) (p : Profile) (t : Trace w) → Knows old levels p t false → IsAtFault levels p t line fault
+-- the number that stands for judging all links together
+abbrev pub is_together : ℕ → Bool
+is_together n = n == 1
 
--- These lines, a header and beats that break no rule, are judged with this text so far, so that what
--- follows is judged behind it; the monitor knows the beats.
-pub record KnowsTrace {w : ℕ} (m : Monitor w) (lines : List (List ℕ)) (text : List ℕ) : Type 0 where
+-- what beats are at fault for, all links together or each by itself
+abbrev pub faults_by : Bool → Faults
+faults_by false = faults_of_links
+faults_by true = faults_together
+
+-- what is said of the number of beats, where none is at fault
+abbrev pub said_by : Bool → ℕ → List ℕ
+said_by false = clean_text
+said_by true = coherent_text
+
+-- the word in front of that number
+abbrev pub word_by : Bool → List ℕ
+word_by false = codes "clean "
+word_by true = codes "coherent "
+
+-- the same behind its word
+abbrev pub end_by : Bool → ℕ → List ℕ
+end_by together n = word_by together ++ decimal n ++ codes "\n"
+
+-- a trace is judged so, all links together or each by itself
+abbrev pub JudgedSo : Bool → List (List ℕ) → List ℕ → Status → Type 0
+JudgedSo together = JudgedBy (faults_by together) (said_by together)
+
+-- a judge of these links knows the beats of a trace, none of which was at fault
+abbrev pub KnowsBeats : {w : ℕ} → Bool → BeatJudge w → List Level → Profile → Trace w → Type 0
+KnowsBeats false (OfLinks monitor) levels p t = of_link.Knows monitor levels p t false
+KnowsBeats true (OfAll judge) levels p t = of_all.Knows judge levels p t false
+KnowsBeats _ _ levels p t = ⊥
+
+-- what the judge says of a beat behind a trace: it isn't at fault, and the judge knows the longer trace, or
+-- it is at fault for this
+abbrev pub JudgesBeat : {w : ℕ} → Bool → BeatJudge w → List Level → Profile → Trace w → Link × Beat w → Option Fault
+    → Type 0
+JudgesBeat {w} together new levels p t x None =
+    (faults_by together w levels p x t ≡ None) × KnowsBeats together new levels p (x ∷ t)
+JudgesBeat {w} together new levels p t x (Some fault) = faults_by together w levels p x t ≡ Some fault
+
+-- what a judge that knows a trace says of the next line: the line spells a beat that isn't at fault, and the
+-- judge knows the longer trace, or the line is at fault
+abbrev pub Watches : {w : ℕ} → Bool → BeatJudge w → BeatJudge w → List ℕ → Option Fault → Type 0
+Watches {w} together old new line None =
+    (levels : List Level) (p : Profile) (t : Trace w) → KnowsBeats together old levels p t
+    → (link : Link) × (beat : Beat w) × Spells line link beat
+    × (faults_by together w levels p (link, beat) t ≡ None)
+    × KnowsBeats together new levels p ((link, beat) ∷ t)
+Watches {w} together old new line (Some fault) =
+    (levels : List Level) (p : Profile) (t : Trace w) → KnowsBeats together old levels p t
+    → IsAtFault (faults_by together) levels p t line fault
+
+-- These lines, a header and beats that aren't at fault, are judged with this text so far, so that what
+-- follows is judged behind it; the judge knows the beats.
+pub record KnowsTrace {w : ℕ} (together : Bool) (judge : BeatJudge w) (lines : List (List ℕ)) (text : List ℕ)
+    : Type 0 where
   pub levels : List Level
   pub profile : Profile
   pub trace : Trace w
-  pub known : Knows m levels profile trace false
+  pub known : KnowsBeats together judge levels profile trace
   pub counted : length lines ≡ length trace + 1
   pub before : (more : List (List ℕ)) (rest : List ℕ) (status : Status)
-      → JudgedAfter levels profile trace more rest status → Judged (lines ++ more) (text ++ rest) status
+      → JudgedAfter (faults_by together) (said_by together) levels profile trace more rest status
+      → JudgedSo together (lines ++ more) (text ++ rest) status
 
 -- after these lines, of which none was at fault, this text has been appended
-abbrev pub KnowsLines : MonitorLines → List (List ℕ) → List ℕ → Type 0
+abbrev pub KnowsLines : {n : ℕ} → MonitorLines n → List (List ℕ) → List ℕ → Type 0
 KnowsLines (Waiting alloc) lines text = (lines ≡ []) × (text ≡ [])
-KnowsLines (Four m) lines text = KnowsTrace m lines text
-KnowsLines (Eight m) lines text = KnowsTrace m lines text
-KnowsLines (Sixteen m) lines text = KnowsTrace m lines text
+KnowsLines {n} (Four judge) lines text = KnowsTrace (is_together n) judge lines text
+KnowsLines {n} (Eight judge) lines text = KnowsTrace (is_together n) judge lines text
+KnowsLines {n} (Sixteen judge) lines text = KnowsTrace (is_together n) judge lines text
 
 -- what the first line begins: a handler that knows the header, or none where it spells no header
-abbrev pub Begins : List ℕ → Option MonitorLines → Type 0
+abbrev pub Begins : {n : ℕ} → List ℕ → Option (MonitorLines n) → Type 0
 Begins line None = (width : Width) (p : Profile) (levels : List Level) → ¬ SpellsHeader line width p levels
 Begins line (Some monitor_lines) = KnowsLines monitor_lines (line ∷ []) []

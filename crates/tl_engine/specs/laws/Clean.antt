@@ -1,23 +1,34 @@
--- That a text is a trace in which the monitor finds no fault.
+-- That a text is a trace in which the monitor, or a judge of all links together, finds no fault.
 use Rattle.std.specs.Prelude.{◌≡◌, ◌⊎◌, ℕ, ◌+◌, List, ◌++◌, length}
 use Rattle.tl_schedule.specs.declared.line.EventFault.{EventFault}
-use Rattle.tl_command.specs.declared.command.Command.TheVariants.{Monitor}
+use Rattle.tl_command.specs.declared.command.Command.{Command}
+use Rattle.tl_command.specs.declared.command.Command.TheVariants.{Coherent, Monitor}
 use Rattle.tl_engine.specs.declared.fault.Fault.TheVariants.{Header, Event}
 use Rattle.tl_engine.specs.declared.status.Status.{Status}
 use Rattle.tl_engine.specs.declared.status.Status.TheVariants.{Clean, Broken}
+use Rattle.tl_engine.specs.statement.Coherent.{coherent_text}
 use Rattle.tl_engine.specs.statement.Fault.{fault_text}
 use Rattle.tl_engine.specs.statement.Judged.{clean_text}
 use Rattle.tl_engine.specs.code.Lines.{lines_of}
 use Rattle.tl_engine.specs.statement.Told.{text_told}
 
--- the monitor says `clean N` of it, where N lines follow its header
-abbrev pub IsClean : List ℕ → Type 0
-IsClean trace = (n : ℕ) × (length (lines_of trace) ≡ n + 1) × text_told Monitor (lines_of trace) (clean_text n) Clean
+-- the command says this of N, and no fault, where N lines follow the trace's header
+abbrev pub IsFaultless : Command → (ℕ → List ℕ) → List ℕ → Type 0
+IsFaultless command said trace =
+    (n : ℕ) × (length (lines_of trace) ≡ n + 1) × text_told command (lines_of trace) (said n) Clean
 
--- The text is a clean trace. Where it is broken it ends in the `line N X` of a fault: that of the header, and nothing
--- else, or that of an event behind a clean trace.
-abbrev pub IsCleanUpTo : List ℕ → Status → Type 0
-IsCleanUpTo text Clean = IsClean text
-IsCleanUpTo text Broken =
+-- the monitor says `clean N` of it
+abbrev pub IsClean : List ℕ → Type 0
+IsClean = IsFaultless Monitor clean_text
+
+-- a judge of all links together says `coherent N` of it
+abbrev pub IsCoherent : List ℕ → Type 0
+IsCoherent = IsFaultless Coherent coherent_text
+
+-- The text is such a trace. Where it is broken it ends in the `line N X` of a fault: that of the header, and nothing
+-- else, or that of an event behind such a trace.
+abbrev pub IsUpTo : (List ℕ → Type 0) → List ℕ → Status → Type 0
+IsUpTo IsGood text Clean = IsGood text
+IsUpTo IsGood text Broken =
     (text ≡ fault_text 1 Header) ⊎ ((trace : List ℕ) × (n : ℕ) × (fault : EventFault)
-    × (text ≡ trace ++ fault_text n (Event fault)) × IsClean trace)
+    × (text ≡ trace ++ fault_text n (Event fault)) × IsGood trace)

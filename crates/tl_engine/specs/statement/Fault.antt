@@ -4,8 +4,9 @@ use Rattle.std.specs.Fmt.{decimal}
 use Rattle.tl_beat.specs.statement.Names.{line_fault_name}
 use Rattle.tl_schedule.specs.declared.line.EventFault.TheVariants as event
 use Rattle.tl_params.specs.statement.Names.{rule_name}
+use Rattle.tl_together.specs.statement.Names.{memory_rule_name}
 use Rattle.tl_engine.specs.declared.fault.Fault.{Fault}
-use Rattle.tl_engine.specs.declared.fault.Fault.TheVariants.{Header, Line, Rule, Event}
+use Rattle.tl_engine.specs.declared.fault.Fault.TheVariants.{Header, Line, Rule, MemoryRule, Event}
 
 -- the name that the text shows
 abbrev pub fault_name : Fault → List ℕ
@@ -14,6 +15,7 @@ fault_name Header = codes "F7"
 fault_name (Event event.F1) = codes "F1"
 fault_name (Event event.F8) = codes "F8"
 fault_name (Rule rule) = rule_name rule
+fault_name (MemoryRule rule) = memory_rule_name rule
 
 -- `line N X`: line N, from 1 on, is at fault for X
 unfoldable pub fault_text : ℕ → Fault → List ℕ

@@ -1,9 +1,10 @@
 -- The text of an input under each command.
 use Rattle.std.specs.Prelude.{◌≡◌, ◌⊎◌, ◌-◌, ℕ, List, [], ◌++◌, length}
 use Rattle.tl_command.specs.declared.command.Command.{Command}
-use Rattle.tl_command.specs.declared.command.Command.TheVariants.{Decode, Monitor, Explain, Run}
+use Rattle.tl_command.specs.declared.command.Command.TheVariants.{Coherent, Decode, Explain, Monitor, Run}
 use Rattle.tl_engine.specs.declared.status.Status.{Status}
 use Rattle.tl_engine.specs.declared.status.Status.TheVariants.{Clean}
+use Rattle.tl_engine.specs.statement.Coherent.{JudgedTogether, coherent_text}
 use Rattle.tl_engine.specs.statement.Decoded.{DecodesTo}
 use Rattle.tl_engine.specs.statement.Judged.{Judged, clean_text}
 use Rattle.tl_engine.specs.statement.Played.{Played}
@@ -14,6 +15,7 @@ abbrev pub text_told : Command → List (List ℕ) → List ℕ → Status → T
 text_told (Decode width) = DecodesTo (bytes_of width)
 text_told Monitor = Judged
 text_told Explain = Judged
+text_told Coherent = JudgedTogether
 text_told (Run trace) = Played trace
 
 -- what the end of an input of n lines adds, none of which is at fault
@@ -21,6 +23,7 @@ abbrev pub end_text : Command → ℕ → List ℕ
 end_text (Decode width) n = []
 end_text Monitor n = clean_text (n - 1)
 end_text Explain n = clean_text (n - 1)
+end_text Coherent n = coherent_text (n - 1)
 end_text (Run trace) n = []
 
 -- the text of these lines, of which none is at fault, before the end of the input

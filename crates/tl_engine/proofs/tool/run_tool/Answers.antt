@@ -2,9 +2,10 @@ use Rattle.std.proofs.Common.{rules, ◌≡◌, refl, false, true}
 use Rattle.tl_engine.proofs.Decoded.{decodes_more, judged_line}
 use Rattle.tl_engine.proofs.Judged.{judged_total}
 use Rattle.tl_engine.proofs.Playing.{played-total}
-use Rattle.tl_command.specs.declared.command.Command.TheVariants.{Decode, Monitor, Explain, Run}
+use Rattle.tl_command.specs.declared.command.Command.TheVariants.{Coherent, Decode, Explain, Monitor, Run}
 use Rattle.tl_params.specs.declared.width.Width.TheVariants.{Four, Eight, Sixteen}
 use Rattle.tl_engine.specs.declared.decoder.Decoder.{Decoder}
+use Rattle.tl_engine.specs.statement.Coherent.{JudgedTogether}
 use Rattle.tl_engine.specs.statement.Decoded.{DecodesBefore, DecodesTo}
 use Rattle.tl_engine.specs.statement.Judged.{Judged}
 use Rattle.tl_engine.specs.statement.Played.{Played}
@@ -25,10 +26,13 @@ pub handle_input-requires-in-Sixteen-clause-total : goal.handle_input-requires-i
 handle_input-requires-in-Sixteen-clause-total g c = λ handler. decodes_more 16 (judged_line 16 refl)
 
 pub handle_input-requires-in-Monitor-clause-total : goal.handle_input-requires-in-Monitor-clause-total
-handle_input-requires-in-Monitor-clause-total g c = judged_total
+handle_input-requires-in-Monitor-clause-total g c = judged_total 0
 
 pub handle_input-requires-in-Explain-clause-total : goal.handle_input-requires-in-Explain-clause-total
-handle_input-requires-in-Explain-clause-total g c = judged_total
+handle_input-requires-in-Explain-clause-total g c = judged_total 0
+
+pub handle_input-requires-in-Coherent-clause-total : goal.handle_input-requires-in-Coherent-clause-total
+handle_input-requires-in-Coherent-clause-total g c = judged_total 1
 
 pub handle_input-requires-in-Run-false-clause-total : goal.handle_input-requires-in-Run-false-clause-total
 handle_input-requires-in-Run-false-clause-total g c = played-total 0
@@ -56,15 +60,21 @@ returns-in-Sixteen-clause-fault g c =
 
 pub returns-in-Monitor-clause-fault : goal.returns-in-Monitor-clause-fault
 returns-in-Monitor-clause-fault g c =
-    rw c.in-Monitor.is (given_up_told KnowsLines Judged (text_so_far Monitor)
-    (λ lines text known. judged_so_far known.0 lines text known.1)
+    rw c.in-Monitor.is (given_up_told (KnowsLines {n = 0}) Judged (text_so_far Monitor)
+    (λ lines text known. judged_so_far 0 known.0 lines text known.1)
     _ _ _ _ _ c.handle_input-in-Monitor.ensures.fault)
 
 pub returns-in-Explain-clause-fault : goal.returns-in-Explain-clause-fault
 returns-in-Explain-clause-fault g c =
-    rw c.in-Explain.is (given_up_told KnowsLines Judged (text_so_far Explain)
-    (λ lines text known. judged_so_far known.0 lines text known.1)
+    rw c.in-Explain.is (given_up_told (KnowsLines {n = 0}) Judged (text_so_far Explain)
+    (λ lines text known. judged_so_far 0 known.0 lines text known.1)
     _ _ _ _ _ c.handle_input-in-Explain.ensures.fault)
+
+pub returns-in-Coherent-clause-fault : goal.returns-in-Coherent-clause-fault
+returns-in-Coherent-clause-fault g c =
+    rw c.in-Coherent.is (given_up_told (KnowsLines {n = 1}) JudgedTogether (text_so_far Coherent)
+    (λ lines text known. judged_so_far 1 known.0 lines text known.1)
+    _ _ _ _ _ c.handle_input-in-Coherent.ensures.fault)
 
 pub returns-in-Run-false-clause-fault : goal.returns-in-Run-false-clause-fault
 returns-in-Run-false-clause-fault g c =

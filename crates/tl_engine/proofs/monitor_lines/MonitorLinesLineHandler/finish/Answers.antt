@@ -3,7 +3,7 @@ use Rattle.tl_engine.proofs.Judged.{header_missing, all_clean}
 use Rattle.tl_engine.proofs.monitor_lines.MonitorLinesLineHandler.finish.Goals as goal
 
 pub returns-in-Waiting : goal.returns-in-Waiting
-returns-in-Waiting c = rw c.in-Waiting.is (header_missing _ _ _)
+returns-in-Waiting g c = rw c.in-Waiting.is (header_missing g.row.TOGETHER _ _ _)
 
-pub returns-in_ok-append_clean-in_default : goal.returns-in_ok-append_clean-in_default
-returns-in_ok-append_clean-in_default c = all_clean _ c.in_default.not-Waiting _ _ _ (search rules)
+pub returns-in_ok-append_end-in_default : goal.returns-in_ok-append_end-in_default
+returns-in_ok-append_end-in_default g c = all_clean g.row.TOGETHER _ c.in_default.not-Waiting _ _ _ (search rules)

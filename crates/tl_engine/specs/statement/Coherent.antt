@@ -1,0 +1,28 @@
+-- What a trace of all links of a manager is judged, the links together.
+use Rattle.std.specs.Prelude.{ℕ, List, ◌++◌, codes, option_map}
+use Rattle.std.specs.Fmt.{decimal}
+use Rattle.tl_together.specs.declared.breach.Breach.{Breach}
+use Rattle.tl_together.specs.declared.breach.Breach.TheVariants.{OfLink, OfMemory}
+use Rattle.tl_together.specs.statement.Coherence.{broken_together}
+use Rattle.tl_engine.specs.declared.fault.Fault.{Fault}
+use Rattle.tl_engine.specs.declared.fault.Fault.TheVariants.{Rule as Breaks, MemoryRule}
+use Rattle.tl_engine.specs.declared.status.Status.{Status}
+use Rattle.tl_engine.specs.statement.Judged.{Faults, JudgedBy}
+
+-- `coherent N`: none of N beats is at fault
+unfoldable pub coherent_text : ℕ → List ℕ
+coherent_text n = codes "coherent " ++ decimal n ++ codes "\n"
+
+-- what a beat is at fault for that breaks this rule
+abbrev pub fault_of_breach : Breach → Fault
+fault_of_breach (OfLink rule) = Breaks rule
+fault_of_breach (OfMemory rule) = MemoryRule rule
+
+-- A beat is at fault for the first rule that it breaks after the earlier beats of all links: one of its own
+-- link, or, where it breaks none there, one of memory.
+abbrev pub faults_together : Faults
+faults_together w levels p x t = option_map fault_of_breach (broken_together levels p x t)
+
+-- a trace is judged so, all its links together
+abbrev pub JudgedTogether : List (List ℕ) → List ℕ → Status → Type 0
+JudgedTogether = JudgedBy faults_together coherent_text

@@ -1,0 +1,78 @@
+//! What each rule of memory says, in the words of docs/PROTOCOL.md, with a shortest trace that breaks it, as
+//! crates/tl_examples/data/rules has it.
+
+use crate::example::Example;
+use tl_together::breach::MemoryRule;
+
+/// The rules of memory that traces are judged by.
+const RULES: [MemoryRule; 2] = [MemoryRule::M1, MemoryRule::M4];
+
+/// What is said of a rule of memory: the messages that it judges, where it is broken, what it is judged by,
+/// and its example.
+#[derive(Clone, Copy)]
+pub struct Explanation {
+    pub messages: &'static str,
+    pub sentence: &'static str,
+    pub basis: &'static str,
+    pub example: Example,
+}
+
+/// The rule of this name.
+pub fn rule_named(name: &str) -> Option<MemoryRule> {
+    for rule in RULES {
+        if rule.name() == name {
+            return Some(rule);
+        }
+    }
+    None
+}
+
+/// What is said of a rule.
+pub fn explanation_of(rule: MemoryRule) -> Explanation {
+    match rule {
+        MemoryRule::M1 => Explanation {
+            messages: "Grant, GrantData",
+            sentence: "the cap is toT and another link holds something of the block, or toB and another link holds Trunk of it",
+            basis: "what the last Grant, ProbeAck or Release of the block left on each other link",
+            example: Example {
+                wrong: "tltrace 1 C C\n\
+00 A 7 1 6 00 00000000 ff - 0\n\
+00 D 4 0 6 00 00 0 - 0\n\
+01 A 7 1 6 00 00000000 ff - 0\n\
+01 D 4 0 6 00 01 0 - 0\n",
+                what: "a Grant toT, while link 00 holds the block as Trunk",
+                instead: "a Probe of link 00 and its report before it",
+                right: "tltrace 1 C C\n\
+00 A 7 1 6 00 00000000 ff - 0\n\
+00 D 4 0 6 00 00 0 - 0\n\
+00 E 00\n\
+01 A 7 1 6 00 00000000 ff - 0\n\
+00 B 7 2 6 00 00000000 ff - 0\n\
+00 C 4 1 6 00 00000000 - 0\n\
+01 D 4 0 6 00 01 0 - 0\n",
+            },
+        },
+        MemoryRule::M4 => Explanation {
+            messages: "AccessAck, AccessAckData",
+            sentence: "all the while since the request was complete a link has held what excludes it: Trunk of the block for a Get, anything of it for a Put or an atomic",
+            basis: "what each link has held of the block since the request was complete",
+            example: Example {
+                wrong: "tltrace 1 C UL\n\
+00 A 7 1 6 00 00000000 ff - 0\n\
+00 D 4 0 6 00 00 0 - 0\n\
+01 A 4 0 3 00 00000000 ff - 0\n\
+01 D 1 0 3 00 00 0 0000000000000000 0\n",
+                what: "the answer to a Get, while link 00 holds the block as Trunk",
+                instead: "a Probe of link 00 and its report before it",
+                right: "tltrace 1 C UL\n\
+00 A 7 1 6 00 00000000 ff - 0\n\
+00 D 4 0 6 00 00 0 - 0\n\
+00 E 00\n\
+01 A 4 0 3 00 00000000 ff - 0\n\
+00 B 7 1 6 00 00000000 ff - 0\n\
+00 C 4 0 6 00 00000000 - 0\n\
+01 D 1 0 3 00 00 0 0000000000000000 0\n",
+            },
+        },
+    }
+}

@@ -1,3 +1,2 @@
-pub mod Bytes
 pub mod Coherence
 pub mod Knows

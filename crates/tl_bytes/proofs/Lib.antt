@@ -1,0 +1,5 @@
+pub mod BytesGranted
+pub mod BytesRead
+pub mod Since
+pub mod Told
+pub mod WorkedBeats

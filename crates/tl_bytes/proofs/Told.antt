@@ -3,7 +3,7 @@ use Rattle.std.proofs.Common.{◌≡◌, ℕ, zero, suc, Bool, true, false, not,
 use Rattle.std.proofs.Common.{◌+◌, ◌*◌, ◌/◌, ◌%◌, ◌<◌, ◌≤◌, List, [], ◌∷◌, ◌++◌}
 use Rattle.std.proofs.Common.{length, refl, sym, ap, ◌∙◌, arith, inl, inr}
 use Rattle.std.specs.Prelude.{if◌then◌else◌, Option, Some, None, nat_lt}
-use Rattle.std.specs.Prelude.{nat_le, filter, find, slice_index_or, ◌==◌}
+use Rattle.std.specs.Prelude.{nat_le, filter, find, ◌==◌}
 use Rattle.std.proofs.Common.{append_assoc, drop, get_or}
 use Rattle.std.proofs.Math.ListN.{drop_of_length-le}
 use Rattle.std.proofs.lemmas.List.{at_drop_more}
@@ -19,7 +19,8 @@ use Rattle.tl_burst.specs.statement.Messages.{unfinished}
 use Rattle.tl_params.specs.declared.perm.Perm.TheVariants as perm
 use Rattle.tl_rules.specs.statement.Conformance.{Trace, on_link}
 use Rattle.tl_rules.specs.statement.Windows.{is_free}
-use Rattle.tl_bytes.specs.code.Tellings.{news, renewed, stays}
+use Rattle.tl_bytes.specs.code.Tellings.{is_written, news, renewed, stays, value_at}
+use Rattle.tl_bytes.specs.declared.write.Write.{Write}
 use Rattle.tl_bytes.specs.declared.block_bytes.BlockBytes.{BlockBytes}
 use Rattle.tl_bytes.specs.declared.standing.Standing.{Standing}
 use Rattle.tl_bytes.specs.declared.standing.Standing.TheVariants as standing
@@ -28,11 +29,11 @@ use Rattle.tl_bytes.specs.declared.telling.Told.{Told}
 use Rattle.tl_bytes.specs.statement.Bytes.{Access, access_writes, after_write, could_be, ends_request, is_of, may_be}
 use Rattle.tl_bytes.specs.statement.Bytes.{pending_accesses, same_value, tells, told_as, told_too, value_written}
 use Rattle.tl_bytes.specs.statement.Bytes.{windows_since, window_began, last_window, last_told}
-use Rattle.tl_bytes.specs.statement.Known.{tellings_at, KnowsBlock, AreCarried, AreWritten, standing_of}
+use Rattle.tl_bytes.specs.statement.Known.{tellings_at, KnowsBlock, AreCarried, IsWrite, standing_of}
 
 -- ---- the list of tellings, place by place
 
-tellings-append : (p : ℕ) (xs ys : List Told) → tellings_at p (xs ++ ys) ≡ tellings_at p xs ++ tellings_at p ys
+pub tellings-append : (p : ℕ) (xs ys : List Told) → tellings_at p (xs ++ ys) ≡ tellings_at p xs ++ tellings_at p ys
 unfolding tellings_at
 tellings-append p [] ys = refl
 tellings-append p (x ∷ xs) ys = one (x.place == p) x.telling _ _ _ (tellings-append p xs ys)
@@ -42,12 +43,12 @@ tellings-append p (x ∷ xs) ys = one (x.place == p) x.telling _ _ _ (tellings-a
     one true e all left right same = ap (λ l. e ∷ l) same
     one false e all left right same = same
 
-module _ (places : List Bool) (values : List (Option ℕ)) (moment : ℕ) where
+module _ (write : Write) (moment : ℕ) where
   abbrev now_at : ℕ → Telling
-  now_at p = record { value = slice_index_or values p None; moment = moment }
+  now_at p = record { value = value_at write p; moment = moment }
 
   abbrev told_now : ℕ → Bool
-  told_now p = slice_index_or places p false
+  told_now p = is_written write p
 
   alone-at : (p : ℕ) (e : Telling) → tellings_at p (record { place = p; telling = e } ∷ []) ≡ e ∷ []
   unfolding tellings_at
@@ -58,13 +59,13 @@ module _ (places : List Bool) (values : List (Option ℕ)) (moment : ℕ) where
   alone-off k p e ne = rw (ne_eqb k p ne) refl
 
   -- of a place that isn't told of there are no news
-  news-none : (k p : ℕ) → told_now p ≡ false → tellings_at p (news k places values moment) ≡ []
+  pub news-none : (k p : ℕ) → told_now p ≡ false → tellings_at p (news k write moment) ≡ []
   unfolding news tellings_at
   news-none zero p e = refl
   news-none (suc k) p e = elim (cases_Bool (told_now k)) [
     | inr off ↦ rw off (news-none k p e)
     | inl on ↦
-        rw on (tellings-append p (news k places values moment) (record { place = k; telling = now_at k } ∷ [])
+        rw on (tellings-append p (news k write moment) (record { place = k; telling = now_at k } ∷ [])
         ∙ rw (news-none k p e) (alone-off k p (now_at k) (λ same. absurd (differ (sym on ∙ ap told_now same ∙ e)))))
   ]
     where
@@ -72,52 +73,52 @@ module _ (places : List Bool) (values : List (Option ℕ)) (moment : ℕ) where
       differ e = cc
 
   -- and of one that comes later neither
-  news-later : (k p : ℕ) → k ≤ p → tellings_at p (news k places values moment) ≡ []
+  news-later : (k p : ℕ) → k ≤ p → tellings_at p (news k write moment) ≡ []
   unfolding news tellings_at
   news-later zero p le = refl
   news-later (suc k) p le = elim (cases_Bool (told_now k)) [
     | inr off ↦ rw off (news-later k p (omega arith))
     | inl on ↦
-        rw on (tellings-append p (news k places values moment) (record { place = k; telling = now_at k } ∷ [])
+        rw on (tellings-append p (news k write moment) (record { place = k; telling = now_at k } ∷ [])
         ∙ rw (news-later k p (omega arith)) (alone-off k p (now_at k) (λ same. omega arith)))
   ]
 
   -- one place more
-  pub news-told : (k : ℕ) (items before : List Told) → items ≡ before ++ news k places values moment → told_now k ≡ true
-      → items ++ record { place = k; telling = now_at k } ∷ [] ≡ before ++ news (k + 1) places values moment
+  pub news-told : (k : ℕ) (items before : List Told) → items ≡ before ++ news k write moment → told_now k ≡ true
+      → items ++ record { place = k; telling = now_at k } ∷ [] ≡ before ++ news (k + 1) write moment
   unfolding news
   news-told k items before is on =
-      rw (add-one k, on, is) (append_assoc before (news k places values moment)
+      rw (add-one k, on, is) (append_assoc before (news k write moment)
       (record { place = k; telling = now_at k } ∷ []))
 
-  pub news-untold : (k : ℕ) (items before : List Told) → items ≡ before ++ news k places values moment
-      → told_now k ≡ false → items ≡ before ++ news (k + 1) places values moment
+  pub news-untold : (k : ℕ) (items before : List Told) → items ≡ before ++ news k write moment
+      → told_now k ≡ false → items ≡ before ++ news (k + 1) write moment
   unfolding news
   news-untold k items before is off = rw (add-one k, off) is
 
-  news-one : (k p : ℕ) → p < k → told_now p ≡ true → tellings_at p (news k places values moment) ≡ now_at p ∷ []
+  pub news-one : (k p : ℕ) → p < k → told_now p ≡ true → tellings_at p (news k write moment) ≡ now_at p ∷ []
   unfolding news tellings_at
   news-one zero p lt e = absurd (omega arith)
   news-one (suc k) p lt e = elim (cases_eq k p) [
     | inl same ↦
-        rw (same, e) (tellings-append p (news p places values moment) (record { place = p; telling = now_at p } ∷ [])
+        rw (same, e) (tellings-append p (news p write moment) (record { place = p; telling = now_at p } ∷ [])
         ∙ rw (news-later p p (omega arith)) (alone-at p (now_at p)))
     | inr ne ↦ elim (cases_Bool (told_now k)) [
       | inr off ↦ rw off (news-one k p (omega arith) e)
       | inl on ↦
-          rw on (tellings-append p (news k places values moment) (record { place = k; telling = now_at k } ∷ [])
+          rw on (tellings-append p (news k write moment) (record { place = k; telling = now_at k } ∷ [])
           ∙ rw (news-one k p (omega arith) e, alone-off k p (now_at k) ne) refl)
     ]
   ]
 
   -- what stays of a place that isn't told of is all
   stays-all : (since p : ℕ) (before : List Told) → told_now p ≡ false
-      → tellings_at p (filter (stays places values since) before) ≡ tellings_at p before
+      → tellings_at p (filter (stays write since) before) ≡ tellings_at p before
   unfolding tellings_at
   stays-all since p [] e = refl
   stays-all since p (x ∷ before) e = elim (cases_eq x.place p) [
     | inl same ↦ rw (same, e, eq-eqb p p refl) (ap (λ l. x.telling ∷ l) (stays-all since p before e))
-    | inr ne ↦ elim (cases_Bool (stays places values since x)) [
+    | inr ne ↦ elim (cases_Bool (stays write since x)) [
       | inl stay ↦ rw (stay, ne_eqb x.place p ne) (stays-all since p before e)
       | inr goes ↦ rw (goes, ne_eqb x.place p ne) (stays-all since p before e)
     ]
@@ -125,10 +126,10 @@ module _ (places : List Bool) (values : List (Option ℕ)) (moment : ℕ) where
 
   -- and of one that is, what is told otherwise, and no sooner
   abbrev stays_at : ℕ → ℕ → Telling → Bool
-  stays_at since p e = nat_le since e.moment && not (same_value e.value (slice_index_or values p None))
+  stays_at since p e = nat_le since e.moment && not (same_value e.value (value_at write p))
 
   stays-some : (since p : ℕ) (before : List Told) → told_now p ≡ true
-      → tellings_at p (filter (stays places values since) before) ≡ filter (stays_at since p) (tellings_at p before)
+      → tellings_at p (filter (stays write since) before) ≡ filter (stays_at since p) (tellings_at p before)
   unfolding tellings_at
   stays-some since p [] e = refl
   stays-some since p (x ∷ before) e = elim (cases_eq x.place p) [
@@ -137,23 +138,23 @@ module _ (places : List Bool) (values : List (Option ℕ)) (moment : ℕ) where
           rw (same, e, eq-eqb p p refl, stay, eq-eqb p p refl) (ap (λ l. x.telling ∷ l) (stays-some since p before e))
       | inr goes ↦ rw (same, e, eq-eqb p p refl, goes) (stays-some since p before e)
     ]
-    | inr ne ↦ elim (cases_Bool (stays places values since x)) [
+    | inr ne ↦ elim (cases_Bool (stays write since x)) [
       | inl stay ↦ rw (stay, ne_eqb x.place p ne) (stays-some since p before e)
       | inr goes ↦ rw (goes, ne_eqb x.place p ne) (stays-some since p before e)
     ]
   ]
 
   pub renewed-told : (since p : ℕ) (before : List Told) → p < 64 → told_now p ≡ true
-      → tellings_at p (renewed places values moment since before)
+      → tellings_at p (renewed write moment since before)
       ≡ now_at p ∷ filter (stays_at since p) (tellings_at p before)
   renewed-told since p before lt on =
-      tellings-append p (news 64 places values moment) (filter (stays places values since) before)
+      tellings-append p (news 64 write moment) (filter (stays write since) before)
       ∙ rw (news-one 64 p lt on, stays-some since p before on) refl
 
   pub renewed-untold : (since p : ℕ) (before : List Told) → told_now p ≡ false
-      → tellings_at p (renewed places values moment since before) ≡ tellings_at p before
+      → tellings_at p (renewed write moment since before) ≡ tellings_at p before
   renewed-untold since p before off =
-      tellings-append p (news 64 places values moment) (filter (stays places values since) before)
+      tellings-append p (news 64 write moment) (filter (stays write since) before)
       ∙ rw (news-none 64 p off, stays-all since p before off) refl
 
 -- ---- what a byte may be
@@ -165,30 +166,29 @@ place-of : (block p : ℕ) → p < 64 → (64 * block + p) % 64 ≡ p
 place-of block p lt = omega arith
 
 -- a block that was told of
-pub told-is : {w : ℕ} (values : List (Option ℕ)) (moment n block : ℕ) (b : BlockBytes) (places : List Bool)
-    (x : Link × Beat w) (t : Trace w)
-    → b.told.items ≡ renewed places values moment 0 [] → b.last ≡ Some moment
-    → ((p : ℕ) → p < 64 → slice_index_or places p false ≡ true)
-    → tells block x.1 (on_link x.0.0 t) ≡ true → moment ≡ length t → AreCarried values x t
+pub told-is : {w : ℕ} (write : Write) (moment n block : ℕ) (b : BlockBytes) (x : Link × Beat w) (t : Trace w)
+    → b.told.items ≡ renewed write moment 0 [] → b.last ≡ Some moment
+    → ((p : ℕ) → p < 64 → is_written write p ≡ true)
+    → tells block x.1 (on_link x.0.0 t) ≡ true → moment ≡ length t → AreCarried write.values x t
     → KnowsBlock b n block (x ∷ t)
 unfolding may_be last_told tellings_at
-told-is values moment n block b places x t items last all told now carried = record {
+told-is write moment n block b x t items last all told now carried = record {
   bytes_are = λ p lt. ap (tellings_at p) items
-      ∙ renewed-told places values moment 0 p [] lt (all p lt)
+      ∙ renewed-told write moment 0 p [] lt (all p lt)
       ∙ rw (block-of block p lt, place-of block p lt, told, carried p lt, now) refl;
   last_is = rw (last, told) (ap suc now);
 }
 
 -- a block of which nothing was
-pub untold-is : {w : ℕ} (n block : ℕ) (b : BlockBytes) (places : List Bool) (values : List (Option ℕ))
-    → b.told.items ≡ renewed places values 0 0 [] → b.last ≡ None
-    → ((p : ℕ) → p < 64 → slice_index_or places p false ≡ true)
-    → ((p : ℕ) → p < 64 → slice_index_or values p None ≡ None)
+pub untold-is : {w : ℕ} (n block : ℕ) (b : BlockBytes) (write : Write)
+    → b.told.items ≡ renewed write 0 0 [] → b.last ≡ None
+    → ((p : ℕ) → p < 64 → is_written write p ≡ true)
+    → ((p : ℕ) → p < 64 → value_at write p ≡ None)
     → KnowsBlock {w = w} b n block []
 unfolding may_be last_told tellings_at
-untold-is n block b places values items last all none = record {
+untold-is n block b write items last all none = record {
   bytes_are = λ p lt. ap (tellings_at p) items
-      ∙ renewed-told places values 0 0 p [] lt (all p lt) ∙ rw (none p lt) refl;
+      ∙ renewed-told write 0 0 p [] lt (all p lt) ∙ rw (none p lt) refl;
   last_is = rw last refl;
 }
 
@@ -248,20 +248,20 @@ once since value (e ∷ before) = elim (cases_Bool (nat_le since e.moment)) [
 ]
 
 -- the bytes that an access wrote, by how it stands
-pub written-is : {w : ℕ} (places : List Bool) (values : List (Option ℕ)) (moment n block : ℕ) (s : Standing)
+pub written-is : {w : ℕ} (write : Write) (moment n block : ℕ) (s : Standing)
     (old new : BlockBytes) (link : Link) (y : BeatD w) (access : Access w) (t : Trace w)
     → new.last ≡ old.last
     → ((p : ℕ) → p < 64 → tellings_at p new.told.items
-    ≡ (if slice_index_or places p false
-    then by_standing s (record { value = slice_index_or values p None; moment = moment }) (tellings_at p old.told.items)
+    ≡ (if is_written write p
+    then by_standing s (record { value = value_at write p; moment = moment }) (tellings_at p old.told.items)
     else tellings_at p old.told.items))
     → KnowsBlock old n block t → tells block (beat.D y) (on_link link.0 t) ≡ false
     → ends_request y (on_link link.0 t) ≡ true → find (is_of link.0 y.source) (pending_accesses t) ≡ Some access
     → s ≡ standing_of n block access t → moment ≡ length t
-    → AreWritten places values block access (beat.D y ∷ unfinished channel.D (on_link link.0 t))
+    → IsWrite write block access (beat.D y ∷ unfinished channel.D (on_link link.0 t))
     → KnowsBlock new n block ((link, beat.D y) ∷ t)
 unfolding last_told
-written-is places values moment n block s old new link y access t last items k quiet ended found stands now written =
+written-is write moment n block s old new link y access t last items k quiet ended found stands now written =
     record {
       bytes_are = λ p lt. items p lt
           ∙ rw ((written p lt).0, (written p lt).1, stands, now, k.bytes_are p lt)
@@ -270,18 +270,18 @@ written-is places values moment n block s old new link y access t last items k q
     }
 
 -- the tellings of a place, renewed
-pub renewed-within : (places : List Bool) (values : List (Option ℕ)) (moment since p : ℕ) (before : List Told) → p < 64
-    → tellings_at p (renewed places values moment since before)
-    ≡ (if slice_index_or places p false
-    then by_standing (standing.Within since) (record { value = slice_index_or values p None; moment = moment })
+pub renewed-within : (write : Write) (moment since p : ℕ) (before : List Told) → p < 64
+    → tellings_at p (renewed write moment since before)
+    ≡ (if is_written write p
+    then by_standing (standing.Within since) (record { value = value_at write p; moment = moment })
     (tellings_at p before)
     else tellings_at p before)
-renewed-within places values moment since p before lt = elim (cases_Bool (slice_index_or places p false)) [
-  | inr off ↦ renewed-untold places values moment since p before off ∙ sym (rw off refl)
+renewed-within write moment since p before lt = elim (cases_Bool (is_written write p)) [
+  | inr off ↦ renewed-untold write moment since p before off ∙ sym (rw off refl)
   | inl on ↦
-      renewed-told places values moment since p before lt on
-      ∙ ap (λ l. record { value = slice_index_or values p None; moment = moment } ∷ l)
-      (once since (slice_index_or values p None) (tellings_at p before))
+      renewed-told write moment since p before lt on
+      ∙ ap (λ l. record { value = value_at write p; moment = moment } ∷ l)
+      (once since (value_at write p) (tellings_at p before))
       ∙ sym (rw on refl)
 ]
 
@@ -289,16 +289,16 @@ all-later : (before : List Telling) → filter (λ e. nat_le 0 e.moment) before 
 all-later [] = refl
 all-later (e ∷ before) = rw (leb-zero e.moment) (ap (λ l. e ∷ l) (all-later before))
 
-pub renewed-anywhere : (places : List Bool) (values : List (Option ℕ)) (moment p : ℕ) (before : List Told) → p < 64
-    → tellings_at p (renewed places values moment 0 before)
-    ≡ (if slice_index_or places p false
-    then by_standing standing.Anywhere (record { value = slice_index_or values p None; moment = moment })
+pub renewed-anywhere : (write : Write) (moment p : ℕ) (before : List Told) → p < 64
+    → tellings_at p (renewed write moment 0 before)
+    ≡ (if is_written write p
+    then by_standing standing.Anywhere (record { value = value_at write p; moment = moment })
     (tellings_at p before)
     else tellings_at p before)
-renewed-anywhere places values moment p before lt =
-    renewed-within places values moment 0 p before lt
-    ∙ ap (λ (l : List Telling). if slice_index_or places p false
-    then told_too (record { value = slice_index_or values p None; moment = moment }) l
+renewed-anywhere write moment p before lt =
+    renewed-within write moment 0 p before lt
+    ∙ ap (λ (l : List Telling). if is_written write p
+    then told_too (record { value = value_at write p; moment = moment }) l
     else tellings_at p before) (all-later (tellings_at p before))
 
 pub kept-told : {X : Type 0} (b : Bool) (x : X) → x ≡ (if b then x else x)

@@ -9,103 +9,38 @@ ghost use Rattle.tl_beat.specs.declared.beat.Link.{Link};
 ghost use Rattle.tl_beat.specs.declared.channel.Channel.TheVariants as channel;
 ghost use Rattle.tl_burst.specs.statement.Messages.{unfinished};
 ghost use Rattle.tl_rules.specs.statement.Conformance.{Trace, on_link};
-ghost use Rattle.tl_bytes.specs.code.Tellings.{news, renewed, stays};
 ghost use Rattle.tl_bytes.specs.statement.Bytes as bytes;
 ghost use Rattle.tl_bytes.specs.statement.Bytes.{Access, ends_request, is_of, pending_accesses, tells, told_as};
 
 use crate::standing::Standing;
-use crate::telling::{Telling, Told, could_be, same_value};
+use crate::telling::Told;
+use crate::tellings::{is_told_as, renewed};
 use crate::windows::{WindowCount, WritingWindows};
+use crate::write::{Write, is_left_as};
 use std::alloc::{AllocError, Global};
-
-/// The bytes of a block.
-const BLOCK_BYTES: u8 = 64;
-
-/// Tells of these places in a block, behind what was told of others.
-fn tell_news(
-    told: &mut Vec<Told>,
-    places: &[bool; 64],
-    values: &[Option<u8>; 64],
-    moment: u64,
-) -> Result<(), AllocError>
-    ensures { OnOk result (told.new.items ≡ told.old.items ++ news 64 places.now values.now moment) }
-{
-    for place in 0..BLOCK_BYTES {
-        let n = usize::from(place);
-        if places[n] {
-            let telling = Telling {
-                value: values[n],
-                moment,
-            };
-            told.push(Told { place, telling })?;
-        }
-    }
-    Ok(())
-}
-
-/// Whether what was told stays beside what is told of these places.
-fn stays(places: &[bool; 64], values: &[Option<u8>; 64], since: u64, told: &Told) -> bool
-    ensures { result ≡ stays places.now values.now since told.now }
-{
-    let n = usize::from(told.place);
-    if n >= places.len() || !places[n] {
-        return true;
-    }
-    since <= told.telling.moment && !same_value(told.telling.value, values[n])
-}
-
-/// Appends what stays of what was told.
-fn keep(
-    told: &mut Vec<Told>,
-    places: &[bool; 64],
-    values: &[Option<u8>; 64],
-    since: u64,
-    before: &[Told],
-) -> Result<(), AllocError>
-    ensures { OnOk result (told.new.items ≡ told.old.items ++ filter (stays places.now values.now since) before.now) }
-{
-    for telling in before {
-        if stays(places, values, since, telling) {
-            told.push(*telling)?;
-        }
-    }
-    Ok(())
-}
-
-/// What is told of these places, and what stays of what was told before.
-fn renewed(
-    alloc: Global,
-    places: &[bool; 64],
-    values: &[Option<u8>; 64],
-    moment: u64,
-    since: u64,
-    before: &[Told],
-) -> Result<Vec<Told>, AllocError>
-    ensures { IfOk result (λ told. told.items ≡ renewed places.now values.now moment since before.now) }
-{
-    let mut told = Vec::new(alloc);
-    tell_news(&mut told, places, values, moment)?;
-    keep(&mut told, places, values, since, before)?;
-    Ok(told)
-}
 
 /// What the bytes of one block may be, and when they were last told.
 #[derive(Drop)]
 pub struct BlockBytes {
-    told: Vec<Told>,
+    pub(crate) told: Vec<Told>,
     /// How many beats had been taken before the one with which a Grant, or data given back, last told of
     /// the block; none where that never was.
     last: Option<u64>,
 }
 
 impl BlockBytes {
-    ghost use Rattle.tl_bytes.specs.statement.Known.{AreCarried, AreWritten, KnowsBlock, KnowsWindows, standing_of};
+    ghost use Rattle.tl_bytes.specs.statement.Known.{AreCarried, IsWrite, KnowsBlock, KnowsWindows};
+    ghost use Rattle.tl_bytes.specs.statement.Known.{MayWrite, standing_of, windowed};
 
     /// A block of which nothing was told: its bytes may be anything.
     pub fn new(alloc: Global) -> Result<Self, AllocError>
         ensures { IfOk result (λ b. (w n block : ℕ) → KnowsBlock {w = w} b n block []) }
     {
-        let told = renewed(alloc, &[true; 64], &[None; 64], 0, 0, &[])?;
+        let write = Write {
+            places: [true; 64],
+            values: [None; 64],
+        };
+        let told = renewed(alloc, &write, 0, 0, &[])?;
         Ok(BlockBytes { told, last: None })
     }
 
@@ -114,12 +49,17 @@ impl BlockBytes {
         ensures { (w n block : ℕ) (t : Trace w) → KnowsBlock self.now n block t → place < 64 →
             result ≡ told_as byte (bytes.may_be n (64 * block + place) t) }
     {
-        for told in &self.told {
-            if told.place == place && could_be(byte, told.telling.value) {
-                return true;
-            }
-        }
-        false
+        is_told_as(self.told.as_slice(), place, byte)
+    }
+
+    /// Whether this byte may be granted at a place, beside what accesses that are pending, and have had a
+    /// window, may write.
+    pub fn may_grant(&self, place: u8, byte: u8, writes: &[Write]) -> bool
+        ensures { (w n block : ℕ) (t : Trace w) → KnowsBlock self.now n block t →
+            MayWrite writes.now block (windowed n block t) → place < 64 →
+            result ≡ bytes.may_grant n t (64 * block + place) byte }
+    {
+        self.may_be(place, byte) || is_left_as(writes, place, byte)
     }
 
     /// How an access to the block, which is answered and had these windows, stands to what was told of it.
@@ -153,18 +93,21 @@ impl BlockBytes {
             KnowsBlock self.new n block (x ∷ t)) }
         ensures unchanged { OnErr result (self.new ≡ self.old) }
     {
-        self.told = renewed(alloc, &[true; 64], values, moment, 0, &[])?;
+        let write = Write {
+            places: [true; 64],
+            values: *values,
+        };
+        self.told = renewed(alloc, &write, moment, 0, &[])?;
         self.last = Some(moment);
         Ok(())
     }
 
-    /// Takes the bytes that an access leaves at these places, whose answer is complete with a beat before
+    /// Takes the bytes that an access leaves in the block, whose answer is complete with a beat before
     /// which so many were taken. Without memory nothing changes.
     pub fn write(
         &mut self,
         alloc: Global,
-        places: &[bool; 64],
-        values: &[Option<u8>; 64],
+        write: &Write,
         standing: Standing,
         moment: u64,
     ) -> Result<(), AllocError>
@@ -174,7 +117,7 @@ impl BlockBytes {
             ends_request y (on_link link.0 t) ≡ true →
             find (is_of link.0 y.source) (pending_accesses t) ≡ Some access →
             standing ≡ standing_of n block access t → moment ≡ length t →
-            AreWritten places.now values.now block access (beat.D y ∷ unfinished channel.D (on_link link.0 t)) →
+            IsWrite write.now block access (beat.D y ∷ unfinished channel.D (on_link link.0 t)) →
             KnowsBlock self.new n block ((link, beat.D y) ∷ t)) }
         ensures unchanged { OnErr result (self.new ≡ self.old) }
     {
@@ -183,7 +126,7 @@ impl BlockBytes {
             Standing::Within(began) => began,
             Standing::Anywhere => 0,
         };
-        self.told = renewed(alloc, places, values, moment, since, self.told.as_slice())?;
+        self.told = renewed(alloc, write, moment, since, self.told.as_slice())?;
         Ok(())
     }
 }

@@ -2,6 +2,9 @@
 #![tactic(auto)]
 
 pub mod block_bytes;
+pub mod read_bytes;
 pub mod standing;
 pub mod telling;
+mod tellings;
 pub mod windows;
+pub mod write;

@@ -4,16 +4,21 @@ use std::alloc::{AllocError, Global};
 use std::process::Abort;
 use std::test::Fail;
 use tl_bytes::block_bytes::BlockBytes;
+use tl_bytes::read_bytes::ReadBytes;
 use tl_bytes::standing::Standing;
 use tl_bytes::windows::WritingWindows;
+use tl_bytes::write::Write;
 
-/// The first eight places of a block.
-fn first_eight() -> [bool; 64] {
+/// What a Put of eight bytes, at the start of the block, writes.
+fn eight(byte: u8) -> Write {
     let mut places = [false; 64];
     for place in 0..8usize {
         places[place] = true;
     }
-    places
+    Write {
+        places,
+        values: [Some(byte); 64],
+    }
 }
 
 /// Takes the answer to a Put of eight bytes, before which so many beats were taken.
@@ -25,7 +30,7 @@ fn put(
     moment: u64,
 ) -> Result<(), AllocError> {
     let standing = block.standing(&windows);
-    block.write(alloc, &first_eight(), &[Some(byte); 64], standing, moment)
+    block.write(alloc, &eight(byte), standing, moment)
 }
 
 /// The windows of an access whose request is complete at this moment, while nobody holds its block.
@@ -98,5 +103,47 @@ fn a_put_beside_a_copy(rt: HostRuntime) -> Result<(), Fail> {
     assert_eq!(rt; block.standing(&again), Standing::Anywhere);
     put(rt.alloc(), &mut block, 7, again, 9)?;
     may_be(&rt, &block, 0, [true, true, false]);
+    Ok(())
+}
+
+/// Of bytes 5, 7 and 9 a read may bring those, at a place, that these say.
+fn may_bring(rt: &impl Abort, read: &ReadBytes, place: u8, possible: [bool; 3]) {
+    let found = [
+        read.may_bring(place, 5),
+        read.may_bring(place, 7),
+        read.may_bring(place, 9),
+    ];
+    assert_eq!(rt; found, possible, "{place}");
+}
+
+#[test]
+fn a_read_beside_a_put(rt: HostRuntime) -> Result<(), Fail> {
+    let mut block = BlockBytes::new(rt.alloc())?;
+    block.tell(rt.alloc(), &[Some(5); 64], 1)?;
+    let mut read = ReadBytes::new(rt.alloc(), &block, &[])?;
+    may_bring(&rt, &read, 0, [true, false, false]);
+    read.add(rt.alloc(), &block, &[eight(7)])?;
+    may_bring(&rt, &read, 0, [true, true, false]);
+    may_bring(&rt, &read, 8, [true, false, false]);
+    let mut late = ReadBytes::new(rt.alloc(), &block, &[eight(7)])?;
+    put(rt.alloc(), &mut block, 7, opened(2), 5)?;
+    block.tell(rt.alloc(), &[Some(9); 64], 9)?;
+    late.add(rt.alloc(), &block, &[])?;
+    may_bring(&rt, &late, 0, [true, true, true]);
+    may_bring(&rt, &late, 8, [true, false, true]);
+    let after = ReadBytes::new(rt.alloc(), &block, &[])?;
+    may_bring(&rt, &after, 0, [false, false, true]);
+    Ok(())
+}
+
+#[test]
+fn a_grant_beside_a_put(rt: HostRuntime) -> Result<(), Fail> {
+    let mut block = BlockBytes::new(rt.alloc())?;
+    block.tell(rt.alloc(), &[Some(9); 64], 1)?;
+    assert!(rt; block.may_grant(0, 9, &[eight(7)]));
+    assert!(rt; block.may_grant(0, 7, &[eight(7)]));
+    assert!(rt; !block.may_grant(0, 5, &[eight(7)]));
+    assert!(rt; !block.may_grant(8, 7, &[eight(7)]));
+    assert!(rt; !block.may_grant(0, 7, &[]));
     Ok(())
 }

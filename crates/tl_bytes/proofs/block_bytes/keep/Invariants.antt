@@ -1,8 +1,0 @@
-use Rattle.std.proofs.Common.{◌++◌, ◌≡◌, drop, filter}
-use Rattle.tl_bytes.specs.code.Tellings.{stays}
-use Rattle.tl_bytes.proofs.block_bytes.keep.Given as goal
-
-abbrev pub invariant-loop-telling : goal.invariant-loop-telling
-invariant-loop-telling l =
-    l.told.items ++ filter (stays l.places l.values l.since) (drop l.telling-index l.before)
-    ≡ l.initial.told.items ++ filter (stays l.places l.values l.since) l.before

@@ -1,9 +1,6 @@
 pub mod Answered
-pub mod BytesGranted
-pub mod BytesRead
 pub mod Examples
 pub mod Judging
 pub mod Noted
 pub mod Tracing
 pub mod Windowed
-pub mod WorkedBeats

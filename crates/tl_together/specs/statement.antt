@@ -1,4 +1,3 @@
-pub mod Bytes
 pub mod Coherence
 pub mod Knows
 pub mod Names

@@ -4,6 +4,7 @@
 mod accesses;
 mod beats;
 mod bursts;
+mod bytes;
 mod devices;
 mod events;
 mod headers;

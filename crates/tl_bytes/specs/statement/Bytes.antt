@@ -4,6 +4,7 @@ use Rattle.std.specs.Prelude.{ℕ, zero, suc, Bool, true, false, not, [], ◌∷
 use Rattle.std.specs.Prelude.{◌^◌, ◌≤◌, if◌then◌else◌, List, ◌++◌, length, filter, find, slice_get, nat_lt, nat_le}
 use Rattle.std.specs.Prelude.{Option, Some, None, is_some, unwrap_or, min}
 use Rattle.std.proofs.Common.{arith}
+use Rattle.tl_bytes.specs.declared.telling.Telling.{Telling}
 use Rattle.tl_beat.specs.declared.beat.Beat.{Beat}
 use Rattle.tl_beat.specs.declared.beat.Beat.TheVariants as beat
 use Rattle.tl_beat.specs.declared.beat.BeatA.{BeatA}
@@ -163,11 +164,6 @@ last_window n block (x ∷ t) =
     if is_free n None perm.Trunk block (x ∷ t) then suc (length t) else last_window n block t
 
 -- ---- what is told of bytes
-
--- what a byte may be from a moment on: a value, or anything
-pub record Telling : Type 0 where
-  pub value : Option ℕ
-  pub moment : ℕ
 
 -- the request is for writing a whole block, unread
 abbrev pub is_perm_only : OpA → Bool

@@ -6,10 +6,10 @@ use Rattle.tl_rules.specs.statement.Conformance.{Trace, on_link}
 use Rattle.tl_rules.specs.statement.Effect.{effect, number_from}
 use Rattle.tl_rules.specs.statement.History.{grant_sink, held, pending, probe_of, release_of, request_of}
 use Rattle.tl_rules.specs.statement.Windows.{is_free}
-use Rattle.tl_together.specs.statement.Bytes.{may_be, may_read, pending_accesses, carried_byte, carried_bytes}
-use Rattle.tl_together.specs.statement.Bytes.{carried_mask, windows_since, window_began, last_window, last_told}
-use Rattle.tl_together.specs.statement.Bytes.{each_from, before_last}
-use Rattle.tl_together.proofs.WorkedBeats.{eight, put, part, done, get, add, found, untrue_from, untrue}
+use Rattle.tl_bytes.specs.statement.Bytes.{may_be, may_read, pending_accesses, carried_byte, carried_bytes}
+use Rattle.tl_bytes.specs.statement.Bytes.{carried_mask, windows_since, window_began, last_window, last_told}
+use Rattle.tl_bytes.specs.statement.Bytes.{each_from, before_last}
+use Rattle.tl_bytes.proofs.WorkedBeats.{eight, put, part, done, get, add, found, untrue_from, untrue}
 
 -- ---- what a Get may bring
 

@@ -6,11 +6,11 @@ use Rattle.tl_rules.specs.statement.Conformance.{Trace, on_link}
 use Rattle.tl_rules.specs.statement.Effect.{effect}
 use Rattle.tl_rules.specs.statement.History.{grant_sink, held, pending, probe_of, release_of, request_of}
 use Rattle.tl_rules.specs.statement.Windows.{is_free}
-use Rattle.tl_together.specs.statement.Bytes.{may_be, may_read, pending_accesses, carried_byte, carried_bytes}
-use Rattle.tl_together.specs.statement.Bytes.{carried_mask, windows_since, window_began, last_window, last_told}
-use Rattle.tl_together.specs.statement.Bytes.{each_from, before_last}
-use Rattle.tl_together.proofs.WorkedBeats.{put, done, get, found, acquire, acquire_unread, grant_beat, grant_unread}
-use Rattle.tl_together.proofs.WorkedBeats.{grant_ack, release_beat, four, spoilt, wide, given_back, untrue_from, untrue}
+use Rattle.tl_bytes.specs.statement.Bytes.{may_be, may_read, pending_accesses, carried_byte, carried_bytes}
+use Rattle.tl_bytes.specs.statement.Bytes.{carried_mask, windows_since, window_began, last_window, last_told}
+use Rattle.tl_bytes.specs.statement.Bytes.{each_from, before_last}
+use Rattle.tl_bytes.proofs.WorkedBeats.{put, done, get, found, acquire, acquire_unread, grant_beat, grant_unread}
+use Rattle.tl_bytes.proofs.WorkedBeats.{grant_ack, release_beat, four, spoilt, wide, given_back, untrue_from, untrue}
 
 -- ---- what a Grant may tell
 

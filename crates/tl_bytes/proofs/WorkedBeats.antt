@@ -8,7 +8,7 @@ use Rattle.tl_beat.specs.declared.opcode.OpA.TheVariants as a
 use Rattle.tl_beat.specs.declared.opcode.OpC.TheVariants as c
 use Rattle.tl_beat.specs.declared.opcode.OpD.TheVariants as d
 use Rattle.tl_rules.specs.statement.Conformance.{Trace}
-use Rattle.tl_together.specs.statement.Bytes.{is_true}
+use Rattle.tl_bytes.specs.statement.Bytes.{is_true}
 
 -- ---- beats of block 0
 

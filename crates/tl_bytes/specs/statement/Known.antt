@@ -1,0 +1,95 @@
+-- What is known of the bytes of a block, after what all links of a manager have carried.
+use Rattle.std.specs.Prelude.{ℕ, zero, suc, true, [], ◌∷◌, ◌==◌, ◌+◌, ◌*◌, ◌<◌, ◌≡◌, if◌then◌else◌, List}
+use Rattle.std.specs.Prelude.{filter, nat_lt, Option, Some, None, slice_index_or, not}
+use Rattle.tl_beat.specs.declared.beat.Beat.{Beat}
+use Rattle.tl_beat.specs.declared.beat.Link.{Link}
+use Rattle.tl_burst.specs.statement.Messages.{channel_of, unfinished}
+use Rattle.tl_params.specs.declared.perm.Perm.TheVariants as perm
+use Rattle.tl_rules.specs.statement.Conformance.{Trace, on_link}
+use Rattle.tl_rules.specs.statement.Windows.{is_free}
+use Rattle.tl_bytes.specs.declared.block_bytes.BlockBytes.{BlockBytes}
+use Rattle.tl_bytes.specs.code.Tellings.{is_written, left_as, value_at}
+use Rattle.tl_bytes.specs.declared.read_bytes.ReadBytes.{ReadBytes}
+use Rattle.tl_bytes.specs.declared.standing.Standing.{Standing}
+use Rattle.tl_bytes.specs.declared.write.Write.{Write}
+use Rattle.tl_bytes.specs.declared.standing.Standing.TheVariants as standing
+use Rattle.tl_bytes.specs.declared.telling.Telling.{Telling}
+use Rattle.tl_bytes.specs.declared.telling.Told.{Told}
+use Rattle.tl_bytes.specs.declared.windows.WindowCount.{WindowCount}
+use Rattle.tl_bytes.specs.declared.windows.WindowCount.TheVariants as count
+use Rattle.tl_bytes.specs.declared.windows.WritingWindows.{WritingWindows}
+use Rattle.tl_bytes.specs.statement.Bytes.{is_of, may_read, pending_accesses, told_as, written_as}
+use Rattle.tl_bytes.specs.statement.Bytes.{Access, access_writes, carried_byte, may_be, value_written}
+use Rattle.tl_bytes.specs.statement.Bytes.{windows_since, window_began, last_window, last_told}
+
+-- what was told of the byte at a place, the last first
+unfoldable pub tellings_at : ℕ → List Told → List Telling
+tellings_at place [] = []
+tellings_at place (x ∷ told) = if x.place == place then x.telling ∷ tellings_at place told else tellings_at place told
+
+-- of each byte of the block what it may be after t
+abbrev pub KnowsBytes : {w : ℕ} → List Told → ℕ → ℕ → Trace w → Type 0
+KnowsBytes told n block t = (place : ℕ) → place < 64 → tellings_at place told ≡ may_be n (64 * block + place) t
+
+-- the number of beats with the one before which there were so many; 0 where there is none
+abbrev pub moment_of : Option ℕ → ℕ
+moment_of None = 0
+moment_of (Some before) = suc before
+
+-- and when they were last granted, or given back
+pub record KnowsBlock {w : ℕ} (b : BlockBytes) (n block : ℕ) (t : Trace w) : Type 0 where
+  pub bytes_are : KnowsBytes b.told.items n block t
+  pub last_is : moment_of b.last ≡ last_told block t
+
+-- these are the bytes that the message has which is complete with a beat; none where its beat is corrupt
+abbrev pub AreCarried : {w : ℕ} → List (Option ℕ) → Link × Beat w → Trace w → Type 0
+AreCarried values x t = (place : ℕ) → place < 64
+    → slice_index_or values place None
+    ≡ carried_byte (x.1 ∷ unfinished (channel_of x.1) (on_link x.0.0 t)) place
+
+-- this is what an access with this answer writes in the block
+abbrev pub IsWrite : {w : ℕ} → Write → ℕ → Access w → List (Beat w) → Type 0
+IsWrite write block access answer = (place : ℕ) → place < 64
+    → (is_written write place ≡ access_writes (64 * block + place) access)
+    × (value_at write place ≡ value_written access answer (64 * block + place))
+
+-- this is what these accesses may write in the block, of one that is pending
+abbrev pub MayWrite : {w : ℕ} → List Write → ℕ → List (Access w) → Type 0
+MayWrite writes block accesses = (place byte : ℕ) → place < 64
+    → left_as place byte writes ≡ written_as (64 * block + place) byte accesses
+
+-- the accesses that are pending and have had a window for writing the block
+abbrev pub windowed : {w : ℕ} → ℕ → ℕ → Trace w → List (Access w)
+windowed n block t = filter (λ x. nat_lt 0 (windows_since n block x.asked t)) (pending_accesses t)
+
+-- the accesses that are pending beside this one
+abbrev pub others : {w : ℕ} → Access w → Trace w → List (Access w)
+others access t = filter (λ other. not (is_of access.link access.request.source other)) (pending_accesses t)
+
+-- what a read may bring of each byte of the block is kept
+abbrev pub KnowsRead : {w : ℕ} → ReadBytes → ℕ → ℕ → Access w → Trace w → Type 0
+KnowsRead read n block access t = (place byte : ℕ) → place < 64
+    → told_as byte (tellings_at place read.told.items) ≡ may_read n access t (64 * block + place) byte
+
+-- how an access to the block, which is answered, stands to its windows and to what was told of it
+abbrev pub standing_of : {w : ℕ} → ℕ → ℕ → Access w → Trace w → Standing
+standing_of n block access t =
+    if is_free n None perm.Trunk block t
+    then if windows_since n block access.asked t == 1
+    then standing.Within (window_began n block access.asked t)
+    else standing.Anywhere
+    else if nat_lt (last_window n block t) (last_told block t) then standing.Told else standing.Anywhere
+
+-- none, one, or more
+abbrev pub count_of : ℕ → WindowCount
+count_of zero = count.Zero
+count_of (suc zero) = count.One
+count_of (suc (suc n)) = count.More
+
+-- the windows for writing that the block has had since a moment, the one that is open, and the last
+-- moment at which it was free
+pub record KnowsWindows {w : ℕ} (windows : WritingWindows) (n block asked : ℕ) (t : Trace w) : Type 0 where
+  pub open_is : windows.is_open ≡ is_free n None perm.Trunk block t
+  pub count_is : windows.count ≡ count_of (windows_since n block asked t)
+  pub began_is : windows.is_open ≡ true → windows.began ≡ window_began n block asked t
+  pub last_is : windows.last ≡ last_window n block t

@@ -1,0 +1,132 @@
+//! What the bytes of a block may be.
+
+ghost use Rattle.std.specs.Prelude.{ℕ, Bool, true, false, [], ◌∷◌, ◌++◌, ◌+◌, ◌*◌, ◌<◌, ◌≡◌, List, Option, Some, None};
+ghost use Rattle.std.specs.Prelude.{filter, find, length, IfOk, OnOk, OnErr};
+ghost use Rattle.tl_beat.specs.declared.beat.Beat.{Beat};
+ghost use Rattle.tl_beat.specs.declared.beat.Beat.TheVariants as beat;
+ghost use Rattle.tl_beat.specs.declared.beat.BeatD.{BeatD};
+ghost use Rattle.tl_beat.specs.declared.beat.Link.{Link};
+ghost use Rattle.tl_beat.specs.declared.channel.Channel.TheVariants as channel;
+ghost use Rattle.tl_burst.specs.statement.Messages.{unfinished};
+ghost use Rattle.tl_rules.specs.statement.Conformance.{Trace, on_link};
+ghost use Rattle.tl_bytes.specs.statement.Bytes as bytes;
+ghost use Rattle.tl_bytes.specs.statement.Bytes.{Access, ends_request, is_of, pending_accesses, tells, told_as};
+
+use crate::standing::Standing;
+use crate::telling::Told;
+use crate::tellings::{is_told_as, renewed};
+use crate::windows::{WindowCount, WritingWindows};
+use crate::write::{Write, is_left_as};
+use std::alloc::{AllocError, Global};
+
+/// What the bytes of one block may be, and when they were last told.
+#[derive(Drop)]
+pub struct BlockBytes {
+    pub(crate) told: Vec<Told>,
+    /// How many beats had been taken before the one with which a Grant, or data given back, last told of
+    /// the block; none where that never was.
+    last: Option<u64>,
+}
+
+impl BlockBytes {
+    ghost use Rattle.tl_bytes.specs.statement.Known.{AreCarried, IsWrite, KnowsBlock, KnowsWindows};
+    ghost use Rattle.tl_bytes.specs.statement.Known.{MayWrite, standing_of, windowed};
+
+    /// A block of which nothing was told: its bytes may be anything.
+    pub fn new(alloc: Global) -> Result<Self, AllocError>
+        ensures { IfOk result (λ b. (w n block : ℕ) → KnowsBlock {w = w} b n block []) }
+    {
+        let write = Write {
+            places: [true; 64],
+            values: [None; 64],
+        };
+        let told = renewed(alloc, &write, 0, 0, &[])?;
+        Ok(BlockBytes { told, last: None })
+    }
+
+    /// Whether the byte at a place may be this one.
+    pub fn may_be(&self, place: u8, byte: u8) -> bool
+        ensures { (w n block : ℕ) (t : Trace w) → KnowsBlock self.now n block t → place < 64 →
+            result ≡ told_as byte (bytes.may_be n (64 * block + place) t) }
+    {
+        is_told_as(self.told.as_slice(), place, byte)
+    }
+
+    /// Whether this byte may be granted at a place, beside what accesses that are pending, and have had a
+    /// window, may write.
+    pub fn may_grant(&self, place: u8, byte: u8, writes: &[Write]) -> bool
+        ensures { (w n block : ℕ) (t : Trace w) → KnowsBlock self.now n block t →
+            MayWrite writes.now block (windowed n block t) → place < 64 →
+            result ≡ bytes.may_grant n t (64 * block + place) byte }
+    {
+        self.may_be(place, byte) || is_left_as(writes, place, byte)
+    }
+
+    /// How an access to the block, which is answered and had these windows, stands to what was told of it.
+    pub fn standing(&self, windows: &WritingWindows) -> Standing
+        ensures { (w n block : ℕ) (access : Access w) (t : Trace w) →
+            KnowsBlock self.now n block t → KnowsWindows windows.now n block access.asked t →
+            result ≡ standing_of n block access t }
+    {
+        if windows.is_open {
+            return match windows.count {
+                WindowCount::One => Standing::Within(windows.began),
+                _ => Standing::Anywhere,
+            };
+        }
+        match self.last {
+            Some(last) if windows.last <= last => Standing::Told,
+            _ => Standing::Anywhere,
+        }
+    }
+
+    /// Takes the bytes that are granted or given back with a beat before which so many were taken; none is
+    /// for one that may be anything. Without memory nothing changes.
+    pub fn tell(
+        &mut self,
+        alloc: Global,
+        values: &[Option<u8>; 64],
+        moment: u64,
+    ) -> Result<(), AllocError>
+        ensures told { OnOk result ((w n block : ℕ) (x : Link × Beat w) (t : Trace w) →
+            tells block x.1 (on_link x.0.0 t) ≡ true → moment ≡ length t → AreCarried values.now x t →
+            KnowsBlock self.new n block (x ∷ t)) }
+        ensures unchanged { OnErr result (self.new ≡ self.old) }
+    {
+        let write = Write {
+            places: [true; 64],
+            values: *values,
+        };
+        self.told = renewed(alloc, &write, moment, 0, &[])?;
+        self.last = Some(moment);
+        Ok(())
+    }
+
+    /// Takes the bytes that an access leaves in the block, whose answer is complete with a beat before
+    /// which so many were taken. Without memory nothing changes.
+    pub fn write(
+        &mut self,
+        alloc: Global,
+        write: &Write,
+        standing: Standing,
+        moment: u64,
+    ) -> Result<(), AllocError>
+        ensures written { OnOk result ((w n block : ℕ) (link : Link) (y : BeatD w) (access : Access w) (t : Trace w) →
+            KnowsBlock self.old n block t →
+            tells block (beat.D y) (on_link link.0 t) ≡ false →
+            ends_request y (on_link link.0 t) ≡ true →
+            find (is_of link.0 y.source) (pending_accesses t) ≡ Some access →
+            standing ≡ standing_of n block access t → moment ≡ length t →
+            IsWrite write.now block access (beat.D y ∷ unfinished channel.D (on_link link.0 t)) →
+            KnowsBlock self.new n block ((link, beat.D y) ∷ t)) }
+        ensures unchanged { OnErr result (self.new ≡ self.old) }
+    {
+        let since = match standing {
+            Standing::Told => return Ok(()),
+            Standing::Within(began) => began,
+            Standing::Anywhere => 0,
+        };
+        self.told = renewed(alloc, write, moment, since, self.told.as_slice())?;
+        Ok(())
+    }
+}

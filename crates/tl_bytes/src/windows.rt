@@ -1,0 +1,89 @@
+//! The windows for writing that an access has.
+
+ghost use Rattle.std.specs.Prelude.{ℕ, suc, None, [], ◌∷◌, ◌≡◌, ◌≤◌, length};
+ghost use Rattle.tl_beat.specs.declared.beat.Beat.{Beat};
+ghost use Rattle.tl_beat.specs.declared.beat.Link.{Link};
+ghost use Rattle.tl_params.specs.declared.perm.Perm.TheVariants as perm;
+ghost use Rattle.tl_rules.specs.statement.Conformance.{Trace};
+ghost use Rattle.tl_rules.specs.statement.Windows.{is_free};
+ghost use Rattle.tl_bytes.specs.statement.Bytes.{last_window};
+ghost use Rattle.tl_bytes.specs.statement.Known.{count_of};
+
+/// How many windows there were.
+#[derive(Clone, Copy, Debug, PartialEq, Eq)]
+pub enum WindowCount {
+    Zero,
+    One,
+    More,
+}
+
+/// The windows in which an access that writes may have been performed, since its request was complete.
+#[derive(Clone, Copy, Debug, PartialEq, Eq)]
+pub struct WritingWindows {
+    /// One is open now.
+    pub is_open: bool,
+    pub count: WindowCount,
+    /// The moment at which the one that is open began.
+    pub began: u64,
+    /// The last moment at which the block was free.
+    pub last: u64,
+}
+
+/// One window more.
+fn one_more(count: WindowCount) -> WindowCount
+    ensures { (n : ℕ) → count ≡ count_of n → result ≡ count_of (suc n) }
+{
+    match count {
+        WindowCount::Zero => WindowCount::One,
+        _ => WindowCount::More,
+    }
+}
+
+impl WritingWindows {
+    ghost use Rattle.tl_bytes.specs.statement.Known.{KnowsWindows};
+
+    /// Those of an access whose request is complete at this moment, with its last beat: whether its block
+    /// is free then, and when it last was.
+    pub fn new(free: bool, asked: u64, last: u64) -> Self
+        ensures { (w n block : ℕ) (x : Link × Beat w) (t : Trace w) →
+            free ≡ is_free n None perm.Trunk block (x ∷ t) → asked ≡ suc (length t) →
+            last ≡ last_window n block (x ∷ t) →
+            KnowsWindows result n block asked (x ∷ t) }
+    {
+        WritingWindows {
+            is_open: free,
+            count: if free {
+                WindowCount::One
+            } else {
+                WindowCount::Zero
+            },
+            began: asked,
+            last,
+        }
+    }
+
+    /// Those with one more beat, at this moment, with which the block is free or isn't.
+    pub fn after(self, free: bool, moment: u64) -> Self
+        ensures { (w n block asked : ℕ) (x : Link × Beat w) (t : Trace w) →
+            KnowsWindows self n block asked t → asked ≤ length t →
+            free ≡ is_free n None perm.Trunk block (x ∷ t) → moment ≡ suc (length t) →
+            KnowsWindows result n block asked (x ∷ t) }
+    {
+        match (free, self.is_open) {
+            (false, _) => WritingWindows {
+                is_open: false,
+                ..self
+            },
+            (true, true) => WritingWindows {
+                last: moment,
+                ..self
+            },
+            (true, false) => WritingWindows {
+                is_open: true,
+                count: one_more(self.count),
+                began: moment,
+                last: moment,
+            },
+        }
+    }
+}

@@ -1,0 +1,149 @@
+//! What the bytes of a block may be, where it is granted, given back and written.
+
+use std::alloc::{AllocError, Global};
+use std::process::Abort;
+use std::test::Fail;
+use tl_bytes::block_bytes::BlockBytes;
+use tl_bytes::read_bytes::ReadBytes;
+use tl_bytes::standing::Standing;
+use tl_bytes::windows::WritingWindows;
+use tl_bytes::write::Write;
+
+/// What a Put of eight bytes, at the start of the block, writes.
+fn eight(byte: u8) -> Write {
+    let mut places = [false; 64];
+    for place in 0..8usize {
+        places[place] = true;
+    }
+    Write {
+        places,
+        values: [Some(byte); 64],
+    }
+}
+
+/// Takes the answer to a Put of eight bytes, before which so many beats were taken.
+fn put(
+    alloc: Global,
+    block: &mut BlockBytes,
+    byte: u8,
+    windows: WritingWindows,
+    moment: u64,
+) -> Result<(), AllocError> {
+    let standing = block.standing(&windows);
+    block.write(alloc, &eight(byte), standing, moment)
+}
+
+/// The windows of an access whose request is complete at this moment, while nobody holds its block.
+fn opened(asked: u64) -> WritingWindows {
+    WritingWindows::new(true, asked, asked)
+}
+
+/// Of bytes 5, 7 and 9 those are possible, at a place, that these say.
+fn may_be(rt: &impl Abort, block: &BlockBytes, place: u8, possible: [bool; 3]) {
+    let found = [
+        block.may_be(place, 5),
+        block.may_be(place, 7),
+        block.may_be(place, 9),
+    ];
+    assert_eq!(rt; found, possible, "{place}");
+}
+
+#[test]
+fn bytes_that_are_told(rt: HostRuntime) -> Result<(), Fail> {
+    let mut block = BlockBytes::new(rt.alloc())?;
+    may_be(&rt, &block, 0, [true, true, true]);
+    block.tell(rt.alloc(), &[Some(9); 64], 4)?;
+    may_be(&rt, &block, 0, [false, false, true]);
+    may_be(&rt, &block, 63, [false, false, true]);
+    block.tell(rt.alloc(), &[None; 64], 8)?;
+    may_be(&rt, &block, 63, [true, true, true]);
+    Ok(())
+}
+
+#[test]
+fn a_put_in_its_only_window(rt: HostRuntime) -> Result<(), Fail> {
+    let mut block = BlockBytes::new(rt.alloc())?;
+    put(rt.alloc(), &mut block, 7, opened(1), 1)?;
+    may_be(&rt, &block, 7, [false, true, false]);
+    may_be(&rt, &block, 8, [true, true, true]);
+    Ok(())
+}
+
+#[test]
+fn of_two_puts_that_overlap_either_came_last(rt: HostRuntime) -> Result<(), Fail> {
+    let mut block = BlockBytes::new(rt.alloc())?;
+    put(rt.alloc(), &mut block, 7, opened(2), 2)?;
+    put(rt.alloc(), &mut block, 5, opened(1), 3)?;
+    may_be(&rt, &block, 0, [true, true, false]);
+    Ok(())
+}
+
+#[test]
+fn of_two_puts_one_after_the_other_the_second_came_last(rt: HostRuntime) -> Result<(), Fail> {
+    let mut block = BlockBytes::new(rt.alloc())?;
+    put(rt.alloc(), &mut block, 5, opened(1), 1)?;
+    put(rt.alloc(), &mut block, 7, opened(3), 3)?;
+    may_be(&rt, &block, 0, [false, true, false]);
+    Ok(())
+}
+
+#[test]
+fn a_put_beside_a_copy(rt: HostRuntime) -> Result<(), Fail> {
+    let mut block = BlockBytes::new(rt.alloc())?;
+    block.tell(rt.alloc(), &[Some(9); 64], 1)?;
+    let windows = opened(3).after(false, 4);
+    assert_eq!(rt; block.standing(&windows), Standing::Anywhere);
+    put(rt.alloc(), &mut block, 7, windows, 5)?;
+    may_be(&rt, &block, 0, [false, true, true]);
+    block.tell(rt.alloc(), &[Some(5); 64], 7)?;
+    assert_eq!(rt; block.standing(&windows), Standing::Told);
+    put(rt.alloc(), &mut block, 7, windows, 8)?;
+    may_be(&rt, &block, 0, [true, false, false]);
+    let again = windows.after(true, 9);
+    assert_eq!(rt; block.standing(&again), Standing::Anywhere);
+    put(rt.alloc(), &mut block, 7, again, 9)?;
+    may_be(&rt, &block, 0, [true, true, false]);
+    Ok(())
+}
+
+/// Of bytes 5, 7 and 9 a read may bring those, at a place, that these say.
+fn may_bring(rt: &impl Abort, read: &ReadBytes, place: u8, possible: [bool; 3]) {
+    let found = [
+        read.may_bring(place, 5),
+        read.may_bring(place, 7),
+        read.may_bring(place, 9),
+    ];
+    assert_eq!(rt; found, possible, "{place}");
+}
+
+#[test]
+fn a_read_beside_a_put(rt: HostRuntime) -> Result<(), Fail> {
+    let mut block = BlockBytes::new(rt.alloc())?;
+    block.tell(rt.alloc(), &[Some(5); 64], 1)?;
+    let mut read = ReadBytes::new(rt.alloc(), &block, &[])?;
+    may_bring(&rt, &read, 0, [true, false, false]);
+    read.add(rt.alloc(), &block, &[eight(7)])?;
+    may_bring(&rt, &read, 0, [true, true, false]);
+    may_bring(&rt, &read, 8, [true, false, false]);
+    let mut late = ReadBytes::new(rt.alloc(), &block, &[eight(7)])?;
+    put(rt.alloc(), &mut block, 7, opened(2), 5)?;
+    block.tell(rt.alloc(), &[Some(9); 64], 9)?;
+    late.add(rt.alloc(), &block, &[])?;
+    may_bring(&rt, &late, 0, [true, true, true]);
+    may_bring(&rt, &late, 8, [true, false, true]);
+    let after = ReadBytes::new(rt.alloc(), &block, &[])?;
+    may_bring(&rt, &after, 0, [false, false, true]);
+    Ok(())
+}
+
+#[test]
+fn a_grant_beside_a_put(rt: HostRuntime) -> Result<(), Fail> {
+    let mut block = BlockBytes::new(rt.alloc())?;
+    block.tell(rt.alloc(), &[Some(9); 64], 1)?;
+    assert!(rt; block.may_grant(0, 9, &[eight(7)]));
+    assert!(rt; block.may_grant(0, 7, &[eight(7)]));
+    assert!(rt; !block.may_grant(0, 5, &[eight(7)]));
+    assert!(rt; !block.may_grant(8, 7, &[eight(7)]));
+    assert!(rt; !block.may_grant(0, 7, &[]));
+    Ok(())
+}

@@ -88,10 +88,12 @@ def check_folders():
 
 def check_lists():
     believed = section("What must be believed of the theorem, in reading order")
-    theorem, monitor = believed.split("For the verdict of `tltool monitor`")
+    theorem, verdicts = believed.split("For the verdict of `tltool monitor`")
+    monitor, coherent = verdicts.split("For the verdict of `tltool coherent`")
     for title, text, root in (
         ("theorem", theorem, "tl_coherence.specs.statement.Theorem"),
         ("monitor", monitor, "tl_engine.specs.statement.Judged"),
+        ("coherent", monitor + coherent, "tl_engine.specs.statement.Coherent"),
     ):
         real = closure(root)
         check(listed(text) == set(real), f"what must be believed of the {title}: differs in {sorted(listed(text) ^ set(real))}")

@@ -13,7 +13,7 @@ HELP = "help"
 RULES = [*(f"L{it}" for it in range(1, 8)), "S1", *(f"H{it}" for it in range(1, 14))]
 TRACE = [*(f"F{it}" for it in range(1, 8)), *RULES]
 # The codes that each command can write.
-CODES = {"decode": [f"F{it}" for it in range(1, 7)], "monitor": TRACE, "explain": TRACE, "run": ["F1", "F7", "F8"], "random": []}
+CODES = {"decode": [f"F{it}" for it in range(1, 7)], "monitor": TRACE, "explain": TRACE, "coherent": [*TRACE, "M1", "M4"], "run": ["F1", "F7", "F8"], "random": []}
 
 
 def section(text, name):
@@ -31,7 +31,7 @@ def wrong_codes(tool):
     """The commands whose help lists other codes than theirs, or says something else of one than `explain` does."""
     sentence = lambda code: re.match(r"\w+(?: \([^)]*\))?: (.*)", said(tool, "explain", code))[1]
     for command, codes in CODES.items():
-        rows = re.findall(r"^  ([FLSH]\d+) +(\S.*\n(?:       .*\n)*)", said(tool, command, "--help"), re.M)
+        rows = re.findall(r"^  ([FLSHM]\d+) +(\S.*\n(?:       .*\n)*)", said(tool, command, "--help"), re.M)
         listed = {code: " ".join(text.split()) for code, text in rows}
         if listed != {code: sentence(code) for code in codes}:
             yield f"tltool {command} --help: its codes, or what is said of them"

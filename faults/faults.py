@@ -18,6 +18,8 @@ COMMANDS = [
     "decode --width 4 beats.txt",
     "monitor two_caches.trace",
     "monitor rules/H9.trace",
+    "coherent two_caches.trace",
+    "coherent rules/M4.trace",
     "explain two_caches.trace",
     "explain wrong_report.trace",
     "explain H12",

@@ -1,6 +1,7 @@
 # Completion of tltool for fish. docs/commands.py compares its words with the program's help.
 complete -c tltool -n __fish_use_subcommand -f -a decode -d 'write a readable line for each beat line'
 complete -c tltool -n __fish_use_subcommand -f -a monitor -d 'judge a recorded trace'
+complete -c tltool -n __fish_use_subcommand -f -a coherent -d 'judge a trace of all links of a manager together'
 complete -c tltool -n __fish_use_subcommand -f -a explain -d 'say why a trace is at fault, or what a rule says'
 complete -c tltool -n __fish_use_subcommand -f -a run -d 'play a schedule'
 complete -c tltool -n __fish_use_subcommand -f -a random -d 'write a random schedule'

@@ -5,7 +5,7 @@ use Rattle.std.specs.String.{string_bytes}
 use Rattle.clap.specs.declared.builder.action.ArgAction.TheVariants.{SetTrue}
 use Rattle.clap.specs.Words.{App, Row, Rule, Text, first_of, new_app, new_rule, with_rule, with_subcommand}
 use Rattle.tl_command.specs.declared.command.Command.{Command}
-use Rattle.tl_command.specs.declared.command.Command.TheVariants.{Decode, Monitor, Explain, Run}
+use Rattle.tl_command.specs.declared.command.Command.TheVariants.{Coherent, Decode, Explain, Monitor, Run}
 use Rattle.tl_command.specs.declared.task.Task.{Task}
 use Rattle.tl_command.specs.declared.task.Task.TheVariants.{Draw, Read}
 use Rattle.tl_command.specs.statement.RandomWords.{AreOptions, Words}
@@ -26,6 +26,10 @@ decode_of = with_rule (with_rule (new_app (codes "decode")) width_rule) (new_rul
 -- `monitor [FILE]`
 abbrev pub monitor_of : App
 monitor_of = with_rule (new_app (codes "monitor")) (new_rule (codes "FILE"))
+
+-- `coherent [FILE]`
+abbrev pub coherent_of : App
+coherent_of = with_rule (new_app (codes "coherent")) (new_rule (codes "FILE"))
 
 -- `explain [FILE]`
 abbrev pub explain_of : App
@@ -68,9 +72,13 @@ abbrev pub reading_of : App
 reading_of = with_subcommand (with_subcommand (with_required_subcommand (with_version (new_app (codes "tltool"))))
     decode_of.top) monitor_of.top
 
+-- and with the one that judges all links together
+abbrev pub judging_of : App
+judging_of = with_subcommand reading_of coherent_of.top
+
 -- and with the one that explains
 abbrev pub explaining_of : App
-explaining_of = with_subcommand reading_of explain_of.top
+explaining_of = with_subcommand judging_of explain_of.top
 
 -- and with the one that plays
 abbrev pub playing_of : App
@@ -90,6 +98,7 @@ abbrev pub command_named : Text → Option Text → Option Text → Option Text 
 command_named name width trace file =
     if bytes_eq name (codes "decode") then option_map Decode (width_named width) else
     if bytes_eq name (codes "monitor") then Some Monitor else
+    if bytes_eq name (codes "coherent") then Some Coherent else
     if bytes_eq name (codes "explain") then option_map (λ _. Explain) file else
     if bytes_eq name (codes "run") then Some (Run (flag_named trace)) else None
 

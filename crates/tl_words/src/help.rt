@@ -20,13 +20,13 @@ pub const PROFILE: &str = "The profile, 1 or 2 [default: 1]";
 pub const CONTEND: &str =
     "Of how many blocks, from the first on, most operations speak [default: 2, or the blocks if fewer]";
 
-/// What stands behind the options of a command: the codes that it can write, each with what it says,
-/// the exit status, and examples.
+/// What stands behind the options of a command: what is said of its codes, the codes that it can write, each
+/// with what it says, the exit status, and examples.
 macro_rules! outcomes {
-    ($($code:literal,)* ; $($example:literal,)*) => {
+    ($($said:literal,)* ; $($code:literal,)* ; $($example:literal,)*) => {
         concat!(
             "Codes: at the first line at fault the text is `line N X`, N its number and X one of these.\n",
-            "`tltool explain FILE` says why.\n",
+            $($said,)*
             $($code,)*
             "\nExit status:\n",
             "  0  no line is at fault; or help was asked for\n",
@@ -51,6 +51,7 @@ wrong with it. `tltool explain FILE` says why, `tltool explain X` what X says, a
   L1 to L7      the beat is not a legal one by itself
   S1            the beat does not continue its burst
   H1 to H13     the beat breaks the order of messages
+  M1, M4        the beat breaks a rule of memory, between links (`coherent`)
 
 Exit status:
   0  done, and no line is at fault; or help or the version was asked for
@@ -62,6 +63,7 @@ Exit status:
 Examples, in the folder of examples (crates/tl_examples/data):
   printf '00 A 4 0 3 00 00000040 ff - 0\\n' | tltool decode
   tltool monitor two_caches.trace
+  tltool coherent rules/M1.trace
   tltool explain wrong_report.trace
   tltool explain H12
   tail -n +2 two_caches.trace | tltool decode
@@ -70,6 +72,8 @@ Examples, in the folder of examples (crates/tl_examples/data):
 
 /// Behind the options of `decode`.
 pub const DECODE: &str = outcomes!(
+    "`tltool explain FILE` says why.\n",
+    ;
     "  F1   more than 256 bytes, or the last byte isn't LF, or fewer than two fields; or the number\n",
     "       of fields isn't the channel's\n",
     "  F2   the second field isn't one of the letters A to E\n",
@@ -83,43 +87,58 @@ pub const DECODE: &str = outcomes!(
     "\n  tail -n +2 two_caches.trace | tltool decode",
 );
 
+/// The same of a command that judges traces: the codes of a line and of a link, and then its own.
+macro_rules! outcomes_of_a_trace {
+    ($($said:literal,)* ; $($code:literal,)* ; $($example:literal,)*) => {
+        outcomes!(
+            $($said,)*
+            ;
+            "  F1   more than 256 bytes, or the last byte isn't LF, or fewer than two fields; or the number\n",
+            "       of fields isn't the channel's\n",
+            "  F2   the second field isn't one of the letters A to E\n",
+            "  F3   a field isn't of its form: lower-case digits of the wanted number, 0 or 1, or DATA\n",
+            "  F4   the opcode isn't in use\n",
+            "  F5   the param is over 7 on A, B and C, or over 3 on D\n",
+            "  F6   digits where the opcode carries no data, or `-` where it does\n",
+            "  F7   the first line is no header\n",
+            "  L1   the beat isn't of the channel named, or the opcode isn't of the level, or the link has\n",
+            "       no level\n",
+            "  L2   param, or source or sink where they are fixed, isn't as the message's table has it\n",
+            "  L3   the size isn't one of the message's\n",
+            "  L4   on A, B and C, the address isn't a multiple of the size\n",
+            "  L5   on A and B, the mask isn't that of address and size\n",
+            "  L6   corrupt without data; denied on another message than AccessAck, AccessAckData, HintAck;\n",
+            "       denied without corrupt on AccessAckData\n",
+            "  L7   an access forwarded on B (opcodes 0 to 5), or its answer on C (opcodes 0 to 2), at level\n",
+            "       C: they are read and shown, and not taken\n",
+            "  S1   a beat that continues a burst differs from the burst's first beat in opcode, param,\n",
+            "       size, source, address, sink or denied\n",
+            "  H1   the source is pending in its kind\n",
+            "  H2   no complete pending request with that source may be answered so\n",
+            "  H3   the size isn't the request's\n",
+            "  H4   an Acquire or a Release of the block is pending\n",
+            "  H5   NtoB or NtoT and something is held; BtoT and Trunk is held\n",
+            "  H6   the cap isn't toB for NtoB and toT for NtoT and BtoT; or Grant without data answers an\n",
+            "       AcquireBlock and Branch isn't held; or a Probe of the block is pending\n",
+            "  H7   the sink is pending\n",
+            "  H8   no complete Grant with that sink is pending\n",
+            "  H9   a Probe or a GrantAck of the block is pending\n",
+            "  H10  no Probe of the block is pending, or ProbeAckData answers ProbePerm\n",
+            "  H11  a Release of the block is pending\n",
+            "  H12  the param isn't the report of the Probe's cap and of what is held\n",
+            "  H13  an Acquire or a Release of the block is pending, or the param's left end isn't what is\n",
+            "       held\n",
+            $($code,)*
+            ;
+            $($example,)*
+        )
+    };
+}
+
 /// Behind the options of `monitor` and `explain`.
-pub const TRACE: &str = outcomes!(
-    "  F1   more than 256 bytes, or the last byte isn't LF, or fewer than two fields; or the number\n",
-    "       of fields isn't the channel's\n",
-    "  F2   the second field isn't one of the letters A to E\n",
-    "  F3   a field isn't of its form: lower-case digits of the wanted number, 0 or 1, or DATA\n",
-    "  F4   the opcode isn't in use\n",
-    "  F5   the param is over 7 on A, B and C, or over 3 on D\n",
-    "  F6   digits where the opcode carries no data, or `-` where it does\n",
-    "  F7   the first line is no header\n",
-    "  L1   the beat isn't of the channel named, or the opcode isn't of the level, or the link has\n",
-    "       no level\n",
-    "  L2   param, or source or sink where they are fixed, isn't as the message's table has it\n",
-    "  L3   the size isn't one of the message's\n",
-    "  L4   on A, B and C, the address isn't a multiple of the size\n",
-    "  L5   on A and B, the mask isn't that of address and size\n",
-    "  L6   corrupt without data; denied on another message than AccessAck, AccessAckData, HintAck;\n",
-    "       denied without corrupt on AccessAckData\n",
-    "  L7   an access forwarded on B (opcodes 0 to 5), or its answer on C (opcodes 0 to 2), at level\n",
-    "       C: they are read and shown, and not taken\n",
-    "  S1   a beat that continues a burst differs from the burst's first beat in opcode, param,\n",
-    "       size, source, address, sink or denied\n",
-    "  H1   the source is pending in its kind\n",
-    "  H2   no complete pending request with that source may be answered so\n",
-    "  H3   the size isn't the request's\n",
-    "  H4   an Acquire or a Release of the block is pending\n",
-    "  H5   NtoB or NtoT and something is held; BtoT and Trunk is held\n",
-    "  H6   the cap isn't toB for NtoB and toT for NtoT and BtoT; or Grant without data answers an\n",
-    "       AcquireBlock and Branch isn't held; or a Probe of the block is pending\n",
-    "  H7   the sink is pending\n",
-    "  H8   no complete Grant with that sink is pending\n",
-    "  H9   a Probe or a GrantAck of the block is pending\n",
-    "  H10  no Probe of the block is pending, or ProbeAckData answers ProbePerm\n",
-    "  H11  a Release of the block is pending\n",
-    "  H12  the param isn't the report of the Probe's cap and of what is held\n",
-    "  H13  an Acquire or a Release of the block is pending, or the param's left end isn't what is\n",
-    "       held\n",
+pub const TRACE: &str = outcomes_of_a_trace!(
+    "`tltool explain FILE` says why.\n",
+    ;
     ;
     "\n  tltool monitor two_caches.trace",
     "\n  tltool explain wrong_report.trace",
@@ -127,8 +146,26 @@ pub const TRACE: &str = outcomes!(
     "\n  tltool run --trace schedules/a_writer_becomes_a_reader.schedule | tltool monitor",
 );
 
+/// Behind the options of `coherent`.
+pub const TOGETHER: &str = outcomes_of_a_trace!(
+    "Judged are the rules of each link and, between them, M1 and M4; the bytes aren't.\n",
+    "`tltool explain FILE` says why, but for M1 and M4, and `tltool explain M1` what M1 says.\n",
+    ;
+    "  M1   the cap is toT and another link holds something of the block, or toB and another link\n",
+    "       holds Trunk of it\n",
+    "  M4   all the while since the request was complete a link has held what excludes it: Trunk of\n",
+    "       the block for a Get, anything of it for a Put or an atomic\n",
+    ;
+    "\n  tltool coherent two_caches.trace",
+    "\n  tltool coherent rules/M1.trace",
+    "\n  tltool explain M1",
+    "\n  tltool run --trace schedules/a_writer_becomes_a_reader.schedule | tltool coherent",
+);
+
 /// Behind the options of `run`.
 pub const RUN: &str = outcomes!(
+    "`tltool explain FILE` says why.\n",
+    ;
     "  F1   more than 256 bytes, or the last byte isn't LF, or fewer than two fields; or the number\n",
     "       of fields isn't the channel's\n",
     "  F7   the first line is no header\n",

@@ -1,6 +1,6 @@
 //! Reads the program's words: `tltool decode [--width 4|8|16] [FILE]`, `tltool monitor [FILE]`,
-//! `tltool explain FILE`, `tltool run [--trace] [FILE]`, `tltool random --seed N` with its options, and those
-//! that ask for help or the version.
+//! `tltool coherent [FILE]`, `tltool explain FILE`, `tltool run [--trace] [FILE]`, `tltool random --seed N` with
+//! its options, and those that ask for help or the version.
 
 ghost use Rattle.std.specs.Prelude.{◌≡◌, IfOk, IfErr, true, false, List, Some, bytes_eq, codes, map, option_map};
 ghost use Rattle.std.specs.String.{string_bytes};
@@ -9,8 +9,8 @@ ghost use Rattle.clap.specs.Words.{kind_of, rows_of, rule_of, subcommand_of};
 ghost use Rattle.clap.specs.declared.builder.command.Command.TheViews.{out-Command};
 ghost use Rattle.tl_words.specs.Refused.{IsFaultOf, IsRefusal, status_of_usage, usage_status, words_fault};
 ghost use Rattle.tl_command.specs.statement.RandomWords.{words_of};
-ghost use Rattle.tl_words.specs.Tool.{IsTaskOf, command_named, decode_of, drawing_of, explain_of};
-ghost use Rattle.tl_words.specs.Tool.{explaining_of, flag_named, monitor_of, playing_of, random_of};
+ghost use Rattle.tl_words.specs.Tool.{IsTaskOf, coherent_of, command_named, decode_of, drawing_of, explain_of};
+ghost use Rattle.tl_words.specs.Tool.{explaining_of, flag_named, judging_of, monitor_of, playing_of, random_of};
 ghost use Rattle.tl_words.specs.Tool.{reading_of, run_of, sizing_of, tool_of, valued_rule, words_in};
 
 use crate::help;
@@ -96,6 +96,19 @@ fn monitor<'a>(alloc: Global) -> Result<clap::Command<'a>, AllocError>
         .arg(file)
 }
 
+fn coherent<'a>(alloc: Global) -> Result<clap::Command<'a>, AllocError>
+    ensures app { IfOk result (λ c. app_of c ≡ coherent_of) }
+    ensures local { IfOk result (λ c. (out-Command c).has_globals ≡ false) }
+{
+    let file = Arg::new(alloc, "FILE").help(FILE_HELP);
+    clap::Command::new(alloc, "coherent")
+        .about(
+            "Judges a trace of all links of a manager together: writes `coherent N`, or the first line at fault",
+        )
+        .after_help(help::TOGETHER)
+        .arg(file)
+}
+
 fn explain<'a>(alloc: Global) -> Result<clap::Command<'a>, AllocError>
     ensures app { IfOk result (λ c. app_of c ≡ explain_of) }
     ensures local { IfOk result (λ c. (out-Command c).has_globals ≡ false) }
@@ -138,12 +151,20 @@ fn reading<'a>(alloc: Global) -> Result<clap::Command<'a>, AllocError>
         .subcommand(monitor)
 }
 
+/// The program with its commands that read traces, of each link and of all together.
+fn judging<'a>(alloc: Global) -> Result<clap::Command<'a>, AllocError>
+    ensures { IfOk result (λ c. app_of c ≡ judging_of) }
+{
+    let coherent = coherent(alloc)?;
+    reading(alloc)?.subcommand(coherent)
+}
+
 /// The program with its commands that read traces and explain them.
 fn explaining<'a>(alloc: Global) -> Result<clap::Command<'a>, AllocError>
     ensures { IfOk result (λ c. app_of c ≡ explaining_of) }
 {
     let explain = explain(alloc)?;
-    reading(alloc)?.subcommand(explain)
+    judging(alloc)?.subcommand(explain)
 }
 
 /// The program with its commands that read.
@@ -245,6 +266,7 @@ fn command_named(
             Some(Command::Decode { width })
         }
         "monitor" => Some(Command::Monitor),
+        "coherent" => Some(Command::Coherent),
         "explain" => match file {
             None => None,
             Some(_) => Some(Command::Explain),

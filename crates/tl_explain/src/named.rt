@@ -1,7 +1,11 @@
 //! What a rule or a fault says, by its name.
 
+ghost use Rattle.std.specs.Prelude.{◌≡◌, ◌++◌, OnOk};
+ghost use Rattle.tl_explain.specs.statement.Sentences.{in_brackets, rule_line};
+
 use crate::example::example_of;
 use crate::sentence::{basis, judged_messages, sentence};
+use std::alloc::AllocError;
 use std::io;
 use std::io::Write;
 use tl_params::rule::Rule;
@@ -68,16 +72,30 @@ fn append_trace(trace: &str, out: &mut Vec<u8>) -> io::Result<()> {
     Ok(())
 }
 
-/// Appends the name of a rule, with the messages that it judges, and its sentence.
-pub fn append_sentence(rule: Rule, out: &mut Vec<u8>) -> io::Result<()> {
-    let name = rule.name();
-    let messages = judged_messages(rule);
-    let sentence = sentence(rule);
-    if messages.is_empty() {
-        write!(out, "{name}: {sentence}\n")
-    } else {
-        write!(out, "{name} ({messages}): {sentence}\n")
+/// Appends a text in brackets behind a space, where it isn't empty.
+fn append_in_brackets(text: &str, out: &mut Vec<u8>) -> Result<(), AllocError>
+    ensures { OnOk result (out.new.items ≡ out.old.items ++ in_brackets text.now) }
+{
+    if text.is_empty() {
+        return Ok(());
     }
+    out.extend_from_slice(b" (")?;
+    out.extend_from_slice(text.as_bytes())?;
+    out.push(b')')?;
+    Ok(())
+}
+
+#[tactic(auto, unfolding(crate::specs::statement::Sentences::rule_line))]
+/// Appends the name of a rule, with the messages that it judges, and its sentence.
+pub fn append_sentence(rule: Rule, out: &mut Vec<u8>) -> Result<(), AllocError>
+    ensures { OnOk result (out.new.items ≡ out.old.items ++ rule_line rule) }
+{
+    out.extend_from_slice(rule.name().as_bytes())?;
+    append_in_brackets(judged_messages(rule), out)?;
+    out.extend_from_slice(b": ")?;
+    out.extend_from_slice(sentence(rule).as_bytes())?;
+    out.push(b'\n')?;
+    Ok(())
 }
 
 fn tell_rule(rule: Rule, out: &mut Vec<u8>) -> io::Result<()> {

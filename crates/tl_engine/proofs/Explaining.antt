@@ -1,12 +1,14 @@
 -- What is read again up to the line at fault explains its verdict.
-use Rattle.std.proofs.Common.{◌≡◌, ℕ, ◌+◌, List, ◌∷◌, ◌++◌, length, ap, ◌∙◌, arith, subst}
-use Rattle.std.specs.Prelude.{Option, Some, IfSome}
+use Rattle.std.proofs.Common.{◌≡◌, ℕ, ◌+◌, List, [], ◌∷◌, ◌++◌, length, ap, ◌∙◌, arith, subst, refl, true, false}
+use Rattle.std.specs.Prelude.{Option, Some, None, Err, IfSome, not}
 use Rattle.std.specs.Io.KnownBytes.{Consumes}
 use Rattle.tl_beat.specs.declared.beat.Beat.{Beat}
 use Rattle.tl_beat.specs.declared.beat.Beat.TheVariants as beat
 use Rattle.tl_beat.specs.declared.beat.Link.{Link}
 use Rattle.tl_beat.specs.statement.Line.{Spells}
+use Rattle.tl_params.specs.declared.level.Level.{Level}
 use Rattle.tl_params.specs.declared.rule.Rule.{Rule}
+use Rattle.tl_params.specs.statement.Refusal.{ok_unless}
 use Rattle.tl_rules.specs.statement.Conformance.{Trace}
 use Rattle.tl_explain.specs.code.Recorded.{IsRecord}
 use Rattle.tl_explain.specs.code.Spelled.{spelled}
@@ -16,10 +18,12 @@ use Rattle.tl_explain.specs.statement.Reasons.{IsEvidence, IsSubject, convicted}
 use Rattle.tl_engine.specs.code.Explaining.{ExplainsStatus, IsVerdict, fault_of}
 use Rattle.tl_engine.specs.code.Replaying.{HasReachedIn}
 use Rattle.tl_engine.specs.declared.examiner.Found.{Found}
+use Rattle.tl_engine.specs.declared.fault.Fault.TheVariants.{Rule as Breaks}
 use Rattle.tl_engine.specs.declared.replay.Replay.{Replay}
 use Rattle.tl_engine.specs.declared.status.Status.{Status}
 use Rattle.tl_engine.specs.declared.status.Status.TheVariants.{Clean, Broken}
-use Rattle.tl_engine.specs.statement.Explained.{Explains, IsExplained}
+use Rattle.tl_engine.specs.statement.Explained.{Explains, ExplainsFault, IsExplained, IsNamed}
+use Rattle.tl_engine.specs.statement.Explained.{broken_alone, front_text, is_of_order}
 use Rattle.tl_engine.proofs.Replaying.{count_lines}
 
 same_link : {w : ℕ} (s : Subject) (link : Link) (x : Beat w) → IsSubject s link x → s.link ≡ link
@@ -29,14 +33,56 @@ same_link s link (beat.C x) is = is.0
 same_link s link (beat.D x) is = is.0
 same_link s link (beat.E x) is = is.0
 
+-- a text behind another
+behind : (was front whole grounds text : List ℕ) → was ≡ [] → front ≡ was ++ text → whole ≡ front ++ grounds
+    → whole ≡ text ++ grounds
+behind was front whole grounds text none first all = rw (all, first, none) refl
+
+pub broken_by : (found : Option Rule) (rule : Rule) → Err rule ≡ ok_unless found → found ≡ Some rule
+broken_by None rule is = absurd cc
+broken_by (Some other) rule is = cc
+
+-- a beat that a line spells was named, which breaks a rule by itself
+pub named : {w : ℕ} (number : ℕ) (rule : Rule) (line : List ℕ) (link : Link) (x : Beat w) (level : Option Level)
+    (was front reasons grounds : List ℕ) → Spells line link x → broken_alone level x ≡ Some rule → was ≡ []
+    → front ≡ was ++ front_text rule number link x → reasons ≡ front ++ grounds → IsNamed number rule reasons
+named {w} number rule line link x level was front reasons grounds spells breaks none first text = (
+  w,
+  line,
+  link,
+  x,
+  level,
+  grounds,
+  spells,
+  breaks,
+  behind was front reasons grounds (front_text rule number link x) none first text,
+)
+
+pub of_legality : (old new : Option (List ℕ)) (n number : ℕ) (rule : Rule) (reasons : List ℕ) → number ≡ n
+    → not (is_of_order rule) ≡ true → IsNamed number rule reasons → ExplainsFault old new n reasons (Breaks rule)
+of_legality old new n number rule reasons same legality is = (
+  λ order. let no : false ≡ true = rw order at legality in absurd cc,
+  λ _. subst (λ (k : ℕ). IsNamed k rule reasons)
+      same is,
+)
+
+pub of_order : (old new : Option (List ℕ)) (n : ℕ) (rule : Rule) (reasons : List ℕ) → not (is_of_order rule) ≡ false
+    → IsExplained old new n rule reasons → ExplainsFault old new n reasons (Breaks rule)
+of_order old new n rule reasons order is =
+    (λ _. is, λ legality. let no : true ≡ false = rw legality at order in absurd cc)
+
 -- the reason that was found is one for the line at fault
 pub explained : {w : ℕ} (old new : Option (List ℕ)) (r : Replay w) (rule : Rule) (good : ℕ) (link : Link) (x : Beat w)
-    (o : Option Reason) (reason : Reason) → (read : List ℕ) × Consumes old new read × HasReachedIn r read
+    (o : Option Reason) (reason : Reason) (number : ℕ)
+    (was front reasons grounds : List ℕ) → (read : List ℕ) × Consumes old new read × HasReachedIn r read
     → r.good ≡ good → Spells (spelled r.line) link x
     → ((t : Trace w) (l : Link) → IsRecord r.recorder t → IsSubject r.recorder.subject l x
     → IfSome o (λ reason. IsEvidence r.recorder.subject.link.0 x reason t × (convicted r.profile x reason ≡ Some rule)))
-    → o ≡ Some reason → IsExplained old new (good + 1) rule
-explained {w} old new r rule good link x o reason (read, consumed, at) is_good spells told found =
+    → o ≡ Some reason → number ≡ good + 1 → was ≡ [] → front ≡ was ++ front_text rule number link x
+    → reasons ≡ front ++ grounds
+    → IsExplained old new (good + 1) rule reasons
+explained {w} old new r rule good link x o reason number was front reasons grounds (read, consumed, at) is_good spells
+    told found is_number none first text =
     let rec = at.recorded in
     let of = at.for_line link x spells in
     let so : IsEvidence r.recorder.subject.link.0 x reason at.trace × (convicted r.profile x reason ≡ Some rule) =
@@ -74,9 +120,13 @@ explained {w} old new r rule good link x o reason (read, consumed, at) is_good s
       reason = reason;
       evidence = subst (λ (k : Link). IsEvidence k.0 x reason at.trace) (same_link r.recorder.subject link x of) so.0;
       convicts = so.1;
+      grounds = grounds;
+      begins = subst (λ (n : ℕ). reasons ≡ front_text rule n link x ++ grounds) is_number
+          (behind was front reasons grounds (front_text rule number link x) none first text);
     }
 
-pub explains : (old new : Option (List ℕ)) (found : Found) (status : Status) (verdict : List ℕ)
-    → IsVerdict found status verdict → ExplainsStatus old new found status → Explains old new verdict status
-explains old new found Clean verdict is so = tt
-explains old new found Broken verdict is so = (found.good + 1, fault_of found, is, so)
+pub explains : (old new : Option (List ℕ)) (found : Found) (status : Status) (verdict reasons : List ℕ)
+    → IsVerdict found status verdict → ExplainsStatus old new found reasons status
+    → Explains old new verdict reasons status
+explains old new found Clean verdict reasons is so = tt
+explains old new found Broken verdict reasons is so = (found.good + 1, fault_of found, is, so)

@@ -1,14 +1,18 @@
 //! Explains what a recorded trace is judged, by reading it twice.
 
 ghost use Rattle.std.specs.Prelude.{◌≡◌, ◌≢◌, ◌+◌, ◌++◌, [], ℕ, List, Err, IfErr};
-ghost use Rattle.std.specs.Prelude.{IfOk, IfSome, Ok, OnErr, OnOk, not, true};
+ghost use Rattle.std.specs.Prelude.{IfOk, IfSome, Ok, OnErr, OnOk, Some, not, true};
 ghost use Rattle.std.specs.Io.KnownBytes.{Appends};
+ghost use Rattle.tl_beat.specs.declared.beat.Beat.{Beat};
+ghost use Rattle.tl_beat.specs.declared.beat.Link.{Link};
+ghost use Rattle.tl_beat.specs.statement.Line.{Spells};
 ghost use Rattle.tl_beat.specs.statement.Width.{IsWidth};
 ghost use Rattle.tl_explain.specs.statement.Reasons.{IsSubject};
 ghost use Rattle.tl_engine.specs.code.Explaining.{ExplainsFound, ExplainsStatus, IsVerdict};
 ghost use Rattle.tl_engine.specs.code.Parts.{AppendsShort};
 ghost use Rattle.tl_engine.specs.code.Replaying.{KnowsReplay};
-ghost use Rattle.tl_engine.specs.statement.Explained.{Explains, IsExplained, is_of_order};
+ghost use Rattle.tl_engine.specs.statement.Explained.{Explains, IsExplained, IsNamed};
+ghost use Rattle.tl_engine.specs.statement.Explained.{broken_alone, front_text, is_of_order};
 ghost use Rattle.tl_engine.specs.statement.Unexplained.{GivesUpExplaining, IsUnjudged, Reaches};
 ghost use Rattle.tl_engine.specs.declared.status.Status.{Status};
 
@@ -126,6 +130,14 @@ fn fetch<R: Read>(alloc: Global, reader: &mut R, number: u64) -> Result<Vec<u8>,
     Ok(line)
 }
 
+/// The number of the line behind so many.
+fn number_behind(good: u64) -> Result<u64, ExplainFault>
+    ensures number { IfOk result (λ number. number ≡ good + 1) }
+    ensures fault { IfErr result (λ fault. fault ≢ ExplainFault.Tool ToolFault.Write) }
+{
+    good.checked_add(1).ok_or(ExplainFault::Changed)
+}
+
 /// Explains a first line that is no header.
 fn explain_header<R: Read>(
     alloc: Global,
@@ -178,9 +190,11 @@ fn level_of(header: &Header, link: Link) -> Option<Level> {
     header.levels.as_slice().get(usize::from(link.0)).copied()
 }
 
+#[tactic(auto, using(crate::proofs::Explaining::broken_by))]
 /// Whether a beat breaks the rule by itself.
 fn is_illegal<const W: usize>(level: Option<Level>, rule: Rule, beat: &Beat<W>) -> bool
     requires { IsWidth W }
+    ensures { result ≡ true → broken_alone level beat.now ≡ Some rule }
 {
     match level {
         None => rule == Rule::L1,
@@ -197,10 +211,12 @@ fn append_front<const W: usize>(
     number: u64,
     line: &[u8],
     out: &mut Vec<u8>,
-) -> io::Result<()>
+) -> Result<(), AllocError>
     requires { IsWidth W }
+    ensures { OnOk result ((link : Link) (beat : Beat W) → Spells line.now link beat →
+        out.new.items ≡ out.old.items ++ front_text rule number link beat) }
 {
-    io::Write::write_all(out, b"  ")?;
+    out.extend_from_slice(b"  ")?;
     append_sentence(rule, out)?;
     append_beat_line::<W>(number, line, out)
 }
@@ -214,7 +230,9 @@ fn explain_legality<const W: usize, R: Read>(
     rule: Rule,
     out: &mut Vec<u8>,
 ) -> Result<(), ExplainFault>
-    requires { IsWidth W }
+    requires width { IsWidth W }
+    requires empty { out.old.items ≡ [] }
+    ensures ok { OnOk result (IsNamed number rule out.new.items) }
     ensures fault { IfErr result (λ fault. fault ≢ ExplainFault.Tool ToolFault.Write) }
 {
     let line = fetch(alloc, reader, number)?;
@@ -225,8 +243,10 @@ fn explain_legality<const W: usize, R: Read>(
     if !is_illegal(level, rule, &beat) {
         return Err(ExplainFault::Changed);
     }
+    let mut grounds = Vec::new(alloc);
+    legal::tell(level, rule, &beat, &mut grounds)?;
     append_front::<W>(rule, number, &line, out)?;
-    legal::tell(level, rule, &beat, out)?;
+    out.extend_from_slice(&grounds)?;
     Ok(())
 }
 
@@ -277,13 +297,15 @@ fn explain_order<const W: usize, R: Read>(
     line: &Spelling,
     out: &mut Vec<u8>,
 ) -> Result<(), ExplainFault>
-    requires { IsWidth W }
-    ensures ok { OnOk result (IsExplained (R.remaining reader.old) (R.remaining reader.new) (found.now.good + 1) rule) }
+    requires width { IsWidth W }
+    requires empty { out.old.items ≡ [] }
+    ensures ok { OnOk result (IsExplained (R.remaining reader.old) (R.remaining reader.new) (found.now.good + 1) rule
+        out.new.items) }
     ensures fault { IfErr result (λ fault. fault ≢ ExplainFault.Tool ToolFault.Write) }
 {
     let start = start_of::<W>(header, found, line).ok_or(ExplainFault::Changed)?;
     let replay = read_again(alloc, reader, start)?.ok_or(ExplainFault::Changed)?;
-    let number = found.good.saturating_add(1);
+    let number = number_behind(found.good)?;
     if replay.good != found.good {
         return Err(ExplainFault::Changed);
     }
@@ -294,8 +316,16 @@ fn explain_order<const W: usize, R: Read>(
     let Some(reason) = find_reason(replay.profile, rule, &beat, &replay.recorder) else {
         return Err(ExplainFault::Changed);
     };
+    let mut grounds = Vec::new(alloc);
+    tell::tell(
+        replay.profile,
+        &beat,
+        &reason,
+        &replay.recorder,
+        &mut grounds,
+    )?;
     append_front::<W>(rule, number, line, out)?;
-    tell::tell(replay.profile, &beat, &reason, &replay.recorder, out)?;
+    out.extend_from_slice(&grounds)?;
     Ok(())
 }
 
@@ -330,6 +360,7 @@ fn explain_clean<const W: usize, R: Read>(
     Ok(())
 }
 
+#[tactic(auto, using(crate::proofs::Explaining::of_legality, crate::proofs::Explaining::of_order))]
 /// Explains what was found behind a header.
 fn explain_found<const W: usize, R: Read>(
     alloc: Global,
@@ -339,12 +370,13 @@ fn explain_found<const W: usize, R: Read>(
     status: Status,
     out: &mut Vec<u8>,
 ) -> Result<(), ExplainFault>
-    requires { IsWidth W }
+    requires width { IsWidth W }
+    requires empty { out.old.items ≡ [] }
     ensures ok { OnOk result (ExplainsFound (R.remaining reader.old) (R.remaining reader.new) found.now.good
-        found.now.fault status) }
+        found.now.fault out.new.items status) }
     ensures fault { IfErr result (λ fault. fault ≢ ExplainFault.Tool ToolFault.Write) }
 {
-    let number = found.good.saturating_add(1);
+    let number = number_behind(found.good)?;
     match (status, &found.fault) {
         (Status::Clean, _) => explain_clean::<W, R>(alloc, reader, header, found.good, out),
         (Status::Broken, None) => {
@@ -372,7 +404,9 @@ fn reasons<R: Read>(
     status: Status,
     out: &mut Vec<u8>,
 ) -> Result<(), ExplainFault>
-    ensures ok { OnOk result (ExplainsStatus (R.remaining reader.old) (R.remaining reader.new) found.now status) }
+    requires { out.old.items ≡ [] }
+    ensures ok { OnOk result (ExplainsStatus (R.remaining reader.old) (R.remaining reader.new) found.now
+        out.new.items status) }
     ensures fault { IfErr result (λ fault. fault ≢ ExplainFault.Tool ToolFault.Write) }
 {
     match &found.header {
@@ -436,7 +470,7 @@ pub fn explain_input<R: Read, S: Read, W: Write>(
 ) -> Result<Status, ExplainFault>
     ensures ok { IfOk result (λ status. (verdict reasons : List ℕ)
         × Reaches (R.remaining first.old) (R.remaining first.new) verdict status
-        × Explains (S.remaining second.old) (S.remaining second.new) verdict status
+        × Explains (S.remaining second.old) (S.remaining second.new) verdict reasons status
         × Appends (W.contents writer.old) (W.contents writer.new) (verdict ++ reasons)) }
     ensures fault { IfErr result (GivesUpExplaining (R.remaining first.old) (R.remaining first.new)
         (S.remaining second.old) (S.remaining second.new) (W.contents writer.old) (W.contents writer.new)) }

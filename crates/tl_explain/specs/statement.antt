@@ -1,5 +1,6 @@
 pub mod Evidence
 pub mod ParamNames
 pub mod Reasons
+pub mod Sentences
 pub mod Since
 pub mod Text

@@ -1,8 +1,12 @@
 //! What a rule or a fault says, by its name.
 
+ghost use Rattle.std.specs.Prelude.{◌≡◌, ◌++◌, codes, OnOk};
+ghost use Rattle.tl_explain.specs.statement.Sentences.{in_brackets, rule_line};
+
 use crate::example::{Example, example_of};
 use crate::memory;
 use crate::sentence::{basis, judged_messages, sentence};
+use std::alloc::AllocError;
 use std::io;
 use std::io::Write;
 use tl_params::rule::Rule;
@@ -70,17 +74,37 @@ fn append_trace(trace: &str, out: &mut Vec<u8>) -> io::Result<()> {
     Ok(())
 }
 
-/// Appends the name of a rule, with the messages that it judges, where these are only some, and its sentence.
-fn append_said(name: &str, messages: &str, sentence: &str, out: &mut Vec<u8>) -> io::Result<()> {
-    if messages.is_empty() {
-        write!(out, "{name}: {sentence}\n")
-    } else {
-        write!(out, "{name} ({messages}): {sentence}\n")
+/// Appends a text in brackets behind a space, where it isn't empty.
+fn append_in_brackets(text: &str, out: &mut Vec<u8>) -> Result<(), AllocError>
+    ensures { OnOk result (out.new.items ≡ out.old.items ++ in_brackets text.now) }
+{
+    if text.is_empty() {
+        return Ok(());
     }
+    out.extend_from_slice(b" (")?;
+    out.extend_from_slice(text.as_bytes())?;
+    out.push(b')')?;
+    Ok(())
 }
 
+/// Appends the name of a rule, with the messages that it judges, where these are only some, and its sentence.
+fn append_said(name: &str, messages: &str, sentence: &str, out: &mut Vec<u8>) -> Result<(), AllocError>
+    ensures { OnOk result (out.new.items ≡ out.old.items ++ name.now ++ in_brackets messages.now ++ codes ": "
+        ++ sentence.now ++ codes "\n") }
+{
+    out.extend_from_slice(name.as_bytes())?;
+    append_in_brackets(messages, out)?;
+    out.extend_from_slice(b": ")?;
+    out.extend_from_slice(sentence.as_bytes())?;
+    out.push(b'\n')?;
+    Ok(())
+}
+
+#[tactic(auto, unfolding(crate::specs::statement::Sentences::rule_line))]
 /// Appends the name of a rule of a link, with the messages that it judges, and its sentence.
-pub fn append_sentence(rule: Rule, out: &mut Vec<u8>) -> io::Result<()> {
+pub fn append_sentence(rule: Rule, out: &mut Vec<u8>) -> Result<(), AllocError>
+    ensures { OnOk result (out.new.items ≡ out.old.items ++ rule_line rule) }
+{
     append_said(rule.name(), judged_messages(rule), sentence(rule), out)
 }
 

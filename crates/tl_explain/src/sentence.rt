@@ -1,9 +1,14 @@
 //! What each rule says, in the words of docs/PROTOCOL.md.
 
+ghost use Rattle.std.specs.Prelude.{◌≡◌};
+ghost use Rattle.tl_explain.specs.statement.Sentences.{messages_judged, rule_sentence};
+
 use tl_params::rule::Rule;
 
 /// The messages that a rule of the order of messages judges, and nothing for another rule.
-pub fn judged_messages(rule: Rule) -> &'static str {
+pub fn judged_messages(rule: Rule) -> &'static str
+    ensures { result.now ≡ messages_judged rule }
+{
     match rule {
         Rule::H1 => "requests on A, Release, ReleaseData",
         Rule::H2 | Rule::H3 => "messages on D",
@@ -18,7 +23,9 @@ pub fn judged_messages(rule: Rule) -> &'static str {
 }
 
 /// Where a rule is broken.
-pub fn sentence(rule: Rule) -> &'static str {
+pub fn sentence(rule: Rule) -> &'static str
+    ensures { result.now ≡ rule_sentence rule }
+{
     match rule {
         Rule::L1 => {
             "the beat isn't of the channel named, or the opcode isn't of the level, or the link has no level"

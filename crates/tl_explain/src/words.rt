@@ -1,9 +1,17 @@
 //! The lines of an explanation: keys, permissions and beats in words.
 
+ghost use Rattle.std.specs.Prelude.{◌≡◌, ◌++◌, OnOk};
+ghost use Rattle.tl_beat.specs.declared.beat.Beat.{Beat};
+ghost use Rattle.tl_beat.specs.declared.beat.Link.{Link};
+ghost use Rattle.tl_beat.specs.statement.Line.{Spells};
 ghost use Rattle.tl_beat.specs.statement.Width.{IsWidth};
+ghost use Rattle.tl_explain.specs.code.Spelled.{spelled};
+ghost use Rattle.tl_explain.specs.statement.Sentences.{beat_line};
 
 use crate::text::append_text;
 use crate::told::Told;
+use itoa::Buffer;
+use std::alloc::AllocError;
 use std::io;
 use std::io::Write;
 use tl_beat::read::read_line;
@@ -49,27 +57,34 @@ pub fn append_key(key: Key, out: &mut Vec<u8>) -> io::Result<()> {
     }
 }
 
+#[tactic(auto, unfolding(crate::specs::statement::Sentences::beat_line))]
 /// Appends the words of a beat line, behind its number.
 pub fn append_beat_line<const W: usize>(
     number: u64,
     line: &[u8],
     out: &mut Vec<u8>,
-) -> io::Result<()>
+) -> Result<(), AllocError>
     requires { IsWidth W }
+    ensures { OnOk result ((link : Link) (beat : Beat W) → Spells line.now link beat →
+        out.new.items ≡ out.old.items ++ beat_line number link beat) }
 {
-    write!(out, "  {number}: ")?;
+    let mut digits = Buffer::new();
+    out.extend_from_slice(b"  ")?;
+    out.extend_from_slice(digits.format(number).as_bytes())?;
+    out.extend_from_slice(b": ")?;
     match read_line::<W>(line) {
-        Ok((_, beat)) => {
-            append_text(line, &beat, out)?;
-            Ok(())
-        }
-        Err(_) => out.write_all(b"\n"),
+        Ok((_, beat)) => append_text(line, &beat, out)?,
+        Err(_) => out.push(b'\n')?,
     }
+    Ok(())
 }
 
 /// Appends the words of a beat that is told, behind the number of its line.
 pub fn append_told<const W: usize>(told: &Told, out: &mut Vec<u8>) -> io::Result<()>
     requires { IsWidth W }
+    ensures { OnOk result ((link : Link) (beat : Beat W) → Spells (spelled told.now.spelling) link beat →
+        out.new.items ≡ out.old.items ++ beat_line told.now.mention.line link beat) }
 {
-    append_beat_line::<W>(told.mention.line, told.spelling.line(), out)
+    append_beat_line::<W>(told.mention.line, told.spelling.line(), out)?;
+    Ok(())
 }

@@ -29,12 +29,13 @@ abbrev pub IsVerdict : Found → Status → List ℕ → Type 0
 IsVerdict found Clean verdict = ⊤
 IsVerdict found Broken verdict = verdict ≡ fault_text (found.good + 1) (fault_of found)
 
--- what was read explains what was found behind a header
-abbrev pub ExplainsFound : Option (List ℕ) → Option (List ℕ) → ℕ → Option (Fault × Spelling) → Status → Type 0
-ExplainsFound old new good fault Clean = ⊤
-ExplainsFound old new good fault Broken = ExplainsFault old new (good + 1) (fault_behind fault)
+-- what was read, and the text behind the verdict, explain what was found behind a header
+abbrev pub ExplainsFound : Option (List ℕ) → Option (List ℕ) → ℕ → Option (Fault × Spelling) → List ℕ → Status
+    → Type 0
+ExplainsFound old new good fault reasons Clean = ⊤
+ExplainsFound old new good fault reasons Broken = ExplainsFault old new (good + 1) reasons (fault_behind fault)
 
--- what was read explains what was found
-abbrev pub ExplainsStatus : Option (List ℕ) → Option (List ℕ) → Found → Status → Type 0
-ExplainsStatus old new found Clean = ⊤
-ExplainsStatus old new found Broken = ExplainsFault old new (found.good + 1) (fault_of found)
+-- what was read, and the text behind the verdict, explain what was found
+abbrev pub ExplainsStatus : Option (List ℕ) → Option (List ℕ) → Found → List ℕ → Status → Type 0
+ExplainsStatus old new found reasons Clean = ⊤
+ExplainsStatus old new found reasons Broken = ExplainsFault old new (found.good + 1) reasons (fault_of found)

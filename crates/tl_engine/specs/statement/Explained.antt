@@ -1,17 +1,20 @@
--- What stands behind the verdict that a beat breaks a rule of order.
-use Rattle.std.specs.Prelude.{◌≡◌, ℕ, ◌+◌, Bool, true, false, List, [], ◌∷◌, ◌++◌, length, Option, Some, ⊤}
+-- What stands behind the verdict that a beat breaks a rule.
+use Rattle.std.specs.Prelude.{◌≡◌, ℕ, ◌+◌, Bool, true, false, List, [], ◌∷◌, ◌++◌, length, Option, Some, None, ⊤, codes}
 use Rattle.std.specs.Io.KnownBytes.{Consumes}
 use Rattle.tl_beat.specs.declared.beat.Beat.{Beat}
 use Rattle.tl_beat.specs.declared.beat.Link.{Link}
 use Rattle.tl_beat.specs.statement.Line.{Spells}
+use Rattle.tl_burst.specs.statement.Messages.{channel_of}
 use Rattle.tl_params.specs.declared.level.Level.{Level}
 use Rattle.tl_params.specs.declared.profile.Profile.{Profile}
 use Rattle.tl_params.specs.declared.rule.Rule.{Rule}
 use Rattle.tl_params.specs.declared.rule.Rule.TheVariants.{L1, L2, L3, L4, L5, L6, L7}
 use Rattle.tl_params.specs.declared.width.Width.{Width}
 use Rattle.tl_rules.specs.statement.Conformance.{Trace}
+use Rattle.tl_rules.specs.statement.Legality.{illegal}
 use Rattle.tl_explain.specs.declared.reason.Reason.{Reason}
 use Rattle.tl_explain.specs.statement.Reasons.{IsEvidence, convicted}
+use Rattle.tl_explain.specs.statement.Sentences.{beat_line, rule_line}
 use Rattle.tl_engine.specs.code.Lines.{lines_of}
 use Rattle.tl_engine.specs.declared.fault.Fault.{Fault}
 use Rattle.tl_engine.specs.declared.fault.Fault.TheVariants.{Rule as Breaks}
@@ -27,12 +30,18 @@ AreLinesOf [] lines = lines ≡ []
 AreLinesOf (x ∷ t) lines =
     (front : List (List ℕ)) × (line : List ℕ) × (lines ≡ front ++ line ∷ []) × Spells line x.0 x.1 × AreLinesOf t front
 
+-- what a rule says, and the beat of line n that breaks it: what stands first behind the verdict
+abbrev pub front_text : {w : ℕ} → Rule → ℕ → Link → Beat w → List ℕ
+front_text rule n link beat = codes "  " ++ rule_line rule ++ beat_line n link beat
+
 -- What was read of a file, from these bytes on, explains why its line n breaks the rule: the lines before it are a
 -- header
 -- and those of the beats of a trace; line n spells the beat; what the reason tells of that trace is so, and from it and
 -- the
--- beat alone the rule is broken. All this stands whatever follows what was read.
-pub record IsExplained (old new : Option (List ℕ)) (n : ℕ) (rule : Rule) : Type 0 where
+-- beat alone the rule is broken. All this stands whatever follows what was read. The text behind the verdict begins
+-- with what
+-- the rule says and that beat.
+pub record IsExplained (old new : Option (List ℕ)) (n : ℕ) (rule : Rule) (reasons : List ℕ) : Type 0 where
   pub width : Width
   pub profile : Profile
   pub levels : List Level
@@ -55,6 +64,22 @@ pub record IsExplained (old new : Option (List ℕ)) (n : ℕ) (rule : Rule) : T
   pub reason : Reason
   pub evidence : IsEvidence link.0 beat reason trace
   pub convicts : convicted profile beat reason ≡ Some rule
+  pub grounds : List ℕ
+  pub begins : reasons ≡ front_text rule n link beat ++ grounds
+
+-- the rule that a beat breaks by itself on a link of this level, or on one that has none
+abbrev pub broken_alone : {w : ℕ} → Option Level → Beat w → Option Rule
+broken_alone None beat = Some L1
+broken_alone (Some level) beat = illegal level (channel_of beat) beat
+
+-- Where a rule of legality is broken, what was read last spells a beat that breaks it by itself, and the text behind
+-- the
+-- verdict begins with what the rule says and that beat.
+abbrev pub IsNamed : ℕ → Rule → List ℕ → Type 0
+IsNamed n rule reasons =
+    (bytes : ℕ) × (line : List ℕ) × (link : Link) × (beat : Beat bytes) × (level : Option Level) × (grounds : List ℕ)
+    × Spells line link beat × (broken_alone level beat ≡ Some rule)
+    × (reasons ≡ front_text rule n link beat ++ grounds)
 
 -- the rule isn't one of legality, which a beat breaks by itself
 abbrev pub is_of_order : Rule → Bool
@@ -67,13 +92,17 @@ is_of_order L6 = false
 is_of_order L7 = false
 is_of_order _ = true
 
--- what was read of a file explains why its line n is at fault for this, where a rule of order is broken
-abbrev pub ExplainsFault : Option (List ℕ) → Option (List ℕ) → ℕ → Fault → Type 0
-ExplainsFault old new n (Breaks rule) = is_of_order rule ≡ true → IsExplained old new n rule
-ExplainsFault old new n _ = ⊤
+-- what was read of a file, and the text behind the verdict, explain why its line n is at fault for this, where a rule
+-- of
+-- order is broken
+abbrev pub ExplainsFault : Option (List ℕ) → Option (List ℕ) → ℕ → List ℕ → Fault → Type 0
+ExplainsFault old new n reasons (Breaks rule) =
+    (is_of_order rule ≡ true → IsExplained old new n rule reasons)
+    × (is_of_order rule ≡ false → IsNamed n rule reasons)
+ExplainsFault old new n reasons _ = ⊤
 
--- what was read of a file explains the verdict, where it is that a beat breaks a rule of order
-abbrev pub Explains : Option (List ℕ) → Option (List ℕ) → List ℕ → Status → Type 0
-Explains old new verdict Clean = ⊤
-Explains old new verdict Broken = (n : ℕ) × (fault : Fault) × (verdict ≡ fault_text n fault)
-    × ExplainsFault old new n fault
+-- what was read of a file, and the text behind the verdict, explain it, where it is that a beat breaks a rule
+abbrev pub Explains : Option (List ℕ) → Option (List ℕ) → List ℕ → List ℕ → Status → Type 0
+Explains old new verdict reasons Clean = ⊤
+Explains old new verdict reasons Broken = (n : ℕ) × (fault : Fault) × (verdict ≡ fault_text n fault)
+    × ExplainsFault old new n reasons fault

@@ -43,6 +43,6 @@ abbrev pub GivesUpExplaining : Option (List ℕ) → Option (List ℕ) → Optio
     → Option (List ℕ) → Option (List ℕ) → ExplainFault → Type 0
 GivesUpExplaining had left had_again left_again held holds (Tool Write) =
     (verdict reasons : List ℕ) × (status : Status) × Reaches had left verdict status
-    × Explains had_again left_again verdict status × AppendsShort held holds (verdict ++ reasons)
+    × Explains had_again left_again verdict reasons status × AppendsShort held holds (verdict ++ reasons)
 GivesUpExplaining had left had_again left_again held holds fault =
     (holds ≡ held) × (((left_again ≡ had_again) × IsUnjudged had left fault) ⊎ IsUnreasoned had left fault)

@@ -1,10 +1,11 @@
 -- Lines of a schedule, one after another.
 use Rattle.std.proofs.Common.{◌≡◌, ◌++◌, ◌+◌, ◌-◌, ◌≤◌, ℕ, zero, suc, Bool, List, [], refl, sym, ◌∙◌, ap, append_assoc}
-use Rattle.std.proofs.Common.{Result, Ok, Err, arith}
+use Rattle.std.proofs.Common.{◌<◌, Result, Ok, Err, arith, length}
 use Rattle.std.proofs.Common.{if◌then◌else◌}
 use Rattle.std.specs.Prelude.{OnErr, OnOk, IsTrue, is_ok, not, true, false, Option, Some, None}
 use Rattle.std.specs.Io.KnownBytes.{Appends}
 use Rattle.std.proofs.Common.{add-one, subst}
+use Rattle.std.proofs.lemmas.Bool.Decides.{nat_tests}
 use Rattle.std.proofs.lemmas.List.{append-nil}
 use Rattle.std.proofs.KnownBytes.{Appends-nil, Appends-trans}
 use Rattle.tl_coherence.specs.declared.event.Event.{Event}
@@ -67,6 +68,20 @@ fits false b c d e = absurd cc
 fits true false c d e = absurd cc
 fits true true false d e = absurd cc
 fits true true true false e = absurd cc
+
+-- it has clients
+pub some_clients : (config : Config) → config_fault config ≡ None → 0 < length config.clients.items
+some_clients config e =
+    let all = fits (clients_fit config) (blocks_fit config.blocks) (trackers_fit config.trackers)
+    (all_sources_fit config.clients.items) e in
+    grind (arith, nat_tests, all.0)
+
+-- of which a byte is enough for the numbers
+pub few_clients : (config : Config) → config_fault config ≡ None → length config.clients.items ≤ 16
+few_clients config e =
+    let all = fits (clients_fit config) (blocks_fit config.blocks) (trackers_fit config.trackers)
+    (all_sources_fit config.clients.items) e in
+    grind (arith, nat_tests, all.0)
 
 -- its header
 pub heads : (version : Version) (config : Config) → config_fault config ≡ None → config.profile ≡ profile_of version

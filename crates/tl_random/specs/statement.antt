@@ -1,1 +1,5 @@
+pub mod Choose
+pub mod Draw
+pub mod Drawn
 pub mod Random
+pub mod Said

@@ -2,6 +2,12 @@
 
 ghost use Rattle.std.specs.Prelude.{◌≡◌, ◌≤◌, ◌<◌};
 ghost use Rattle.tl_beat.specs.statement.Width.{IsWidth};
+ghost use Rattle.tl_random.specs.statement.Choose.{access, access_size, address_in, arithmetic, atomic, atomic_size};
+ghost use Rattle.tl_random.specs.statement.Choose.{channel_of, grow_from, hint, intent, load, logical, mask_of};
+ghost use Rattle.tl_random.specs.statement.Choose.{of_copies, plain_access, prune_from, request, store, value_of};
+ghost use Rattle.tl_random.specs.statement.Choose.{word_size};
+ghost use Rattle.tl_random.specs.statement.Draw.{Draws};
+ghost use Rattle.tl_random.specs.statement.Said.{HasSize};
 
 use crate::draw::{below, block_of_bytes, is_one_in};
 use crate::request::{Asked, Request};
@@ -14,8 +20,10 @@ use tl_params::perm::Perm;
 use tl_schedule::access::{beats, lanes};
 
 /// An address in a block that is a multiple of `2^size`.
+#[tactic(auto, unfolding(crate::specs::statement::Choose::address_in))]
 fn address(rng: &mut Xoshiro256PlusPlus, block: u16, size: u8) -> u32
     requires { size ≤ 6 }
+    ensures { Draws (address_in block size) rng.old rng.new result }
 {
     let unit = 1u64 << size;
     let offset = below(rng, 64) / unit * unit;
@@ -23,22 +31,29 @@ fn address(rng: &mut Xoshiro256PlusPlus, block: u16, size: u8) -> u32
 }
 
 /// A size of 1 to 8 bytes.
+#[tactic(auto, unfolding(crate::specs::statement::Choose::word_size))]
 fn word_size(rng: &mut Xoshiro256PlusPlus) -> u8
-    ensures { result ≤ 3 }
+    ensures within { result ≤ 3 }
+    ensures drawn { Draws word_size rng.old rng.new result }
 {
     below(rng, 4) as u8
 }
 
 /// The size of an atomic: 4 or 8 bytes.
+#[tactic(auto, unfolding(crate::specs::statement::Choose::atomic_size))]
 fn atomic_size(rng: &mut Xoshiro256PlusPlus) -> u8
-    ensures { result ≤ 3 }
+    ensures within { result ≤ 3 }
+    ensures drawn { Draws atomic_size rng.old rng.new result }
 {
     if is_one_in(rng, 2) { 2 } else { 3 }
 }
 
 /// The size of an access that a level has: at most a beat at TL-UL, and a block above it.
+#[tactic(auto, unfolding(crate::specs::statement::Choose::access_size))]
 fn access_size<const W: usize>(rng: &mut Xoshiro256PlusPlus, level: Level) -> u8
-    ensures { result ≤ 6 }
+    requires { IsWidth W }
+    ensures within { result ≤ 6 }
+    ensures drawn { Draws (access_size W level) rng.old rng.new result }
 {
     let sizes = match level {
         Level::UL if W == 4 => 3,
@@ -50,17 +65,19 @@ fn access_size<const W: usize>(rng: &mut Xoshiro256PlusPlus, level: Level) -> u8
 }
 
 /// A number of `2^size` bytes, at most 8.
-fn value(rng: &mut Xoshiro256PlusPlus, size: u8) -> u64 {
-    let unused = match size {
-        0 => 56,
-        1 => 48,
-        2 => 32,
-        _ => 0,
-    };
-    rng.next_u64() >> unused
+#[tactic(auto, unfolding(crate::specs::statement::Choose::value_of))]
+fn value(rng: &mut Xoshiro256PlusPlus, size: u8) -> u64
+    requires { size ≤ 3 }
+    ensures { Draws (value_of size) rng.old rng.new result }
+{
+    let bits = 8u32 << size;
+    rng.next_u64() >> (64 - bits)
 }
 
-fn arithmetic(rng: &mut Xoshiro256PlusPlus) -> Arithmetic {
+#[tactic(auto, unfolding(crate::specs::statement::Choose::arithmetic, crate::specs::statement::Draw::by_chance))]
+fn arithmetic(rng: &mut Xoshiro256PlusPlus) -> Arithmetic
+    ensures { Draws arithmetic rng.old rng.new result }
+{
     match below(rng, 5) {
         0 => Arithmetic::Min,
         1 => Arithmetic::Max,
@@ -70,7 +87,10 @@ fn arithmetic(rng: &mut Xoshiro256PlusPlus) -> Arithmetic {
     }
 }
 
-fn logical(rng: &mut Xoshiro256PlusPlus) -> Logical {
+#[tactic(auto, unfolding(crate::specs::statement::Choose::logical, crate::specs::statement::Draw::by_chance))]
+fn logical(rng: &mut Xoshiro256PlusPlus) -> Logical
+    ensures { Draws logical rng.old rng.new result }
+{
     match below(rng, 4) {
         0 => Logical::Xor,
         1 => Logical::Or,
@@ -79,7 +99,10 @@ fn logical(rng: &mut Xoshiro256PlusPlus) -> Logical {
     }
 }
 
-fn intent(rng: &mut Xoshiro256PlusPlus) -> Intent {
+#[tactic(auto, unfolding(crate::specs::statement::Choose::intent))]
+fn intent(rng: &mut Xoshiro256PlusPlus) -> Intent
+    ensures { Draws intent rng.old rng.new result }
+{
     if is_one_in(rng, 2) {
         Intent::PrefetchRead
     } else {
@@ -88,16 +111,21 @@ fn intent(rng: &mut Xoshiro256PlusPlus) -> Intent {
 }
 
 /// Some of the lanes of an access.
+#[tactic(auto, unfolding(crate::specs::statement::Choose::mask_of))]
 fn mask<const W: usize>(rng: &mut Xoshiro256PlusPlus, size: u8, address: u32) -> u64
     requires width { IsWidth W }
     requires small { size ≤ 6 }
+    ensures { Draws (mask_of W size address) rng.old rng.new result }
 {
     rng.next_u64() & lanes::<W>(size, address, beats::<W>(size))
 }
 
 /// A Get, PutFullData or PutPartialData.
+#[tactic(auto, unfolding(crate::specs::statement::Choose::plain_access, crate::specs::statement::Draw::by_chance))]
 fn plain_access<const W: usize>(rng: &mut Xoshiro256PlusPlus, level: Level, block: u16) -> Request
     requires { IsWidth W }
+    ensures drawn { Draws (plain_access W level block) rng.old rng.new result }
+    ensures sized { HasSize result }
 {
     let size = access_size::<W>(rng, level);
     let address = address(rng, block, size);
@@ -119,7 +147,11 @@ fn plain_access<const W: usize>(rng: &mut Xoshiro256PlusPlus, level: Level, bloc
 }
 
 /// An ArithmeticData or LogicalData.
-fn atomic(rng: &mut Xoshiro256PlusPlus, block: u16) -> Request {
+#[tactic(auto, unfolding(crate::specs::statement::Choose::atomic))]
+fn atomic(rng: &mut Xoshiro256PlusPlus, block: u16) -> Request
+    ensures drawn { Draws (atomic block) rng.old rng.new result }
+    ensures sized { HasSize result }
+{
     let size = atomic_size(rng);
     let address = address(rng, block, size);
     let asked = if is_one_in(rng, 2) {
@@ -141,7 +173,12 @@ fn atomic(rng: &mut Xoshiro256PlusPlus, block: u16) -> Request {
 }
 
 /// An Intent.
-fn hint<const W: usize>(rng: &mut Xoshiro256PlusPlus, level: Level, block: u16) -> Request {
+#[tactic(auto, unfolding(crate::specs::statement::Choose::hint))]
+fn hint<const W: usize>(rng: &mut Xoshiro256PlusPlus, level: Level, block: u16) -> Request
+    requires { IsWidth W }
+    ensures drawn { Draws (hint W level block) rng.old rng.new result }
+    ensures sized { HasSize result }
+{
     let size = access_size::<W>(rng, level);
     Request::Access {
         size,
@@ -153,8 +190,11 @@ fn hint<const W: usize>(rng: &mut Xoshiro256PlusPlus, level: Level, block: u16) 
 }
 
 /// An access that a level has.
+#[tactic(auto, unfolding(crate::specs::statement::Choose::access, crate::specs::statement::Draw::by_chance))]
 fn access<const W: usize>(rng: &mut Xoshiro256PlusPlus, level: Level, block: u16) -> Request
     requires { IsWidth W }
+    ensures drawn { Draws (access W level block) rng.old rng.new result }
+    ensures sized { HasSize result }
 {
     if level == Level::UL {
         return plain_access::<W>(rng, level, block);
@@ -167,7 +207,10 @@ fn access<const W: usize>(rng: &mut Xoshiro256PlusPlus, level: Level, block: u16
 }
 
 /// What grows from what is held; from Trunk nothing does.
-fn grow(rng: &mut Xoshiro256PlusPlus, held: Perm) -> Grow {
+#[tactic(auto, unfolding(crate::specs::statement::Choose::grow_from))]
+fn grow(rng: &mut Xoshiro256PlusPlus, held: Perm) -> Grow
+    ensures { Draws (grow_from held) rng.old rng.new result }
+{
     match held {
         Perm::Branch => Grow::BtoT,
         Perm::None | Perm::Trunk => {
@@ -181,7 +224,10 @@ fn grow(rng: &mut Xoshiro256PlusPlus, held: Perm) -> Grow {
 }
 
 /// What gives up some of what is held; of nothing nothing can be.
-fn prune(rng: &mut Xoshiro256PlusPlus, held: Perm) -> Prune {
+#[tactic(auto, unfolding(crate::specs::statement::Choose::prune_from))]
+fn prune(rng: &mut Xoshiro256PlusPlus, held: Perm) -> Prune
+    ensures { Draws (prune_from held) rng.old rng.new result }
+{
     match held {
         Perm::Trunk => {
             if is_one_in(rng, 2) {
@@ -194,7 +240,11 @@ fn prune(rng: &mut Xoshiro256PlusPlus, held: Perm) -> Prune {
     }
 }
 
-fn load(rng: &mut Xoshiro256PlusPlus, block: u16) -> Request {
+#[tactic(auto, unfolding(crate::specs::statement::Choose::load))]
+fn load(rng: &mut Xoshiro256PlusPlus, block: u16) -> Request
+    ensures drawn { Draws (load block) rng.old rng.new result }
+    ensures sized { HasSize result }
+{
     let size = word_size(rng);
     Request::Load {
         size,
@@ -202,7 +252,11 @@ fn load(rng: &mut Xoshiro256PlusPlus, block: u16) -> Request {
     }
 }
 
-fn store(rng: &mut Xoshiro256PlusPlus, block: u16) -> Request {
+#[tactic(auto, unfolding(crate::specs::statement::Choose::store))]
+fn store(rng: &mut Xoshiro256PlusPlus, block: u16) -> Request
+    ensures drawn { Draws (store block) rng.old rng.new result }
+    ensures sized { HasSize result }
+{
     let size = word_size(rng);
     Request::Store {
         size,
@@ -212,8 +266,11 @@ fn store(rng: &mut Xoshiro256PlusPlus, block: u16) -> Request {
 }
 
 /// What a client of TL-C is asked for, by what it holds of the block.
+#[tactic(auto, unfolding(crate::specs::statement::Choose::of_copies, crate::specs::statement::Draw::by_chance))]
 fn of_copies<const W: usize>(rng: &mut Xoshiro256PlusPlus, block: u16, held: Perm) -> Request
     requires { IsWidth W }
+    ensures drawn { Draws (of_copies W block held) rng.old rng.new result }
+    ensures sized { HasSize result }
 {
     match below(rng, 12) {
         0 | 1 => load(rng, block),
@@ -235,6 +292,7 @@ fn of_copies<const W: usize>(rng: &mut Xoshiro256PlusPlus, block: u16, held: Per
 }
 
 /// What a client of this level is asked for, by what it holds of the block.
+#[tactic(auto, unfolding(crate::specs::statement::Choose::request))]
 pub(crate) fn request<const W: usize>(
     rng: &mut Xoshiro256PlusPlus,
     level: Level,
@@ -242,6 +300,8 @@ pub(crate) fn request<const W: usize>(
     held: Perm,
 ) -> Request
     requires { IsWidth W }
+    ensures drawn { Draws (request W level block held) rng.old rng.new result }
+    ensures sized { HasSize result }
 {
     match level {
         Level::C => of_copies::<W>(rng, block, held),
@@ -250,7 +310,10 @@ pub(crate) fn request<const W: usize>(
 }
 
 /// A channel that a level has.
-pub(crate) fn channel(rng: &mut Xoshiro256PlusPlus, level: Level) -> Channel {
+#[tactic(auto, unfolding(crate::specs::statement::Choose::channel_of, crate::specs::statement::Draw::by_chance))]
+pub(crate) fn channel(rng: &mut Xoshiro256PlusPlus, level: Level) -> Channel
+    ensures { Draws (channel_of level) rng.old rng.new result }
+{
     if level != Level::C {
         return if is_one_in(rng, 2) {
             Channel::A

@@ -1,8 +1,13 @@
 //! Draws the lines of a schedule, each by what came of those before it.
 
-ghost use Rattle.std.specs.Prelude.{◌≡◌, ◌++◌, ℕ, List, OnOk, IfOk};
+ghost use Rattle.std.specs.Prelude.{◌≡◌, ◌<◌, ◌++◌, IfOk, OnOk, length};
 ghost use Rattle.tl_beat.specs.statement.Width.{IsWidth};
 ghost use Rattle.tl_schedule.specs.statement.EventLine.{drain_line};
+ghost use Rattle.tl_coherence.specs.statement.Log.{Log};
+ghost use Rattle.tl_engine.specs.code.PlayableWorld.{Reaches};
+ghost use Rattle.tl_random.specs.statement.Draw.{Draws, below, words_from, words_of};
+ghost use Rattle.tl_random.specs.statement.Drawn.{asking_line, block_below, block_of, delivery_line, is_idle};
+ghost use Rattle.tl_random.specs.statement.Drawn.{line_drawn, takes};
 ghost use Rattle.tl_random.specs.statement.Random.{GrowsByLine};
 
 use crate::choose::{channel, request};
@@ -19,6 +24,8 @@ use tl_command::random::Options;
 use tl_engine::trace_header::world_of;
 use tl_manager::bits::BitDirectory;
 use tl_params::config::Config;
+use tl_params::level::Level;
+use tl_params::perm::Perm;
 use tl_world::world::World;
 
 /// A line in so many drains the world.
@@ -29,7 +36,9 @@ const IDLE: u64 = 72;
 const TRIES: u8 = 64;
 
 /// Whether nothing came of an event: it was busy, missing, stalled or empty.
-fn is_idle<const W: usize>(outcome: &Outcome<W>) -> bool {
+fn is_idle<const W: usize>(outcome: &Outcome<W>) -> bool
+    ensures { result ≡ is_idle outcome.now }
+{
     match outcome {
         Outcome::Replied { reply } => matches!(reply, Reply::Busy(_) | Reply::Miss),
         Outcome::Empty | Outcome::Stalled | Outcome::NoSuchClient => true,
@@ -38,7 +47,10 @@ fn is_idle<const W: usize>(outcome: &Outcome<W>) -> bool {
 }
 
 /// Whether an event is taken: where something came of it, and now and then where nothing did.
-fn takes<const W: usize>(rng: &mut Xoshiro256PlusPlus, outcome: &Outcome<W>) -> bool {
+#[tactic(auto, unfolding(crate::specs::statement::Drawn::takes))]
+fn takes<const W: usize>(rng: &mut Xoshiro256PlusPlus, outcome: &Outcome<W>) -> bool
+    ensures { Draws (takes outcome.now) rng.old rng.new result }
+{
     !is_idle(outcome) || is_one_in(rng, IDLE)
 }
 
@@ -51,7 +63,10 @@ pub(crate) struct Generator<const W: usize> {
 }
 
 /// One of the first blocks, so many of them.
-fn block_below(rng: &mut Xoshiro256PlusPlus, count: u16) -> u16 {
+#[tactic(auto, unfolding(crate::specs::statement::Drawn::block_below))]
+fn block_below(rng: &mut Xoshiro256PlusPlus, count: u16) -> u16
+    ensures { Draws (block_below count) rng.old rng.new result }
+{
     if count == 0 {
         return 0;
     }
@@ -59,12 +74,59 @@ fn block_below(rng: &mut Xoshiro256PlusPlus, count: u16) -> u16 {
 }
 
 /// A block: seven times in eight one of those of which most operations speak.
-fn block(rng: &mut Xoshiro256PlusPlus, options: &Options) -> u16 {
+#[tactic(auto, unfolding(crate::specs::statement::Drawn::block_of))]
+fn block(rng: &mut Xoshiro256PlusPlus, options: &Options) -> u16
+    ensures { Draws (block_of options.now) rng.old rng.new result }
+{
     if is_one_in(rng, 8) {
         block_below(rng, options.config.blocks)
     } else {
         block_below(rng, options.contend)
     }
+}
+
+/// One of the clients.
+#[tactic(auto, using(crate::proofs::Schedules::some_clients, crate::proofs::Schedules::few_clients))]
+fn client(rng: &mut Xoshiro256PlusPlus, options: &Options) -> u8
+    ensures drawn { Draws (below (length options.now.config.clients.items)) rng.old rng.new result }
+    ensures within { result < length options.now.config.clients.items }
+{
+    below(rng, options.config.clients.len() as u64) as u8
+}
+
+/// Appends the line that asks a client for something in a block, by what it holds of it.
+#[tactic(auto, unfolding(crate::specs::statement::Drawn::asking_line))]
+fn append_asking<const W: usize>(
+    rng: &mut Xoshiro256PlusPlus,
+    line: &mut Vec<u8>,
+    client: u8,
+    level: Level,
+    block: u16,
+    held: Perm,
+) -> Result<(), AllocError>
+    requires { IsWidth W }
+    ensures line { OnOk result (line.new.items ≡ line.old.items
+        ++ (asking_line W level client block held (words_from rng.old)).0) }
+    ensures rest { words_from rng.new ≡ (asking_line W level client block held (words_from rng.old)).1 }
+{
+    let request = request::<W>(rng, level, block, held);
+    append_request::<W>(line, client, &request)
+}
+
+/// Appends the line of a delivery on a client's link.
+#[tactic(auto, unfolding(crate::specs::statement::Drawn::delivery_line))]
+fn append_delivering<const W: usize>(
+    rng: &mut Xoshiro256PlusPlus,
+    line: &mut Vec<u8>,
+    client: u8,
+    level: Level,
+) -> Result<(), AllocError>
+    ensures line { OnOk result (line.new.items ≡ line.old.items
+        ++ (delivery_line W level client (words_from rng.old)).0) }
+    ensures rest { words_from rng.new ≡ (delivery_line W level client (words_from rng.old)).1 }
+{
+    let channel = channel(rng, level);
+    append_delivery::<W>(line, client, channel)
 }
 
 /// The world that the options name, to which nothing has happened.
@@ -87,6 +149,7 @@ impl<const W: usize> Generator<W> {
     /// A generator of the options' seed, and the world that they name.
     pub(crate) fn new(alloc: Global, options: &Options) -> Result<Self, AllocError>
         requires { IsWidth W }
+        ensures { IfOk result (λ generator. words_from generator.rng ≡ words_of options.now.seed) }
     {
         Ok(Generator {
             rng: Xoshiro256PlusPlus::seed_from_u64(options.seed),
@@ -96,24 +159,22 @@ impl<const W: usize> Generator<W> {
     }
 
     /// Draws a line into `line`: two times in five what a client is asked for, else a delivery.
+    #[tactic(auto, unfolding(crate::specs::statement::Drawn::line_drawn))]
     fn draw_line(&mut self, options: &Options) -> Result<(), AllocError>
         requires { IsWidth W }
+        ensures world { self.new.world ≡ self.old.world }
+        ensures drawn { OnOk result ((log : Log W) → Reaches options.now.config self.old.world log →
+            Draws (line_drawn options.now log) self.old.rng self.new.rng self.new.line.items) }
     {
         self.line.clear();
-        let clients = options.config.clients.as_slice();
-        if clients.is_empty() {
-            return Ok(());
-        }
-        let i = below(&mut self.rng, clients.len() as u64) as usize;
-        let level = clients[i].level;
+        let client = client(&mut self.rng, options);
+        let level = options.config.clients.as_slice()[usize::from(client)].level;
         if below(&mut self.rng, 5) < 2 {
             let block = block(&mut self.rng, options);
-            let held = self.world.held(i as u8, block);
-            let request = request::<W>(&mut self.rng, level, block, held);
-            append_request::<W>(&mut self.line, i as u8, &request)
+            let held = self.world.held(client, block);
+            append_asking::<W>(&mut self.rng, &mut self.line, client, level, block, held)
         } else {
-            let channel = channel(&mut self.rng, level);
-            append_delivery(&mut self.line, i as u8, channel)
+            append_delivering::<W>(&mut self.rng, &mut self.line, client, level)
         }
     }
 

@@ -1,0 +1,12 @@
+use Rattle.std.proofs.Common.{rules}
+use Rattle.tl_schedule.proofs.ByteDigits.{append-none, append-step}
+use Rattle.tl_random.proofs.text.put_bytes.Goals as goal
+
+pub loop-i-init : goal.loop-i-init
+loop-i-init c = append-none c.args.bytes.now c.args.out.now.items
+
+pub loop-i-preserved : goal.loop-i-preserved
+loop-i-preserved c =
+    rw c.in_ok-put_digits.ensures
+    (append-step c.loop-i.i c.args.bytes.now c.args.out.now.items c.loop-i.out.items _
+    (search rules) (search rules) c.loop-i.invariant)

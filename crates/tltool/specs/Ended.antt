@@ -1,18 +1,22 @@
 -- How the program ends, by its exit status.
-use Rattle.std.specs.Prelude.{◌≡◌, ◌⊎◌, ℕ, List, Option, Result, Err, IfErr, IfOk, OnErr, OnOk}
+use Rattle.std.specs.Prelude.{◌≡◌, ◌⊎◌, ◌++◌, ℕ, List, Option, Result, Ok, Err, IfErr, IfOk, OnErr, OnOk}
+use Rattle.std.specs.Io.KnownBytes.{Appends}
 use Rattle.tl_command.specs.declared.command.Command.{Command}
 use Rattle.tl_command.specs.declared.random.Options.{Options}
 use Rattle.tl_params.specs.statement.Header.{width_of}
 use Rattle.tl_words.specs.declared.words.WordsFault.{WordsFault}
 use Rattle.tl_words.specs.declared.words.WordsFault.TheVariants as words
 use Rattle.tl_words.specs.Refused.{status_of_usage}
+use Rattle.tl_engine.specs.declared.explain.ExplainFault.{ExplainFault}
 use Rattle.tl_engine.specs.declared.status.Status.{Status}
 use Rattle.tl_engine.specs.declared.status.ToolFault.{ToolFault}
 use Rattle.tl_engine.specs.declared.status.ToolFault.TheVariants.{Memory, Write}
 use Rattle.tl_engine.specs.code.GivenUp.{GivesUpFor}
 use Rattle.tl_engine.specs.code.Run.{FailsAt, RunsTo}
 use Rattle.tl_engine.specs.statement.Exit.{exit_status}
+use Rattle.tl_engine.specs.statement.Explained.{Explains}
 use Rattle.tl_engine.specs.statement.Told.{text_so_far, text_told}
+use Rattle.tl_engine.specs.statement.Unexplained.{GivesUpExplaining, Reaches}
 use Rattle.tl_engine.specs.statement.Width.{bytes_of}
 use Rattle.tl_random.specs.statement.Random.{WritesPart, WritesSchedule}
 
@@ -35,6 +39,20 @@ EndsDrawn o had holds status =
     (outcome : Result Status ToolFault) × (status ≡ exit_status outcome)
     × OnOk outcome (WritesSchedule (bytes_of (width_of o.version)) o.version o.config o.events had holds)
     × OnErr outcome (WritesPart (bytes_of (width_of o.version)) o.version o.config o.events had holds)
+
+-- the status that an explanation exits with
+abbrev pub explain_status : Result Status ExplainFault → ℕ
+explain_status (Ok status) = exit_status (Ok status)
+explain_status (Err fault) = 3
+
+-- The status is that of an outcome which an explanation has over what was read, by each of two readers, and written.
+abbrev pub EndsExplained : Option (List ℕ) → Option (List ℕ) → Option (List ℕ) → Option (List ℕ) → Option (List ℕ)
+    → Option (List ℕ) → ℕ → Type 0
+EndsExplained had left had_again left_again held holds status =
+    (outcome : Result Status ExplainFault) × (status ≡ explain_status outcome)
+    × IfOk outcome (λ judged. (verdict reasons : List ℕ) × Reaches had left verdict judged
+    × Explains had_again left_again verdict reasons judged × Appends held holds (verdict ++ reasons))
+    × IfErr outcome (GivesUpExplaining had left had_again left_again held holds)
 
 -- The words give no command: the status is that of the usage, or of a writer that failed, or of want of memory.
 abbrev pub IsRefused : WordsFault → ℕ → Type 0

@@ -3,7 +3,7 @@
 
 ghost use Rattle.std.specs.Prelude.{◌≡◌, IfOk, OnOk, OnErr, Err};
 ghost use Rattle.tl_engine.specs.statement.Exit.{exit_status};
-ghost use Rattle.tltool.specs.Ended.{EndsAs, EndsDrawn, EndsOver, IsRefused};
+ghost use Rattle.tltool.specs.Ended.{EndsAs, EndsDrawn, EndsExplained, EndsOver, IsRefused, explain_status};
 
 use std::fs::File;
 use std::io::{Read, Write};
@@ -112,6 +112,35 @@ fn is_read_once(file: &File) -> bool {
     }
 }
 
+/// The exit status of an explanation, whose fault is told on standard error.
+fn told_explained(rt: &HostRuntime, name: &str, outcome: Result<Status, ExplainFault>) -> u8
+    ensures { result ≡ explain_status outcome }
+{
+    match outcome {
+        Ok(status) => told(rt, Ok(status)),
+        Err(ExplainFault::Tool(fault)) => told(rt, Err(fault)),
+        Err(ExplainFault::Changed) => {
+            let _ = write_changed(name, &mut rt.stderr());
+            exit_of(&Err(ToolFault::Read))
+        }
+    }
+}
+
+/// Explains a file of this name, of which these are two readers.
+fn explain_over<R: Read, S: Read, W: Write>(
+    rt: &HostRuntime,
+    name: &str,
+    first: &mut R,
+    second: &mut S,
+    output: &mut W,
+) -> u8
+    ensures { EndsExplained (R.remaining first.old) (R.remaining first.new) (S.remaining second.old)
+        (S.remaining second.new) (W.contents output.old) (W.contents output.new) result }
+{
+    let outcome = explain_input(rt.alloc(), first, second, output);
+    told_explained(rt, name, outcome)
+}
+
 /// Explains the file of this name, or the rule or fault where there is no such file.
 fn explain(rt: &HostRuntime, name: &str) -> u8 {
     let Ok(mut first) = fs::open(rt, name) else {
@@ -124,14 +153,7 @@ fn explain(rt: &HostRuntime, name: &str) -> u8 {
     let Ok(mut second) = fs::open(rt, name) else {
         return unopened(rt, name);
     };
-    match explain_input(rt.alloc(), &mut first, &mut second, &mut io::writer(rt)) {
-        Ok(status) => told(rt, Ok(status)),
-        Err(ExplainFault::Tool(fault)) => told(rt, Err(fault)),
-        Err(ExplainFault::Changed) => {
-            let _ = write_changed(name, &mut rt.stderr());
-            exit_of(&Err(ToolFault::Read))
-        }
-    }
+    explain_over(rt, name, &mut first, &mut second, &mut io::writer(rt))
 }
 
 /// Runs a command over standard input, or over the file of this name.

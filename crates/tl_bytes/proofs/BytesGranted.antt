@@ -2,11 +2,12 @@
 use Rattle.std.proofs.Common.{◌≡◌, ℕ, refl, List, [], ◌∷◌, ◌++◌}
 use Rattle.std.specs.Prelude.{Some, None}
 use Rattle.tl_burst.specs.statement.Messages.{unfinished}
+use Rattle.tl_rules.specs.statement.Admission.{bytes_carried}
 use Rattle.tl_rules.specs.statement.Conformance.{Trace, on_link}
 use Rattle.tl_rules.specs.statement.Effect.{effect}
 use Rattle.tl_rules.specs.statement.History.{grant_sink, held, pending, probe_of, release_of, request_of}
 use Rattle.tl_rules.specs.statement.Windows.{is_free}
-use Rattle.tl_bytes.specs.statement.Bytes.{may_be, may_read, pending_accesses, carried_byte, carried_bytes}
+use Rattle.tl_bytes.specs.statement.Bytes.{may_be, may_read, pending_accesses, carried_byte}
 use Rattle.tl_bytes.specs.statement.Bytes.{carried_mask, windows_since, window_began, last_window, last_told}
 use Rattle.tl_bytes.specs.statement.Bytes.{each_from, before_last}
 use Rattle.tl_bytes.proofs.WorkedBeats.{put, done, get, found, acquire, acquire_unread, grant_beat, grant_unread}
@@ -20,21 +21,21 @@ granted v = acquire 1 0 0 65535 ∷ four (grant_beat 1 1 0 1 (wide v))
 
 -- the bytes that were given back
 the_bytes_given_back : untrue (given_back (granted 9)) ≡ None
-unfolding untrue_from may_be may_read pending_accesses carried_byte carried_bytes carried_mask windows_since
+unfolding untrue_from may_be may_read pending_accesses carried_byte bytes_carried carried_mask windows_since
     window_began last_window last_told each_from before_last effect unfinished on_link request_of release_of probe_of
     grant_sink pending held is_free
 the_bytes_given_back = refl
 
 -- and not those of the Grant before
 the_bytes_of_the_grant_before : untrue (given_back (granted 5)) ≡ Some 11
-unfolding untrue_from may_be may_read pending_accesses carried_byte carried_bytes carried_mask windows_since
+unfolding untrue_from may_be may_read pending_accesses carried_byte bytes_carried carried_mask windows_since
     window_began last_window last_told each_from before_last effect unfinished on_link request_of release_of probe_of
     grant_sink pending held is_free
 the_bytes_of_the_grant_before = refl
 
 -- a Put that is pending may not have been performed
 a_put_to_come : untrue (given_back (put 0 0 4 (wide 7) 65535 ∷ granted 9)) ≡ None
-unfolding untrue_from may_be may_read pending_accesses carried_byte carried_bytes carried_mask windows_since
+unfolding untrue_from may_be may_read pending_accesses carried_byte bytes_carried carried_mask windows_since
     window_began last_window last_told each_from before_last effect unfinished on_link request_of release_of probe_of
     grant_sink pending held is_free
 a_put_to_come = refl
@@ -42,14 +43,14 @@ a_put_to_come = refl
 -- or may have been
 a_put_that_was_performed : untrue
     (given_back (put 0 0 4 (wide 7) 65535 ∷ acquire 1 0 0 65535 ∷ grant_beat 1 1 0 1 (wide 7) ∷ [])) ≡ None
-unfolding untrue_from may_be may_read pending_accesses carried_byte carried_bytes carried_mask windows_since
+unfolding untrue_from may_be may_read pending_accesses carried_byte bytes_carried carried_mask windows_since
     window_began last_window last_told each_from before_last effect unfinished on_link request_of release_of probe_of
     grant_sink pending held is_free
 a_put_that_was_performed = refl
 
 -- where it is answered it was
 a_put_that_is_lost : untrue (given_back (put 0 0 4 (wide 7) 65535 ∷ done 0 0 4 ∷ granted 9)) ≡ Some 13
-unfolding untrue_from may_be may_read pending_accesses carried_byte carried_bytes carried_mask windows_since
+unfolding untrue_from may_be may_read pending_accesses carried_byte bytes_carried carried_mask windows_since
     window_began last_window last_told each_from before_last effect unfinished on_link request_of release_of probe_of
     grant_sink pending held is_free
 a_put_that_is_lost = refl
@@ -57,21 +58,21 @@ a_put_that_is_lost = refl
 -- a Put that is answered after the Grant may be in it
 a_put_answered_late : untrue (given_back (put 0 0 4 (wide 7) 65535 ∷ granted 9 ++ done 0 0 4 ∷ grant_ack 1 1 ∷ []))
     ≡ None
-unfolding untrue_from may_be may_read pending_accesses carried_byte carried_bytes carried_mask windows_since
+unfolding untrue_from may_be may_read pending_accesses carried_byte bytes_carried carried_mask windows_since
     window_began last_window last_told each_from before_last effect unfinished on_link request_of release_of probe_of
     grant_sink pending held is_free
 a_put_answered_late = refl
 
 -- what a Grant told the next one tells too
 the_bytes_granted : untrue (acquire 0 0 0 65535 ∷ four (grant_beat 0 1 0 0 (wide 5)) ++ granted 5) ≡ None
-unfolding untrue_from may_be may_read pending_accesses carried_byte carried_bytes carried_mask windows_since
+unfolding untrue_from may_be may_read pending_accesses carried_byte bytes_carried carried_mask windows_since
     window_began last_window last_told each_from before_last effect unfinished on_link request_of release_of probe_of
     grant_sink pending held is_free
 the_bytes_granted = refl
 
 -- and nothing else
 bytes_that_were_never_granted : untrue (acquire 0 0 0 65535 ∷ four (grant_beat 0 1 0 0 (wide 5)) ++ granted 6) ≡ Some 6
-unfolding untrue_from may_be may_read pending_accesses carried_byte carried_bytes carried_mask windows_since
+unfolding untrue_from may_be may_read pending_accesses carried_byte bytes_carried carried_mask windows_since
     window_began last_window last_told each_from before_last effect unfinished on_link request_of release_of probe_of
     grant_sink pending held is_free
 bytes_that_were_never_granted = refl
@@ -85,7 +86,7 @@ granted_eights =
 -- of two Puts before a Grant the one that it tells was the last, also where their answers come after it
 puts_answered_after_a_grant : untrue (given_back (put 0 0 4 (wide 7) 65535 ∷ put 0 1 4 (wide 8) 65535 ∷ granted_eights
     ++ done 0 0 4 ∷ done 0 1 4 ∷ get 0 0 4 65535 ∷ found 0 0 4 (wide 8) ∷ [])) ≡ None
-unfolding untrue_from may_be may_read pending_accesses carried_byte carried_bytes carried_mask windows_since
+unfolding untrue_from may_be may_read pending_accesses carried_byte bytes_carried carried_mask windows_since
     window_began last_window last_told each_from before_last effect unfinished on_link request_of release_of probe_of
     grant_sink pending held is_free
 puts_answered_after_a_grant = refl
@@ -93,7 +94,7 @@ puts_answered_after_a_grant = refl
 -- and the other is gone
 a_put_before_a_grant : untrue (given_back (put 0 0 4 (wide 7) 65535 ∷ put 0 1 4 (wide 8) 65535 ∷ granted_eights
     ++ done 0 0 4 ∷ done 0 1 4 ∷ get 0 0 4 65535 ∷ found 0 0 4 (wide 7) ∷ [])) ≡ Some 20
-unfolding untrue_from may_be may_read pending_accesses carried_byte carried_bytes carried_mask windows_since
+unfolding untrue_from may_be may_read pending_accesses carried_byte bytes_carried carried_mask windows_since
     window_began last_window last_told each_from before_last effect unfinished on_link request_of release_of probe_of
     grant_sink pending held is_free
 a_put_before_a_grant = refl
@@ -102,21 +103,21 @@ a_put_before_a_grant = refl
 corrupt_data_given_back : untrue (acquire 0 1 0 65535 ∷ four (grant_beat 0 0 0 0 (wide 5)) ++ four
     (spoilt (release_beat 0 1 (wide 9)))
     ++ granted 3) ≡ None
-unfolding untrue_from may_be may_read pending_accesses carried_byte carried_bytes carried_mask windows_since
+unfolding untrue_from may_be may_read pending_accesses carried_byte bytes_carried carried_mask windows_since
     window_began last_window last_told each_from before_last effect unfinished on_link request_of release_of probe_of
     grant_sink pending held is_free
 corrupt_data_given_back = refl
 
 -- corrupt data of a Grant aren't judged
 corrupt_data_granted : untrue (given_back (acquire 1 0 0 65535 ∷ four (spoilt (grant_beat 1 1 0 1 (wide 3))))) ≡ None
-unfolding untrue_from may_be may_read pending_accesses carried_byte carried_bytes carried_mask windows_since
+unfolding untrue_from may_be may_read pending_accesses carried_byte bytes_carried carried_mask windows_since
     window_began last_window last_told each_from before_last effect unfinished on_link request_of release_of probe_of
     grant_sink pending held is_free
 corrupt_data_granted = refl
 
 -- one who writes the whole block unread may leave anything
 a_block_written_unread : untrue (given_back (acquire_unread 0 0 65535 ∷ grant_unread 0 0 0 ∷ granted 3)) ≡ None
-unfolding untrue_from may_be may_read pending_accesses carried_byte carried_bytes carried_mask windows_since
+unfolding untrue_from may_be may_read pending_accesses carried_byte bytes_carried carried_mask windows_since
     window_began last_window last_told each_from before_last effect unfinished on_link request_of release_of probe_of
     grant_sink pending held is_free
 a_block_written_unread = refl
@@ -129,7 +130,7 @@ granted_to_0 bytes = acquire 0 1 0 65535 ∷ four (grant_beat 0 0 0 0 bytes) ++ 
 -- a Get may be performed at once, and its answer come later
 a_get_at_once : untrue (given_back (get 1 0 4 65535 ∷ granted_to_0 (wide 9) ++ four (release_beat 0 1 (wide 3)) ++ found
     1 0 4 (wide 9) ∷ [])) ≡ None
-unfolding untrue_from may_be may_read pending_accesses carried_byte carried_bytes carried_mask windows_since
+unfolding untrue_from may_be may_read pending_accesses carried_byte bytes_carried carried_mask windows_since
     window_began last_window last_told each_from before_last effect unfinished on_link request_of release_of probe_of
     grant_sink pending held is_free
 a_get_at_once = refl
@@ -137,7 +138,7 @@ a_get_at_once = refl
 -- or it is performed late
 a_get_late : untrue (given_back (get 1 0 4 65535 ∷ granted_to_0 (wide 9) ++ four (release_beat 0 1 (wide 3)) ++ found 1
     0 4 (wide 3) ∷ [])) ≡ None
-unfolding untrue_from may_be may_read pending_accesses carried_byte carried_bytes carried_mask windows_since
+unfolding untrue_from may_be may_read pending_accesses carried_byte bytes_carried carried_mask windows_since
     window_began last_window last_told each_from before_last effect unfinished on_link request_of release_of probe_of
     grant_sink pending held is_free
 a_get_late = refl
@@ -146,7 +147,7 @@ a_get_late = refl
 a_get_too_early : untrue
     (given_back (get 1 0 4 65535 ∷ granted_to_0 (wide 9) ++ four (release_beat 0 1 (wide 3)) ++ found 1 0 4
     (wide 5) ∷ [])) ≡ Some 21
-unfolding untrue_from may_be may_read pending_accesses carried_byte carried_bytes carried_mask windows_since
+unfolding untrue_from may_be may_read pending_accesses carried_byte bytes_carried carried_mask windows_since
     window_began last_window last_told each_from before_last effect unfinished on_link request_of release_of probe_of
     grant_sink pending held is_free
 a_get_too_early = refl

@@ -2,11 +2,12 @@
 use Rattle.std.proofs.Common.{◌≡◌, ℕ, refl, List, [], ◌∷◌}
 use Rattle.std.specs.Prelude.{replicate, Some, None}
 use Rattle.tl_burst.specs.statement.Messages.{unfinished}
+use Rattle.tl_rules.specs.statement.Admission.{bytes_carried}
 use Rattle.tl_rules.specs.statement.Conformance.{Trace, on_link}
 use Rattle.tl_rules.specs.statement.Effect.{effect, number_from}
 use Rattle.tl_rules.specs.statement.History.{grant_sink, held, pending, probe_of, release_of, request_of}
 use Rattle.tl_rules.specs.statement.Windows.{is_free}
-use Rattle.tl_bytes.specs.statement.Bytes.{may_be, may_read, pending_accesses, carried_byte, carried_bytes}
+use Rattle.tl_bytes.specs.statement.Bytes.{may_be, may_read, pending_accesses, carried_byte}
 use Rattle.tl_bytes.specs.statement.Bytes.{carried_mask, windows_since, window_began, last_window, last_told}
 use Rattle.tl_bytes.specs.statement.Bytes.{each_from, before_last}
 use Rattle.tl_bytes.proofs.WorkedBeats.{eight, put, part, done, get, add, found, untrue_from, untrue}
@@ -15,14 +16,14 @@ use Rattle.tl_bytes.proofs.WorkedBeats.{eight, put, part, done, get, add, found,
 
 -- before anything was told
 unknown_bytes : untrue {w = 8} (get 1 0 3 255 ∷ found 1 0 3 (eight 9) ∷ []) ≡ None
-unfolding untrue_from may_be may_read pending_accesses carried_byte carried_bytes carried_mask windows_since
+unfolding untrue_from may_be may_read pending_accesses carried_byte bytes_carried carried_mask windows_since
     window_began last_window last_told each_from before_last effect unfinished on_link request_of release_of probe_of
     grant_sink pending held is_free
 unknown_bytes = refl
 
 -- after a Put is answered, what it wrote
 new_bytes : untrue {w = 8} (put 0 0 3 (eight 7) 255 ∷ done 0 0 3 ∷ get 1 0 3 255 ∷ found 1 0 3 (eight 7) ∷ []) ≡ None
-unfolding untrue_from may_be may_read pending_accesses carried_byte carried_bytes carried_mask windows_since
+unfolding untrue_from may_be may_read pending_accesses carried_byte bytes_carried carried_mask windows_since
     window_began last_window last_told each_from before_last effect unfinished on_link request_of release_of probe_of
     grant_sink pending held is_free
 new_bytes = refl
@@ -30,7 +31,7 @@ new_bytes = refl
 -- and nothing else
 stale_bytes : untrue {w = 8} (put 0 0 3 (eight 7) 255 ∷ done 0 0 3 ∷ get 1 0 3 255 ∷ found 1 0 3 (eight 0) ∷ [])
     ≡ Some 3
-unfolding untrue_from may_be may_read pending_accesses carried_byte carried_bytes carried_mask windows_since
+unfolding untrue_from may_be may_read pending_accesses carried_byte bytes_carried carried_mask windows_since
     window_began last_window last_told each_from before_last effect unfinished on_link request_of release_of probe_of
     grant_sink pending held is_free
 stale_bytes = refl
@@ -39,7 +40,7 @@ stale_bytes = refl
 a_put_of_one_byte : untrue {w = 8} (put 0 0 3 (eight 5) 255 ∷ done 0 0 3 ∷ part 0 0 3 (eight 7) 1 ∷ done 0 0 3 ∷ get 1 0
     3 255
     ∷ found 1 0 3 (7 ∷ replicate 7 5) ∷ []) ≡ None
-unfolding untrue_from may_be may_read pending_accesses carried_byte carried_bytes carried_mask windows_since
+unfolding untrue_from may_be may_read pending_accesses carried_byte bytes_carried carried_mask windows_since
     window_began last_window last_told each_from before_last effect unfinished on_link request_of release_of probe_of
     grant_sink pending held is_free
 a_put_of_one_byte = refl
@@ -48,7 +49,7 @@ a_put_of_one_byte = refl
 bytes_beside_a_put : untrue {w = 8} (put 0 0 3 (eight 5) 255 ∷ done 0 0 3 ∷ part 0 0 3 (eight 7) 1 ∷ done 0 0 3 ∷ get 1
     0 3 255
     ∷ found 1 0 3 (eight 7) ∷ []) ≡ Some 5
-unfolding untrue_from may_be may_read pending_accesses carried_byte carried_bytes carried_mask windows_since
+unfolding untrue_from may_be may_read pending_accesses carried_byte bytes_carried carried_mask windows_since
     window_began last_window last_told each_from before_last effect unfinished on_link request_of release_of probe_of
     grant_sink pending held is_free
 bytes_beside_a_put = refl
@@ -56,7 +57,7 @@ bytes_beside_a_put = refl
 -- beside a Put that is pending, what was before
 read_before_a_put : untrue {w = 8} (put 0 0 3 (eight 5) 255 ∷ done 0 0 3 ∷ put 0 0 3 (eight 7) 255 ∷ get 1 0 3
     255 ∷ found 1 0 3 (eight 5) ∷ []) ≡ None
-unfolding untrue_from may_be may_read pending_accesses carried_byte carried_bytes carried_mask windows_since
+unfolding untrue_from may_be may_read pending_accesses carried_byte bytes_carried carried_mask windows_since
     window_began last_window last_told each_from before_last effect unfinished on_link request_of release_of probe_of
     grant_sink pending held is_free
 read_before_a_put = refl
@@ -64,7 +65,7 @@ read_before_a_put = refl
 -- or what it writes
 read_after_a_put : untrue {w = 8} (put 0 0 3 (eight 5) 255 ∷ done 0 0 3 ∷ put 0 0 3 (eight 7) 255 ∷ get 1 0 3
     255 ∷ found 1 0 3 (eight 7) ∷ []) ≡ None
-unfolding untrue_from may_be may_read pending_accesses carried_byte carried_bytes carried_mask windows_since
+unfolding untrue_from may_be may_read pending_accesses carried_byte bytes_carried carried_mask windows_since
     window_began last_window last_told each_from before_last effect unfinished on_link request_of release_of probe_of
     grant_sink pending held is_free
 read_after_a_put = refl
@@ -72,7 +73,7 @@ read_after_a_put = refl
 -- and nothing else
 read_from_nowhere : untrue {w = 8} (put 0 0 3 (eight 5) 255 ∷ done 0 0 3 ∷ put 0 0 3 (eight 7) 255 ∷ get 1 0 3
     255 ∷ found 1 0 3 (eight 6) ∷ []) ≡ Some 4
-unfolding untrue_from may_be may_read pending_accesses carried_byte carried_bytes carried_mask windows_since
+unfolding untrue_from may_be may_read pending_accesses carried_byte bytes_carried carried_mask windows_since
     window_began last_window last_told each_from before_last effect unfinished on_link request_of release_of probe_of
     grant_sink pending held is_free
 read_from_nowhere = refl
@@ -81,7 +82,7 @@ read_from_nowhere = refl
 either_came_last : untrue {w = 8} (put 0 0 3 (eight 5) 255 ∷ put 1 0 3 (eight 7) 255 ∷ done 1 0 3 ∷ done 0 0 3 ∷ get 1 0
     3 255
     ∷ found 1 0 3 (eight 7) ∷ []) ≡ None
-unfolding untrue_from may_be may_read pending_accesses carried_byte carried_bytes carried_mask windows_since
+unfolding untrue_from may_be may_read pending_accesses carried_byte bytes_carried carried_mask windows_since
     window_began last_window last_told each_from before_last effect unfinished on_link request_of release_of probe_of
     grant_sink pending held is_free
 either_came_last = refl
@@ -90,7 +91,7 @@ either_came_last = refl
 second_came_last : untrue {w = 8} (put 0 0 3 (eight 5) 255 ∷ done 0 0 3 ∷ put 1 0 3 (eight 7) 255 ∷ done 1 0 3 ∷ get 1 0
     3 255
     ∷ found 1 0 3 (eight 5) ∷ []) ≡ Some 5
-unfolding untrue_from may_be may_read pending_accesses carried_byte carried_bytes carried_mask windows_since
+unfolding untrue_from may_be may_read pending_accesses carried_byte bytes_carried carried_mask windows_since
     window_began last_window last_told each_from before_last effect unfinished on_link request_of release_of probe_of
     grant_sink pending held is_free
 second_came_last = refl
@@ -98,7 +99,7 @@ second_came_last = refl
 -- an atomic finds the old number
 an_atomic_finds : untrue {w = 8} (put 0 0 3 (eight 255) 255 ∷ done 0 0 3 ∷ add 1 0 3 (1 ∷ replicate 7 0) 255 ∷ found 1 0
     3 (eight 255) ∷ []) ≡ None
-unfolding untrue_from may_be may_read pending_accesses carried_byte carried_bytes carried_mask windows_since
+unfolding untrue_from may_be may_read pending_accesses carried_byte bytes_carried carried_mask windows_since
     window_began last_window last_told each_from before_last effect unfinished on_link request_of release_of probe_of
     grant_sink pending held is_free
 an_atomic_finds = refl
@@ -106,7 +107,7 @@ an_atomic_finds = refl
 -- and not the new one
 an_atomic_answers_the_new : untrue {w = 8} (put 0 0 3 (eight 255) 255 ∷ done 0 0 3 ∷ add 1 0 3 (1 ∷ replicate 7 0)
     255 ∷ found 1 0 3 (eight 0) ∷ []) ≡ Some 3
-unfolding untrue_from may_be may_read pending_accesses carried_byte carried_bytes carried_mask windows_since
+unfolding untrue_from may_be may_read pending_accesses carried_byte bytes_carried carried_mask windows_since
     window_began last_window last_told each_from before_last effect unfinished on_link request_of release_of probe_of
     grant_sink pending held is_free
 an_atomic_answers_the_new = refl
@@ -114,7 +115,7 @@ an_atomic_answers_the_new = refl
 -- an ADD wraps
 an_add_wraps : untrue {w = 8} (add 0 0 3 (1 ∷ replicate 7 0) 255 ∷ found 0 0 3 (eight 255) ∷ get 1 0 3 255 ∷ found 1 0 3
     (eight 0) ∷ []) ≡ None
-unfolding untrue_from may_be may_read pending_accesses carried_byte carried_bytes carried_mask windows_since
+unfolding untrue_from may_be may_read pending_accesses carried_byte bytes_carried carried_mask windows_since
     window_began last_window last_told each_from before_last effect unfinished on_link request_of release_of probe_of
     grant_sink pending held is_free number_from
 an_add_wraps = refl
@@ -122,7 +123,7 @@ an_add_wraps = refl
 -- and carries within its bytes
 an_add_that_is_lost : untrue {w = 8} (add 0 0 3 (1 ∷ replicate 7 0) 255 ∷ found 0 0 3 (eight 255) ∷ get 1 0 3
     255 ∷ found 1 0 3 (0 ∷ replicate 7 255) ∷ []) ≡ Some 3
-unfolding untrue_from may_be may_read pending_accesses carried_byte carried_bytes carried_mask windows_since
+unfolding untrue_from may_be may_read pending_accesses carried_byte bytes_carried carried_mask windows_since
     window_began last_window last_told each_from before_last effect unfinished on_link request_of release_of probe_of
     grant_sink pending held is_free number_from
 an_add_that_is_lost = refl
@@ -141,7 +142,7 @@ adding rest =
 -- between the two beats of an atomic's answer a Get may bring the new bytes
 a_get_between_the_beats_of_an_answer : untrue
     (adding (found 0 0 3 fives ∷ get 1 0 2 15 ∷ found 1 0 2 (6 ∷ 5 ∷ 5 ∷ 5 ∷ []) ∷ found 0 0 3 fives ∷ [])) ≡ None
-unfolding untrue_from may_be may_read pending_accesses carried_byte carried_bytes carried_mask windows_since
+unfolding untrue_from may_be may_read pending_accesses carried_byte bytes_carried carried_mask windows_since
     window_began last_window last_told each_from before_last effect unfinished on_link request_of release_of probe_of
     grant_sink pending held is_free number_from
 a_get_between_the_beats_of_an_answer = refl
@@ -149,7 +150,7 @@ a_get_between_the_beats_of_an_answer = refl
 -- after them it may bring nothing else
 a_get_after_an_answer : untrue (adding (found 0 0 3 fives ∷ found 0 0 3 fives ∷ get 1 0 2 15 ∷ found 1 0 2 fives ∷ []))
     ≡ Some 8
-unfolding untrue_from may_be may_read pending_accesses carried_byte carried_bytes carried_mask windows_since
+unfolding untrue_from may_be may_read pending_accesses carried_byte bytes_carried carried_mask windows_since
     window_began last_window last_told each_from before_last effect unfinished on_link request_of release_of probe_of
     grant_sink pending held is_free number_from
 a_get_after_an_answer = refl
@@ -159,7 +160,7 @@ a_write_after_an_answer_began : untrue {w = 4} (put 0 0 3 fives 15 ∷ put 0 0 3
     15 ∷ found 1 0 3 fives
     ∷ put 0 0 3 (replicate 4 7) 15 ∷ put 0 0 3 (replicate 4 7) 15 ∷ done 0 0 3 ∷ found 1 0 3 (replicate 4 7) ∷ [])
     ≡ Some 8
-unfolding untrue_from may_be may_read pending_accesses carried_byte carried_bytes carried_mask windows_since
+unfolding untrue_from may_be may_read pending_accesses carried_byte bytes_carried carried_mask windows_since
     window_began last_window last_told each_from before_last effect unfinished on_link request_of release_of probe_of
     grant_sink pending held is_free
 a_write_after_an_answer_began = refl

@@ -1,3 +1,4 @@
+pub mod Brought
 pub mod BytesGranted
 pub mod BytesRead
 pub mod Gathered

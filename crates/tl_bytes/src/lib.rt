@@ -2,6 +2,7 @@
 #![tactic(auto)]
 
 pub mod block_bytes;
+pub mod carried;
 pub mod read_bytes;
 pub mod standing;
 pub mod telling;

@@ -1,7 +1,7 @@
 -- What the bytes of memory may be, by what all links of a manager have carried: what a Grant may tell of
 -- them, and what a read may bring.
 use Rattle.std.specs.Prelude.{ℕ, zero, suc, Bool, true, false, not, [], ◌∷◌, ◌==◌, ◌&&◌, ◌||◌, ◌+◌, ◌-◌, ◌*◌, ◌/◌, ◌%◌}
-use Rattle.std.specs.Prelude.{◌^◌, ◌≤◌, if◌then◌else◌, List, ◌++◌, length, filter, find, slice_get, nat_lt, nat_le}
+use Rattle.std.specs.Prelude.{◌^◌, ◌≤◌, if◌then◌else◌, List, length, filter, find, slice_get, nat_lt, nat_le}
 use Rattle.std.specs.Prelude.{Option, Some, None, is_some, unwrap_or, min}
 use Rattle.std.proofs.Common.{arith}
 use Rattle.tl_bytes.specs.declared.telling.Telling.{Telling}
@@ -22,7 +22,7 @@ use Rattle.tl_burst.specs.statement.Messages.{History, channel_of, on, unfinishe
 use Rattle.tl_params.specs.declared.perm.Perm.TheVariants as perm
 use Rattle.tl_rules.specs.code.Open.{open_request}
 use Rattle.tl_rules.specs.declared.past.Request.{Request}
-use Rattle.tl_rules.specs.statement.Admission.{is_spoiled, lanes_of}
+use Rattle.tl_rules.specs.statement.Admission.{bytes_carried, is_spoiled, lanes_of}
 use Rattle.tl_rules.specs.statement.Conformance.{Trace, on_link}
 use Rattle.tl_rules.specs.statement.Effect.{Memory, effect}
 use Rattle.tl_rules.specs.statement.History.{block_at, ends, grants, is_release_ack, request_of}
@@ -39,11 +39,6 @@ carried_byte {w} (x ∷ older) p =
     if p / w == length older
     then if is_spoiled x then None else slice_get (lanes_of x) (p % w)
     else carried_byte older p
-
--- all that they carry, in order
-unfoldable pub carried_bytes : {w : ℕ} → List (Beat w) → List ℕ
-carried_bytes [] = []
-carried_bytes (x ∷ older) = carried_bytes older ++ lanes_of x
 
 -- the mask of all their bytes
 unfoldable pub carried_mask : {w : ℕ} → List (Beat w) → ℕ
@@ -80,7 +75,7 @@ asked_by link x burst moment = record {
     size = min x.size 6;
     source = x.source;
     address = x.address;
-    payload = carried_bytes burst;
+    payload = bytes_carried burst;
     mask = carried_mask burst;
     corrupt = 0;
     small = min_small x.size;

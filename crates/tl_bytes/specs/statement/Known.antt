@@ -1,6 +1,6 @@
 -- What is known of the bytes of a block, after what all links of a manager have carried.
 use Rattle.std.specs.Prelude.{ℕ, zero, suc, true, [], ◌∷◌, ◌==◌, ◌+◌, ◌*◌, ◌<◌, ◌≡◌, if◌then◌else◌, List}
-use Rattle.std.specs.Prelude.{filter, nat_lt, Option, Some, None, slice_index_or, not}
+use Rattle.std.specs.Prelude.{filter, length, nat_lt, Option, Some, None, slice_index_or, not}
 use Rattle.tl_beat.specs.declared.beat.Beat.{Beat}
 use Rattle.tl_beat.specs.declared.beat.Link.{Link}
 use Rattle.tl_burst.specs.statement.Messages.{channel_of, unfinished}
@@ -9,6 +9,7 @@ use Rattle.tl_rules.specs.statement.Conformance.{Trace, on_link}
 use Rattle.tl_rules.specs.statement.Windows.{is_free}
 use Rattle.tl_bytes.specs.declared.block_bytes.BlockBytes.{BlockBytes}
 use Rattle.tl_bytes.specs.code.Tellings.{is_written, left_as, value_at}
+use Rattle.tl_bytes.specs.declared.carried.CarriedBytes.{CarriedBytes}
 use Rattle.tl_bytes.specs.declared.read_bytes.ReadBytes.{ReadBytes}
 use Rattle.tl_bytes.specs.declared.standing.Standing.{Standing}
 use Rattle.tl_bytes.specs.declared.write.Write.{Write}
@@ -41,11 +42,19 @@ pub record KnowsBlock {w : ℕ} (b : BlockBytes) (n block : ℕ) (t : Trace w) :
   pub bytes_are : KnowsBytes b.told.items n block t
   pub last_is : moment_of b.last ≡ last_told block t
 
--- these are the bytes that the message has which is complete with a beat; none where its beat is corrupt
+-- these are the bytes that the beats have brought, the newest of which is first, by their places; none
+-- where a beat is to come, or was corrupt
+abbrev pub HasBytes : {w : ℕ} → List (Option ℕ) → List (Beat w) → Type 0
+HasBytes values burst = (place : ℕ) → place < 64 → slice_index_or values place None ≡ carried_byte burst place
+
+-- they are kept, and how many beats brought them
+pub record KnowsCarried {w : ℕ} (carried : CarriedBytes) (burst : List (Beat w)) : Type 0 where
+  pub bytes_are : HasBytes carried.bytes burst
+  pub beats_are : carried.beats ≡ length burst
+
+-- these are the bytes of the message that is complete with a beat
 abbrev pub AreCarried : {w : ℕ} → List (Option ℕ) → Link × Beat w → Trace w → Type 0
-AreCarried values x t = (place : ℕ) → place < 64
-    → slice_index_or values place None
-    ≡ carried_byte (x.1 ∷ unfinished (channel_of x.1) (on_link x.0.0 t)) place
+AreCarried values x t = HasBytes values (x.1 ∷ unfinished (channel_of x.1) (on_link x.0.0 t))
 
 -- this is what an access with this answer writes in the block
 abbrev pub IsWrite : {w : ℕ} → Write → ℕ → Access w → List (Beat w) → Type 0

@@ -3,7 +3,10 @@
 use std::alloc::{AllocError, Global};
 use std::process::Abort;
 use std::test::Fail;
+use tl_beat::beat::{Beat, BeatC};
+use tl_beat::opcode::OpC;
 use tl_bytes::block_bytes::BlockBytes;
+use tl_bytes::carried::CarriedBytes;
 use tl_bytes::read_bytes::ReadBytes;
 use tl_bytes::standing::Standing;
 use tl_bytes::windows::WritingWindows;
@@ -145,5 +148,38 @@ fn a_grant_beside_a_put(rt: HostRuntime) -> Result<(), Fail> {
     assert!(rt; !block.may_grant(0, 5, &[eight(7)]));
     assert!(rt; !block.may_grant(8, 7, &[eight(7)]));
     assert!(rt; !block.may_grant(0, 7, &[]));
+    Ok(())
+}
+
+/// A beat of ReleaseData at a width of 16, each of whose bytes is this.
+fn released(byte: u8, corrupt: bool) -> Beat<16> {
+    Beat::C(BeatC {
+        opcode: OpC::ReleaseData,
+        param: 1,
+        size: 6,
+        source: 0,
+        address: 0,
+        lanes: Some([byte; 16]),
+        corrupt,
+    })
+}
+
+#[test]
+fn bytes_that_are_given_back(rt: HostRuntime) -> Result<(), Fail> {
+    let mut carried = CarriedBytes::new();
+    for beat in [
+        released(5, false),
+        released(7, true),
+        released(7, false),
+        released(9, false),
+    ] {
+        carried.add(&beat);
+    }
+    let mut block = BlockBytes::new(rt.alloc())?;
+    block.tell(rt.alloc(), carried.bytes(), 3)?;
+    may_be(&rt, &block, 15, [true, false, false]);
+    may_be(&rt, &block, 16, [true, true, true]);
+    may_be(&rt, &block, 32, [false, true, false]);
+    may_be(&rt, &block, 63, [false, false, true]);
     Ok(())
 }

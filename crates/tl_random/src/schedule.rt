@@ -66,10 +66,10 @@ fn write_lines<const BYTES: usize, W: Write>(
 }
 
 /// Writes a schedule at random: its header, the options' number of lines, each of which says an event
-/// of the world that the header names or drains it, and a last `drain`. Each line that is tried is
-/// drawn by the words of the options' seed and by what the lines before it did (`line_drawn`), and the
-/// memory that is taken doesn't grow with the number of lines. At a fault of memory or of the writer a
-/// beginning of such a schedule has been written.
+/// of the world that the header names or drains it, and a last `drain`. No clause says which of such
+/// schedules it is: what a line that is tried is drawn from, `line_drawn` defines. The memory that is
+/// taken doesn't grow with the number of lines. At a fault of memory or of the writer a beginning of
+/// such a schedule has been written.
 pub fn write_schedule<W: Write>(
     alloc: Global,
     options: &Options,

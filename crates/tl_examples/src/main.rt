@@ -107,7 +107,7 @@ const TRACED: [&str; 4] = [
 ];
 
 /// The files that are no traces, or have a line that spells no beat, by their names in data/.
-const FAULTS: [&str; 26] = [
+const FAULTS: [&str; 27] = [
     "faults/F1_comment.trace",
     "faults/F1_end.trace",
     "faults/F1_fields.trace",
@@ -134,6 +134,7 @@ const FAULTS: [&str; 26] = [
     "faults/F7_space.trace",
     "faults/F7_version.trace",
     "faults/F7_width.trace",
+    "faults/H1_long_line_behind.trace",
 ];
 
 /// The traces at whose end something is pending.

@@ -30,7 +30,7 @@ some_read (Err fault) had left held holds runs fails = (fails.0, fails.3)
 unread : (had left held holds : Option (List ℕ)) → GivesUpFor (IsKnown Knows) Judged had left held holds Read
     → IsUnjudged had left (Tool Read)
 unread had left held holds (read, consumed, inl (text, appended, (e, known))) =
-    (read, consumed, inl (text, judged_so_far e.monitor_lines _ text known))
+    (read, consumed, inl (text, judged_so_far 0 e.monitor_lines _ text known))
 unread had left held holds (read, consumed, inr out) = (read, consumed, inr out)
 
 -- the first reading was given up, of which a writer into memory fails for want of it

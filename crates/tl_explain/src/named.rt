@@ -88,7 +88,12 @@ fn append_in_brackets(text: &str, out: &mut Vec<u8>) -> Result<(), AllocError>
 }
 
 /// Appends the name of a rule, with the messages that it judges, where these are only some, and its sentence.
-fn append_said(name: &str, messages: &str, sentence: &str, out: &mut Vec<u8>) -> Result<(), AllocError>
+fn append_said(
+    name: &str,
+    messages: &str,
+    sentence: &str,
+    out: &mut Vec<u8>,
+) -> Result<(), AllocError>
     ensures { OnOk result (out.new.items ≡ out.old.items ++ name.now ++ in_brackets messages.now ++ codes ": "
         ++ sentence.now ++ codes "\n") }
 {

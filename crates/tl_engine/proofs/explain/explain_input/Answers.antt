@@ -1,6 +1,5 @@
 use Rattle.std.proofs.lemmas.Result.{err_from_is_err_and}
 use Rattle.tl_engine.proofs.Explaining.{explains}
-use Rattle.tl_engine.proofs.Judged.{judged_total}
 use Rattle.tl_engine.proofs.explain.explain_input.Goals as goal
 
 pub returns-in_err-write_both-clause-fault : goal.returns-in_err-write_both-clause-fault
@@ -16,6 +15,3 @@ returns-in_err-write_both-clause-fault g c =
           c.in_ok-reasons.ensures.ok,
       rw (c.deref.ensures.value, c.deref-2.ensures.value) at c.in_err-write_both.ensures.err,
     )
-
-pub handle_input-requires-clause-total : goal.handle_input-requires-clause-total
-handle_input-requires-clause-total g c = λ e. judged_total 0 e.monitor_lines

@@ -5,7 +5,7 @@ use Rattle.tl_engine.proofs.Unexplained.{unjudged_for}
 use Rattle.tl_engine.proofs.explain.judge.Goals as goal
 
 pub handle_input-requires-clause-total : goal.handle_input-requires-clause-total
-handle_input-requires-clause-total g c = λ e. judged_total e.monitor_lines
+handle_input-requires-clause-total g c = λ e. judged_total 0 e.monitor_lines
 
 pub returns-in_err-status-clause-fault : goal.returns-in_err-status-clause-fault
 returns-in_err-status-clause-fault g c =

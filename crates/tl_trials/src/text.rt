@@ -15,7 +15,7 @@ use tl_engine::status::exit_of;
 use tl_engine::tool::run_tool;
 
 /// The files, by their names in data/.
-const FILES: [&str; 13] = [
+const FILES: [&str; 14] = [
     "text/beats.txt",
     "text/levels.txt",
     "text/checked.txt",
@@ -23,6 +23,7 @@ const FILES: [&str; 13] = [
     "text/decode.txt",
     "text/headers.txt",
     "text/traces.txt",
+    "text/together.txt",
     "text/legality.txt",
     "text/requests.txt",
     "text/grants.txt",

@@ -61,6 +61,7 @@ fn command_of(name: &str) -> Option<Command> {
             width: Width::Sixteen,
         }),
         "monitor" => Some(Command::Monitor),
+        "coherent" => Some(Command::Coherent),
         "run" => Some(Command::Run { trace: false }),
         "run --trace" => Some(Command::Run { trace: true }),
         _ => None,

@@ -6,7 +6,7 @@ use Rattle.tl_engine.specs.code.GivenUp.{GivesUpFor, IsKnown}
 use Rattle.tl_engine.specs.code.Run.{FailsAt, RunsTo}
 use Rattle.tl_engine.specs.code.Watching.{KnowsLines}
 use Rattle.tl_engine.specs.declared.examiner.Examiner.{Examiner}
-use Rattle.tl_engine.specs.declared.explain.ExplainFault.TheVariants.{Tool}
+use Rattle.tl_engine.specs.declared.explain_fault.ExplainFault.TheVariants.{Tool}
 use Rattle.tl_engine.specs.declared.status.Status.{Status}
 use Rattle.tl_engine.specs.declared.status.ToolFault.{ToolFault}
 use Rattle.tl_engine.specs.declared.status.ToolFault.TheVariants.{Memory, Read, Write}

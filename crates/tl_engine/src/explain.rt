@@ -16,10 +16,12 @@ ghost use Rattle.tl_engine.specs.statement.Explained.{broken_alone, front_text, 
 ghost use Rattle.tl_engine.specs.statement.Unexplained.{GivesUpExplaining, IsUnjudged, Reaches};
 ghost use Rattle.tl_engine.specs.declared.status.Status.{Status};
 
-use crate::engine::{handle_input, new_chunk, next_piece};
+use crate::engine::handle_input;
 use crate::examiner::{Examiner, Found};
+use crate::explain_fault::ExplainFault;
 use crate::fault::Fault;
-use crate::header::{Header, read_header};
+use crate::header::Header;
+use crate::malformed::{explain_header, explain_spelling, fetch};
 use crate::monitor_lines::MonitorLines;
 use crate::output::write_all;
 use crate::replay::{Listing, Replay};
@@ -38,55 +40,12 @@ use tl_explain::recorder::Recorder;
 use tl_explain::told::Spelling;
 use tl_explain::turns::Subject;
 use tl_explain::words::append_beat_line;
-use tl_explain::{heading, legal, spelling, tell};
+use tl_explain::{legal, tell};
 use tl_params::key::block_at;
 use tl_params::width::Width;
 use tl_rules::legality::beat::check_beat;
 use tl_rules::level::Level;
 use tl_rules::rule::Rule;
-
-/// How many bytes of a line are looked at.
-const LOOKED_AT: usize = 257;
-
-/// Why nothing is explained.
-#[derive(Clone, Copy, Debug, PartialEq, Eq)]
-pub enum ExplainFault {
-    Tool(ToolFault),
-    /// The two readings of the file differ.
-    Changed,
-}
-
-impl From<ToolFault> for ExplainFault {
-    ghost use Rattle.tl_engine.specs.declared.explain.ExplainFault.{ExplainFault};
-
-    ghost from_gives = { λ tool fault. fault ≡ ExplainFault.Tool tool };
-
-    fn from(fault: ToolFault) -> ExplainFault {
-        ExplainFault::Tool(fault)
-    }
-}
-
-impl From<AllocError> for ExplainFault {
-    ghost use Rattle.tl_engine.specs.declared.explain.ExplainFault.{ExplainFault};
-    ghost use Rattle.tl_engine.specs.declared.status.ToolFault.{ToolFault};
-
-    ghost from_gives = { λ _ fault. fault ≡ ExplainFault.Tool ToolFault.Memory };
-
-    fn from(_error: AllocError) -> ExplainFault {
-        ExplainFault::Tool(ToolFault::Memory)
-    }
-}
-
-impl From<io::Error> for ExplainFault {
-    ghost use Rattle.tl_engine.specs.declared.explain.ExplainFault.{ExplainFault};
-    ghost use Rattle.tl_engine.specs.declared.status.ToolFault.{ToolFault};
-
-    ghost from_gives = { λ _ fault. fault ≡ ExplainFault.Tool ToolFault.Memory };
-
-    fn from(_error: io::Error) -> ExplainFault {
-        ExplainFault::Tool(ToolFault::Memory)
-    }
-}
 
 /// The outcome of a run that writes into memory alone, where a writer fails for want of it.
 fn in_memory(outcome: Result<Status, ToolFault>) -> Result<Status, ToolFault>
@@ -103,76 +62,12 @@ fn in_memory(outcome: Result<Status, ToolFault>) -> Result<Status, ToolFault>
     }
 }
 
-/// The beginning of the line of this number, from 1 on, with its LF if it stands there.
-fn fetch<R: Read>(alloc: Global, reader: &mut R, number: u64) -> Result<Vec<u8>, ExplainFault>
-    ensures fault { IfErr result (λ fault. fault ≢ ExplainFault.Tool ToolFault.Write) }
-{
-    let mut chunk = new_chunk(alloc)?;
-    let mut line = Vec::new(alloc);
-    let mut at = 1u64;
-    for _ in 0..u64::MAX {
-        let count = next_piece(reader, &mut chunk)?;
-        if count == 0 {
-            return Ok(line);
-        }
-        for byte in &chunk[..count] {
-            if at == number && line.len() < LOOKED_AT {
-                line.extend_from_slice(&[*byte])?;
-            }
-            if *byte == b'\n' {
-                at = at.saturating_add(1);
-            }
-        }
-        if at > number || line.len() >= LOOKED_AT {
-            return Ok(line);
-        }
-    }
-    Ok(line)
-}
-
 /// The number of the line behind so many.
 fn number_behind(good: u64) -> Result<u64, ExplainFault>
     ensures number { IfOk result (λ number. number ≡ good + 1) }
     ensures fault { IfErr result (λ fault. fault ≢ ExplainFault.Tool ToolFault.Write) }
 {
     good.checked_add(1).ok_or(ExplainFault::Changed)
-}
-
-/// Explains a first line that is no header.
-fn explain_header<R: Read>(
-    alloc: Global,
-    reader: &mut R,
-    out: &mut Vec<u8>,
-) -> Result<(), ExplainFault>
-    ensures fault { IfErr result (λ fault. fault ≢ ExplainFault.Tool ToolFault.Write) }
-{
-    let line = fetch(alloc, reader, 1)?;
-    if line.len() <= 256 && read_header(&line).is_some() {
-        return Err(ExplainFault::Changed);
-    }
-    heading::tell(&line, out)?;
-    Ok(())
-}
-
-/// Explains a line that spells no beat.
-fn explain_spelling<const W: usize, R: Read>(
-    alloc: Global,
-    reader: &mut R,
-    number: u64,
-    fault: LineFault,
-    out: &mut Vec<u8>,
-) -> Result<(), ExplainFault>
-    requires { IsWidth W }
-    ensures fault { IfErr result (λ fault. fault ≢ ExplainFault.Tool ToolFault.Write) }
-{
-    let line = fetch(alloc, reader, number)?;
-    match read_line::<W>(&line) {
-        Err(again) if again == fault => {
-            spelling::tell(&line, fault, W, out)?;
-            Ok(())
-        }
-        _ => Err(ExplainFault::Changed),
-    }
 }
 
 /// Whether a rule judges a beat by itself.

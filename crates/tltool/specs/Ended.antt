@@ -7,7 +7,7 @@ use Rattle.tl_params.specs.statement.Header.{width_of}
 use Rattle.tl_words.specs.declared.words.WordsFault.{WordsFault}
 use Rattle.tl_words.specs.declared.words.WordsFault.TheVariants as words
 use Rattle.tl_words.specs.Refused.{status_of_usage}
-use Rattle.tl_engine.specs.declared.explain.ExplainFault.{ExplainFault}
+use Rattle.tl_engine.specs.declared.explain_fault.ExplainFault.{ExplainFault}
 use Rattle.tl_engine.specs.declared.status.Status.{Status}
 use Rattle.tl_engine.specs.declared.status.ToolFault.{ToolFault}
 use Rattle.tl_engine.specs.declared.status.ToolFault.TheVariants.{Memory, Write}

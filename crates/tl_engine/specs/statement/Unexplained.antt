@@ -7,8 +7,8 @@ use Rattle.tl_engine.specs.code.Lines.{lines_of}
 use Rattle.tl_engine.specs.code.Parts.{AppendsShort}
 use Rattle.tl_engine.specs.code.Progress.{RunsOut}
 use Rattle.tl_engine.specs.code.Run.{EndsAs}
-use Rattle.tl_engine.specs.declared.explain.ExplainFault.{ExplainFault}
-use Rattle.tl_engine.specs.declared.explain.ExplainFault.TheVariants.{Changed, Tool}
+use Rattle.tl_engine.specs.declared.explain_fault.ExplainFault.{ExplainFault}
+use Rattle.tl_engine.specs.declared.explain_fault.ExplainFault.TheVariants.{Changed, Tool}
 use Rattle.tl_engine.specs.declared.status.Status.{Status}
 use Rattle.tl_engine.specs.declared.status.ToolFault.TheVariants.{Memory, Read, Write}
 use Rattle.tl_engine.specs.statement.Explained.{Explains}

@@ -1,0 +1,47 @@
+//! Why nothing is explained.
+
+ghost use Rattle.std.specs.Prelude.{◌≡◌};
+
+use crate::status::ToolFault;
+use std::alloc::AllocError;
+use std::io;
+
+/// Why nothing is explained.
+#[derive(Clone, Copy, Debug, PartialEq, Eq)]
+pub enum ExplainFault {
+    Tool(ToolFault),
+    /// The two readings of the file differ.
+    Changed,
+}
+
+impl From<ToolFault> for ExplainFault {
+    ghost use Rattle.tl_engine.specs.declared.explain_fault.ExplainFault.{ExplainFault};
+
+    ghost from_gives = { λ tool fault. fault ≡ ExplainFault.Tool tool };
+
+    fn from(fault: ToolFault) -> ExplainFault {
+        ExplainFault::Tool(fault)
+    }
+}
+
+impl From<AllocError> for ExplainFault {
+    ghost use Rattle.tl_engine.specs.declared.explain_fault.ExplainFault.{ExplainFault};
+    ghost use Rattle.tl_engine.specs.declared.status.ToolFault.{ToolFault};
+
+    ghost from_gives = { λ _ fault. fault ≡ ExplainFault.Tool ToolFault.Memory };
+
+    fn from(_error: AllocError) -> ExplainFault {
+        ExplainFault::Tool(ToolFault::Memory)
+    }
+}
+
+impl From<io::Error> for ExplainFault {
+    ghost use Rattle.tl_engine.specs.declared.explain_fault.ExplainFault.{ExplainFault};
+    ghost use Rattle.tl_engine.specs.declared.status.ToolFault.{ToolFault};
+
+    ghost from_gives = { λ _ fault. fault ≡ ExplainFault.Tool ToolFault.Memory };
+
+    fn from(_error: io::Error) -> ExplainFault {
+        ExplainFault::Tool(ToolFault::Memory)
+    }
+}

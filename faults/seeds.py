@@ -1,7 +1,7 @@
 #!/usr/bin/env python3
 """seeds.py TOOL [SEEDS]: random schedules of SEEDS seeds (a thousand if none is said), each of a small world of its own, are
 played by TOOL. Each has the lines that its words ask for and is written again alike, `run` of it has status 0, and the
-trace of it is `clean`. Ends with 'seeds: N passed, M failed'."""
+trace of it is `clean` and `coherent`. Ends with 'seeds: N passed, M failed'."""
 import concurrent.futures
 import os
 import pathlib
@@ -37,8 +37,9 @@ def slips(tool, seed):
         yield "run has another status than 0"
     status, trace = of(tool, "run", "--trace", text=schedule)
     beats = trace.count(b"\n") - 1
-    if status or of(tool, "monitor", text=trace) != (0, b"clean %d\n" % beats):
-        yield "the trace isn't clean"
+    for command, verdict in ("monitor", "clean"), ("coherent", "coherent"):
+        if status or of(tool, command, text=trace) != (0, f"{verdict} {beats}\n".encode()):
+            yield f"the trace isn't {verdict}"
 
 
 def main():

@@ -70,7 +70,7 @@ const EXPLAINED_HELP: &str =
     "The trace to read, twice, so it can be no pipe; or, where there is no such file, the name of a rule or fault";
 
 /// The version, with the toolchain that proved it.
-const VERSION: &str = "1.0.0\nproved with rattle-kit-13b logic dac8208d650f15bf";
+const VERSION: &str = "1.0.0\nproved with rattle-kit-13f logic dac8208d650f15bf";
 
 fn decode<'a>(alloc: Global) -> Result<clap::Command<'a>, AllocError>
     ensures app { IfOk result (λ c. app_of c ≡ decode_of) }

@@ -44,18 +44,13 @@ use Rattle.tl_explain.specs.code.Recorded.{IsRecord, IsTurn, open_message}
 use Rattle.tl_explain.specs.statement.Evidence.{is_open, last_saying, left_of, mention_of}
 use Rattle.tl_explain.specs.statement.Reasons.{HasBlockAsked}
 use Rattle.tl_explain.specs.statement.Since.{IsPendingSince}
-use Rattle.tl_explain.proofs.Convicts.{AskedSo, ProbedSo, ReleasedSo, asked_by_beat, asked_so, held_is, named}
-use Rattle.tl_explain.proofs.Convicts.{probe_step, probed_by_beat, probed_so, release_step, released_by_beat}
-use Rattle.tl_explain.proofs.Convicts.{released_so, request_step}
+use Rattle.tl_explain.proofs.convicts.Waiting.{AskedSo, ProbedSo, ReleasedSo, asked_by_beat, asked_so, held_is, named}
+use Rattle.tl_explain.proofs.convicts.Waiting.{probe_step, probed_by_beat, probed_so, release_step, released_by_beat}
+use Rattle.tl_explain.proofs.convicts.Waiting.{released_so, request_step}
 use Rattle.tl_explain.proofs.Rests.{pending_open}
-use Rattle.tl_explain.proofs.Sound.{held_told, open_since}
-
-is_one : {A : Type 0} {x y : A} → Some x ≡ Some y → x ≡ y
-is_one e = cc
-
-pub both_true : (a b : Bool) → (a && b) ≡ true → (a ≡ true) × (b ≡ true)
-both_true true b e = (refl, e)
-both_true false b e = absurd cc
+use Rattle.tl_explain.proofs.sound.Messages.{held_told}
+use Rattle.tl_explain.proofs.sound.Openings.{open_since}
+use Rattle.tl_explain.proofs.Plain.{is_one, both_true, not_true, same_true}
 
 pub or_false : (a b : Bool) → (a || b) ≡ false → (a ≡ false) × (b ≡ false)
 or_false true b e = absurd cc
@@ -64,13 +59,6 @@ or_false false b e = (refl, e)
 pub not_false : (b : Bool) → not b ≡ false → b ≡ true
 not_false true e = refl
 not_false false e = absurd cc
-
-pub not_true : (b : Bool) → not b ≡ true → b ≡ false
-not_true true e = absurd cc
-not_true false e = refl
-
-pub same_true : (a b : ℕ) → a ≡ b → (a == b) ≡ true
-same_true a b e = grind arith
 
 -- this test decides, or the rest
 pub decides : (b : Bool) (r : Rule) (rest : Option Rule) (rule : Rule) → first_if b r rest ≡ Some rule

@@ -1,11 +1,12 @@
 pub mod Cuts
 pub mod BeatTexts
-pub mod Convicts
-pub mod First
-pub mod Follows
+pub mod convicts
+pub mod first
+pub mod follows
 pub mod Found
 pub mod Ordered
 pub mod Places
+pub mod Plain
 pub mod Rests
-pub mod Sound
+pub mod sound
 pub mod WholeBursts

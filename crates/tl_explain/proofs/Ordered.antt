@@ -14,9 +14,7 @@ use Rattle.tl_params.specs.declared.rule.Rule.TheVariants.{H5, H6, H7, H8, H9, H
 use Rattle.tl_rules.specs.statement.Conformance.{broken_in_order, broken_order}
 use Rattle.tl_rules.specs.statement.History.{begins, is_probe_ack, is_release}
 use Rattle.tl_explain.specs.statement.Reasons.{Breaks, breaks_at_first, first_broken, order_rules}
-
-is_one : {A : Type 0} {x y : A} → Some x ≡ Some y → x ≡ y
-is_one e = cc
+use Rattle.tl_explain.proofs.Plain.{is_one}
 
 -- a message on channel C is a Release, a ProbeAck or neither
 release_or_report : (o : OpC) (u v w x y : Bool)

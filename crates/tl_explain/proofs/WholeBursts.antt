@@ -24,11 +24,8 @@ use Rattle.tl_rules.specs.statement.Legality.{illegal}
 use Rattle.tl_explain.specs.declared.told.Mention.{Mention}
 use Rattle.tl_explain.specs.statement.Evidence.{burst_opening, last_opening, last_where, told}
 use Rattle.tl_explain.specs.statement.Reasons.{comes_in, opening_channel}
-use Rattle.tl_explain.proofs.Follows.{on_own}
-
-both_true : (a b : Bool) → (a && b) ≡ true → (a ≡ true) × (b ≡ true)
-both_true true b e = (refl, e)
-both_true false b e = absurd cc
+use Rattle.tl_explain.proofs.follows.Links.{on_own}
+use Rattle.tl_explain.proofs.Plain.{both_true}
 
 not_false : (b : Bool) → not b ≡ false → b ≡ true
 not_false true e = refl

@@ -1,4 +1,4 @@
-use Rattle.tl_explain.proofs.Convicts.{convicts}
+use Rattle.tl_explain.proofs.convicts.Rules.{convicts}
 use Rattle.tl_explain.proofs.law.evidence_convicts.Goals as goal
 
 pub returns : goal.returns

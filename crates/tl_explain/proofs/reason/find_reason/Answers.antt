@@ -1,6 +1,6 @@
 use Rattle.std.proofs.Common.{inl, inr}
-use Rattle.tl_explain.proofs.First.{told_where_first}
-use Rattle.tl_explain.proofs.Sound.{reason_found}
+use Rattle.tl_explain.proofs.first.Rules.{told_where_first}
+use Rattle.tl_explain.proofs.sound.Bursts.{reason_found}
 use Rattle.tl_explain.proofs.reason.find_reason.Goals as goal
 
 pub returns-clause-told : goal.returns-clause-told

@@ -1,5 +1,5 @@
 use Rattle.std.proofs.Common.{rules}
-use Rattle.tl_explain.proofs.Follows.{turn_next}
+use Rattle.tl_explain.proofs.follows.Keys.{turn_next}
 use Rattle.tl_explain.proofs.turns.note.Goals as goal
 
 pub returns : goal.returns

@@ -1,4 +1,4 @@
-use Rattle.tl_explain.proofs.Follows.{no_blocks}
+use Rattle.tl_explain.proofs.follows.Keys.{no_blocks}
 use Rattle.tl_explain.proofs.blocks.Blocks.new.Goals as goal
 
 pub returns : goal.returns

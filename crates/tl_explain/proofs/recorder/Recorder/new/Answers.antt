@@ -1,4 +1,4 @@
-use Rattle.tl_explain.proofs.Follows.{no_bursts, empty_blocks}
+use Rattle.tl_explain.proofs.follows.Keys.{no_bursts, empty_blocks}
 use Rattle.tl_explain.proofs.recorder.Recorder.new.Goals as goal
 
 pub returns-clause-record : goal.returns-clause-record

@@ -1,5 +1,5 @@
 use Rattle.std.proofs.Common.{refl, rules}
-use Rattle.tl_explain.proofs.Follows.{record_kept, record_taken}
+use Rattle.tl_explain.proofs.follows.Links.{record_kept, record_taken}
 use Rattle.tl_explain.proofs.recorder.Recorder.take.Goals as goal
 
 pub returns-then-ne-clause-record : goal.returns-then-ne-clause-record

@@ -1,4 +1,4 @@
-use Rattle.tl_explain.proofs.Follows.{no_turn, no_saying}
+use Rattle.tl_explain.proofs.follows.Keys.{no_turn, no_saying}
 use Rattle.tl_explain.proofs.turns.Turns.new.Goals as goal
 
 pub returns : goal.returns

@@ -1,4 +1,4 @@
-use Rattle.tl_explain.proofs.Follows.{said_next}
+use Rattle.tl_explain.proofs.follows.Keys.{said_next}
 use Rattle.tl_explain.proofs.turns.Turns.take.Goals as goal
 
 pub returns : goal.returns

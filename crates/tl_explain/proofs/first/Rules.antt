@@ -1,5 +1,5 @@
--- Where a rule is the first that a beat breaks, a reason is told.
-use Rattle.std.proofs.Common.{◌≡◌, ℕ, ◌==◌, ◌&&◌, ◌||◌, ◌∷◌, List, true, false, Bool, not, refl, sym, ap, ap₂, ◌∙◌}
+-- The rules.
+use Rattle.std.proofs.Common.{◌≡◌, ℕ, ◌==◌, ◌&&◌, ◌||◌, true, false, Bool, not, refl, sym, ap, ap₂, ◌∙◌}
 use Rattle.std.proofs.Common.{subst, inl, inr, ◌⊎◌}
 use Rattle.std.specs.Prelude.{Option, Some, None, is_none, is_some, if◌then◌else◌}
 use Rattle.tl_beat.specs.declared.beat.Beat.{Beat}
@@ -16,13 +16,12 @@ use Rattle.tl_beat.specs.statement.First.{first_if}
 use Rattle.tl_beat.specs.statement.Opcode.{c_carries_data}
 use Rattle.tl_burst.specs.statement.Messages.{History, breaks_burst, channel_of, unfinished}
 use Rattle.tl_burst.specs.statement.Part.{is_empty}
-use Rattle.tl_params.specs.declared.key.Key.{Key}
 use Rattle.tl_params.specs.declared.key.Key.TheVariants.{RequestSource, ReleaseSource, AcquireOf, ReleaseOf, GrantSink}
 use Rattle.tl_params.specs.declared.key.Key.TheVariants.{GrantAckOf, ProbeOf}
 use Rattle.tl_params.specs.declared.level.Level.{Level}
 use Rattle.tl_params.specs.declared.profile.Profile.{Profile}
 use Rattle.tl_params.specs.declared.rule.Rule.{Rule}
-use Rattle.tl_params.specs.declared.rule.Rule.TheVariants.{A1, A2, A3, L1, L2, L3, L4, L5, L6, L7, S1, H1, H2, H3, H4}
+use Rattle.tl_params.specs.declared.rule.Rule.TheVariants.{S1, H1, H2, H3, H4}
 use Rattle.tl_params.specs.declared.rule.Rule.TheVariants.{H5, H6, H7, H8, H9, H10, H11, H12, H13}
 use Rattle.tl_params.specs.statement.Param.{prune_of}
 use Rattle.tl_rules.specs.statement.Conformance.{Trace, admits, answers, answers_wrong_probe, broken_in_order}
@@ -32,157 +31,21 @@ use Rattle.tl_rules.specs.statement.Conformance.{misreports, on_link, prunes_fro
 use Rattle.tl_rules.specs.statement.History.{begins, block_at, held, is_acquire, is_grant, is_probe, is_probe_ack}
 use Rattle.tl_rules.specs.statement.History.{is_release, is_release_ack, pending, probe_of, request_of}
 use Rattle.tl_explain.specs.declared.bursts.Begun.{Begun}
-use Rattle.tl_explain.specs.declared.reason.Reason.{Reason}
 use Rattle.tl_explain.specs.declared.recorder.Recorder.{Recorder}
-use Rattle.tl_explain.specs.declared.told.Mention.{Mention}
-use Rattle.tl_explain.specs.declared.told.Told.{Told}
-use Rattle.tl_explain.specs.declared.turn.Turn.{Turn}
 use Rattle.tl_explain.specs.code.Chosen.{differs_by, first_reason, for_acknowledgement, for_answer, for_message}
 use Rattle.tl_explain.specs.code.Chosen.{for_message_c, for_probe, for_probe_ack, for_release, for_request, held_by}
-use Rattle.tl_explain.specs.code.Chosen.{is_of_bursts, kind_by, missing_by, probe_by, reason_by, unless_held}
+use Rattle.tl_explain.specs.code.Chosen.{kind_by, probe_by, reason_by, unless_held}
 use Rattle.tl_explain.specs.code.Chosen.{where_missing, where_pending}
-use Rattle.tl_explain.specs.code.Recorded.{IsBegun, IsRecord, IsTurn, burst_on, open_message, opens_by}
-use Rattle.tl_explain.specs.statement.Evidence.{is_open, mention_of}
-use Rattle.tl_explain.specs.statement.Reasons.{HasBlockAsked, IsSubject, comes_in, is_always_told, opening_channel}
-use Rattle.tl_explain.proofs.Found.{both_true, decides, grant_told, not_false, not_true, opened, perm_is}
-use Rattle.tl_explain.proofs.Found.{probe_told, report_told, request_told, same_true, size_told}
+use Rattle.tl_explain.specs.code.Recorded.{IsBegun, IsRecord, IsTurn, burst_on, open_message}
+use Rattle.tl_explain.specs.statement.Evidence.{is_open}
+use Rattle.tl_explain.specs.statement.Reasons.{HasBlockAsked, IsSubject, is_always_told}
+use Rattle.tl_explain.proofs.Found.{decides, grant_told, not_false, perm_is}
+use Rattle.tl_explain.proofs.Found.{probe_told, report_told, request_told, size_told}
 use Rattle.tl_explain.proofs.Rests.{pending_open}
-use Rattle.tl_explain.proofs.Sound.{ack_turn, acquire_turn, opened_some, probe_turn, release_of_turn, release_turn}
-use Rattle.tl_explain.proofs.Sound.{sink_turn, source_turn}
-use Rattle.tl_explain.proofs.WholeBursts.{burst_opened, none_comes}
-
-is_one : {A : Type 0} {x y : A} → Some x ≡ Some y → x ≡ y
-is_one e = cc
-
-or_three : (a b c : Bool) → (a || (b || c)) ≡ true → ((a || b) ≡ true) ⊎ (c ≡ true)
-or_three true b c e = inl refl
-or_three false true c e = inl refl
-or_three false false c e = inr e
-
-or_true : (a b : Bool) → (a || b) ≡ true → (a ≡ true) ⊎ (b ≡ true)
-or_true true b e = inl refl
-or_true false b e = inr e
-
-and_false : (a b : Bool) → (a && b) ≡ false → (a ≡ false) ⊎ (b ≡ false)
-and_false true b e = inr e
-and_false false b e = inl refl
-
-either_told : (a b : Option Reason) → (is_some a ≡ true) ⊎ (is_some b ≡ true) → is_some (first_reason a b) ≡ true
-either_told (Some x) b e = refl
-either_told None b (inl e) = absurd cc
-either_told None b (inr e) = e
-
--- ---- what is told of a key
-
-opens_it : {w : ℕ} (k : Key) (y : Beat w) (u : List (Beat w)) → comes_in k (y ∷ u) ≡ true
-    → opens_by k (control_of y) None ≡ true
-opens_it (RequestSource s) (beat.A x) u e = e
-opens_it (RequestSource s) (beat.B x) u e = absurd cc
-opens_it (RequestSource s) (beat.C x) u e = absurd cc
-opens_it (RequestSource s) (beat.D x) u e = absurd cc
-opens_it (RequestSource s) (beat.E x) u e = absurd cc
-opens_it (ReleaseSource s) (beat.A x) u e = absurd cc
-opens_it (ReleaseSource s) (beat.B x) u e = absurd cc
-opens_it (ReleaseSource s) (beat.C x) u e = e
-opens_it (ReleaseSource s) (beat.D x) u e = absurd cc
-opens_it (ReleaseSource s) (beat.E x) u e = absurd cc
-opens_it (GrantSink s) (beat.A x) u e = absurd cc
-opens_it (GrantSink s) (beat.B x) u e = absurd cc
-opens_it (GrantSink s) (beat.C x) u e = absurd cc
-opens_it (GrantSink s) (beat.D x) u e = e
-opens_it (GrantSink s) (beat.E x) u e = absurd cc
-opens_it (AcquireOf k) y u e = absurd cc
-opens_it (ReleaseOf k) y u e = absurd cc
-opens_it (GrantAckOf k) y u e = absurd cc
-opens_it (ProbeOf k) y u e = absurd cc
-
-module _ {w : ℕ} (n : ℕ) (t : Trace w) (k : Key) (turn : Turn) (is : IsTurn turn n k t) where
-  abbrev now : History w
-  now = on_link n t
-
-  pending_told : pending k now ≡ true → is_some (where_pending k turn) ≡ true
-  pending_told e = let m = opened n t k turn is e in rw m.1 refl
-
-  free_told : (b : Option Begun) → pending k now ≡ false → is_some (where_missing k turn b) ≡ true
-  free_told b e = go turn.opening turn.closing (ap₂ is_open is.opening_is is.closing_is ∙ sym (pending_open n k t) ∙ e)
-    where
-      go : (o c : Option Told) → is_open (mention_of o) (mention_of c) ≡ false
-          → is_some (missing_by k o c (if is_open (mention_of o) (mention_of c) then o else None) b) ≡ true
-      go None c f = refl
-      go (Some m) None f = absurd cc
-      go (Some m) (Some c) f = rw f refl
-
-  unfinished_told : (p : Profile) (b : Option Begun) → IsBegun b n (opening_channel k) t → pending k now ≡ true
-      → comes_in k (unfinished (opening_channel k) now) ≡ true → (v : Level) → is_legal v p now ≡ true
-      → is_some (where_missing k turn b) ≡ true
-  unfinished_told p None begun e comes v clean = absurd (none_comes w k (ap (comes_in k) (sym begun) ∙ comes))
-  unfinished_told p (Some b) begun e comes v clean =
-      unfinished_is turn.opening turn.closing (open_message turn) m.0 b of.1 m.1 line opens_key
-    where
-      unfinished_is : (o c q : Option Told) (m : Told) (b : Begun) → o ≡ Some m → q ≡ Some m
-          → (b.first.mention.line == m.mention.line) ≡ true → opens_by k b.newest None ≡ true
-          → is_some (missing_by k o c q (Some b)) ≡ true
-      unfinished_is o c q m b f g here opens = rw (f, g, here, opens) refl
-
-      m : (m : Told) × (open_message turn ≡ Some m)
-      m = opened n t k turn is e
-
-      of : (is_open (mention_of turn.opening) (mention_of turn.closing) ≡ true) × (turn.opening ≡ Some m.0)
-      of = opened_some turn.opening turn.closing m.0 m.1
-
-      same : b.first.mention ≡ m.0.mention
-      same = is_one (sym begun.5 ∙ sym (burst_opened n k v p t clean comes) ∙ sym is.opening_is
-          ∙ ap mention_of of.1)
-
-      line : (b.first.mention.line == m.0.mention.line) ≡ true
-      line = same_true b.first.mention.line m.0.mention.line (ap (λ (z : Mention). z.line) same)
-
-      opens_key : opens_by k b.newest None ≡ true
-      opens_key = rw begun.3 (opens_it k begun.0 begun.1 (rw begun.2 at comes))
-
--- ---- a reason of messages is of no rule of bursts
-
-no_message_c : {w : ℕ} (x : BeatC w) (r : Recorder) (a b : Bool)
-    → is_some (if a then for_release S1 x r else if b then for_probe_ack S1 x r else None) ≡ true → ⊥
-no_message_c x r true b e = absurd cc
-no_message_c x r false true e = absurd cc
-no_message_c x r false false e = absurd cc
-
-no_message : {w : ℕ} (p : Profile) (r : Recorder) (x : Beat w) → is_some (for_message p S1 x r) ≡ true → ⊥
-no_message p r (beat.A x) e = absurd cc
-no_message p r (beat.B x) e = absurd cc
-no_message p r (beat.C x) e = no_message_c x r (is_release x.opcode) (is_probe_ack x.opcode) e
-no_message p r (beat.D x) e = absurd cc
-no_message p r (beat.E x) e = absurd cc
-
-not_of_bursts : {w : ℕ} (p : Profile) (r : Recorder) (rule : Rule) (x : Beat w)
-    → is_some (for_message p rule x r) ≡ true → is_of_bursts rule ≡ false
-not_of_bursts p r S1 x e = absurd (no_message p r x e)
-not_of_bursts p r A1 x e = refl
-not_of_bursts p r A2 x e = refl
-not_of_bursts p r A3 x e = refl
-not_of_bursts p r L1 x e = refl
-not_of_bursts p r L2 x e = refl
-not_of_bursts p r L3 x e = refl
-not_of_bursts p r L4 x e = refl
-not_of_bursts p r L5 x e = refl
-not_of_bursts p r L6 x e = refl
-not_of_bursts p r L7 x e = refl
-not_of_bursts p r H1 x e = refl
-not_of_bursts p r H2 x e = refl
-not_of_bursts p r H3 x e = refl
-not_of_bursts p r H4 x e = refl
-not_of_bursts p r H5 x e = refl
-not_of_bursts p r H6 x e = refl
-not_of_bursts p r H7 x e = refl
-not_of_bursts p r H8 x e = refl
-not_of_bursts p r H9 x e = refl
-not_of_bursts p r H10 x e = refl
-not_of_bursts p r H11 x e = refl
-not_of_bursts p r H12 x e = refl
-not_of_bursts p r H13 x e = refl
-
--- ---- the rules
+use Rattle.tl_explain.proofs.sound.Rules.{ack_turn, acquire_turn, probe_turn, release_of_turn, release_turn}
+use Rattle.tl_explain.proofs.sound.Rules.{sink_turn, source_turn}
+use Rattle.tl_explain.proofs.first.Keys.{and_false, either_told, free_told, not_of_bursts, or_three, or_true, pending_told, unfinished_told}
+use Rattle.tl_explain.proofs.Plain.{is_one, both_true, not_true}
 
 module _ {w : ℕ} (p : Profile) (r : Recorder) (t : Trace w) (rec : IsRecord r t) where
   abbrev l : ℕ

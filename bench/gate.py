@@ -1,7 +1,7 @@
 #!/usr/bin/env python3
 """gate.py COMMAND..: runs a command, as `rt ci`, and tells what its checks took: for each crate the processor minutes of its
 proof, its tests and its must-fail edits, and the most memory of one process. Looks at /proc every second, so what starts and
-ends between two looks is missed; the sum of all is the operating system's own."""
+ends between two looks is missed; the sum of all is the operating system's own. Its exit status is the command's."""
 import collections
 import os
 import pathlib
@@ -56,7 +56,10 @@ def main():
     seen, began = {}, time.time()
     child = subprocess.Popen(sys.argv[1:])
     while child.poll() is None:
-        look(seen, child.pid)
+        try:
+            look(seen, child.pid)
+        except (OSError, ValueError, IndexError):
+            pass  # a process ended while it was looked at
         time.sleep(1)
     taken, memory = collections.Counter(), collections.Counter()
     for crate, what, seconds, kib in seen.values():

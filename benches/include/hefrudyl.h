@@ -1,4 +1,4 @@
-/* Hefrudyl for C and C++: the proved link monitor, clients and manager. docs/BENCHES.md says what is proved, and what a
+/* Hefrudyl for C and C++: the proved link monitor, judge of all links, clients and manager. docs/BENCHES.md says what is proved, and what a
    program that calls it must see to: a handle is used by one call at a time. */
 #ifndef HEFRUDYL_H
 #define HEFRUDYL_H
@@ -13,7 +13,7 @@ extern "C" {
 
 enum tl_code {
   TL_OK = 0,           /* done: a beat breaks no rule */
-  TL_BROKEN = 1,       /* the beat breaks the rule that the answer names; the monitor is closed */
+  TL_BROKEN = 1,       /* the beat breaks the rule that the answer names; what judged it is closed */
   TL_BAD_ARGUMENT = 2, /* something is out of range, or the handle isn't as wanted; nothing changed */
   TL_NO_MEMORY = 3,    /* there is no memory; nothing changed */
   TL_CLOSED = 4,       /* an earlier beat broke a rule */
@@ -26,7 +26,8 @@ enum tl_rule {
   TL_S1 = 8,
   TL_H1 = 9, TL_H2 = 10, TL_H3 = 11, TL_H4 = 12, TL_H5 = 13, TL_H6 = 14, TL_H7 = 15, TL_H8 = 16,
   TL_H9 = 17, TL_H10 = 18, TL_H11 = 19, TL_H12 = 20, TL_H13 = 21,
-  TL_A1 = 22, TL_A2 = 23, TL_A3 = 24
+  TL_A1 = 22, TL_A2 = 23, TL_A3 = 24,
+  TL_M1 = 25, TL_M4 = 28 /* of a judge of all links */
 };
 
 enum tl_level { TL_UL = 0, TL_UH = 1, TL_C = 2 };
@@ -88,6 +89,29 @@ tl_answer tl_monitor_entries(tl_monitor *monitor, uint8_t link, uint64_t *entrie
 
 /* Frees what the handle holds. It holds nothing then. */
 void tl_monitor_free(tl_monitor *monitor);
+
+/* A handle, as that of a monitor. */
+typedef struct tl_judge {
+  void *at;
+  uint8_t full;
+} tl_judge;
+
+/* Makes a judge of all links of one manager, which are 1 to 16 of these levels (enum tl_level), of beats of
+   4, 8 or 16 bytes, under profile 1 or 2, behind a handle that holds nothing. */
+tl_answer tl_judge_new(tl_judge *judge, const uint8_t *levels, size_t links, uint8_t width, uint8_t profile);
+
+/* Judges a beat of a link, 0 to 15, after the earlier beats of all links: by the rules of its link, and
+   then by those of memory. Beats are pushed in the order in which they were taken; those of one clock edge
+   by channel, the A of each link, then B, C, D and E, so that a report stands before the Grant that it
+   allows. */
+tl_answer tl_judge_push(tl_judge *judge, uint8_t link, const tl_beat *beat);
+
+/* Judges the beat of a line of a trace so, which ends in a line feed. A line that spells no beat is
+   TL_BAD_ARGUMENT. */
+tl_answer tl_judge_push_line(tl_judge *judge, const uint8_t *line, size_t length);
+
+/* Frees what the handle holds. It holds nothing then. */
+void tl_judge_free(tl_judge *judge);
 
 enum tl_operation_kind {
   TL_LOAD = 0, TL_STORE = 1, TL_ACQUIRE = 2, TL_ACQUIRE_WHOLE = 3, TL_RELEASE = 4, TL_ACCESS = 5

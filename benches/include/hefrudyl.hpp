@@ -61,6 +61,38 @@ private:
   tl_monitor handle = {};
 };
 
+/// A judge of all links of one manager. It may be moved, and not copied.
+class Judge {
+public:
+  explicit Judge(const std::vector<std::uint8_t> &levels, std::uint8_t width = 8,
+                   std::uint8_t profile = 1) {
+    tl_answer answer = tl_judge_new(&handle, levels.data(), levels.size(), width, profile);
+    if (answer.code == TL_NO_MEMORY) throw std::bad_alloc();
+    if (answer.code != TL_OK) throw std::invalid_argument("hefrudyl: levels, width or profile");
+  }
+  Judge(Judge &&other) noexcept : handle(other.handle) { other.handle = {}; }
+  Judge &operator=(Judge &&other) noexcept {
+    std::swap(handle, other.handle);
+    return *this;
+  }
+  Judge(const Judge &) = delete;
+  Judge &operator=(const Judge &) = delete;
+  ~Judge() { tl_judge_free(&handle); }
+
+  /// Judges a beat of a link, after the earlier beats of all links (hefrudyl.h has the order).
+  tl_answer push(std::uint8_t link, const tl_beat &beat) {
+    return tl_judge_push(&handle, link, &beat);
+  }
+
+  /// Judges the beat of a line of a trace, its line feed included.
+  tl_answer push_line(const std::string &line) {
+    return tl_judge_push_line(&handle, reinterpret_cast<const std::uint8_t *>(line.data()), line.size());
+  }
+
+private:
+  tl_judge handle = {};
+};
+
 /// A client of a link, with the beats that it has still to send. It may be moved, and not copied.
 class Client {
 public:

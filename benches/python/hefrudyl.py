@@ -1,4 +1,4 @@
-"""Hefrudyl for Python: the proved link monitor, clients and manager over ctypes, for cocotb and for notebooks.
+"""Hefrudyl for Python: the proved link monitor, judge of all links, clients and manager over ctypes, for cocotb and for notebooks.
 
     from hefrudyl import Beat, Channel, Level, Monitor
 
@@ -138,7 +138,7 @@ class Admitted:
 
 @dataclasses.dataclass(frozen=True)
 class Verdict:
-    """What a monitor says of a beat: `rule` is the name of the rule that it breaks, or empty."""
+    """What a monitor or judge says of a beat: `rule` is the name of the rule that it breaks, or empty."""
 
     code: Code
     rule: str
@@ -173,6 +173,10 @@ class _Handle(ctypes.Structure):
 
 class _Monitor(_Handle):
     """A handle of `tl_monitor`."""
+
+
+class _Judge(_Handle):
+    """A handle of `tl_judge`."""
 
 
 class _Operation(ctypes.Structure):
@@ -219,17 +223,18 @@ def _load():
     here = os.path.join(os.path.dirname(os.path.abspath(__file__)), "libhefrudyl.so")
     name = os.environ.get("HEFRUDYL_LIBRARY") or (here if os.path.exists(here) else "libhefrudyl.so")
     library = ctypes.CDLL(name)
-    handle = ctypes.POINTER(_Monitor)
-    library.tl_monitor_new.restype = _Answer
-    library.tl_monitor_new.argtypes = [handle, ctypes.c_char_p, ctypes.c_size_t, ctypes.c_uint8, ctypes.c_uint8]
-    library.tl_monitor_push.restype = _Answer
-    library.tl_monitor_push.argtypes = [handle, ctypes.c_uint8, ctypes.POINTER(_Beat)]
-    library.tl_monitor_push_line.restype = _Answer
-    library.tl_monitor_push_line.argtypes = [handle, ctypes.c_char_p, ctypes.c_size_t]
+    for name, handle in (("monitor", ctypes.POINTER(_Monitor)), ("judge", ctypes.POINTER(_Judge))):
+        for ending, arguments in (
+            ("new", [ctypes.c_char_p, ctypes.c_size_t, ctypes.c_uint8, ctypes.c_uint8]),
+            ("push", [ctypes.c_uint8, ctypes.POINTER(_Beat)]),
+            ("push_line", [ctypes.c_char_p, ctypes.c_size_t]),
+        ):
+            call = getattr(library, f"tl_{name}_{ending}")
+            call.restype, call.argtypes = _Answer, [handle, *arguments]
+        free = getattr(library, f"tl_{name}_free")
+        free.restype, free.argtypes = None, [handle]
     library.tl_monitor_entries.restype = _Answer
-    library.tl_monitor_entries.argtypes = [handle, ctypes.c_uint8, ctypes.POINTER(ctypes.c_uint64)]
-    library.tl_monitor_free.restype = None
-    library.tl_monitor_free.argtypes = [handle]
+    library.tl_monitor_entries.argtypes = [ctypes.POINTER(_Monitor), ctypes.c_uint8, ctypes.POINTER(ctypes.c_uint64)]
     client, flag = ctypes.POINTER(_Client), ctypes.POINTER(ctypes.c_uint8)
     beat = ctypes.POINTER(_Beat)
     for name, arguments in (
@@ -345,24 +350,41 @@ class _Agent:
             self.close()
 
 
-class Monitor(_Agent):
-    """A monitor of 1 to 16 links of these levels, of beats of `width` bytes, under profile 1 or 2."""
+class _Judging(_Agent):
+    """What judges beats of 1 to 16 links of these levels, by the library's calls of a name."""
 
-    def __init__(self, levels, width=8, profile=1):
-        super().__init__(_Monitor(), _library.tl_monitor_free, width)
-        codes = bytes(_field(level, "a level", 256) for level in levels)
-        _taken(_library.tl_monitor_new(self._handle, codes, len(codes), _field(width, "width", 256),
-                                       _field(profile, "profile", 256)), "levels, width or profile")
+    def __init__(self, name, handle, levels, width, profile):
+        super().__init__(handle, getattr(_library, f"tl_{name}_free"), width)
+        self._push, self._push_line = (getattr(_library, f"tl_{name}_{it}") for it in ("push", "push_line"))
+        codes, new = bytes(_field(level, "a level", 256) for level in levels), getattr(_library, f"tl_{name}_new")
+        _taken(new(self._handle, codes, len(codes), _field(width, "width", 256), _field(profile, "profile", 256)),
+               "levels, width or profile")
 
     def push(self, link, beat):
-        """Judges a beat of a link, after the earlier beats of that link."""
-        answer = _library.tl_monitor_push(self._handle, _field(link, "link", 256), _struct(beat))
+        """Judges a beat of a link."""
+        answer = self._push(self._handle, _field(link, "link", 256), _struct(beat))
         return Verdict(Code(answer.code), rule_name(answer.rule))
 
     def push_line(self, line):
         """Judges the beat of a line of a trace, as bytes with the line feed."""
-        answer = _library.tl_monitor_push_line(self._handle, line, len(line))
+        answer = self._push_line(self._handle, line, len(line))
         return Verdict(Code(answer.code), rule_name(answer.rule))
+
+
+class Judge(_Judging):
+    """A judge of all links of one manager, of beats of `width` bytes, under profile 1 or 2: each beat after the earlier
+    beats of all links. Those of one clock edge come by channel, the A of each link, then B, C, D and E."""
+
+    def __init__(self, levels, width=8, profile=1):
+        super().__init__("judge", _Judge(), levels, width, profile)
+
+
+class Monitor(_Judging):
+    """A monitor of 1 to 16 links of these levels, of beats of `width` bytes, under profile 1 or 2: each beat after the
+    earlier beats of its own link."""
+
+    def __init__(self, levels, width=8, profile=1):
+        super().__init__("monitor", _Monitor(), levels, width, profile)
 
     def entries(self, link):
         """How many keys are pending on a link, and how many blocks are held there, together."""

@@ -1,24 +1,45 @@
-// The DPI side of tl_link_checker: one proved monitor for each checker. Nothing is judged here: the
-// words of a beat are put into a tl_beat, and what the library answers is handed back.
+// The DPI side of tl_manager_checker and tl_link_checker: a proved monitor, or a proved judge of all links, for
+// each. Nothing is judged here: the words of a beat are put into a tl_beat, and what the library answers is
+// handed back.
 #include "tl_dpi.hpp"
 
 #include <cstdio>
 
-extern "C" void *tl_checker_open(int level, int width, int profile) {
+namespace {
+
+struct Checker {
+  virtual ~Checker() = default;
+  virtual tl_answer push(std::uint8_t link, const tl_beat &beat) = 0;
+};
+
+template <typename Judging> struct CheckerBy : Checker {
+  Judging judging;
+  CheckerBy(const std::vector<std::uint8_t> &levels, int width, int profile)
+      : judging(levels, static_cast<std::uint8_t>(width), static_cast<std::uint8_t>(profile)) {}
+  tl_answer push(std::uint8_t link, const tl_beat &beat) override { return judging.push(link, beat); }
+};
+
+}  // namespace
+
+// `levels` has two bits for each link, the lowest for link 0.
+extern "C" void *tl_checker_open(int links, int levels, int width, int profile, int together) {
+  std::vector<std::uint8_t> codes;
+  for (int i = 0; i < links; i++)
+    codes.push_back(static_cast<std::uint8_t>((static_cast<unsigned>(levels) >> (2 * i)) & 3));
   try {
-    return new hefrudyl::Monitor({static_cast<std::uint8_t>(level)}, static_cast<std::uint8_t>(width),
-                                 static_cast<std::uint8_t>(profile));
+    if (together) return static_cast<Checker *>(new CheckerBy<hefrudyl::Judge>(codes, width, profile));
+    return static_cast<Checker *>(new CheckerBy<hefrudyl::Monitor>(codes, width, profile));
   } catch (const std::exception &error) {
-    std::fprintf(stderr, "tl_link_checker: %s\n", error.what());
+    std::fprintf(stderr, "tl_checker: %s\n", error.what());
     return nullptr;
   }
 }
 
 // The answer is the code, and 256 times the number of the rule.
-extern "C" int tl_checker_push(void *checker, long long fields, int address, int mask,
+extern "C" int tl_checker_push(void *checker, int link, long long fields, int address, int mask,
                                const svBitVecVal *lanes) {
-  return tl_dpi::number_of(
-      static_cast<hefrudyl::Monitor *>(checker)->push(0, tl_dpi::beat_of(fields, address, mask, lanes)));
+  return tl_dpi::number_of(static_cast<Checker *>(checker)->push(static_cast<std::uint8_t>(link),
+                                                                 tl_dpi::beat_of(fields, address, mask, lanes)));
 }
 
 extern "C" const char *tl_checker_rule(int rule) {
@@ -27,4 +48,4 @@ extern "C" const char *tl_checker_rule(int rule) {
   return name.c_str();
 }
 
-extern "C" void tl_checker_close(void *checker) { delete static_cast<hefrudyl::Monitor *>(checker); }
+extern "C" void tl_checker_close(void *checker) { delete static_cast<Checker *>(checker); }

@@ -117,7 +117,8 @@ static void names(void) {
   uint8_t name[4] = "???";
   want(tl_rule_name(TL_H12, name, 3) == 3 && memcmp(name, "H12", 3) == 0, "H12");
   want(tl_rule_name(TL_NO_RULE, name, 3) == 0, "no rule has no name");
-  want(tl_rule_name(25, name, 3) == 0, "there is no rule 25");
+  want(tl_rule_name(TL_M4, name, 3) == 2 && memcmp(name, "M4", 2) == 0, "M4");
+  want(tl_rule_name(29, name, 3) == 0, "there is no rule 29");
   name[1] = '?';
   want(tl_rule_name(TL_L1, name, 1) == 1 && name[0] == 'L' && name[1] == '?', "no more than there is room for");
 }

@@ -1,4 +1,4 @@
-// The C++ header: a monitor, a client and a manager are moved, freed once, and refuse what can't be made.
+// The C++ header: a monitor, a judge, a client and a manager are moved, freed once, and refuse what can't be made.
 #include <hefrudyl.hpp>
 
 #include <cstdio>
@@ -18,6 +18,13 @@ int main() {
     right = false;
   } catch (const std::invalid_argument &) {
   }
+  hefrudyl::Judge unmoved({TL_C, TL_C});
+  hefrudyl::Judge judge(std::move(unmoved));
+  right = right && unmoved.push(0, acknowledge).code == TL_BAD_ARGUMENT;
+  for (const char *line : {"00 A 7 1 6 00 00000000 ff - 0\n", "00 D 4 0 6 00 00 0 - 0\n", "01 A 7 1 6 00 00000000 ff - 0\n"})
+    right = right && judge.push_line(line).code == TL_OK;
+  answer = judge.push_line("01 D 4 0 6 00 01 0 - 0\n");
+  right = right && answer.code == TL_BROKEN && hefrudyl::rule_name(answer.rule) == "M1";
   hefrudyl::Client made(TL_C, 4);
   hefrudyl::Client client(std::move(made));
   tl_operation acquire = {};

@@ -6,3 +6,5 @@ pub mod Manager
 pub mod ManagerOpened
 pub mod Opened
 pub mod Sessions
+pub mod Together
+pub mod TogetherOpened

@@ -1,10 +1,11 @@
-//! Hefrudyl for C: handles of monitors, of clients and of managers, and what C may do with them. C gives a
+//! Hefrudyl for C: handles of monitors, of judges of all links, of clients and of managers, and what C may do with them. C gives a
 //! handle to one call at a time.
 #![tactic(auto)]
 
 mod client;
 mod exports;
 mod handle;
+mod judge;
 mod manager;
 mod monitor;
 mod opening;

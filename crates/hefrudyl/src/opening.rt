@@ -1,4 +1,4 @@
-//! What monitors, clients and managers are made from, as C names it.
+//! What monitors, judges, clients and managers are made from, as C names it.
 
 ghost use Rattle.std.specs.Prelude.{◌≡◌, ◌≤◌, map, length, IfOk};
 ghost use Rattle.tl_beat.specs.statement.Width.{IsWidth};
@@ -6,6 +6,7 @@ ghost use Rattle.hefrudyl.specs.statement.Opened.{may_open, Makes};
 ghost use Rattle.tl_pictures.specs.statement.Codes.{level_at};
 ghost use Rattle.hefrudyl.specs.statement.ClientOpened.{may_open_client, MakesClient};
 ghost use Rattle.hefrudyl.specs.statement.ManagerOpened.{may_open_manager, MakesManager};
+ghost use Rattle.hefrudyl.specs.statement.TogetherOpened.{MakesJudge};
 
 use std::alloc::{AllocError, Global};
 use tl_monitor::monitor::Monitor;
@@ -16,6 +17,8 @@ use tl_ports::client::ClientPort;
 use tl_ports::manager::ManagerPort;
 use tl_rules::config::{ClientConfig, MOST_CLIENTS, NewFault};
 use tl_rules::level::Level;
+use tl_together::fault::JudgeFault;
+use tl_together::judge::Judge;
 
 /// 1 to 16 levels, 0 to 2 each, a width of 4, 8 or 16 and a profile of 1 or 2.
 pub fn may_open(codes: &[u8], width: u8, profile: u8) -> bool
@@ -49,6 +52,25 @@ pub fn make<const W: usize>(alloc: Global, codes: &[u8], profile: u8) -> Result<
     match Monitor::new(alloc, levels.as_slice(), profile_of(profile)) {
         Ok(monitor) => Ok(monitor),
         Err(fault) => Err(Answer::of(Err(fault))),
+    }
+}
+
+/// A judge of all links that has seen no beat.
+pub fn make_judge<const W: usize>(
+    alloc: Global,
+    codes: &[u8],
+    profile: u8,
+) -> Result<Judge<W>, Answer>
+    requires width { IsWidth W }
+    ensures { MakesJudge codes.now profile result }
+{
+    let Ok(levels) = levels_of(alloc, codes) else {
+        return Err(Answer::NO_MEMORY);
+    };
+    match Judge::new(alloc, levels.as_slice(), profile_of(profile)) {
+        Ok(judge) => Ok(judge),
+        Err(JudgeFault::Memory) => Err(Answer::NO_MEMORY),
+        Err(_) => Err(Answer::BAD),
     }
 }
 

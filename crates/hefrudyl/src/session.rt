@@ -2,18 +2,20 @@
 
 ghost use Rattle.hefrudyl.specs.statement.Opened.{OpensTo, ok_of, answer_in};
 ghost use Rattle.hefrudyl.specs.statement.Sessions.{PushSession, LineSession, EntriesSession};
+ghost use Rattle.hefrudyl.specs.statement.Sessions.{JudgeOpens, JudgesSession, JudgesLineSession};
 ghost use Rattle.hefrudyl.specs.statement.Sessions.{ClientOpens, AsksSession, OffersSession, StallsSession};
 ghost use Rattle.hefrudyl.specs.statement.Sessions.{NextSession, PopSession, HeldSession, CopySession, ClosedSession};
 ghost use Rattle.hefrudyl.specs.statement.Sessions.{ManagerOpens, AdmitsSession, StallsAtSession, NextAtSession};
 ghost use Rattle.hefrudyl.specs.statement.Sessions.{PopAtSession, ClosedAtSession};
 
 use crate::client::AnyPort;
+use crate::judge::AnyJudge;
 use crate::manager::AnyManager;
 use crate::monitor::AnyMonitor;
 use crate::opening::{
-    make, make_client, make_manager, may_open, may_open_client, may_open_manager,
+    make, make_client, make_judge, make_manager, may_open, may_open_client, may_open_manager,
 };
-use crate::{client, manager, monitor};
+use crate::{client, judge, manager, monitor};
 use std::alloc::Global;
 use tl_pictures::answer::Answer;
 use tl_pictures::config::LinkConfig;
@@ -21,15 +23,17 @@ use tl_pictures::operation::Operation;
 use tl_pictures::outcome::{Outcome, Reception};
 use tl_pictures::picture::Picture;
 
-/// What a handle holds: a monitor, or a client or manager with the beats that it has still to send.
+/// What a handle holds: a monitor, a judge of all links, or a client or manager with the beats that it has
+/// still to send.
 #[derive(Drop)]
 pub enum Session {
     Monitor(AnyMonitor),
+    Judge(AnyJudge),
     Client(AnyPort),
     Manager(AnyManager),
 }
 
-/// What a monitor, client or manager of any width answers; bad input where none is held.
+/// What a monitor, judge, client or manager of any width answers; bad input where none is held.
 macro_rules! of_any {
     ($held:ident, $any:ident, $session:expr, $port:ident => $answer:expr) => {
         match $session {
@@ -77,6 +81,41 @@ impl Session {
         ensures { EntriesSession link entries.old entries.new result self.now }
     {
         of_any!(Monitor, AnyMonitor, self, held => monitor::entries(held, link, entries))
+    }
+
+    /// A new judge of all links of a manager, of the width.
+    pub fn open_judge(
+        alloc: Global,
+        codes: &[u8],
+        width: u8,
+        profile: u8,
+    ) -> Result<Session, Answer>
+        ensures told { JudgeOpens codes.now width profile (ok_of result) (answer_in result) }
+    {
+        if !may_open(codes, width, profile) {
+            return Err(Answer::BAD);
+        }
+        let judge = match width {
+            4 => AnyJudge::Four(make_judge(alloc, codes, profile)?),
+            8 => AnyJudge::Eight(make_judge(alloc, codes, profile)?),
+            16 => AnyJudge::Sixteen(make_judge(alloc, codes, profile)?),
+            _ => return Err(Answer::BAD),
+        };
+        Ok(Session::Judge(judge))
+    }
+
+    /// Judges a beat of a link together with those of all links, where a judge is held.
+    pub fn judge(&mut self, link: u8, beat: &Picture) -> Answer
+        ensures { JudgesSession link beat.now result self.old self.new }
+    {
+        of_any!(Judge, AnyJudge, self, held => judge::push(held, link, beat))
+    }
+
+    /// Judges the beat of a line of a trace so, where a judge is held.
+    pub fn judge_line(&mut self, line: &[u8]) -> Answer
+        ensures { JudgesLineSession line.now result self.old self.new }
+    {
+        of_any!(Judge, AnyJudge, self, held => judge::push_line(held, line))
     }
 
     /// A new client of the level, with this many blocks and sources, on a link of the width.

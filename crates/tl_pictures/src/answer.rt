@@ -1,10 +1,13 @@
 //! What C is answered.
 
 ghost use Rattle.std.specs.Prelude.{◌≡◌};
-ghost use Rattle.tl_pictures.specs.statement.Answer.{rule_number, broken, answer_of};
+ghost use Rattle.tl_pictures.specs.statement.Answer.{rule_number, memory_rule_number, breach_number, broken, breaks};
+ghost use Rattle.tl_pictures.specs.statement.Answer.{answer_of, judge_answer};
 
 use tl_monitor::fault::MonitorFault;
 use tl_rules::rule::Rule;
+use tl_together::breach::{Breach, MemoryRule};
+use tl_together::fault::JudgeFault;
 
 /// A code, and the number of the rule that a beat breaks; 0 for none.
 #[repr(C)]
@@ -46,6 +49,26 @@ fn number_of(rule: Rule) -> u8
     }
 }
 
+/// The number of a rule of memory, behind those of the links.
+fn number_of_memory(rule: MemoryRule) -> u8
+    ensures { result ≡ memory_rule_number rule }
+{
+    match rule {
+        MemoryRule::M1 => 25,
+        MemoryRule::M4 => 28,
+    }
+}
+
+/// The number of a rule of a link or of memory.
+fn number_of_breach(breach: Breach) -> u8
+    ensures { result ≡ breach_number breach }
+{
+    match breach {
+        Breach::OfLink(rule) => number_of(rule),
+        Breach::OfMemory(rule) => number_of_memory(rule),
+    }
+}
+
 impl Answer {
     /// Done.
     pub const OK: Answer = Answer { code: 0, rule: 0 };
@@ -58,6 +81,9 @@ impl Answer {
 
     /// There is nothing of what was asked for.
     pub const NOTHING: Answer = Answer { code: 5, rule: 0 };
+
+    /// An earlier beat broke a rule.
+    const CLOSED: Answer = Answer { code: 4, rule: 0 };
 
     /// The beat breaks the rule.
     pub fn broken(rule: Rule) -> Answer
@@ -78,7 +104,30 @@ impl Answer {
             Err(MonitorFault::Broken(rule)) => Answer::broken(rule),
             Err(MonitorFault::Levels) => Answer::BAD,
             Err(MonitorFault::Memory) => Answer::NO_MEMORY,
-            Err(MonitorFault::Closed) => Answer { code: 4, rule: 0 },
+            Err(MonitorFault::Closed) => Answer::CLOSED,
+        }
+    }
+
+    /// The beat breaks the rule, of its link or of memory.
+    fn breaks(breach: Breach) -> Answer
+        ensures { result ≡ breaks breach }
+    {
+        Answer {
+            code: 1,
+            rule: number_of_breach(breach),
+        }
+    }
+
+    /// The answer to a beat that was judged together with those of all links.
+    pub fn of_judge(judged: Result<(), JudgeFault>) -> Answer
+        ensures { result ≡ judge_answer judged }
+    {
+        match judged {
+            Ok(()) => Answer::OK,
+            Err(JudgeFault::Broken(breach)) => Answer::breaks(breach),
+            Err(JudgeFault::Levels) => Answer::BAD,
+            Err(JudgeFault::Memory) => Answer::NO_MEMORY,
+            Err(JudgeFault::Closed) => Answer::CLOSED,
         }
     }
 }

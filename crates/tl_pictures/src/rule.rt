@@ -1,9 +1,10 @@
 //! The rules that the numbers of answers stand for.
 
 ghost use Rattle.std.specs.Prelude.{◌≡◌};
-ghost use Rattle.tl_pictures.specs.statement.Named.{rule_with, name_of};
+ghost use Rattle.tl_pictures.specs.statement.Named.{rule_with, memory_rule_with, name_with};
 
 use tl_rules::rule::Rule;
+use tl_together::breach::MemoryRule;
 
 /// The rule with a number, from 1 on.
 fn rule_with(number: u8) -> Option<Rule>
@@ -38,12 +39,24 @@ fn rule_with(number: u8) -> Option<Rule>
     }
 }
 
+/// The rule of memory with a number.
+fn memory_rule_with(number: u8) -> Option<MemoryRule>
+    ensures { result ≡ memory_rule_with number }
+{
+    match number {
+        25 => Some(MemoryRule::M1),
+        28 => Some(MemoryRule::M4),
+        _ => None,
+    }
+}
+
 /// The name of the rule with a number; nothing where there is none.
 pub fn name_of(number: u8) -> &'static str
-    ensures { result.now ≡ name_of (rule_with number) }
+    ensures { result.now ≡ name_with number }
 {
-    match rule_with(number) {
-        None => "",
-        Some(rule) => rule.name(),
+    match (rule_with(number), memory_rule_with(number)) {
+        (Some(rule), _) => rule.name(),
+        (None, Some(rule)) => rule.name(),
+        (None, None) => "",
     }
 }

@@ -36,7 +36,7 @@ pub still : {w : ℕ} (j j' : Judge w) (levels : List Level) (p : Profile) (t : 
     → j.closed ≡ false → j'.closed ≡ false → j'.links ≡ j.links → j'.moment ≡ j.moment
     → of_link.Knows j'.monitor levels p t false
     → NotesRequest j.monitor j.asked.items j'.asked.items link x next
-    → NotesWindow j.monitor j.links j.moment j.windows.moments.entries j'.windows.moments.entries link x
+    → NotesWindow j.monitor j.links j.moment j.windows j'.windows link x
     → Knows j' levels p t closed
 still j j' levels p t closed link x next k e e' links moment m asked windows =
     let o = open_still j levels p t closed k e in
@@ -61,7 +61,7 @@ pub taken : {w : ℕ} (j j' : Judge w) (levels : List Level) (p : Profile) (t : 
     → broken_on_link levels p (link, x) t ≡ None
     → of_link.Knows j'.monitor levels p ((link, x) ∷ t) false
     → NotesRequest j.monitor j.asked.items j'.asked.items link x next
-    → NotesWindow j.monitor j.links j.moment j.windows.moments.entries j'.windows.moments.entries link x
+    → NotesWindow j.monitor j.links j.moment j.windows j'.windows link x
     → Knows j' levels p ((link, x) ∷ t) false
 taken j j' levels p t closed link x next k e e' links next_is moment fine m asked windows =
     let o = open_still j levels p t closed k e in
@@ -138,7 +138,7 @@ pub refused_knows : {w : ℕ} (j j' : Judge w) (levels : List Level) (p : Profil
     → of_link.Knows j'.monitor levels p (of_link.recorded_after (Err fault) (link, x) t)
     (of_link.closed_after (Err fault))
     → NotesRequest j.monitor j.asked.items j'.asked.items link x next
-    → NotesWindow j.monitor j.links j.moment j.windows.moments.entries j'.windows.moments.entries link x
+    → NotesWindow j.monitor j.links j.moment j.windows j'.windows link x
     → Knows j' levels p t (closed_after closed (Err f))
 refused_knows j j' levels p t closed link x next monitor.Memory f k e f_is e' links moment m asked windows =
     rw f_is (still j j' levels p t closed link x next k e e' links moment m asked windows)
@@ -161,7 +161,7 @@ none_asked w tables n link source lt some = absurd cc
 
 pub new_knows : {w : ℕ} (j : Judge w) (levels : List Level) (p : Profile) → j.closed ≡ false → j.links ≡ length levels
     → j.moment ≡ 0 → of_link.Knows j.monitor levels p [] false
-    → length j.asked.items ≡ length levels → j.windows.moments.entries ≡ [] → Knows j levels p [] false
+    → length j.asked.items ≡ length levels → j.windows ≡ [] → Knows j levels p [] false
 new_knows {w} j levels p e links moment m tables entries = record {
   closed_is = e;
   open_knows = λ _. record {
@@ -170,6 +170,6 @@ new_knows {w} j levels p e links moment m tables entries = record {
     monitor_is = m;
     tables_are = tables;
     asked_are = none_asked w j.asked.items (length levels);
-    windows_are = none_yet w j.windows.moments.entries (length levels) entries;
+    windows_are = none_yet w j.windows (length levels) entries;
   };
 }

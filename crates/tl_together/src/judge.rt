@@ -137,8 +137,8 @@ fn note_window<const W: usize>(
     beat: &Beat<W>,
 ) -> Result<(), AllocError>
     ensures noted { OnOk result (NotesWindow monitor.now links moment
-        windows.old.moments.entries windows.new.moments.entries link beat.now) }
-    ensures unchanged { OnErr result (windows.new.moments.entries ≡ windows.old.moments.entries) }
+        windows.old windows.new link beat.now) }
+    ensures unchanged { OnErr result (windows.new ≡ windows.old) }
 {
     let Some(block) = monitor.block_of(link, beat) else {
         return Ok(());

@@ -6,4 +6,4 @@ pub mod fault;
 mod free;
 pub mod judge;
 pub mod trace;
-mod windows;
+pub mod windows;

@@ -1,4 +1,4 @@
--- What C is told of a monitor, a client and a manager by its handle.
+-- What C is told of a monitor, a judge, a client and a manager by its handle.
 use Rattle.std.specs.Prelude.{ℕ, List, ◌≡◌, Option, Some, None}
 use Rattle.tl_pictures.specs.declared.answer.Answer.{Answer}
 use Rattle.tl_pictures.specs.declared.config.LinkConfig.{LinkConfig}
@@ -18,6 +18,10 @@ OpensHandle P None new answer = P new answer
 
 abbrev pub MonitorOpenTold : Option Session → Option Session → List ℕ → ℕ → ℕ → Answer → Type 0
 MonitorOpenTold old new levels width profile answer = OpensHandle (OpensTo levels width profile) old new answer
+
+abbrev pub JudgeOpenTold : Option Session → Option Session → List ℕ → ℕ → ℕ → Answer → Type 0
+JudgeOpenTold old new levels width profile answer =
+    OpensHandle (Sessions.JudgeOpens levels width profile) old new answer
 
 abbrev pub ClientOpenTold : Option Session → Option Session → ℕ → ℕ → ℕ → ℕ → ℕ → Answer → Type 0
 ClientOpenTold old new level blocks sources width profile answer =
@@ -44,6 +48,14 @@ LineTold line answer old new = OnHandle (Sessions.LineSession line answer) (answ
 abbrev pub EntriesTold : ℕ → ℕ → ℕ → Answer → Option Session → Option Session → Type 0
 EntriesTold link was now answer old new = OnHandle (λ s u. Sessions.EntriesSession link was now answer s × (u ≡ s))
     (IsBad answer was now) old new
+
+-- ---- judges of all links
+
+abbrev pub JudgeTold : ℕ → Picture → Answer → Option Session → Option Session → Type 0
+JudgeTold link x answer old new = OnHandle (Sessions.JudgesSession link x answer) (answer ≡ bad) old new
+
+abbrev pub JudgeLineTold : List ℕ → Answer → Option Session → Option Session → Type 0
+JudgeLineTold line answer old new = OnHandle (Sessions.JudgesLineSession line answer) (answer ≡ bad) old new
 
 -- ---- clients
 

@@ -1,10 +1,12 @@
--- What C is told of a monitor, a client or a manager that a session holds.
+-- What C is told of a monitor, a judge, a client or a manager that a session holds.
 use Rattle.std.specs.Prelude.{ℕ, List, ◌≡◌, ◌⊎◌, true, Option, Some, None}
 use Rattle.tl_monitor.specs.declared.monitor.Monitor.{Monitor}
+use Rattle.tl_together.specs.declared.judge.Judge.{Judge}
 use Rattle.tl_ports.specs.declared.client.ClientPort.{ClientPort}
 use Rattle.tl_pictures.specs.declared.answer.Answer.{Answer}
 use Rattle.tl_ports.specs.declared.manager.ManagerPort.{ManagerPort}
 use Rattle.hefrudyl.specs.declared.client.AnyPort.TheVariants as port
+use Rattle.hefrudyl.specs.declared.judge.AnyJudge.TheVariants as judge
 use Rattle.hefrudyl.specs.declared.manager.AnyManager.TheVariants as manager
 use Rattle.hefrudyl.specs.declared.monitor.AnyMonitor.TheVariants as monitor
 use Rattle.tl_pictures.specs.declared.config.LinkConfig.{LinkConfig}
@@ -20,6 +22,9 @@ use Rattle.hefrudyl.specs.statement.ClientOpened.{may_open_client, IsFreshClient
 use Rattle.hefrudyl.specs.statement.Judged.{ToldOf, ToldOfLine, EntriesOf}
 use Rattle.hefrudyl.specs.statement.Manager.{Admitted, StallsAt, ShowsAt, PopsAt, ClosedAt}
 use Rattle.hefrudyl.specs.statement.ManagerOpened.{may_open_manager, IsFreshManager}
+use Rattle.hefrudyl.specs.statement.Opened.{may_open}
+use Rattle.hefrudyl.specs.statement.Together.{ToldTogether, ToldOfLineTogether}
+use Rattle.hefrudyl.specs.statement.TogetherOpened.{IsFreshJudge}
 
 -- ---- monitors
 
@@ -31,6 +36,7 @@ OnMonitor P refused (session.Monitor (monitor.Eight old)) (session.Monitor (moni
 OnMonitor P refused (session.Monitor (monitor.Sixteen old)) (session.Monitor (monitor.Sixteen new)) = P 16 old new
 OnMonitor P refused (session.Client old) new = refused × (new ≡ session.Client old)
 OnMonitor P refused (session.Manager old) new = refused × (new ≡ session.Manager old)
+OnMonitor P refused (session.Judge old) new = refused × (new ≡ session.Judge old)
 OnMonitor _ _ _ _ = ⊥
 
 abbrev pub PushSession : ℕ → Picture → Answer → Session → Session → Type 0
@@ -42,6 +48,37 @@ LineSession line answer old new = OnMonitor (λ w m n. ToldOfLine m n line answe
 abbrev pub EntriesSession : ℕ → ℕ → ℕ → Answer → Session → Type 0
 EntriesSession link was entries answer s =
     OnMonitor (λ w m n. EntriesOf m link was entries answer) (IsBad answer was entries) s s
+
+-- ---- judges of all links
+
+-- the judge is new, and of the width
+abbrev pub IsOpenedJudge : List ℕ → ℕ → ℕ → Session → Type 0
+IsOpenedJudge codes width profile (session.Judge (judge.Four j)) = (width ≡ 4) × IsFreshJudge codes profile j
+IsOpenedJudge codes width profile (session.Judge (judge.Eight j)) = (width ≡ 8) × IsFreshJudge codes profile j
+IsOpenedJudge codes width profile (session.Judge (judge.Sixteen j)) = (width ≡ 16) × IsFreshJudge codes profile j
+IsOpenedJudge codes width profile _ = ⊥
+
+-- what is told of a handle that held nothing
+abbrev pub JudgeOpens : List ℕ → ℕ → ℕ → Option Session → Answer → Type 0
+JudgeOpens codes width profile (Some s) answer =
+    (answer ≡ ok) × (may_open codes width profile ≡ true) × IsOpenedJudge codes width profile s
+JudgeOpens codes width profile None answer = (answer ≡ no_memory) ⊎ (answer ≡ bad)
+
+-- this holds of the judge before and after, likewise
+abbrev pub OnJudge : ((w : ℕ) → Judge w → Judge w → Type 0) → Type 0 → Session → Session → Type 0
+OnJudge P refused (session.Judge (judge.Four old)) (session.Judge (judge.Four new)) = P 4 old new
+OnJudge P refused (session.Judge (judge.Eight old)) (session.Judge (judge.Eight new)) = P 8 old new
+OnJudge P refused (session.Judge (judge.Sixteen old)) (session.Judge (judge.Sixteen new)) = P 16 old new
+OnJudge P refused (session.Monitor old) new = refused × (new ≡ session.Monitor old)
+OnJudge P refused (session.Client old) new = refused × (new ≡ session.Client old)
+OnJudge P refused (session.Manager old) new = refused × (new ≡ session.Manager old)
+OnJudge _ _ _ _ = ⊥
+
+abbrev pub JudgesSession : ℕ → Picture → Answer → Session → Session → Type 0
+JudgesSession link x answer old new = OnJudge (λ w j k. ToldTogether j k link x answer) (answer ≡ bad) old new
+
+abbrev pub JudgesLineSession : List ℕ → Answer → Session → Session → Type 0
+JudgesLineSession line answer old new = OnJudge (λ w j k. ToldOfLineTogether j k line answer) (answer ≡ bad) old new
 
 -- ---- clients
 
@@ -69,6 +106,7 @@ OnClient P refused (session.Client (port.Eight old)) (session.Client (port.Eight
 OnClient P refused (session.Client (port.Sixteen old)) (session.Client (port.Sixteen new)) = P 16 old new
 OnClient P refused (session.Monitor old) new = refused × (new ≡ session.Monitor old)
 OnClient P refused (session.Manager old) new = refused × (new ≡ session.Manager old)
+OnClient P refused (session.Judge old) new = refused × (new ≡ session.Judge old)
 OnClient _ _ _ _ = ⊥
 
 abbrev pub AsksSession : Operation → Outcome → Outcome → Answer → Session → Session → Type 0
@@ -127,6 +165,7 @@ OnManager P refused (session.Manager (manager.Eight old)) (session.Manager (mana
 OnManager P refused (session.Manager (manager.Sixteen old)) (session.Manager (manager.Sixteen new)) = P 16 old new
 OnManager P refused (session.Monitor old) new = refused × (new ≡ session.Monitor old)
 OnManager P refused (session.Client old) new = refused × (new ≡ session.Client old)
+OnManager P refused (session.Judge old) new = refused × (new ≡ session.Judge old)
 OnManager _ _ _ _ = ⊥
 
 abbrev pub AdmitsSession : ℕ → Picture → ℕ → ℕ → Answer → Session → Session → Type 0

@@ -5,6 +5,12 @@ use Rattle.tl_params.specs.declared.rule.Rule.TheVariants.{L1, L2, L3, L4, L5, L
 use Rattle.tl_params.specs.declared.rule.Rule.TheVariants.{H8, H9, H10, H11, H12, H13, A1, A2, A3}
 use Rattle.tl_monitor.specs.declared.fault.MonitorFault.{MonitorFault}
 use Rattle.tl_monitor.specs.declared.fault.MonitorFault.TheVariants.{Levels, Broken, Memory, Closed}
+use Rattle.tl_together.specs.declared.breach.Breach.{Breach}
+use Rattle.tl_together.specs.declared.breach.Breach.TheVariants.{OfLink, OfMemory}
+use Rattle.tl_together.specs.declared.breach.MemoryRule.{MemoryRule}
+use Rattle.tl_together.specs.declared.breach.MemoryRule.TheVariants.{M1, M4}
+use Rattle.tl_together.specs.declared.fault.JudgeFault.{JudgeFault}
+use Rattle.tl_together.specs.declared.fault.JudgeFault.TheVariants as judge
 use Rattle.tl_pictures.specs.declared.answer.Answer.{Answer}
 
 -- the rules of level, burst, history and agents, each from the number before its first
@@ -34,6 +40,15 @@ rule_number A1 = 22
 rule_number A2 = 23
 rule_number A3 = 24
 
+-- the rules of memory, behind them
+abbrev pub memory_rule_number : MemoryRule → ℕ
+memory_rule_number M1 = 25
+memory_rule_number M4 = 28
+
+abbrev pub breach_number : Breach → ℕ
+breach_number (OfLink rule) = rule_number rule
+breach_number (OfMemory rule) = memory_rule_number rule
+
 abbrev pub answer : ℕ → Answer
 answer code = record { code = code; rule = 0 }
 
@@ -43,6 +58,9 @@ ok = answer 0
 
 abbrev pub broken : Rule → Answer
 broken rule = record { code = 1; rule = rule_number rule }
+
+abbrev pub breaks : Breach → Answer
+breaks breach = record { code = 1; rule = breach_number breach }
 
 abbrev pub bad : Answer
 bad = answer 2
@@ -64,6 +82,14 @@ answer_of (Err Levels) = bad
 answer_of (Err (Broken rule)) = broken rule
 answer_of (Err Memory) = no_memory
 answer_of (Err Closed) = closed
+
+-- the answer to a beat that was judged together with those of all links
+abbrev pub judge_answer : Result ⊤ JudgeFault → Answer
+judge_answer (Ok u) = ok
+judge_answer (Err judge.Levels) = bad
+judge_answer (Err (judge.Broken breach)) = breaks breach
+judge_answer (Err judge.Memory) = no_memory
+judge_answer (Err judge.Closed) = closed
 
 -- bad input, which leaves what was
 abbrev pub IsBad : {A : Type 0} → Answer → A → A → Type 0

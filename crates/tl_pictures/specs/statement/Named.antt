@@ -6,7 +6,10 @@ use Rattle.tl_params.specs.declared.rule.Rule.{Rule}
 use Rattle.tl_params.specs.declared.rule.Rule.TheVariants.{L1, L2, L3, L4, L5, L6, L7, S1, H1, H2, H3, H4, H5, H6, H7}
 use Rattle.tl_params.specs.declared.rule.Rule.TheVariants.{H8, H9, H10, H11, H12, H13, A1, A2, A3}
 use Rattle.tl_params.specs.statement.Names.{rule_name}
-use Rattle.tl_pictures.specs.statement.Answer.{rule_number}
+use Rattle.tl_together.specs.declared.breach.MemoryRule.{MemoryRule}
+use Rattle.tl_together.specs.declared.breach.MemoryRule.TheVariants.{M1, M4}
+use Rattle.tl_together.specs.statement.Names.{memory_rule_name}
+use Rattle.tl_pictures.specs.statement.Answer.{rule_number, memory_rule_number}
 
 abbrev pub rules : List Rule
 rules =
@@ -17,7 +20,16 @@ rules =
 abbrev pub rule_with : ℕ → Option Rule
 rule_with n = find (λ rule. rule_number rule == n) rules
 
--- its name; nothing for a number that no rule has
-abbrev pub name_of : Option Rule → List ℕ
-name_of None = []
-name_of (Some rule) = rule_name rule
+-- the rule of memory with a number
+abbrev pub memory_rule_with : ℕ → Option MemoryRule
+memory_rule_with n = find (λ rule. memory_rule_number rule == n) (M1 ∷ M4 ∷ [])
+
+-- the name of one of them, or nothing
+abbrev pub name_of : Option Rule → Option MemoryRule → List ℕ
+name_of (Some rule) memory = rule_name rule
+name_of None (Some rule) = memory_rule_name rule
+name_of None None = []
+
+-- the name of the rule with a number; nothing for a number that no rule has
+abbrev pub name_with : ℕ → List ℕ
+name_with n = name_of (rule_with n) (memory_rule_with n)

@@ -24,7 +24,7 @@ pub record KnowsTrace {w : ℕ} (j : Judge w) (levels : List Level) (p : Profile
   pub monitor_is : monitor.Knows j.monitor levels p t false
   pub tables_are : length j.asked.items ≡ length levels
   pub asked_are : KnowsAsked j.asked.items (length levels) t
-  pub windows_are : KnowsWindows j.windows.moments.entries (length levels) t
+  pub windows_are : KnowsWindows j.windows (length levels) t
 
 -- the same, where no beat was refused by a rule; it is closed where one was
 pub record Knows {w : ℕ} (j : Judge w) (levels : List Level) (p : Profile) (t : Trace w) (closed : Bool) : Type 0 where

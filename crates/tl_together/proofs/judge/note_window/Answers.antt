@@ -8,7 +8,7 @@ use Rattle.tl_together.proofs.judge.note_window.Goals as goal
 
 pub returns-in_default-clause-noted : goal.returns-in_default-clause-noted
 returns-in_default-clause-noted g c =
-    notes_no_window c.args.monitor.now c.args.links c.args.moment c.args.windows.now.moments.entries c.args.link
+    notes_no_window c.args.monitor.now c.args.links c.args.moment c.args.windows.now c.args.link
     c.args.beat.now
     (λ levels p t k fine. subst (λ o. LeavesOthers o c.args.beat.now (on_link c.args.link.0 t)) c.in_default.is
     (c.block_of.ensures levels p t _ k fine))
@@ -17,7 +17,7 @@ pub returns-clause-noted : goal.returns-clause-noted
 returns-clause-noted g c =
     on_ok_weaker c.set.result
     (λ h. notes_window c.args.monitor.now c.args.links c.args.moment c.in-Some.block c.latest.result c.latest-2.result
-    c.args.windows.now.moments.entries _ c.args.link c.args.beat.now
+    c.args.windows.now _ c.args.link c.args.beat.now
     (λ levels p t k fine. subst (λ o. LeavesOthers o c.args.beat.now (on_link c.args.link.0 t)) c.in-Some.is
     (c.block_of.ensures levels p t _ k fine))
     c.freedom_of-free.result.reading c.freedom_of-free.result.writing

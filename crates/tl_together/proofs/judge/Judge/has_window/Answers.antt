@@ -23,7 +23,7 @@ pub returns-in-Some : goal.returns-in-Some
 returns-in-Some g c = λ levels p t k lt asked.
     window_asked c.args.self.now.links (length levels) c.args.link.0 c.args.source c.args.given c.args.block t
     c.is_free.result c.in-Some.asked c.last_in.result
-    c.args.self.now.windows.moments.entries c.asked_in.result k.links_are asked
+    c.args.self.now.windows c.asked_in.result k.links_are asked
     (c.is_free.ensures levels p t k.monitor_is k.links_are) c.if-is_free.false (sym c.in-Some.is)
     (c.asked_in.ensures ∙ ap (λ n. asked_in c.args.self.now.asked.items n c.args.source) c.from.ensures ∙ k.asked_are
     c.args.link.0 c.args.source lt asked)

@@ -1,0 +1,147 @@
+"""What the tests of the benches share: how simulations, programs and the library are built and run."""
+
+import os
+import re
+import subprocess
+import sys
+
+HERE = os.path.dirname(os.path.abspath(__file__))
+ROOT = os.path.dirname(HERE)
+OUT = os.path.join(HERE, "out")
+TLTOOL = os.environ.get("TLTOOL", os.path.join(ROOT, "crates/tltool/out/tltool"))
+LIBRARY = os.path.join(OUT, "libhefrudyl.a")
+
+SV = ["sv/tl_pkg.sv", "sv/tl_manager_recorder.sv", "sv/tl_link_recorder.sv"]
+EXAMPLE = ["example/tl_cache.sv", "example/tl_home.sv", "example/tl_device.sv", "example/bench_recorded.sv"]
+
+# Each bug of example/tl_home.sv, and the rule of memory that finds it.
+HOME_BUGS = {1: "M1", 2: "M4"}
+
+# Each bug of example/tl_cache.sv: the rule that finds it, and what the bench itself says of the run.
+BUGS = {
+    1: ("H11", "agree"),
+    2: (None, "differ"),
+    3: ("H8", "agree"),
+    4: ("S1", "agree"),
+    5: ("H12", "agree"),
+    6: ("H5", "agree"),
+    7: ("H13", "agree"),
+    8: ("H10", "agree"),
+}
+
+TESTS = []
+
+
+def test(function):
+    TESTS.append(function)
+    return function
+
+
+class Failed(Exception):
+    pass
+
+
+def want(holds, text):
+    if not holds:
+        raise Failed(text)
+
+
+def run(command, status=0, **options):
+    """What a command writes; its exit status has to be the one that is wanted."""
+    done = subprocess.run(command, stdout=subprocess.PIPE, stderr=subprocess.STDOUT, text=True,
+                          timeout=600, **options)
+    if status is not None and done.returncode != status:
+        raise Failed(f"{' '.join(command[:3])} ..: status {done.returncode}, wanted {status}\n{done.stdout[-3000:]}")
+    return done.stdout
+
+
+def path(name):
+    return os.path.join(OUT, name)
+
+
+def files(names):
+    return [os.path.join(HERE, name) for name in names]
+
+
+def verilator(name, top, sources, *flags):
+    """Builds a simulation where a source is newer than it, and gives its path."""
+    built = os.path.join(path(name), "V" + top)
+    newest = max(os.path.getmtime(source) for source in files(sources) + [os.path.abspath(__file__)])
+    if not os.path.exists(built) or os.path.getmtime(built) < newest:
+        run(["verilator", "--binary", "--timing", "-O3", "-Wno-WIDTH", "--top-module", top, "-Mdir", path(name),
+             "-CFLAGS", "-O2"] + list(flags) + files(sources))
+    return built
+
+
+def icarus(name, top, sources, *flags):
+    built = path(name)
+    run(["iverilog", "-g2012", "-s", top, "-o", built] + list(flags) + files(sources))
+    return built
+
+
+def with_library(name, sources, cpp, *flags):
+    """The example with a checker on each link and one of all links, and what else stands on the library."""
+    extra = files(cpp) + [LIBRARY, "-CFLAGS", "-I" + os.path.join(HERE, "include")]
+    sources = SV + ["sv/tl_manager_checker.sv", "sv/tl_link_checker.sv"] + sources + EXAMPLE
+    return verilator(name, "bench_recorded", sources, "-DCHECKED", *flags, *extra)
+
+
+def checked(count=0):
+    """The example with a checker on each link."""
+    return with_library(f"checked{count}", [], ["sv/tl_checker_dpi.cpp"], f"-DCOUNT={count}")
+
+
+def proved(width=8):
+    """The example under the proved manager, with a proved client in place of the second cache, and a checker on each
+    link."""
+    return with_library(f"proved{width}", ["sv/tl_proved_manager.sv", "sv/tl_proved_client.sv"],
+                        ["sv/tl_checker_dpi.cpp", "sv/tl_agents_dpi.cpp"], "-DPROVED", "-DCOUNT=0",
+                        f"-DWIDTH={width}")
+
+
+def recorded():
+    return verilator("recorded", "bench_recorded", SV + EXAMPLE)
+
+
+def judged(trace, command="monitor"):
+    """What `tltool monitor`, or another command, writes of a trace."""
+    done = subprocess.run([TLTOOL, command, trace], stdout=subprocess.PIPE, text=True, timeout=600)
+    return done.stdout.strip()
+
+
+def beat_lines(name):
+    with open(path(name)) as trace:
+        return trace.read().splitlines()
+
+
+def enumerators(file, pattern):
+    with open(os.path.join(HERE, file)) as text:
+        return re.findall(pattern, text.read())
+
+
+def compiled(name, compiler, source, *flags):
+    built = path(name)
+    run([compiler, "-O1", "-g", "-Wall", "-Wextra", "-Werror", "-I" + os.path.join(HERE, "include"), *flags,
+         "-o", built, os.path.join(HERE, source), LIBRARY])
+    return built
+
+
+def python_module():
+    os.environ["HEFRUDYL_LIBRARY"] = path("libhefrudyl.so")
+    sys.path.insert(0, os.path.join(HERE, "python"))
+    import hefrudyl
+    return hefrudyl
+
+
+def processor_time(command):
+    """The processor time of a command and what it starts."""
+    before = os.times()
+    run(command)
+    after = os.times()
+    return after.children_user - before.children_user + after.children_system - before.children_system
+
+
+def least_times(first, second):
+    """The least processor times of two commands, side by side five times."""
+    times = [(processor_time(first), processor_time(second)) for _ in range(5)]
+    return min(time[0] for time in times), min(time[1] for time in times)

@@ -1,0 +1,81 @@
+"""The library from C and C++, and what a beat takes as a struct."""
+
+import os
+
+from harness import TLTOOL, test, want, run, path, checked, recorded, compiled, least_times
+
+
+SANITIZERS = ["-fsanitize=address,undefined", "-fno-sanitize-recover=all"]
+
+
+def c_test(name, *flags):
+    """A test in C, built and run."""
+    built = compiled(name + ("_san" if flags else ""), "gcc", f"tests/{name}.c", "-std=c11", *flags)
+    want("0 failures" in run([built]), f"{name}.c")
+
+
+@test
+def the_library_from_c():
+    c_test("test_monitor")
+
+
+@test
+def the_library_from_c_under_the_sanitizers():
+    c_test("test_monitor", *SANITIZERS)
+
+
+@test
+def a_judge_of_all_links_from_c():
+    c_test("test_judge")
+
+
+@test
+def a_judge_of_all_links_from_c_under_the_sanitizers():
+    c_test("test_judge", *SANITIZERS)
+
+
+@test
+def a_client_from_c():
+    c_test("test_client")
+
+
+@test
+def a_client_from_c_under_the_sanitizers():
+    c_test("test_client", *SANITIZERS)
+
+
+@test
+def a_manager_from_c():
+    c_test("test_manager")
+
+
+@test
+def a_manager_from_c_under_the_sanitizers():
+    c_test("test_manager", *SANITIZERS)
+
+
+@test
+def the_library_from_cpp_under_the_sanitizers():
+    want("0 failures" in run([compiled("test_cpp_san", "g++", "tests/test_monitor.cpp", "-std=c++17", *SANITIZERS)]), "test_monitor.cpp")
+
+
+@test
+def a_struct_takes_less_time_than_a_line():
+    beats = 4_000_000
+    trace = path("speed.trace")
+    with open(trace, "w") as text:
+        text.write("tltrace 1 C\n")
+        text.write("00 A 4 0 3 00 00000000 ff - 0\n00 D 1 0 3 00 00 0 0000000000000000 0\n" * (beats // 2))
+    speed = compiled("speed", "g++", "tests/speed.cpp", "-std=c++17", "-O2")
+    line, struct = (spent / beats * 1e9 for spent in least_times([TLTOOL, "monitor", trace], [speed, str(beats)]))
+    os.remove(trace)
+    print(f"        a beat as a struct {struct:.0f} ns, as a line {line:.0f} ns")
+    want(struct < line, f"a struct {struct:.0f} ns, a line {line:.0f} ns")
+
+
+@test
+def the_checker_at_most_doubles_the_benchs_time():
+    plus = ["+seed=3", "+cycles=300000"]
+    without, beside = least_times([recorded(), *plus], [checked(), *plus])
+    print(f"        the bench {without:.2f} s, with a checker on each link {beside:.2f} s")
+    want(beside <= 2 * without, f"{without:.2f} s without, {beside:.2f} s with the checker")

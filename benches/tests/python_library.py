@@ -1,0 +1,161 @@
+"""The library from Python, and what header, exports and Python say of it."""
+
+import ctypes
+import dataclasses
+import os
+import re
+import sys
+
+from harness import HERE, ROOT, LIBRARY, test, want, run, path, judged, enumerators, python_module
+
+
+@test
+def the_headers_and_pythons_numbers_are_the_librarys():
+    module = python_module()
+    rules = enumerators("include/hefrudyl.h", r"\bTL_([LSHAM]\d+) = (\d+)")
+    named = {module.rule_name(number) for number in range(256)} - {""}
+    want({name for name, _ in rules} == named, f"{len(rules)} rules, wanted {len(named)}")
+    for name, number in rules:
+        want(module.rule_name(int(number)) == name, f"rule {number} is {module.rule_name(int(number))}, not {name}")
+    header = dict(enumerators("include/hefrudyl.h", r"\bTL_([A-Z_]+) = (\d)"))
+    for code in module.Code:
+        want(int(header[code.name]) == code, code.name)
+        want(module.error_text(code) != "", f"{code.name} has no text")
+    want(module.error_text(len(module.Code)) == "", "a text beyond the codes")
+    for level in module.Level:
+        want(int(header[level.name]) == level, level.name)
+    for channel in module.Channel:
+        want(int(header["CHANNEL_" + channel.name]) == channel, channel.name)
+    for kinds in (module.Operation, module.Outcome, module.Reception, module.Perm):
+        for kind in kinds:
+            want(int(header[kind.name]) == kind, kind.name)
+
+
+@test
+def the_librarys_exports_are_the_headers():
+    with open(os.path.join(HERE, "include/hefrudyl.h")) as text:
+        declared = set(re.findall(r"\b(tl_[a-z_]+)\(", text.read()))
+    symbols = run(["nm", "--defined-only", "--extern-only", LIBRARY])
+    want(declared == set(re.findall(r" T (tl_[a-z_]+)$", symbols, re.MULTILINE)), "exports")
+
+
+@test
+def a_client_from_python():
+    module = python_module()
+    with module.Client(module.Level.C, 4) as client, module.Monitor([module.Level.C]) as monitor:
+        reply = client.ask(module.Operation.ACQUIRE, block=1, param=0)
+        want(reply.kind is module.Outcome.STARTED, reply)
+        acquire = client.pop(module.Channel.A)
+        want(acquire.address == 64 and client.pop(module.Channel.A) is None, acquire)
+        want(monitor.push(0, dataclasses.replace(acquire, data=b"")), acquire)
+        for place in range(8):
+            received = client.offer(module.Beat(module.Channel.D, opcode=5, param=1, size=6, data=bytes([place] * 8)))
+        want(received.kind is module.Reception.DONE_GRANTED and received.perm is module.Perm.BRANCH, received)
+        want(client.held(1) is module.Perm.BRANCH and client.copy(1)[8:16] == bytes([1] * 8), "the copy")
+        want(client.copy(2) is None and not client.closed(), "nothing else")
+        want(client.offer(module.Beat(module.Channel.D, opcode=5, size=6, data=bytes(8))).rule == "H2", "an answer to nothing")
+
+
+@test
+def the_headers_structs_are_pythons():
+    module = python_module()
+    structs = [("tl_" + name.lower(), getattr(module, "_" + name))
+               for name in ("Beat", "Answer", "Monitor", "Judge", "Client", "Operation", "Outcome", "Reception", "Manager")]
+    structs.append(("tl_link_config", module._LinkConfig))
+    source = path("layout.c")
+    with open(source, "w") as text:
+        text.write('#include <hefrudyl.h>\n#include <stdio.h>\nint main(void) {\n')
+        for name, kind in structs:
+            text.write(f'printf("{name} %zu\\n", sizeof({name}));\n')
+            for field, _ in kind._fields_:
+                text.write(f'printf("{name}.{field} %zu\\n", offsetof({name}, {field}));\n')
+        text.write("return 0; }\n")
+    built = path("layout")
+    run(["gcc", "-I" + os.path.join(HERE, "include"), "-o", built, source])
+    told = dict(line.split() for line in run([built]).splitlines())
+    for name, kind in structs:
+        want(int(told[name]) == ctypes.sizeof(kind), name)
+        for field, _ in kind._fields_:
+            want(int(told[f"{name}.{field}"]) == getattr(kind, field).offset, f"{name}.{field}")
+
+
+def beat_of(module, line):
+    """The link and the beat that a line of a trace spells."""
+    words = line.split()
+    channel = module.Channel[words[1]]
+    if channel == module.Channel.E:
+        return int(words[0], 16), module.Beat(channel, sink=int(words[2], 16))
+    number = [int(word, 16) if word != "-" else 0 for word in words[2:]]
+    lanes = words[-2]
+    fields = dict(opcode=number[0], param=number[1], size=number[2], source=number[3], corrupt=number[-1],
+                  data=b"" if lanes == "-" else bytes.fromhex(lanes)[::-1])
+    if channel == module.Channel.D:
+        fields.update(sink=number[4], denied=number[5])
+    else:
+        fields.update(address=number[4])
+    if channel in (module.Channel.A, module.Channel.B):
+        fields.update(mask=number[5])
+    return int(words[0], 16), module.Beat(channel, **fields)
+
+
+def read_trace(module, name):
+    """The levels, width and profile that a trace's header names, and the lines of its beats."""
+    with open(name) as trace:
+        lines = trace.read().splitlines()
+    header = lines[0].split()
+    width = int(header[2]) if header[1] != "1" else 8
+    profile = int(header[3]) if header[1] == "3" else 1
+    return ([module.Level[level] for level in header[1 + int(header[1]):]], width, profile), lines[1:]
+
+
+def told_of(module, kind, name):
+    """What the library says of a trace, each beat as a struct and as a line: `line N X`, or nothing."""
+    made, lines = read_trace(module, name)
+    with kind(*made) as judge, kind(*made) as reader:
+        for number, line in enumerate(lines, 2):
+            verdict = judge.push(*beat_of(module, line))
+            want(verdict == reader.push_line(line.encode() + b"\n"), f"{name}: line {number} as a beat and as a line")
+            if not verdict:
+                return f"line {number} {verdict.rule}"
+    return ""
+
+
+@test
+def python_judges_traces_as_the_command_does():
+    """Every example trace of the rules and both traces beside them, link by link and all links together."""
+    module = python_module()
+    folder = os.path.join(ROOT, "crates/tl_examples/data/rules")
+    names = sorted(os.listdir(folder))
+    want(len(names) >= 40, f"{len(names)} traces")
+    for name in (os.path.join(folder, it) for it in names):
+        for kind, command, right in ((module.Monitor, "monitor", "clean"), (module.Judge, "coherent", "coherent")):
+            told, wanted = told_of(module, kind, name), judged(name, command)
+            want(wanted == told or wanted.startswith(right) and not told, f"{name}: {told}, and {command} says {wanted}")
+
+
+@test
+def python_refuses_what_does_not_fit():
+    module = python_module()
+    for levels, width in (([], 8), ([module.Level.C] * 17, 8), ([3], 8), ([module.Level.C], 9)):
+        try:
+            module.Monitor(levels, width)
+            want(False, f"{levels} {width} made a monitor")
+        except ValueError:
+            pass
+    one = [(module.Level.C, 1)]
+    for links, blocks, trackers in (([], 4, 1), ([(module.Level.C, 9)], 4, 1), ([(3, 1)], 4, 1), (one, 0, 1), (one, 4, 9)):
+        try:
+            module.Manager(links, blocks, trackers)
+            want(False, f"{links} {blocks} {trackers} made a manager")
+        except ValueError:
+            pass
+    with module.Monitor([module.Level.C]) as monitor:
+        want(monitor.push(0, module.Beat(module.Channel.A, opcode=9)).code is module.Code.BAD_ARGUMENT, "opcode 9")
+    want(monitor.push(0, module.Beat(module.Channel.E)).code is module.Code.BAD_ARGUMENT, "a closed monitor")
+
+
+@test
+def coroutines_drive_the_agents_a_clock_at_a_time():
+    beside = {"HEFRUDYL_LIBRARY": path("libhefrudyl.so"), "PYTHONPATH": os.path.join(HERE, "python")}
+    told = run([sys.executable, os.path.join(HERE, "tests/test_clocked.py")], env={**os.environ, **beside})
+    want(told.strip().endswith("0 failures"), told)

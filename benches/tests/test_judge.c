@@ -1,0 +1,94 @@
+/* The judge of all links from C: two writers of one block, an access beside a writer, and what is refused. It
+   is built with the address and undefined-behaviour sanitizers too. */
+#include <hefrudyl.h>
+#include <stdio.h>
+
+static int failures;
+
+static void want(int holds, const char *what) {
+  if (!holds) {
+    printf("wrong: %s\n", what);
+    failures++;
+  }
+}
+
+static const uint8_t levels[2] = {TL_C, TL_C};
+static const tl_beat grant = {.channel = TL_CHANNEL_D, .opcode = TL_D_Grant, .param = 0, .size = 6};
+static const tl_beat answer = {.channel = TL_CHANNEL_D, .opcode = TL_D_AccessAckData, .size = 2};
+
+static tl_beat asked(uint8_t opcode, uint8_t size, uint8_t width) {
+  tl_beat beat = {.channel = TL_CHANNEL_A, .opcode = opcode, .size = size, .mask = (uint16_t)((1u << width) - 1)};
+  if (opcode == TL_A_AcquirePerm) beat.param = 1;
+  if (opcode == TL_A_Get) beat.mask = 0xf;
+  return beat;
+}
+
+static tl_answer push(tl_judge *judge, uint8_t link, tl_beat beat) { return tl_judge_push(judge, link, &beat); }
+
+/* A judge of two links, the first of which holds block 0 as Trunk. */
+static tl_judge beside_a_writer(uint8_t width) {
+  tl_judge judge = {0};
+  want(tl_judge_new(&judge, levels, 2, width, 1).code == TL_OK, "a judge is made");
+  want(push(&judge, 0, asked(TL_A_AcquirePerm, 6, width)).code == TL_OK, "an Acquire");
+  want(push(&judge, 0, grant).code == TL_OK, "its Grant");
+  return judge;
+}
+
+static void two_writers(uint8_t width) {
+  tl_judge judge = beside_a_writer(width);
+  tl_beat second = grant;
+  second.sink = 1;
+  want(push(&judge, 1, asked(TL_A_AcquirePerm, 6, width)).code == TL_OK, "a second Acquire");
+  tl_answer told = push(&judge, 1, second);
+  want(told.code == TL_BROKEN && told.rule == TL_M1, "a Grant beside a writer is M1");
+  want(push(&judge, 1, second).code == TL_CLOSED, "a closed judge stays closed");
+  tl_judge_free(&judge);
+  want(judge.full == 0, "a handle that was freed holds nothing");
+}
+
+static void an_access_beside_a_writer(uint8_t width) {
+  tl_judge judge = beside_a_writer(width);
+  want(push(&judge, 1, asked(TL_A_Get, 2, width)).code == TL_OK, "a Get");
+  tl_answer told = push(&judge, 1, answer);
+  want(told.code == TL_BROKEN && told.rule == TL_M4, "its answer beside a writer is M4");
+  tl_judge_free(&judge);
+}
+
+static void a_rule_of_the_link_comes_first(void) {
+  tl_judge judge = beside_a_writer(8);
+  tl_answer told = push(&judge, 1, grant);
+  want(told.code == TL_BROKEN && told.rule == TL_H2, "a Grant that answers nothing is H2");
+  tl_judge_free(&judge);
+}
+
+static void what_is_refused(void) {
+  uint8_t many[17] = {0};
+  tl_judge judge = {0};
+  want(push(&judge, 0, grant).code == TL_BAD_ARGUMENT, "an empty handle judges nothing");
+  tl_judge_free(&judge);
+  want(tl_judge_new(&judge, many, 0, 8, 1).code == TL_BAD_ARGUMENT, "no links");
+  want(tl_judge_new(&judge, many, 17, 8, 1).code == TL_BAD_ARGUMENT, "17 links");
+  want(tl_judge_new(&judge, levels, 2, 9, 1).code == TL_BAD_ARGUMENT, "a width of 9");
+  want(judge.full == 0, "nothing was made");
+  want(tl_judge_new(&judge, many, 16, 16, 2).code == TL_OK, "16 links");
+  want(tl_judge_new(&judge, levels, 2, 8, 1).code == TL_BAD_ARGUMENT, "a handle that holds a judge");
+  want(push(&judge, 16, grant).code == TL_BAD_ARGUMENT, "link 16");
+  tl_beat bad = asked(TL_A_Get, 2, 16);
+  bad.param = 8;
+  want(push(&judge, 0, bad).code == TL_BAD_ARGUMENT, "a param out of range");
+  want(push(&judge, 0, asked(TL_A_Get, 2, 16)).code == TL_OK, "the judge is as it was");
+  tl_judge_free(&judge);
+  tl_judge_free(&judge);
+}
+
+int main(void) {
+  static const uint8_t widths[3] = {4, 8, 16};
+  for (int i = 0; i < 3; i++) {
+    two_writers(widths[i]);
+    an_access_beside_a_writer(widths[i]);
+  }
+  a_rule_of_the_link_comes_first();
+  what_is_refused();
+  printf("%d failures\n", failures);
+  return failures != 0;
+}

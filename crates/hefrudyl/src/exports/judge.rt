@@ -1,0 +1,59 @@
+//! What C may do with a judge of all links of a manager.
+
+ghost use Rattle.std.specs.Prelude.{◌≡◌, None};
+ghost use Rattle.hefrudyl.specs.statement.Handled.{JudgeOpenTold, JudgeTold, JudgeLineTold};
+
+use crate::handle::Handle;
+use crate::session::Session;
+use std::alloc::Global;
+use std::mem;
+use tl_pictures::answer::Answer;
+use tl_pictures::picture::Picture;
+
+/// Makes a judge of all links of a manager, of these levels, 0 for UL, 1 for UH and 2 for C, behind a
+/// handle that holds nothing.
+#[unsafe(no_mangle)]
+pub extern "C" fn tl_judge_new(
+    alloc: Global,
+    judge: &mut Handle,
+    levels: &[u8],
+    width: u8,
+    profile: u8,
+) -> Answer
+    ensures { JudgeOpenTold judge.old.place.value judge.new.place.value levels.now width profile result }
+{
+    opened!(
+        alloc,
+        judge,
+        Session::open_judge(alloc, levels, width, profile)
+    )
+}
+
+/// Judges a beat of a link, after the earlier beats of all links.
+#[unsafe(no_mangle)]
+pub extern "C" fn tl_judge_push(
+    alloc: Global,
+    judge: &mut Handle,
+    link: u8,
+    beat: &Picture,
+) -> Answer
+    ensures { JudgeTold link beat.now result judge.old.place.value judge.new.place.value }
+{
+    answered!(alloc, judge, session => session.judge(link, beat))
+}
+
+/// Judges the beat of a line of a trace so, its line feed included.
+#[unsafe(no_mangle)]
+pub extern "C" fn tl_judge_push_line(alloc: Global, judge: &mut Handle, line: &[u8]) -> Answer
+    ensures { JudgeLineTold line.now result judge.old.place.value judge.new.place.value }
+{
+    answered!(alloc, judge, session => session.judge_line(line))
+}
+
+/// Frees what a handle holds, which then holds nothing.
+#[unsafe(no_mangle)]
+pub extern "C" fn tl_judge_free(alloc: Global, judge: &mut Handle)
+    ensures { judge.new.place.value ≡ None }
+{
+    let _session = mem::replace(judge, Handle::empty(alloc)).into_box();
+}

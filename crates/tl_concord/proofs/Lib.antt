@@ -1,1 +1,5 @@
+pub mod Carried
+pub mod GrantTold
 pub mod Quiet
+pub mod ReportTold
+pub mod Told

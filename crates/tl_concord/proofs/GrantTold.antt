@@ -125,7 +125,8 @@ module _ {w : ℕ} (config : Config) (log : Log w) (given : IsGiven config log) 
           beat_is = same_beat y (d_beat_of (grant_sent c i h.state due) next.k)
               (next.beat_is ∙ ap (λ (z : Message w). beat_of z next.k) (grant-rendered c i h.state due))
       go Answer i tokens own next =
-          let due = answer-due (is_caching config) c i first.rest h.mail h.state is.invariant (is.answered c i) tokens in
+          let due = answer-due (is_caching config) c i first.rest h.mail h.state is.invariant (is.answered c i) tokens
+          in
           let e : y ≡ d_beat_of due.answer next.k = same_beat y (d_beat_of due.answer next.k)
           (next.beat_is ∙ ap (λ (m : Message w). beat_of m next.k) due.answer_is) in
           absurd (no_grant grant (ap (λ (z : BeatD w). z.opcode) e) (λ d f.
@@ -174,7 +175,8 @@ module _ {w : ℕ} (config : Config) (log : Log w) (given : IsGiven config log) 
       rest_now = unfinished channel.A (receiver channel.A c (system_after config log))
 
       requested : is_requested c y.source rest_now (h.state.uses c y.source) h.state ≡ true
-      requested = ap (λ (u : SourceState). is_requested c y.source rest_now u h.state) (ap (h.state.uses c) from ∙ due.used)
+      requested = ap (λ (u : SourceState). is_requested c y.source rest_now u h.state)
+          (ap (h.state.uses c) from ∙ due.used)
           ∙ ap (λ (v : View). not (is_unserved v)) (own_view c due.data_too due.k b.service due.service)
 
       asked : request_of y.source past ≡ asked_by h.mail h.state c (b.source c)
@@ -244,14 +246,16 @@ module _ {w : ℕ} (config : Config) (log : Log w) (given : IsGiven config log) 
 
           of_branch : (q : Perm) → same_perm q perm.Branch ≡ true → held block past ≡ q
               → (held block past ≡ perm.None → p ≡ perm.None) × (same_perm (held block past) perm.Trunk ≡ false)
-          of_branch perm.Branch f g = (λ none. absurd (let no : perm.Branch ≡ perm.None = sym g ∙ none in cc), rw g refl)
+          of_branch perm.Branch f g =
+              (λ none. absurd (let no : perm.Branch ≡ perm.None = sym g ∙ none in cc), rw g refl)
           of_branch perm.None f g = absurd cc
           of_branch perm.Trunk f g = absurd cc
 
           go : (d whole : Bool) → burst.due.data_too ≡ d → burst.due.whole ≡ whole
               → (held block past ≡ perm.None → p ≡ perm.None) × (same_perm (held block past) perm.Trunk ≡ false)
           go true whole f g = absurd (let no : true ≡ false =
-              sym (ap (λ (o : OpD). tells_granted o (request_of y.source past)) (opcode ∙ ap grant_opcode f)) ∙ quiet in cc)
+              sym (ap (λ (o : OpD). tells_granted o (request_of y.source past)) (opcode ∙ ap grant_opcode f)) ∙ quiet in
+              cc)
           go false true f g = absurd (let no : true ≡ false =
               sym (unread block burst.due (ap (λ (z : BeatD w). z.source) burst.beat_is) g)
               ∙ sym (ap (λ (o : OpD). tells_granted o (request_of y.source past)) (opcode ∙ ap grant_opcode f)) ∙ quiet

@@ -51,7 +51,8 @@ use Rattle.tl_coherence.proofs.queues.Phases.{and_left, and_right}
 use Rattle.tl_coherence.proofs.queues.Tokens.{holds-first}
 use Rattle.tl_concord.proofs.Carried.{carried-begun}
 
--- What a beat tells of a block is what the memory has, and what it says without telling is said by one who holds neither
+-- What a beat tells of a block is what the memory has, and what it says without telling is said by one who holds
+-- neither
 -- nothing, unless it stays so, nor Trunk.
 pub record IsToldBy {w : ℕ} (memory : Memory) (block : ℕ) (x : Beat w) (past : History w) : Type 0 where
   pub told : tells block x past ≡ true → (place : ℕ) → place < 64
@@ -144,7 +145,8 @@ module _ {w : ℕ} (config : Config) (log : Log w) (given : IsGiven config log) 
 
           here : n ≡ block
           here = sym of_block
-              ∙ eqb-true (block_at y.address) block (and_right (c_carries_data y.opcode) (block_at y.address == block) parts)
+              ∙ eqb-true (block_at y.address) block (and_right (c_carries_data y.opcode) (block_at y.address == block)
+              parts)
 
       untold : (p : Perm) → ends (beat.C y) past ≡ true → says_held block (beat.C y) past ≡ Some p
           → tells block (beat.C y) past ≡ false
@@ -184,7 +186,8 @@ module _ {w : ℕ} (config : Config) (log : Log w) (given : IsGiven config log) 
     where
       report : (n : ℕ) (rest : List Packet) → (h.state.link c).c ≡ packet ProbeAck n ∷ rest
           → (next : IsNext (beat.C y) (unfinished channel.C (on_link c (system_after config log).manager.trace))
-          (block_message ProbeAck c n (h.state.block n)) (map (message_of h.mail h.state c) rest) queue) → IsToldBy memory block (beat.C y) (flow c log)
+          (block_message ProbeAck c n (h.state.block n)) (map (message_of h.mail h.state c) rest) queue)
+          → IsToldBy memory block (beat.C y) (flow c log)
       report n rest tokens next =
           let m = report_rendered c n (h.state.block n) given.width (is.sized n).truth in
           about block n true _ (report_left r) m.0 m.2 next.k
@@ -208,7 +211,8 @@ module _ {w : ℕ} (config : Config) (log : Log w) (given : IsGiven config log) 
 
       release : (n : ℕ) (rest : List Packet) → (h.state.link c).c ≡ packet Release n ∷ rest
           → (next : IsNext (beat.C y) (unfinished channel.C (on_link c (system_after config log).manager.trace))
-          (block_message Release c n (h.state.block n)) (map (message_of h.mail h.state c) rest) queue) → IsToldBy memory block (beat.C y) (flow c log)
+          (block_message Release c n (h.state.block n)) (map (message_of h.mail h.state c) rest) queue)
+          → IsToldBy memory block (beat.C y) (flow c log)
       release n rest tokens next =
           let m = release_rendered c n (h.state.block n) given.width (is.sized n).truth in
           about block n false _ (prune_left r) m.0 m.2 next.k

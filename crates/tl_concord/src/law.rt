@@ -11,7 +11,8 @@ pub fn breaks_no_rule_together<const W: usize>()
     ensures { Concord W }
 {}
 
-/// What all links carry tells of one memory: data that are granted, or given back, have its bytes, and they come wherever
+/// What all links carry tells of one memory: data that are granted, or given back, have its bytes, and they come
+/// wherever
 /// a block is got that no link holds, or Trunk is given up.
 pub fn tells_of_one_memory<const W: usize>()
     requires { IsWidth W }

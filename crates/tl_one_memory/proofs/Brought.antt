@@ -1,9 +1,10 @@
 -- What each response brings is true.
-use Rattle.std.proofs.Common.{◌≡◌, ℕ, zero, suc, Bool, true, false, not, ◌||◌, ◌+◌, ◌-◌, ◌*◌, ◌/◌, ◌%◌, ◌<◌}
+use Rattle.std.proofs.Common.{◌≡◌, ℕ, suc, Bool, true, false, not, ◌||◌, ◌+◌, ◌-◌, ◌*◌, ◌/◌, ◌%◌, ◌<◌}
 use Rattle.std.proofs.Common.{List, [], ◌∷◌, inl, refl, sym, ap, ◌∙◌, arith, length}
 use Rattle.std.specs.Prelude.{if◌then◌else◌, find, Option, Some, None, slice_get}
 use Rattle.std.proofs.lemmas.Bool.{and_from, eq-eqb, or_right}
 use Rattle.std.proofs.lemmas.Nat.{div-mul-add, mod-mul-add}
+use Rattle.std.proofs.lemmas.Option.{slice_get_within}
 use Rattle.std.proofs.Math.Nat.{mul_comm}
 use Rattle.tl_beat.specs.declared.beat.Beat.{Beat}
 use Rattle.tl_beat.specs.declared.beat.Beat.TheVariants as beat
@@ -42,11 +43,6 @@ each-lane test from (v ∷ lanes) each =
   where
     next : (j : ℕ) → from + 1 + j ≡ from + suc j
     next j = omega arith
-
-lane-within : (lanes : List ℕ) (j v : ℕ) → slice_get lanes j ≡ Some v → j < length lanes
-lane-within [] j v e = absurd cc
-lane-within (x ∷ lanes) zero v e = omega arith
-lane-within (x ∷ lanes) (suc j) v e = let before = lane-within lanes j v e in omega (arith, before)
 
 place-of : (first k j : ℕ) → first + k + j - first ≡ k + j
 place-of first k j = omega arith
@@ -134,7 +130,7 @@ module _ {w : ℕ} (n : ℕ) (first : Memory) (link : Link) (z : BeatD w) (run :
               address = w * (p.request.address / w) + w * length older + j
 
               within : j < w
-              within = let lt = lane-within (lanes_of (beat.D z)) j v lane in omega (arith, lt, answer.lanes_fit)
+              within = let lt = slice_get_within (lanes_of (beat.D z)) j v lane in omega (arith, lt, answer.lanes_fit)
 
               place : place_in p address ≡ w * length older + j
               place = place-of (w * (p.request.address / w)) (w * length older) j

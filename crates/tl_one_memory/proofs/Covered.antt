@@ -92,7 +92,8 @@ could_be-same v a None e f = refl
 could_be-same v None (Some u) e f = absurd cc
 could_be-same v (Some u) (Some x) e f = ap (λ (i : ℕ). i == v) (sym (eqb-true u x f)) ∙ e
 
-module _ {w : ℕ} (n address v : ℕ) (done : ℕ → ℕ → Type 0) (Answers : ℕ → ℕ → Access w → List (Beat w) → Type 0) (t : Trace w) where
+module _ {w : ℕ} (n address v : ℕ) (done : ℕ → ℕ → Type 0) (Answers : ℕ → ℕ → Access w → List (Beat w) → Type 0)
+    (t : Trace w) where
   abbrev block : ℕ
   block = block_at address
 
@@ -220,7 +221,8 @@ module _ {w : ℕ} (n address v : ℕ) (done : ℕ → ℕ → Type 0) (Answers 
         → Among Told (after_beat n address y.0.0 y.1 t (may_be n address t))
     answered-beat c s p performed pending writes value free now =
         rw (now.beat_is, now.completes, here, writes)
-        (written-now c s p performed pending writes (value_written p (beat.D now.last ∷ unfinished channel.D past) address)
+        (written-now c s p performed pending writes (value_written p (beat.D now.last ∷ unfinished channel.D past)
+        address)
         (may_be n address t)
         (value (beat.D now.last ∷ unfinished channel.D past)
         (rw (now.link_is, now.source_is)
@@ -241,7 +243,8 @@ module _ {w : ℕ} (n address v : ℕ) (done : ℕ → ℕ → Type 0) (Answers 
             was true f = covered f
             was false f = absurd (let no : false ≡ true = sym e ∙ orderly.given_up_told f unwritten in cc)
 
-        still_free : tells block y.1 past ≡ false → is_writable n address t ≡ true → is_writable n address (y ∷ t) ≡ true
+        still_free : tells block y.1 past ≡ false → is_writable n address t ≡ true
+            → is_writable n address (y ∷ t) ≡ true
         still_free e free = is (is_writable n address (y ∷ t)) refl
           where
             is : (b : Bool) → is_writable n address (y ∷ t) ≡ b → b ≡ true
@@ -264,7 +267,8 @@ module _ {w : ℕ} (n address v : ℕ) (done : ℕ → ℕ → Type 0) (Answers 
                 free = still_free e now.free;
               })
               | inr answered ↦ inl (rw e (told-after (after_beat n address y.0.0 y.1 t (may_be n address t))
-                  (answered-beat now.link now.source now.access now.performed now.pending now.writes now.value_is now.free
+                  (answered-beat now.link now.source now.access now.performed now.pending now.writes now.value_is
+                  now.free
                   answered)))
             ]
 

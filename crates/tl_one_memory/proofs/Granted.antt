@@ -30,7 +30,8 @@ use Rattle.tl_one_memory.specs.statement.Run.{memory_in, run_before, trace_in}
 
 -- ---- before the last beats of a response
 
-pub trace-before : {w : ℕ} (link k : ℕ) (run : Run w) → trace_in (run_before link k run) ≡ before_last link k (trace_in run)
+pub trace-before : {w : ℕ} (link k : ℕ) (run : Run w) → trace_in (run_before link k run) ≡ before_last link k
+    (trace_in run)
 unfolding trace_in run_before before_last
 trace-before link zero [] = refl
 trace-before link zero (x ∷ run) = refl
@@ -82,8 +83,12 @@ may-grant {w} n address v done Answering t now =
     (λ x is. and_from (access_writes address x) (could_be v (pending_value x.request.opcode x address)) is.0 is.1)
     (among-filter Writes (λ x. nat_lt 0 (windows_since n (block_at address) x.asked t)) (pending_accesses t)
     (λ x is. lt-ltb 0 (windows_since n (block_at address) x.asked t) is.2)
-    (among-found Writes _ (pending_accesses t) now.access now.pending
-    (now.writes, now.pending_is, windowed-free n (block_at address) now.access.asked t asked.some asked.by_now now.free)))
+    (among-found Writes _ (pending_accesses t) now.access now.pending (
+      now.writes,
+      now.pending_is,
+      windowed-free n (block_at address) now.access.asked t asked.some asked.by_now
+          now.free,
+    )))
   where
     asked : IsAsked now.access t
     asked = asked-by_now now.link now.source now.access t now.pending

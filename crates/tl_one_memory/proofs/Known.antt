@@ -267,7 +267,8 @@ module _ {w : ℕ} (n : ℕ) (first : Memory) (address : ℕ) where
           → IsCovered n address (if b then bytes address else memory_in first run address) (IsDone first run)
           (Answers first run) (trace_in run)
       go true e unwritten = absurd (let no : false ≡ true =
-          sym held ∙ ap (λ (k : ℕ). is_free n None perm.Branch k (trace_in run)) (sym (eqb-true (block_at address) block e))
+          sym held ∙ ap (λ (k : ℕ). is_free n None perm.Branch k (trace_in run))
+          (sym (eqb-true (block_at address) block e))
           ∙ unwritten in cc)
       go false e unwritten = known.covered unwritten
 

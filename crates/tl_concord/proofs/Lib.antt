@@ -1,3 +1,4 @@
+pub mod Accesses
 pub mod Carried
 pub mod GrantTold
 pub mod Quiet

@@ -36,7 +36,7 @@ later : (own was free : Bool) (k : ℕ) → own ≡ false
 later own was free k e = rw e refl
 
 -- the first, at the moment at which the request is complete
-since_now : {w : ℕ} (n block asked : ℕ) (x : Link × Beat w) (t : Trace w) → asked ≡ suc (length t)
+pub since_now : {w : ℕ} (n block asked : ℕ) (x : Link × Beat w) (t : Trace w) → asked ≡ suc (length t)
     → windows_since n block asked (x ∷ t) ≡ (if is_free n None perm.Trunk block (x ∷ t) then 1 else 0)
 unfolding windows_since
 since_now n block asked x t now =
@@ -48,7 +48,7 @@ since_now n block asked x t now =
     (none_before n block asked t (omega arith))
 
 -- one more where the block is free, and wasn't
-since_more : {w : ℕ} (n block asked : ℕ) (x : Link × Beat w) (t : Trace w) → asked ≤ length t
+pub since_more : {w : ℕ} (n block asked : ℕ) (x : Link × Beat w) (t : Trace w) → asked ≤ length t
     → windows_since n block asked (x ∷ t)
     ≡ windows_since n block asked t
     + (if is_free n None perm.Trunk block (x ∷ t) && not (is_free n None perm.Trunk block t) then 1 else 0)

@@ -1,0 +1,148 @@
+-- What a Grant brings may be granted.
+use Rattle.std.proofs.Common.{◌≡◌, ℕ, zero, suc, Bool, true, false, ◌&&◌, ◌||◌, ◌+◌, ◌*◌, ◌/◌, ◌<◌, ◌≤◌, List, []}
+use Rattle.std.proofs.Common.{◌∷◌, inl, inr, refl, ap, ◌∙◌, arith, length}
+use Rattle.std.specs.Prelude.{if◌then◌else◌, filter, Option, Some, None, ◌==◌, nat_lt}
+use Rattle.std.proofs.lemmas.Bool.{and_from, lt-ltb, or_left, or_right}
+use Rattle.tl_beat.specs.declared.beat.Beat.{Beat}
+use Rattle.tl_beat.specs.declared.beat.Beat.TheVariants as beat
+use Rattle.tl_beat.specs.declared.beat.BeatD.{BeatD}
+use Rattle.tl_beat.specs.declared.beat.Link.{Link}
+use Rattle.tl_beat.specs.declared.channel.Channel.TheVariants as channel
+use Rattle.tl_beat.specs.declared.opcode.OpD.TheVariants as d
+use Rattle.tl_burst.specs.statement.Messages.{on, unfinished}
+use Rattle.tl_params.specs.declared.perm.Perm.TheVariants as perm
+use Rattle.tl_rules.specs.code.Open.{open_request}
+use Rattle.tl_rules.specs.declared.past.Request.{Request}
+use Rattle.tl_rules.specs.statement.Conformance.{Trace, on_link}
+use Rattle.tl_rules.specs.statement.Effect.{Memory, bytes_from}
+use Rattle.tl_rules.specs.statement.History.{block_at}
+use Rattle.tl_rules.specs.statement.Windows.{is_free}
+use Rattle.tl_bytes.specs.statement.Bytes.{Access, access_writes, before_last, could_be, each_from, is_true_grant}
+use Rattle.tl_bytes.specs.statement.Bytes.{may_be, may_grant, pending_accesses, pending_value, told_as, windows_since}
+use Rattle.tl_bytes.specs.statement.Bytes.{written_as}
+use Rattle.tl_one_memory.proofs.Covered.{IsToldLate, IsWrittenNow, is_unwritten}
+use Rattle.tl_one_memory.proofs.Finding.{Among, among-filter, among-found, found-among}
+use Rattle.tl_one_memory.proofs.Known.{Answers, IsDone, IsKnown, known}
+use Rattle.tl_one_memory.proofs.Pending.{IsAsked, asked-by_now}
+use Rattle.tl_one_memory.proofs.Spans.{windowed-free}
+use Rattle.tl_one_memory.specs.statement.Run.{IsGranted, IsRun, IsTaken, Performs, Run, Stores, Takes}
+use Rattle.tl_one_memory.specs.statement.Run.{memory_in, run_before, trace_in}
+
+-- ---- before the last beats of a response
+
+pub trace-before : {w : ℕ} (link k : ℕ) (run : Run w) → trace_in (run_before link k run) ≡ before_last link k
+    (trace_in run)
+unfolding trace_in run_before before_last
+trace-before link zero [] = refl
+trace-before link zero (x ∷ run) = refl
+trace-before link (suc k) [] = refl
+trace-before {w} link (suc k) (Takes l x ∷ run) =
+    go ((l.0 == link) && on channel.D x) (trace-before link k run) (trace-before link (suc k) run)
+  where
+    go : (b : Bool) → trace_in (run_before link k run) ≡ before_last link k (trace_in run)
+        → trace_in (run_before link (suc k) run) ≡ before_last link (suc k) (trace_in run)
+        → trace_in (if b then run_before link k run else run_before link (suc k) run)
+        ≡ (if b then before_last link k (trace_in run) else before_last link (suc k) (trace_in run))
+    go true e f = e
+    go false e f = f
+trace-before link (suc k) (Performs d i ∷ run) = trace-before link (suc k) run
+trace-before link (suc k) (Stores block bytes ∷ run) = trace-before link (suc k) run
+
+pub is_run-before : {w : ℕ} (n : ℕ) (first : Memory) (link k : ℕ) (run : Run w) → IsRun n first run
+    → IsRun n first (run_before link k run)
+unfolding IsRun run_before
+is_run-before n first link zero [] is = is
+is_run-before n first link zero (x ∷ run) is = is
+is_run-before n first link (suc k) [] is = is
+is_run-before {w} n first link (suc k) (Takes l x ∷ run) is =
+    go ((l.0 == link) && on channel.D x) (is_run-before n first link k run is.1)
+    (is_run-before n first link (suc k) run is.1)
+  where
+    go : (b : Bool) → IsRun n first (run_before link k run) → IsRun n first (run_before link (suc k) run)
+        → IsRun n first (if b then run_before link k run else run_before link (suc k) run)
+    go true e f = e
+    go false e f = f
+is_run-before n first link (suc k) (Performs d i ∷ run) is = is_run-before n first link (suc k) run is.1
+is_run-before n first link (suc k) (Stores block bytes ∷ run) is = is_run-before n first link (suc k) run is.1
+
+-- ---- what may be granted
+
+-- what is told of a byte may be what memory has
+pub told-as : {w : ℕ} (n address v : ℕ) (done : ℕ → ℕ → Type 0) (t : Trace w)
+    → Among (IsToldLate n address v done t) (may_be n address t) → told_as v (may_be n address t) ≡ true
+told-as n address v done t told = found-among (IsToldLate n address v done t) (λ e. could_be v e.value)
+    (may_be n address t) (λ e each. each.0) told
+
+may-grant : {w : ℕ} (n address v : ℕ) (done : ℕ → ℕ → Type 0) (Answering : ℕ → ℕ → Access w → List (Beat w) → Type 0)
+    (t : Trace w) → IsWrittenNow n address v done Answering t
+    → written_as address v (filter (λ x. nat_lt 0 (windows_since n (block_at address) x.asked t)) (pending_accesses t))
+    ≡ true
+may-grant {w} n address v done Answering t now =
+    found-among Writes (λ x. access_writes address x && could_be v (pending_value x.request.opcode x address))
+    (filter (λ x. nat_lt 0 (windows_since n (block_at address) x.asked t)) (pending_accesses t))
+    (λ x is. and_from (access_writes address x) (could_be v (pending_value x.request.opcode x address)) is.0 is.1)
+    (among-filter Writes (λ x. nat_lt 0 (windows_since n (block_at address) x.asked t)) (pending_accesses t)
+    (λ x is. lt-ltb 0 (windows_since n (block_at address) x.asked t) is.2)
+    (among-found Writes _ (pending_accesses t) now.access now.pending (
+      now.writes,
+      now.pending_is,
+      windowed-free n (block_at address) now.access.asked t asked.some asked.by_now
+          now.free,
+    )))
+  where
+    asked : IsAsked now.access t
+    asked = asked-by_now now.link now.source now.access t now.pending
+
+    Writes : Access w → Type 0
+    Writes x = (access_writes address x ≡ true) × (could_be v (pending_value x.request.opcode x address) ≡ true)
+        × (0 < windows_since n (block_at address) x.asked t)
+
+granted-known : {w : ℕ} (n : ℕ) (first : Memory) (address : ℕ) (run : Run w) → IsKnown n first address run
+    → is_unwritten n address (trace_in run) ≡ true
+    → may_grant n (trace_in run) address (memory_in first run address) ≡ true
+granted-known {w} n first address run is unwritten = elim (is.covered unwritten) [
+  | inl told ↦ or_left _ _ (told-as n address (memory_in first run address) (IsDone first run) (trace_in run) told)
+  | inr now ↦ or_right _ _ (may-grant n address (memory_in first run address) (IsDone first run) (Answers first run)
+      (trace_in run) now)
+]
+
+-- ---- the lanes of a beat
+
+each-of : (test : ℕ → ℕ → Bool) (memory : Memory) (from k : ℕ)
+    → ((address : ℕ) → from ≤ address → address < from + k → test address (memory address) ≡ true)
+    → each_from test from (bytes_from memory from k) ≡ true
+unfolding each_from bytes_from
+each-of test memory from zero each = refl
+each-of test memory from (suc k) each = and_from _ _ (each from (omega arith) (omega arith))
+    (each-of test memory (from + 1) k (λ address le lt. each address (omega (arith, le)) (omega (arith, lt))))
+
+in-block : (block k w address : ℕ) → w * k + w ≤ 64 → 64 * block + w * k ≤ address → address < 64 * block + w * k + w
+    → address / 64 ≡ block
+in-block block k w address le from to = omega (arith, le, from, to)
+
+pub granted : {w : ℕ} (n : ℕ) (first : Memory) (link : Link) (z : BeatD w) (run : Run w)
+    → IsTaken n first link (beat.D z) run → IsRun n first run → z.opcode ≡ d.GrantData
+    → (z.corrupt || is_true_grant n link.0 z (open_request z.source (on_link link.0 (trace_in run))) (trace_in run))
+    ≡ true
+granted {w} n first link z run taken is granting =
+    or_right z.corrupt _ (go (open_request z.source (on_link link.0 (trace_in run))) refl)
+  where
+    k : ℕ
+    k = length (unfinished channel.D (on_link link.0 (trace_in run)))
+
+    old : Run w
+    old = run_before link.0 k run
+
+    go : (o : Option Request) → open_request z.source (on_link link.0 (trace_in run)) ≡ o
+        → is_true_grant n link.0 z o (trace_in run) ≡ true
+    go None e = refl
+    go (Some asked) e =
+        rw (grant.lanes_are, ← trace-before link.0 k run)
+        (each-of (may_grant n (trace_in old)) (memory_in first old) (64 * asked.block + w * k) w
+        (λ address from to. granted-known n first address old
+        (known n first address old (is_run-before n first link.0 k run is))
+        (ap (λ (b : ℕ). is_free n None perm.Branch b (trace_in old))
+        (in-block asked.block k w address grant.within from to) ∙ grant.free)))
+      where
+        grant : IsGranted n first link.0 z asked.block k run
+        grant = taken.grants_rightly z asked refl granting e

@@ -1,0 +1,300 @@
+-- What an answer brings its request may bring.
+use Rattle.std.proofs.Common.{◌≡◌, ℕ, suc, Bool, true, false, not, ◌&&◌, ◌+◌}
+use Rattle.std.proofs.Common.{List, [], ◌∷◌, ◌⊎◌, inl, inr, refl, sym, ap, ◌∙◌, arith, length}
+use Rattle.std.specs.Prelude.{if◌then◌else◌, filter, Some, ◌==◌}
+use Rattle.std.proofs.lemmas.Bool.{and_from, and_parts, eqb-true, le-leb, or_left, or_right}
+use Rattle.tl_beat.specs.declared.beat.Beat.{Beat}
+use Rattle.tl_beat.specs.declared.beat.Beat.TheVariants as beat
+use Rattle.tl_beat.specs.declared.beat.BeatD.{BeatD}
+use Rattle.tl_beat.specs.declared.beat.Link.{Link}
+use Rattle.tl_beat.specs.declared.channel.Channel.TheVariants as channel
+use Rattle.tl_burst.specs.statement.Burst.{reaches}
+use Rattle.tl_burst.specs.statement.Messages.{History, burst_length, grown, on, unfinished}
+use Rattle.tl_rules.specs.statement.Conformance.{Trace, on_link}
+use Rattle.tl_rules.specs.statement.Effect.{Memory}
+use Rattle.tl_rules.specs.statement.History.{is_release_ack}
+use Rattle.tl_bytes.specs.statement.Bytes.{Access, access_writes, before_last, could_be, is_of, may_be, may_read}
+use Rattle.tl_bytes.specs.statement.Bytes.{pending_accesses, pending_value, told_as, written_as}
+use Rattle.tl_one_memory.proofs.Covered.{IsWrittenNow}
+use Rattle.tl_one_memory.proofs.Finding.{among-filter, among-found, found-among, found-passes, none-some, same-some}
+use Rattle.tl_one_memory.proofs.Granted.{told-as}
+use Rattle.tl_one_memory.proofs.Known.{Answers, IsDone, answered-gone, found-still, found-taken, known}
+use Rattle.tl_one_memory.proofs.Pending.{IsPending, asked-by_now, pending-before}
+use Rattle.tl_one_memory.specs.statement.Run.{IsAnswer, IsPerformed, IsRun, IsTaken, Performs, Run, Stores, Takes}
+use Rattle.tl_one_memory.specs.statement.Run.{found_in, is_answered_by, memory_in, trace_in}
+
+-- ---- what a pending access may bring
+
+-- all that may be so now, or that another writes now
+read-now : {w : ℕ} (n c s : ℕ) (p : Access w) (t : Trace w) (address v : ℕ) → IsPending c s p t
+    → (told_as v (may_be n address t) ≡ true)
+    ⊎ (written_as address v (filter (λ other. not (is_of p.link p.request.source other)) (pending_accesses t)) ≡ true)
+    → may_read n p t address v ≡ true
+unfolding may_read pending_accesses
+read-now n c s p [] address v pending is = absurd (none-some p pending)
+read-now {w} n c s p (x ∷ t) address v pending is =
+    and_from _ _ (le-leb p.asked (suc (length t)) (asked-by_now c s p (x ∷ t) pending).by_now)
+    (elim is [
+      | inl told ↦ or_left _ _ told
+      | inr written ↦ or_right _ _ (or_left _ _ written)
+    ])
+
+-- and all that it could before
+read-more : {w : ℕ} (n c s : ℕ) (p : Access w) (x : Link × Beat w) (t : Trace w) (address v : ℕ) → IsPending c s p t
+    → may_read n p t address v ≡ true → may_read n p (x ∷ t) address v ≡ true
+unfolding may_read
+read-more n c s p x t address v pending is =
+    and_from _ _ (le-leb p.asked (suc (length t)) (omega (arith, (asked-by_now c s p t pending).by_now)))
+    (or_right _ _ (or_right _ _ is))
+
+-- another access that writes the byte is another one
+written-by : {w : ℕ} (n address v : ℕ) (done : ℕ → ℕ → Type 0) (Answering : ℕ → ℕ → Access w → List (Beat w) → Type 0)
+    (t : Trace w) (link source : ℕ) (now : IsWrittenNow n address v done Answering t)
+    → (is_of link source now.access ≡ true → ⊥)
+    → written_as address v (filter (λ other. not (is_of link source other)) (pending_accesses t)) ≡ true
+written-by {w} n address v done Answering t link source now other =
+    found-among Writes (λ x. access_writes address x && could_be v (pending_value x.request.opcode x address))
+    (filter (λ x. not (is_of link source x)) (pending_accesses t))
+    (λ x is. and_from (access_writes address x) (could_be v (pending_value x.request.opcode x address)) is.0 is.1)
+    (among-filter Writes (λ x. not (is_of link source x)) (pending_accesses t) (λ x is. ap not is.2)
+    (among-found Writes _ (pending_accesses t) now.access now.pending
+    (now.writes, now.pending_is, none (is_of link source now.access) other)))
+  where
+    none : (b : Bool) → (b ≡ true → ⊥) → b ≡ false
+    none true ne = absurd (ne refl)
+    none false ne = refl
+
+    Writes : Access w → Type 0
+    Writes x = (access_writes address x ≡ true) × (could_be v (pending_value x.request.opcode x address) ≡ true)
+        × (is_of link source x ≡ false)
+
+-- ---- what was found
+
+-- each access that was performed may bring what it found
+abbrev AreRead : {w : ℕ} → ℕ → Memory → Run w → Type 0
+AreRead {w} n first run = (c s : ℕ) (p : Access w) (found : Memory) → found_in first c s run ≡ Some found
+    → IsPending c s p (trace_in run) → (address : ℕ) → reaches p.request.address p.request.size address ≡ true
+    → may_read n p (trace_in run) address (found address) ≡ true
+
+module _ {w : ℕ} (n : ℕ) (first : Memory) where
+  read-taken : (link : Link) (x : Beat w) (run : Run w) → IsTaken n first link x run → AreRead n first run
+      → AreRead n first (Takes link x ∷ run)
+  unfolding trace_in
+  read-taken link x run taken before c s p found performed pending address reached =
+      elim (pending-before c s p (link, x) (trace_in run) pending) [
+        | inl old ↦ read-more n c s p (link, x) (trace_in run) address (found address) old
+            (before c s p found (found-taken first c s link x run found performed).1 old address reached)
+        | inr new ↦ absurd (none-some found (sym (taken.asks new.first new.beat_is new.completes)
+            ∙ rw (← new.link_is, ← new.source_is) (found-taken first c s link x run found performed).1))
+      ]
+
+  read-performed : (d i : ℕ) (run : Run w) → IsPerformed n first d i run → IsRun n first run → AreRead n first run
+      → AreRead n first (Performs d i ∷ run)
+  unfolding trace_in found_in
+  read-performed d i run is runs before c s p found performed pending address reached =
+      go ((d == c) && (i == s)) refl performed
+    where
+      now : (c ≡ d) × (s ≡ i) → found ≡ memory_in first run
+          → may_read n p (trace_in run) address (found address) ≡ true
+      now same e = rw e (read-now n c s p (trace_in run) address (memory_in first run address) pending
+          (elim ((known n first address run runs).covered (is.reads_free address
+          (ap (λ (q : Access w). reaches q.request.address q.request.size address) this ∙ reached))) [
+            | inl told ↦ inl (told-as n address (memory_in first run address) (IsDone first run) (trace_in run) told)
+            | inr written ↦ inr (written-by n address (memory_in first run address) (IsDone first run)
+                (Answers first run) (trace_in run) p.link p.request.source written (other written))
+          ]))
+        where
+          this : is.access ≡ p
+          this = same-some p is.access (sym pending ∙ rw (same.0, same.1) is.pending)
+
+          other : (written : IsWrittenNow n address (memory_in first run address) (IsDone first run)
+              (Answers first run) (trace_in run))
+              → is_of p.link p.request.source written.access ≡ true → ⊥
+          other written e =
+              let mine = and_parts (p.link == c) (p.request.source == s)
+              (found-passes (is_of c s) (pending_accesses (trace_in run)) p pending) in
+              let theirs = and_parts (written.access.link == written.link)
+              (written.access.request.source == written.source)
+              (found-passes (is_of written.link written.source) (pending_accesses (trace_in run)) written.access
+              written.pending) in
+              let both = and_parts (written.access.link == p.link)
+              (written.access.request.source == p.request.source) e in
+              let link : written.link ≡ d = sym (eqb-true written.access.link written.link theirs.0)
+              ∙ eqb-true written.access.link p.link both.0 ∙ eqb-true p.link c mine.0 ∙ same.0 in
+              let source : written.source ≡ i = sym (eqb-true written.access.request.source written.source theirs.1)
+              ∙ eqb-true written.access.request.source p.request.source both.1
+              ∙ eqb-true p.request.source s mine.1 ∙ same.1 in
+              none-some written.performed.0 (sym is.once ∙ rw (← link, ← source) written.performed.1)
+
+      go : (b : Bool) → (d == c) && (i == s) ≡ b
+          → (if b then Some (memory_in first run) else found_in first c s run) ≡ Some found
+          → may_read n p (trace_in run) address (found address) ≡ true
+      go true e f =
+          let both = and_parts (d == c) (i == s) e in
+          now (sym (eqb-true d c both.0), sym (eqb-true i s both.1)) (same-some (memory_in first run) found f)
+      go false e f = before c s p found f pending address reached
+
+  are-read : (run : Run w) → IsRun n first run → AreRead n first run
+  unfolding IsRun trace_in found_in
+  are-read [] is = λ c s p found performed pending. absurd (none-some found performed)
+  are-read (Takes link x ∷ run) is = read-taken link x run is.0 (are-read run is.1)
+  are-read (Performs d i ∷ run) is = read-performed d i run is.0 is.1 (are-read run is.1)
+  are-read (Stores block bytes ∷ run) is = are-read run is.1
+
+  -- ---- an answer that has begun
+
+  -- what has begun on channel D has beats of it
+  begun-on_d : (b : Beat w) (older : List (Beat w)) (h : History w) → unfinished channel.D h ≡ b ∷ older
+      → on channel.D b ≡ true
+  unfolding unfinished
+  begun-on_d b older [] e = absurd cc
+  begun-on_d b older (x ∷ h) e = go (on channel.D x) refl (begun-on_d b older h) e
+    where
+      first_is : (y z : Beat w) (ys zs : List (Beat w)) → y ∷ ys ≡ z ∷ zs → z ≡ y
+      first_is y z ys zs f = cc
+
+      more : on channel.D x ≡ true → (last : Bool) → (if last then [] else x ∷ unfinished channel.D h) ≡ b ∷ older
+          → on channel.D b ≡ true
+      more f true g = absurd cc
+      more f false g = rw (first_is x b (unfinished channel.D h) older g) f
+
+      go : (d : Bool) → on channel.D x ≡ d → (unfinished channel.D h ≡ b ∷ older → on channel.D b ≡ true)
+          → (if d then grown x (unfinished channel.D h) else unfinished channel.D h) ≡ b ∷ older
+          → on channel.D b ≡ true
+      go true f before g = more f (length (unfinished channel.D h) + 1 == burst_length x) g
+      go false f before g = before g
+
+  -- the access whose answer has begun was performed, and may bring what it found by what was so before
+  abbrev IsReadBefore : ℕ → ℕ → Access w → ℕ → Run w → Type 0
+  IsReadBefore c s p k run = (found : Memory) × (found_in first c s run ≡ Some found)
+      × ((address : ℕ) → reaches p.request.address p.request.size address ≡ true
+      → may_read n p (before_last c k (trace_in run)) address (found address) ≡ true)
+
+  abbrev AreBegunRead : Run w → Type 0
+  AreBegunRead run = (c : ℕ) (z : BeatD w) (older : List (Beat w)) (p : Access w)
+      → unfinished channel.D (on_link c (trace_in run)) ≡ beat.D z ∷ older → is_release_ack z.opcode ≡ false
+      → IsPending c z.source p (trace_in run) → IsReadBefore c z.source p (suc (length older)) run
+
+  -- at a beat of an answer
+  pub read-next : (link : Link) (z : BeatD w) (p : Access w) (run : Run w) → IsTaken n first link (beat.D z) run
+      → IsRun n first run → AreBegunRead run → is_release_ack z.opcode ≡ false
+      → IsPending link.0 z.source p (trace_in run)
+      → IsReadBefore link.0 z.source p (length (unfinished channel.D (on_link link.0 (trace_in run)))) run
+  unfolding before_last
+  read-next link z p run taken is begun no_ack pending =
+      go (unfinished channel.D (on_link link.0 (trace_in run))) refl
+    where
+      answer : IsAnswer first link.0 z p run
+      answer = taken.answers_rightly z p refl no_ack pending
+
+      go : (burst : List (Beat w)) → unfinished channel.D (on_link link.0 (trace_in run)) ≡ burst
+          → IsReadBefore link.0 z.source p (length burst) run
+      go [] e = (
+        answer.found,
+        answer.performed,
+        λ address reached. are-read run is link.0 z.source p answer.found answer.performed pending address reached,
+      )
+      go (beat.D y ∷ older) e =
+          let same = taken.continues z y older refl e in
+          rw same.1 (begun link.0 y older p e (ap is_release_ack (sym same.0) ∙ no_ack) (rw (← same.1) pending))
+      go (beat.A y ∷ older) e = absurd (let no : false ≡ true = begun-on_d (beat.A y) older _ e in cc)
+      go (beat.B y ∷ older) e = absurd (let no : false ≡ true = begun-on_d (beat.B y) older _ e in cc)
+      go (beat.C y ∷ older) e = absurd (let no : false ≡ true = begun-on_d (beat.C y) older _ e in cc)
+      go (beat.E y ∷ older) e = absurd (let no : false ≡ true = begun-on_d (beat.E y) older _ e in cc)
+
+  same-newest : (a b : BeatD w) (xs ys : List (Beat w)) → beat.D a ∷ xs ≡ beat.D b ∷ ys → (b ≡ a) × (ys ≡ xs)
+  same-newest a b xs ys f = (cc, cc)
+
+  begun-here : (link : Link) (y : BeatD w) (run : Run w) → IsTaken n first link (beat.D y) run → IsRun n first run
+      → AreBegunRead run → (c : ℕ) (z : BeatD w) (older : List (Beat w)) (p : Access w) → link.0 ≡ c → z ≡ y
+      → older ≡ unfinished channel.D (on_link c (trace_in run)) → is_release_ack z.opcode ≡ false
+      → IsPending c z.source p (trace_in run) → IsReadBefore c z.source p (length older) run
+  begun-here link y run taken is begun c z older p own same rest no_ack pending =
+      rw (rest, same, ← own)
+      (read-next link y p run taken is begun (ap (λ (b : BeatD w). is_release_ack b.opcode) (sym same) ∙ no_ack)
+      (rw (own, ← same) pending))
+
+  begun-taken : (link : Link) (x : Beat w) (run : Run w) → IsTaken n first link x run → IsRun n first run
+      → AreBegunRead run → AreBegunRead (Takes link x ∷ run)
+  unfolding trace_in on_link unfinished before_last
+  begun-taken link x run taken is begun c z older p e no_ack pending = here (link.0 == c) refl e
+    where
+      t : Trace w
+      t = trace_in run
+
+      Result : Type 0
+      Result = IsReadBefore c z.source p (suc (length older)) (Takes link x ∷ run)
+
+      unanswered : is_answered_by c z.source link x t ≡ false
+      unanswered = go (is_answered_by c z.source link x t) refl
+        where
+          go : (b : Bool) → is_answered_by c z.source link x t ≡ b → b ≡ false
+          go true f = absurd (answered-gone c z.source p link x t f pending)
+          go false f = refl
+
+      -- what was so before is so still
+      still : (k : ℕ) → before_last c (suc (length older)) ((link, x) ∷ t) ≡ before_last c k t
+          → IsReadBefore c z.source p k run → Result
+      still k same is = (
+        is.0,
+        found-still first c z.source link x run is.0 unanswered is.1,
+        λ address reached. rw same (is.2 address reached),
+      )
+
+      -- the beat is another one
+      apart : unfinished channel.D (on_link c t) ≡ beat.D z ∷ older
+          → before_last c (suc (length older)) ((link, x) ∷ t) ≡ before_last c (suc (length older)) t → Result
+      apart f same = elim (pending-before c z.source p (link, x) t pending) [
+        | inl old ↦ still (suc (length older)) same (begun c z older p f no_ack old)
+        | inr new ↦ absurd (taken.asks_first new.first z older new.beat_is new.completes
+            (ap (λ (d : ℕ). unfinished channel.D (on_link d t)) (sym new.link_is) ∙ f) no_ack new.source_is)
+      ]
+
+      -- it is the newest of the burst
+      newest : (y : BeatD w) → x ≡ beat.D y → link.0 ≡ c → (last : Bool)
+          → (if last then [] else beat.D y ∷ unfinished channel.D (on_link c t)) ≡ beat.D z ∷ older
+          → before_last c (suc (length older)) ((link, x) ∷ t) ≡ before_last c (length older) t → Result
+      newest y f own true g same = absurd cc
+      newest y f own false g same =
+          let parts = same-newest y z (unfinished channel.D (on_link c t)) older g in
+          still (length older) same
+          (begun-here link y run (rw (← f) taken) is begun c z older p own parts.0 parts.1 no_ack
+          (elim (pending-before c z.source p (link, x) t pending) [
+            | inl old ↦ old
+            | inr new ↦ absurd (let no : beat.D y ≡ beat.A new.first = sym f ∙ new.beat_is in cc)
+          ]))
+
+      on_link_c : (b : Beat w) → x ≡ b → (link.0 == c) ≡ true
+          → unfinished channel.D (b ∷ on_link c t) ≡ beat.D z ∷ older → Result
+      on_link_c (beat.D y) f own g = newest y f (eqb-true link.0 c own)
+          (length (unfinished channel.D (on_link c t)) + 1 == burst_length (beat.D y)) g (rw (f, own) refl)
+      on_link_c (beat.A y) f own g = apart g (rw (f, own) refl)
+      on_link_c (beat.B y) f own g = apart g (rw (f, own) refl)
+      on_link_c (beat.C y) f own g = apart g (rw (f, own) refl)
+      on_link_c (beat.E y) f own g = apart g (rw (f, own) refl)
+
+      here : (b : Bool) → (link.0 == c) ≡ b
+          → unfinished channel.D (if b then x ∷ on_link c t else on_link c t) ≡ beat.D z ∷ older → Result
+      here true own g = on_link_c x refl own g
+      here false own g = apart g (rw own refl)
+
+  begun-performed : (d i : ℕ) (run : Run w) → IsPerformed n first d i run → AreBegunRead run
+      → AreBegunRead (Performs d i ∷ run)
+  unfolding trace_in found_in
+  begun-performed d i run is begun c z older p e no_ack pending =
+      let before = begun c z older p e no_ack pending in
+      (before.0, go before.0 before.1 ((d == c) && (i == z.source)) refl, before.2)
+    where
+      go : (found : Memory) → found_in first c z.source run ≡ Some found → (b : Bool)
+          → (d == c) && (i == z.source) ≡ b
+          → (if b then Some (memory_in first run) else found_in first c z.source run) ≡ Some found
+      go found f true g = let both = and_parts (d == c) (i == z.source) g in
+          absurd (none-some found (sym is.once ∙ rw (eqb-true d c both.0, eqb-true i z.source both.1) f))
+      go found f false g = f
+
+  pub are-begun_read : (run : Run w) → IsRun n first run → AreBegunRead run
+  unfolding IsRun trace_in found_in on_link unfinished
+  are-begun_read [] is = λ c z older p e no_ack pending. absurd cc
+  are-begun_read (Takes link x ∷ run) is = begun-taken link x run is.0 is.1 (are-begun_read run is.1)
+  are-begun_read (Performs d i ∷ run) is = begun-performed d i run is.0 (are-begun_read run is.1)
+  are-begun_read (Stores block bytes ∷ run) is = are-begun_read run is.1

@@ -1,0 +1,129 @@
+-- What an access writes, by the bytes that it found.
+use Rattle.std.proofs.Common.{◌≡◌, ℕ, zero, suc, Bool, true, false, ◌||◌, ◌+◌, ◌-◌, ◌*◌, ◌^◌, ◌<◌, ◌≤◌}
+use Rattle.std.proofs.Common.{List, [], refl, sym, ap, ◌∙◌, arith}
+use Rattle.std.specs.Prelude.{if◌then◌else◌, Option, Some, None, is_some, unwrap_or, find}
+use Rattle.std.proofs.lemmas.Bool.{and_from, eq-eqb, le-leb, lt-ltb}
+use Rattle.tl_beat.specs.declared.beat.Beat.{Beat}
+use Rattle.tl_beat.specs.declared.opcode.OpA.{OpA}
+use Rattle.tl_beat.specs.declared.opcode.OpA.TheVariants as a
+use Rattle.tl_burst.specs.declared.message.Message.TheVariants as message
+use Rattle.tl_burst.specs.declared.message.MessageA.{MessageA}
+use Rattle.tl_burst.specs.statement.Burst.{byte_at, reaches}
+use Rattle.tl_params.specs.statement.Param.{arithmetic_of, logical_of}
+use Rattle.tl_rules.specs.statement.Admission.{is_spoiled}
+use Rattle.tl_rules.specs.statement.Effect.{Memory, after, arithmetic_result, byte_count, byte_of, by_param, effect}
+use Rattle.tl_rules.specs.statement.Effect.{logical_result, number_from, number_stored, operand_of}
+use Rattle.tl_bytes.specs.statement.Bytes.{Access, access_writes, carried_byte, could_be, found_memory, pending_value}
+use Rattle.tl_bytes.specs.statement.Bytes.{value_written, writes}
+use Rattle.tl_one_memory.specs.statement.Run.{place_in, returns}
+
+-- the burst has the bytes that the access found in this memory, where it returns them
+abbrev pub HasFound : {w : ℕ} → Memory → Access w → List (Beat w) → Type 0
+HasFound found access burst = returns access.request.opcode ≡ true → (address : ℕ)
+    → reaches access.request.address access.request.size address ≡ true
+    → carried_byte burst (place_in access address) ≡ Some (found address)
+
+-- the same bytes spell the same number
+number-same : (f g : Memory) (base k : ℕ) → ((address : ℕ) → base ≤ address → address < base + k
+    → f address ≡ g address) → number_from f base k ≡ number_from g base k
+unfolding number_from
+number-same f g base zero same = refl
+number-same f g base (suc k) same =
+    rw (
+      same base (omega arith) (omega arith),
+      number-same f g (base + 1) k (λ address from to.
+          same address (omega (arith, from)) (omega (arith, to))),
+    ) refl
+
+some-or : (x : Option ℕ) (u v : ℕ) → is_some x ≡ true → unwrap_or x u ≡ unwrap_or x v
+some-or (Some x) u v e = refl
+some-or None u v e = absurd cc
+
+none-or : (x : Option ℕ) (u : ℕ) → is_some x ≡ false → unwrap_or x u ≡ u
+none-or None u e = refl
+none-or (Some x) u e = absurd cc
+
+module _ {w : ℕ} (r : MessageA w) (f g : Memory) where
+  -- two memories that have the same bytes where the request reaches, if it reads
+  abbrev AreSame : OpA → Type 0
+  AreSame o = returns o ≡ true → (address : ℕ) → reaches r.address r.size address ≡ true → f address ≡ g address
+
+  stored-same : (result : ℕ → ℕ → ℕ) → ((address : ℕ) → reaches r.address r.size address ≡ true → f address ≡ g address)
+      → number_stored r result f ≡ number_stored r result g
+  stored-same result same =
+      ap (λ (i : ℕ). result i (number_from (operand_of r) r.address (byte_count r)))
+      (number-same f g r.address (byte_count r) (λ address from to. same address (and_from _ _
+      (le-leb r.address address from) (lt-ltb address (r.address + 2 ^ r.size) to))))
+
+  number-written : (i j : ℕ) → i ≡ j → (b : Bool) → b ≡ true → (address : ℕ)
+      → (if b then byte_of i (address - r.address) else f address)
+      ≡ (if b then byte_of j (address - r.address) else g address)
+  number-written i j e true t address = ap (λ (k : ℕ). byte_of k (address - r.address)) e
+  number-written i j e false t address = absurd cc
+
+  -- what is written is the same in both
+  pub after-same : (o : OpA) (address : ℕ) → AreSame o → writes o r address ≡ true
+      → after o r f address ≡ after o r g address
+  after-same a.PutFullData address same e = some-or (byte_at 0 (message.A r) address) (f address) (g address) e
+  after-same a.PutPartialData address same e = some-or (byte_at 0 (message.A r) address) (f address) (g address) e
+  after-same a.ArithmeticData address same e = number-written _ _
+      (stored-same (by_param (λ o. arithmetic_result o (8 * byte_count r)) (arithmetic_of r.param)) (same refl))
+      (reaches r.address r.size address) e address
+  after-same a.LogicalData address same e = number-written _ _
+      (stored-same (by_param logical_result (logical_of r.param)) (same refl))
+      (reaches r.address r.size address) e address
+  after-same a.Get address same e = absurd cc
+  after-same a.Intent address same e = absurd cc
+  after-same a.AcquireBlock address same e = absurd cc
+  after-same a.AcquirePerm address same e = absurd cc
+
+-- and what isn't is as it was
+pub after-unwritten : {w : ℕ} (o : OpA) (r : MessageA w) (f : Memory) (address : ℕ) → writes o r address ≡ false
+    → after o r f address ≡ f address
+after-unwritten a.PutFullData r f address e = none-or (byte_at 0 (message.A r) address) (f address) e
+after-unwritten a.PutPartialData r f address e = none-or (byte_at 0 (message.A r) address) (f address) e
+after-unwritten a.ArithmeticData r f address e = rw e refl
+after-unwritten a.LogicalData r f address e = rw e refl
+after-unwritten a.Get r f address e = refl
+after-unwritten a.Intent r f address e = refl
+after-unwritten a.AcquireBlock r f address e = refl
+after-unwritten a.AcquirePerm r f address e = refl
+
+-- the value that an access has written is the one that its answer tells
+pub value-told : {w : ℕ} (p : Access w) (found : Memory) (burst : List (Beat w)) (address : ℕ) → HasFound found p burst
+    → access_writes address p ≡ true
+    → could_be (after p.request.opcode p.request found address) (value_written p burst address) ≡ true
+unfolding effect
+value-told {w} p found burst address has writing = go (p.spoiled || is_some (find is_spoiled burst))
+  where
+    same : after p.request.opcode p.request (found_memory p.request burst) address
+        ≡ after p.request.opcode p.request found address
+    same = after-same p.request (found_memory p.request burst) found p.request.opcode address
+        (λ reads k reached. ap (λ (o : Option ℕ). unwrap_or o 0) (has reads k reached)) writing
+
+    go : (b : Bool) → could_be (after p.request.opcode p.request found address)
+        (if b then None
+        else Some (after p.request.opcode p.request (found_memory p.request burst) address)) ≡ true
+    go true = refl
+    go false = eq-eqb _ _ same
+
+-- and the one that it may write while it is pending
+pub value-pending : {w : ℕ} (p : Access w) (found : Memory) (address : ℕ) → access_writes address p ≡ true
+    → could_be (after p.request.opcode p.request found address) (pending_value p.request.opcode p address) ≡ true
+value-pending {w} p found address writing = go p.request.opcode refl
+  where
+    now : ℕ
+    now = after p.request.opcode p.request found address
+
+    put : returns p.request.opcode ≡ false → could_be now (value_written p [] address) ≡ true
+    put none = value-told p found [] address (λ reads. absurd (let bad : false ≡ true = sym none ∙ reads in cc)) writing
+
+    go : (o : OpA) → p.request.opcode ≡ o → could_be now (pending_value o p address) ≡ true
+    go a.PutFullData e = put (ap returns e)
+    go a.PutPartialData e = put (ap returns e)
+    go a.ArithmeticData e = refl
+    go a.LogicalData e = refl
+    go a.Get e = refl
+    go a.Intent e = refl
+    go a.AcquireBlock e = refl
+    go a.AcquirePerm e = refl

@@ -1,0 +1,174 @@
+-- A run of one memory beside what all links carry: when each access is performed, and what clients store to
+-- copies, which no link carries.
+use Rattle.std.specs.Prelude.{ℕ, zero, suc, Bool, true, false, List, [], ◌∷◌, ◌≡◌, ◌⊎◌, ◌==◌, ◌&&◌, ◌+◌, ◌-◌, ◌*◌, ◌/◌}
+use Rattle.std.specs.Prelude.{◌%◌, ◌≤◌, if◌then◌else◌, find, length, Option, Some, None, ⊤}
+use Rattle.tl_beat.specs.declared.beat.Beat.{Beat}
+use Rattle.tl_beat.specs.declared.beat.Beat.TheVariants as beat
+use Rattle.tl_beat.specs.declared.beat.BeatA.{BeatA}
+use Rattle.tl_beat.specs.declared.beat.BeatD.{BeatD}
+use Rattle.tl_beat.specs.declared.beat.Link.{Link}
+use Rattle.tl_beat.specs.declared.channel.Channel.TheVariants as channel
+use Rattle.tl_beat.specs.declared.opcode.OpA.{OpA}
+use Rattle.tl_beat.specs.declared.opcode.OpA.TheVariants as a
+use Rattle.tl_beat.specs.declared.opcode.OpD.TheVariants as d
+use Rattle.tl_burst.specs.declared.message.Message.TheVariants as message
+use Rattle.tl_burst.specs.statement.Burst.{reaches}
+use Rattle.tl_burst.specs.statement.Messages.{channel_of, on, unfinished}
+use Rattle.tl_params.specs.declared.perm.Perm.TheVariants as perm
+use Rattle.tl_rules.specs.code.Open.{open_request}
+use Rattle.tl_rules.specs.declared.past.Request.{Request}
+use Rattle.tl_rules.specs.statement.Admission.{lanes_of}
+use Rattle.tl_rules.specs.statement.Conformance.{Trace, answers, on_link}
+use Rattle.tl_rules.specs.statement.Effect.{Memory, bytes_from, effect}
+use Rattle.tl_rules.specs.statement.History.{block_at, ends, is_release_ack}
+use Rattle.tl_rules.specs.statement.Windows.{is_free}
+use Rattle.tl_bytes.specs.statement.Bytes.{Access, access_writes, carried_byte, could_be, ends_request, is_access}
+use Rattle.tl_bytes.specs.statement.Bytes.{is_of, pending_accesses, tells}
+
+-- What happens: a beat is taken on a link, the access with this source of a link is performed, or a client stores to
+-- its copy of a block, which has the bytes of this memory afterwards.
+pub data Happening (w : ℕ) : Type 0 where
+  Takes : Link → Beat w → Happening w
+  Performs : (link : ℕ) → (source : ℕ) → Happening w
+  Stores : (block : ℕ) → Memory → Happening w
+
+-- what has happened, the newest first
+abbrev pub Run : ℕ → Type 0
+Run w = List (Happening w)
+
+-- ---- what has been taken, and what memory has
+
+-- the beats that were taken, the newest first
+unfoldable pub trace_in : {w : ℕ} → Run w → Trace w
+trace_in [] = []
+trace_in (Takes link x ∷ run) = (link, x) ∷ trace_in run
+trace_in (Performs link source ∷ run) = trace_in run
+trace_in (Stores block bytes ∷ run) = trace_in run
+
+-- what is so before the last k beats that were taken on channel D of a link
+unfoldable pub run_before : {w : ℕ} → ℕ → ℕ → Run w → Run w
+run_before link zero run = run
+run_before link (suc k) [] = []
+run_before link (suc k) (Takes l x ∷ run) =
+    if (l.0 == link) && on channel.D x then run_before link k run else run_before link (suc k) run
+run_before link (suc k) (Performs d i ∷ run) = run_before link (suc k) run
+run_before link (suc k) (Stores block bytes ∷ run) = run_before link (suc k) run
+
+-- the memory after an access, where it is pending
+abbrev pub with_performed : {w : ℕ} → Option (Access w) → Memory → Memory
+with_performed None memory = memory
+with_performed (Some access) memory = (effect (message.A access.request) memory).0
+
+-- the memory with the bytes of another one in a block
+abbrev pub with_block_of : ℕ → Memory → Memory → Memory
+with_block_of block bytes memory address = if block_at address == block then bytes address else memory address
+
+-- the memory after all that has happened
+unfoldable pub memory_in : {w : ℕ} → Memory → Run w → Memory
+memory_in first [] = first
+memory_in first (Takes link x ∷ run) = memory_in first run
+memory_in first (Performs link source ∷ run) =
+    with_performed (find (is_of link source) (pending_accesses (trace_in run))) (memory_in first run)
+memory_in first (Stores block bytes ∷ run) = with_block_of block bytes (memory_in first run)
+
+-- the beat completes the answer to the request with this source of a link
+abbrev pub is_answered_by : {w : ℕ} → ℕ → ℕ → Link → Beat w → Trace w → Bool
+is_answered_by c s link (beat.D z) t =
+    ((link.0 == c) && (z.source == s)) && ends_request z (on_link link.0 t)
+is_answered_by c s link _ t = false
+
+-- the memory on which the access with this source of a link was performed, where it was and isn't answered whole
+unfoldable pub found_in : {w : ℕ} → Memory → ℕ → ℕ → Run w → Option Memory
+found_in first c s [] = None
+found_in first c s (Takes link x ∷ run) =
+    if is_answered_by c s link x (trace_in run) then None else found_in first c s run
+found_in first c s (Performs d i ∷ run) =
+    if (d == c) && (i == s) then Some (memory_in first run) else found_in first c s run
+found_in first c s (Stores block bytes ∷ run) = found_in first c s run
+
+-- ---- what may happen
+
+-- the access is answered with the bytes that it finds
+abbrev pub returns : OpA → Bool
+returns a.Get = true
+returns a.ArithmeticData = true
+returns a.LogicalData = true
+returns _ = false
+
+-- the place of a byte in the answer to an access
+abbrev pub place_in : {w : ℕ} → Access w → ℕ → ℕ
+place_in {w} access address = address - w * (access.request.address / w)
+
+-- A pending access may be performed, once: no link holds Trunk of what it reaches, nor anything of what it writes.
+pub record IsPerformed {w : ℕ} (n : ℕ) (first : Memory) (link source : ℕ) (run : Run w) : Type 0 where
+  pub access : Access w
+  pub pending : find (is_of link source) (pending_accesses (trace_in run)) ≡ Some access
+  pub once : found_in first link source run ≡ None
+  pub reads_free : (address : ℕ) → reaches access.request.address access.request.size address ≡ true
+      → is_free n None perm.Branch (block_at address) (trace_in run) ≡ true
+  pub writes_free : (address : ℕ) → access_writes address access ≡ true
+      → is_free n None perm.Trunk (block_at address) (trace_in run) ≡ true
+
+-- A beat of the answer to a pending access comes after that was performed, and is of an answer to such a request. Of an
+-- access that reads, the bytes that have come are those that it found.
+pub record IsAnswer {w : ℕ} (first : Memory) (link : ℕ) (z : BeatD w) (access : Access w) (run : Run w) : Type 0 where
+  pub found : Memory
+  pub performed : found_in first link z.source run ≡ Some found
+  pub admitted : answers z.opcode access.request.opcode ≡ true
+  pub lanes_fit : length (lanes_of (beat.D z)) ≤ w
+  pub brings : returns access.request.opcode ≡ true → (address : ℕ)
+      → reaches access.request.address access.request.size address ≡ true
+      → (place_in access address / w ≤ length (unfinished channel.D (on_link link (trace_in run))))
+      ⊎ (ends_request z (on_link link (trace_in run)) ≡ true)
+      → carried_byte (beat.D z ∷ unfinished channel.D (on_link link (trace_in run))) (place_in access address)
+      ≡ Some (found address)
+
+-- Beat k of a GrantData of a block has the bytes that memory had before the first one, when no link held Trunk.
+pub record IsGranted {w : ℕ} (n : ℕ) (first : Memory) (link : ℕ) (z : BeatD w) (block k : ℕ) (run : Run w) : Type 0
+  where
+    pub within : w * k + w ≤ 64
+    pub free : is_free n None perm.Branch block (trace_in (run_before link k run)) ≡ true
+    pub lanes_are : lanes_of (beat.D z) ≡ bytes_from (memory_in first (run_before link k run)) (64 * block + w * k) w
+
+-- What is taken after a run.
+pub record IsTaken {w : ℕ} (n : ℕ) (first : Memory) (link : Link) (x : Beat w) (run : Run w) : Type 0 where
+  -- an access is neither performed nor answered before its request is complete
+  pub asks : (z : BeatA w) → x ≡ beat.A z → is_access z.opcode && ends (beat.A z) (on_link link.0 (trace_in run)) ≡ true
+      → found_in first link.0 z.source run ≡ None
+  pub asks_first : (z : BeatA w) (y : BeatD w) (older : List (Beat w)) → x ≡ beat.A z
+      → is_access z.opcode && ends (beat.A z) (on_link link.0 (trace_in run)) ≡ true
+      → unfinished channel.D (on_link link.0 (trace_in run)) ≡ beat.D y ∷ older → is_release_ack y.opcode ≡ false
+      → y.source ≡ z.source → ⊥
+  -- a beat that continues a response has its opcode and its source
+  pub continues : (z y : BeatD w) (older : List (Beat w)) → x ≡ beat.D z
+      → unfinished channel.D (on_link link.0 (trace_in run)) ≡ beat.D y ∷ older
+      → (z.opcode ≡ y.opcode) × (z.source ≡ y.source)
+  pub answers_rightly : (z : BeatD w) (access : Access w) → x ≡ beat.D z → is_release_ack z.opcode ≡ false
+      → find (is_of link.0 z.source) (pending_accesses (trace_in run)) ≡ Some access
+      → IsAnswer first link.0 z access run
+  pub grants_rightly : (z : BeatD w) (asked : Request) → x ≡ beat.D z → z.opcode ≡ d.GrantData
+      → open_request z.source (on_link link.0 (trace_in run)) ≡ Some asked
+      → IsGranted n first link.0 z asked.block (length (unfinished channel.D (on_link link.0 (trace_in run)))) run
+  -- What is told of a block, with which no link holds Trunk, is what memory has.
+  pub tells_rightly : (address : ℕ) → is_free n None perm.Branch (block_at address) ((link, x) ∷ trace_in run) ≡ true
+      → tells (block_at address) x (on_link link.0 (trace_in run)) ≡ true
+      → could_be (memory_in first run address)
+      (carried_byte (x ∷ unfinished (channel_of x) (on_link link.0 (trace_in run))) (address % 64)) ≡ true
+  -- who gets a block that no link holds is told what it has, and so is it told where Trunk is given up
+  pub closes_told : (block : ℕ) → is_free n None perm.Trunk block (trace_in run) ≡ true
+      → is_free n None perm.Trunk block ((link, x) ∷ trace_in run) ≡ false
+      → tells block x (on_link link.0 (trace_in run)) ≡ true
+  pub given_up_told : (block : ℕ) → is_free n None perm.Branch block (trace_in run) ≡ false
+      → is_free n None perm.Branch block ((link, x) ∷ trace_in run) ≡ true
+      → tells block x (on_link link.0 (trace_in run)) ≡ true
+
+-- It may happen after a run. A client stores to its copy only where a link holds Trunk of it.
+abbrev pub Happens : {w : ℕ} → ℕ → Memory → Happening w → Run w → Type 0
+Happens n first (Takes link x) run = IsTaken n first link x run
+Happens n first (Performs link source) run = IsPerformed n first link source run
+Happens n first (Stores block bytes) run = is_free n None perm.Branch block (trace_in run) ≡ false
+
+-- The run is one of a memory that was this at first, beside what n links carry.
+unfoldable pub IsRun : {w : ℕ} → ℕ → Memory → Run w → Type 0
+IsRun n first [] = ⊤
+IsRun n first (x ∷ run) = Happens n first x run × IsRun n first run

@@ -1,5 +1,5 @@
 -- The mask of a message, beat by beat.
-use Rattle.std.proofs.Common.{◌≡◌, ℕ, suc, true, false, ◌+◌, ◌*◌, ◌<◌, ◌≤◌, ◌^◌, ◌%◌, List, [], ◌∷◌, length, refl, sym, ap}
+use Rattle.std.proofs.Common.{◌≡◌, ℕ, suc, true, false, ◌+◌, ◌*◌, ◌<◌, ◌≤◌, ◌^◌, ◌%◌, List, ◌∷◌, refl, ap}
 use Rattle.std.proofs.Common.{◌∙◌, arith, inl, inr, pow_pos, Bool, ◌||◌}
 use Rattle.std.specs.Prelude.{if◌then◌else◌, is_some, Option, Some}
 use Rattle.std.proofs.Math.Nat.{mod-eq_of_lt}

@@ -1,10 +1,14 @@
 -- What is known of the bytes of memory, after what all links of a manager have carried.
-use Rattle.std.specs.Prelude.{ℕ, [], ◌∷◌, ◌+◌, ◌*◌, ◌^◌, ◌<◌, ◌≤◌, ◌≡◌, List, length, find, is_some}
+use Rattle.std.specs.Prelude.{ℕ, true, false, [], ◌∷◌, ◌+◌, ◌*◌, ◌^◌, ◌<◌, ◌≤◌, ◌≡◌, List, length, find, is_some, ⊤}
+use Rattle.std.specs.Prelude.{slice_index}
 use Rattle.tl_beat.specs.declared.beat.Beat.{Beat}
 use Rattle.tl_beat.specs.declared.beat.Beat.TheVariants as beat
-use Rattle.tl_rules.specs.statement.Admission.{is_spoiled}
-use Rattle.tl_bytes.specs.statement.Bytes.{carried_mask}
+use Rattle.tl_beat.specs.statement.Opcode.{a_carries_data}
+use Rattle.tl_burst.specs.statement.Burst.{bit}
+use Rattle.tl_rules.specs.statement.Admission.{is_spoiled, lanes_of}
+use Rattle.tl_bytes.specs.statement.Bytes.{Access, carried_mask}
 use Rattle.tl_bytes.specs.statement.Known.{KnowsCarried}
+use Rattle.tl_memory.specs.declared.access.Asked.{Asked}
 use Rattle.tl_memory.specs.declared.message.CarriedMessage.{CarriedMessage}
 
 -- ---- messages
@@ -24,3 +28,29 @@ pub record KnowsMessage {w : ℕ} (m : CarriedMessage) (burst : List (Beat w)) :
   pub mask_is : m.mask ≡ carried_mask burst
   pub mask_below : m.mask < 2 ^ (w * length burst)
   pub spoiled_is : m.spoiled ≡ is_some (find is_spoiled burst)
+
+-- each of these beats has a byte for each lane
+abbrev pub AreWide : {w : ℕ} → List (Beat w) → Type 0
+AreWide [] = ⊤
+AreWide {w} (x ∷ beats) = (length (lanes_of x) ≡ w) × AreWide beats
+
+-- ---- accesses
+
+-- This is the access that was asked for. Where it carries data, these are the bytes that none of its beats
+-- has as corrupt, and its mask names no other.
+pub record IsAsked {w : ℕ} (asked : Asked w) (access : Access w) : Type 0 where
+  pub link_is : asked.link.0 ≡ access.link
+  pub opcode_is : asked.request.opcode ≡ access.request.opcode
+  pub param_is : asked.request.param ≡ access.request.param
+  pub size_is : asked.request.size ≡ access.request.size
+  pub source_is : asked.request.source ≡ access.request.source
+  pub address_is : asked.request.address ≡ access.request.address
+  pub mask_is : asked.request.mask ≡ access.request.mask
+  pub spoiled_is : asked.spoiled ≡ access.spoiled
+  pub moment_is : asked.moment ≡ access.asked
+  pub few : a_carries_data access.request.opcode ≡ true → length access.request.payload ≤ 64
+  pub payload_is : a_carries_data access.request.opcode ≡ true → access.spoiled ≡ false → (place : ℕ)
+      → place < length access.request.payload
+      → slice_index asked.request.payload place ≡ slice_index access.request.payload place
+  pub masked : a_carries_data access.request.opcode ≡ true → (place : ℕ) → bit access.request.mask place ≡ true
+      → place < length access.request.payload

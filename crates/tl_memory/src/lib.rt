@@ -3,3 +3,4 @@
 
 pub mod access;
 pub mod message;
+pub mod performed;

@@ -1,5 +1,5 @@
 -- What a read may bring, with one more beat.
-use Rattle.std.proofs.Common.{◌≡◌, ℕ, suc, false, ◌||◌, ◌+◌, ◌*◌, ◌<◌, ◌≤◌, List, [], ◌∷◌}
+use Rattle.std.proofs.Common.{◌≡◌, ℕ, suc, Bool, true, false, ◌||◌, ◌+◌, ◌*◌, ◌/◌, ◌<◌, ◌≤◌, List, [], ◌∷◌}
 use Rattle.std.proofs.Common.{length, refl, sym, ap, ◌∙◌, arith}
 use Rattle.std.proofs.lemmas.Bool.{le-leb, lt-leb}
 use Rattle.tl_beat.specs.declared.beat.Beat.{Beat}
@@ -9,8 +9,8 @@ use Rattle.tl_bytes.specs.code.Tellings.{left_as}
 use Rattle.tl_bytes.specs.declared.block_bytes.BlockBytes.{BlockBytes}
 use Rattle.tl_bytes.specs.declared.telling.Told.{Told}
 use Rattle.tl_bytes.specs.declared.write.Write.{Write}
-use Rattle.tl_bytes.specs.statement.Bytes.{Access, may_be, may_read, told_as, written_as}
-use Rattle.tl_bytes.specs.statement.Known.{tellings_at, KnowsBlock, MayWrite, others}
+use Rattle.tl_bytes.specs.statement.Bytes.{Access, may_be, may_grant, may_read, told_as, written_as}
+use Rattle.tl_bytes.specs.statement.Known.{tellings_at, KnowsBlock, MayWrite, others, windowed}
 
 -- before its request was complete it may bring nothing
 nothing-yet : {w : ℕ} (n : ℕ) (access : Access w) (t : Trace w) (address v : ℕ) → length t < access.asked
@@ -52,3 +52,29 @@ unfolding tellings_at
 read-first n number access x t items told block writes all told_is now k written =
     read-more n number access x t items told [] block writes all told_is
     (λ p v lt. sym (nothing-yet n access t (64 * number + p) v (omega arith))) (omega arith) k written
+
+-- what may be granted is what the bytes may be, and what accesses may write that have had a window
+pub granted-is : {w : ℕ} (n number : ℕ) (t : Trace w) (items told : List Told) (block : BlockBytes)
+    (writes : List Write)
+    → ((p v : ℕ) → p < 64 → told_as v (tellings_at p items)
+    ≡ (told_as v (tellings_at p told) || (left_as p v writes || told_as v (tellings_at p []))))
+    → told ≡ block.told.items → KnowsBlock block n number t → MayWrite writes number (windowed n number t)
+    → (p v : ℕ) → p < 64 → told_as v (tellings_at p items) ≡ may_grant n t (64 * number + p) v
+unfolding tellings_at
+granted-is n number t items told block writes all told_is k written p v lt =
+    all p v lt
+    ∙ ap (λ b. told_as v (tellings_at p told) || b) (no_more (left_as p v writes))
+    ∙ ap (λ b. b || left_as p v writes)
+    (ap (λ l. told_as v (tellings_at p l)) told_is ∙ ap (told_as v) (k.bytes_are p lt))
+    ∙ ap (λ b. told_as v (may_be n (64 * number + p) t) || b) (written p v lt ∙ of_block)
+  where
+    no_more : (b : Bool) → (b || false) ≡ b
+    no_more true = refl
+    no_more false = refl
+
+    block_of : (64 * number + p) / 64 ≡ number
+    block_of = omega arith
+
+    of_block : written_as (64 * number + p) v (windowed n number t)
+        ≡ written_as (64 * number + p) v (windowed n ((64 * number + p) / 64) t)
+    of_block = ap (λ b. written_as (64 * number + p) v (windowed n b t)) (sym block_of)

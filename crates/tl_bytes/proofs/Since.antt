@@ -2,6 +2,7 @@
 use Rattle.std.proofs.Common.{◌≡◌, ℕ, suc, Bool, true, false, not, ◌&&◌, ◌||◌, ◌+◌, ◌<◌, ◌≤◌, [], ◌∷◌}
 use Rattle.std.proofs.Common.{length, refl, sym, ap, ◌∙◌, arith}
 use Rattle.std.specs.Prelude.{if◌then◌else◌, None, nat_lt, ◌==◌}
+use Rattle.std.specs.Bool.{beq}
 use Rattle.std.proofs.lemmas.Bool.{lt-ltb, le-ltb, eq-eqb, ne_eqb}
 use Rattle.tl_beat.specs.declared.beat.Beat.{Beat}
 use Rattle.tl_beat.specs.declared.beat.Link.{Link}
@@ -66,7 +67,8 @@ began after was k m e = rw e refl
 -- the windows of an access whose request is complete now
 pub asked_now : {w : ℕ} (free : Bool) (seen : WindowCount) (asked last n block : ℕ) (x : Link × Beat w) (t : Trace w)
     → seen ≡ (if free then count.One else count.Zero)
-    → free ≡ is_free n None perm.Trunk block (x ∷ t) → asked ≡ suc (length t) → last ≡ last_window n block (x ∷ t)
+    → free ≡ is_free n None perm.Trunk block (x ∷ t) → asked ≡ suc (length t)
+    → (free ≡ false → last ≡ last_window n block (x ∷ t))
     → KnowsWindows (record { is_open = free; count = seen; began = asked; last = last }) n block asked (x ∷ t)
 unfolding window_began
 asked_now free seen asked last n block x t counts is_now now last_is = record {
@@ -87,39 +89,47 @@ asked_now free seen asked last n block x t counts is_now now last_is = record {
     early : (a b : Bool) → a ≡ false → a && b ≡ false
     early a b e = rw e refl
 
--- the block isn't free with one more beat
-pub closed_after : {w : ℕ} (windows : WritingWindows) (n block asked : ℕ) (x : Link × Beat w) (t : Trace w)
-    → KnowsWindows windows n block asked t → asked ≤ length t
-    → false ≡ is_free n None perm.Trunk block (x ∷ t)
-    → KnowsWindows (record windows { is_open = false }) n block asked (x ∷ t)
+-- where the block is free, this is the last moment at which it was
+last_now : {w : ℕ} (n block : ℕ) (t : Trace w) → is_free n None perm.Trunk block t ≡ true
+    → last_window n block t ≡ length t
 unfolding last_window
-closed_after windows n block asked x t k le closed = record {
-  open_is = closed;
-  count_is = k.count_is ∙ ap count_of (sym (since_more n block asked x t le ∙ rw (← closed) (none _)));
-  began_is = λ e. absurd cc;
-  last_is = k.last_is ∙ rw (← closed) refl;
-}
-  where
-    none : (k : ℕ) → k + 0 ≡ k
-    none k = omega arith
+last_now n block [] e = refl
+last_now n block (x ∷ t) e = rw e refl
 
--- it is free still
-pub free_after : {w : ℕ} (windows : WritingWindows) (moment n block asked : ℕ) (x : Link × Beat w) (t : Trace w)
-    → KnowsWindows windows n block asked t → asked ≤ length t → true ≡ windows.is_open
-    → true ≡ is_free n None perm.Trunk block (x ∷ t) → moment ≡ suc (length t)
-    → KnowsWindows (record windows { last = moment }) n block asked (x ∷ t)
+nothing_more : (k : ℕ) → k + 0 ≡ k
+nothing_more k = omega arith
+
+-- the block is as free as it was
+pub same_after : {w : ℕ} (windows : WritingWindows) (n block asked : ℕ) (x : Link × Beat w) (t : Trace w)
+    → KnowsWindows windows n block asked t → asked ≤ length t
+    → is_free n None perm.Trunk block (x ∷ t) ≡ is_free n None perm.Trunk block t
+    → KnowsWindows windows n block asked (x ∷ t)
 unfolding last_window window_began
-free_after windows moment n block asked x t k le was free now = record {
-  open_is = sym was ∙ free;
+same_after windows n block asked x t k le same = record {
+  open_is = k.open_is ∙ sym same;
   count_is = k.count_is ∙ ap count_of
-      (sym (since_more n block asked x t le ∙ rw (← free, ← (was ∙ k.open_is)) (none _)));
+      (sym (since_more n block asked x t le ∙ rw same (never (is_free n None perm.Trunk block t) _)));
   began_is = λ e. k.began_is e
-      ∙ sym (rw (lt-ltb asked (suc (length t)) (omega arith), ← (was ∙ k.open_is)) refl);
-  last_is = now ∙ rw (← free) refl;
+      ∙ sym (rw (lt-ltb asked (suc (length t)) (omega arith), sym k.open_is ∙ e) refl);
+  last_is = λ e. k.last_is e ∙ rw (same, sym k.open_is ∙ e) refl;
 }
   where
-    none : (k : ℕ) → k + 0 ≡ k
-    none k = omega arith
+    never : (b : Bool) (k : ℕ) → k + (if b && not b then 1 else 0) ≡ k
+    never true k = nothing_more k
+    never false k = nothing_more k
+
+-- the block isn't free any more
+pub closed_after : {w : ℕ} (windows : WritingWindows) (last n block asked : ℕ) (x : Link × Beat w) (t : Trace w)
+    → KnowsWindows windows n block asked t → asked ≤ length t → true ≡ windows.is_open
+    → false ≡ is_free n None perm.Trunk block (x ∷ t) → last ≡ length t
+    → KnowsWindows (record windows { is_open = false; last = last }) n block asked (x ∷ t)
+unfolding last_window
+closed_after windows last n block asked x t k le was closed now = record {
+  open_is = closed;
+  count_is = k.count_is ∙ ap count_of (sym (since_more n block asked x t le ∙ rw (← closed) (nothing_more _)));
+  began_is = λ e. absurd cc;
+  last_is = λ e. now ∙ sym (rw (← closed) (last_now n block t (sym (was ∙ k.open_is))));
+}
 
 -- it is free again
 pub opened_after : {w : ℕ} (windows : WritingWindows) (seen : WindowCount) (moment n block asked : ℕ)
@@ -127,14 +137,14 @@ pub opened_after : {w : ℕ} (windows : WritingWindows) (seen : WindowCount) (mo
     → KnowsWindows windows n block asked t → asked ≤ length t → false ≡ windows.is_open
     → ((k : ℕ) → windows.count ≡ count_of k → seen ≡ count_of (suc k))
     → true ≡ is_free n None perm.Trunk block (x ∷ t) → moment ≡ suc (length t)
-    → KnowsWindows (record { is_open = true; count = seen; began = moment; last = moment }) n block asked (x ∷ t)
+    → KnowsWindows (record windows { is_open = true; count = seen; began = moment }) n block asked (x ∷ t)
 unfolding last_window window_began
 opened_after windows seen moment n block asked x t k le was one free now = record {
   open_is = free;
   count_is = one (windows_since n block asked t) k.count_is ∙ ap count_of (sym one_since);
   began_is = λ e. now ∙ sym (rw (← (was ∙ k.open_is)) (began' (nat_lt asked (suc (length t)))
       (window_began n block asked t) (suc (length t))));
-  last_is = now ∙ rw (← free) refl;
+  last_is = λ e. absurd cc;
 }
   where
     more : (k : ℕ) → k + 1 ≡ suc k
@@ -147,3 +157,16 @@ opened_after windows seen moment n block asked x t k le was one free now = recor
     began' : (after : Bool) (k m : ℕ) → (if after && false then k else m) ≡ m
     began' true k m = refl
     began' false k m = refl
+
+-- two that are the same, or aren't
+pub both_same : (a b : Bool) → beq a b ≡ true → a ≡ b
+both_same true true e = refl
+both_same true false e = absurd cc
+both_same false true e = absurd cc
+both_same false false e = refl
+
+pub other_than : (a b : Bool) → beq a b ≡ false → not a ≡ b
+other_than true true e = absurd cc
+other_than true false e = refl
+other_than false true e = refl
+other_than false false e = absurd cc

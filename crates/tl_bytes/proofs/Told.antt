@@ -264,10 +264,18 @@ unfolding last_told
 written-is write moment n block s old new link y access t last items k quiet ended found stands now written =
     record {
       bytes_are = λ p lt. items p lt
-          ∙ rw ((written p lt).0, (written p lt).1, stands, now, k.bytes_are p lt)
-          (sym (may_be-written n block p link y access t lt quiet ended found));
+          ∙ rw (stands, now, k.bytes_are p lt) (where_written (is_written write p) (value_at write p)
+          (value_written access (beat.D y ∷ unfinished channel.D (on_link link.0 t)) (64 * block + p))
+          (standing_of n block access t) (length t) (may_be n (64 * block + p) t) (written p lt).1
+          ∙ rw ((written p lt).0) (sym (may_be-written n block p link y access t lt quiet ended found)));
       last_is = rw (last, quiet) k.last_is;
     }
+  where
+    where_written : (b : Bool) (u v : Option ℕ) (s : Standing) (m : ℕ) (before : List Telling) → (b ≡ true → u ≡ v)
+        → (if b then by_standing s (record { value = u; moment = m }) before else before)
+        ≡ (if b then by_standing s (record { value = v; moment = m }) before else before)
+    where_written true u v s m before e = ap (λ z. by_standing s (record { value = z; moment = m }) before) (e refl)
+    where_written false u v s m before e = refl
 
 -- the tellings of a place, renewed
 pub renewed-within : (write : Write) (moment since p : ℕ) (before : List Told) → p < 64

@@ -44,6 +44,18 @@ impl BlockBytes {
         Ok(BlockBytes { told, last: None })
     }
 
+    /// The same.
+    pub fn copy(&self, alloc: Global) -> Result<Self, AllocError>
+        ensures told { IfOk result (λ b. b.told.items ≡ self.now.told.items) }
+        ensures last { IfOk result (λ b. b.last ≡ self.now.last) }
+    {
+        let told = Vec::from_slice(alloc, self.told.as_slice())?;
+        Ok(BlockBytes {
+            told,
+            last: self.last,
+        })
+    }
+
     /// Whether the byte at a place may be this one.
     pub fn may_be(&self, place: u8, byte: u8) -> bool
         ensures { (w n block : ℕ) (t : Trace w) → KnowsBlock self.now n block t → place < 64 →

@@ -60,6 +60,13 @@ impl CarriedBytes {
         self.beats = self.beats.saturating_add(1);
     }
 
+    /// How many beats brought them.
+    pub fn count(&self) -> usize
+        ensures { (w : ℕ) (burst : List (Beat w)) → KnowsCarried self.now burst → result ≡ length burst }
+    {
+        self.beats
+    }
+
     /// The bytes by their places.
     pub fn bytes(&self) -> &[Option<u8>; 64]
         ensures { (w : ℕ) (burst : List (Beat w)) → KnowsCarried self.now burst → HasBytes result.now burst }

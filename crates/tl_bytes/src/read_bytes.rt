@@ -20,7 +20,7 @@ pub struct ReadBytes {
 }
 
 impl ReadBytes {
-    ghost use Rattle.tl_bytes.specs.statement.Known.{KnowsBlock, KnowsRead, MayWrite, others};
+    ghost use Rattle.tl_bytes.specs.statement.Known.{KnowsBlock, KnowsGrant, KnowsRead, MayWrite, others, windowed};
 
     /// What it may bring at the moment at which its request is complete: what the block's bytes may be,
     /// and what the other accesses that are pending may write.
@@ -30,6 +30,23 @@ impl ReadBytes {
             access.asked ≡ suc (length t) → KnowsRead read n number access (x ∷ t)) }
     {
         let told = gathered(alloc, block.told.as_slice(), writes, &[])?;
+        Ok(ReadBytes { told })
+    }
+
+    /// What may be granted.
+    pub fn granted(alloc: Global, block: &BlockBytes, writes: &[Write]) -> Result<Self, AllocError>
+        ensures { IfOk result (λ read. (w n number : ℕ) (t : Trace w) → KnowsBlock block.now n number t →
+            MayWrite writes.now number (windowed n number t) → KnowsGrant read n number t) }
+    {
+        let told = gathered(alloc, block.told.as_slice(), writes, &[])?;
+        Ok(ReadBytes { told })
+    }
+
+    /// The same.
+    pub fn copy(&self, alloc: Global) -> Result<Self, AllocError>
+        ensures { IfOk result (λ read. read.told.items ≡ self.now.told.items) }
+    {
+        let told = Vec::from_slice(alloc, self.told.as_slice())?;
         Ok(ReadBytes { told })
     }
 

@@ -1,6 +1,6 @@
 //! The windows for writing that an access has.
 
-ghost use Rattle.std.specs.Prelude.{ℕ, suc, None, [], ◌∷◌, ◌≡◌, ◌≤◌, length};
+ghost use Rattle.std.specs.Prelude.{ℕ, suc, false, None, [], ◌∷◌, ◌≡◌, ◌≤◌, length};
 ghost use Rattle.tl_beat.specs.declared.beat.Beat.{Beat};
 ghost use Rattle.tl_beat.specs.declared.beat.Link.{Link};
 ghost use Rattle.tl_params.specs.declared.perm.Perm.TheVariants as perm;
@@ -25,7 +25,7 @@ pub struct WritingWindows {
     pub count: WindowCount,
     /// The moment at which the one that is open began.
     pub began: u64,
-    /// The last moment at which the block was free.
+    /// The last moment at which the block was free, where it isn't.
     pub last: u64,
 }
 
@@ -47,7 +47,7 @@ impl WritingWindows {
     pub fn new(free: bool, asked: u64, last: u64) -> Self
         ensures { (w n block : ℕ) (x : Link × Beat w) (t : Trace w) →
             free ≡ is_free n None perm.Trunk block (x ∷ t) → asked ≡ suc (length t) →
-            last ≡ last_window n block (x ∷ t) →
+            (free ≡ false → last ≡ last_window n block (x ∷ t)) →
             KnowsWindows result n block asked (x ∷ t) }
     {
         WritingWindows {
@@ -69,21 +69,22 @@ impl WritingWindows {
             free ≡ is_free n None perm.Trunk block (x ∷ t) → moment ≡ suc (length t) →
             KnowsWindows result n block asked (x ∷ t) }
     {
-        match (free, self.is_open) {
-            (false, _) => WritingWindows {
-                is_open: false,
-                ..self
-            },
-            (true, true) => WritingWindows {
-                last: moment,
-                ..self
-            },
-            (true, false) => WritingWindows {
+        if free == self.is_open {
+            return self;
+        }
+        if free {
+            WritingWindows {
                 is_open: true,
                 count: one_more(self.count),
                 began: moment,
-                last: moment,
-            },
+                ..self
+            }
+        } else {
+            WritingWindows {
+                is_open: false,
+                last: moment.saturating_sub(1),
+                ..self
+            }
         }
     }
 }

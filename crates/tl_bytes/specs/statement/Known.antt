@@ -1,5 +1,5 @@
 -- What is known of the bytes of a block, after what all links of a manager have carried.
-use Rattle.std.specs.Prelude.{ℕ, zero, suc, true, [], ◌∷◌, ◌==◌, ◌+◌, ◌*◌, ◌<◌, ◌≡◌, if◌then◌else◌, List}
+use Rattle.std.specs.Prelude.{ℕ, zero, suc, true, false, [], ◌∷◌, ◌==◌, ◌+◌, ◌*◌, ◌<◌, ◌≡◌, if◌then◌else◌, List}
 use Rattle.std.specs.Prelude.{filter, length, nat_lt, Option, Some, None, slice_index_or, not}
 use Rattle.tl_beat.specs.declared.beat.Beat.{Beat}
 use Rattle.tl_beat.specs.declared.beat.Link.{Link}
@@ -19,7 +19,7 @@ use Rattle.tl_bytes.specs.declared.telling.Told.{Told}
 use Rattle.tl_bytes.specs.declared.windows.WindowCount.{WindowCount}
 use Rattle.tl_bytes.specs.declared.windows.WindowCount.TheVariants as count
 use Rattle.tl_bytes.specs.declared.windows.WritingWindows.{WritingWindows}
-use Rattle.tl_bytes.specs.statement.Bytes.{is_of, may_read, pending_accesses, told_as, written_as}
+use Rattle.tl_bytes.specs.statement.Bytes.{is_of, may_grant, may_read, pending_accesses, told_as, written_as}
 use Rattle.tl_bytes.specs.statement.Bytes.{Access, access_writes, carried_byte, may_be, value_written}
 use Rattle.tl_bytes.specs.statement.Bytes.{windows_since, window_began, last_window, last_told}
 
@@ -60,7 +60,7 @@ AreCarried values x t = HasBytes values (x.1 ∷ unfinished (channel_of x.1) (on
 abbrev pub IsWrite : {w : ℕ} → Write → ℕ → Access w → List (Beat w) → Type 0
 IsWrite write block access answer = (place : ℕ) → place < 64
     → (is_written write place ≡ access_writes (64 * block + place) access)
-    × (value_at write place ≡ value_written access answer (64 * block + place))
+    × (is_written write place ≡ true → value_at write place ≡ value_written access answer (64 * block + place))
 
 -- this is what these accesses may write in the block, of one that is pending
 abbrev pub MayWrite : {w : ℕ} → List Write → ℕ → List (Access w) → Type 0
@@ -80,6 +80,11 @@ abbrev pub KnowsRead : {w : ℕ} → ReadBytes → ℕ → ℕ → Access w → 
 KnowsRead read n block access t = (place byte : ℕ) → place < 64
     → told_as byte (tellings_at place read.told.items) ≡ may_read n access t (64 * block + place) byte
 
+-- what may be granted of each byte of the block is kept
+abbrev pub KnowsGrant : {w : ℕ} → ReadBytes → ℕ → ℕ → Trace w → Type 0
+KnowsGrant read n block t = (place byte : ℕ) → place < 64
+    → told_as byte (tellings_at place read.told.items) ≡ may_grant n t (64 * block + place) byte
+
 -- how an access to the block, which is answered, stands to its windows and to what was told of it
 abbrev pub standing_of : {w : ℕ} → ℕ → ℕ → Access w → Trace w → Standing
 standing_of n block access t =
@@ -95,10 +100,10 @@ count_of zero = count.Zero
 count_of (suc zero) = count.One
 count_of (suc (suc n)) = count.More
 
--- the windows for writing that the block has had since a moment, the one that is open, and the last
--- moment at which it was free
+-- the windows for writing that the block has had since a moment, the one that is open, and, where none is,
+-- the last moment at which it was free
 pub record KnowsWindows {w : ℕ} (windows : WritingWindows) (n block asked : ℕ) (t : Trace w) : Type 0 where
   pub open_is : windows.is_open ≡ is_free n None perm.Trunk block t
   pub count_is : windows.count ≡ count_of (windows_since n block asked t)
   pub began_is : windows.is_open ≡ true → windows.began ≡ window_began n block asked t
-  pub last_is : windows.last ≡ last_window n block t
+  pub last_is : windows.is_open ≡ false → windows.last ≡ last_window n block t

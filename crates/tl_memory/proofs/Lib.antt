@@ -1,0 +1,4 @@
+pub mod Atomics
+pub mod Masks
+pub mod Payloads
+pub mod Puts

@@ -1,0 +1,102 @@
+-- What a Put leaves in its block.
+use Rattle.std.proofs.Common.{◌≡◌, ℕ, Bool, true, false, ◌+◌, ◌-◌, ◌*◌, ◌/◌, ◌<◌, ◌≤◌, List, length, refl, sym, ap, ◌∙◌}
+use Rattle.std.proofs.Common.{arith, inl, inr}
+use Rattle.std.specs.Prelude.{if◌then◌else◌, is_some, None, Option, Some, nat_le, slice_get, slice_index, unwrap_or}
+use Rattle.std.proofs.lemmas.Bool.{cases_lt, lt-leb}
+use Rattle.std.proofs.lemmas.Option.{slice_get-get_or, slice_get_within}
+use Rattle.tl_beat.specs.declared.opcode.OpA.{OpA}
+use Rattle.tl_beat.specs.declared.opcode.OpA.TheVariants as a
+use Rattle.tl_beat.specs.statement.Opcode.{a_carries_data}
+use Rattle.tl_beat.specs.statement.Width.{IsWidth}
+use Rattle.tl_burst.specs.declared.message.Message.TheVariants as message
+use Rattle.tl_burst.specs.declared.message.MessageA.{MessageA}
+use Rattle.tl_burst.specs.statement.Burst.{bit, byte_at, byte_if, place_of}
+use Rattle.tl_rules.specs.code.Place.{base_of, moved_up}
+use Rattle.tl_rules.specs.statement.Effect.{Memory, after, effect}
+use Rattle.tl_rules.proofs.Blocks.{moved_byte}
+use Rattle.tl_rules.proofs.Rooms.{base_in_memory}
+use Rattle.tl_bytes.specs.statement.Bytes.{Access, access_writes, writes}
+use Rattle.tl_memory.specs.statement.Known.{is_put}
+
+-- the byte that a message has at an address, where it has one
+pub record HasByte (payload : List ℕ) (o : Option ℕ) (found : Option ℕ) : Type 0 where
+  pub place : ℕ
+  pub is_there : o ≡ Some place
+  pub inside : place < length payload
+  pub value : found ≡ Some (slice_index payload place)
+
+some_of : (payload : List ℕ) (q : ℕ) (o : Option ℕ) → o ≡ slice_get payload q → is_some o ≡ true
+    → HasByte payload (Some q) o
+some_of payload q None e some = absurd cc
+some_of payload q (Some v) e some =
+    let lt = slice_get_within payload q v (sym e) in
+    record { place = q; is_there = refl; inside = lt; value = e ∙ slice_get-get_or payload q 0 lt }
+
+has_byte : (carries : Bool) (counts : ℕ → Bool) (payload : List ℕ) (o : Option ℕ)
+    → is_some (if carries then byte_if counts payload o else None) ≡ true
+    → HasByte payload o (if carries then byte_if counts payload o else None)
+has_byte false counts payload o some = absurd cc
+has_byte true counts payload None some = absurd cc
+has_byte true counts payload (Some q) some = go (counts q) some
+  where
+    go : (b : Bool) → is_some (if b then slice_get payload q else None) ≡ true
+        → HasByte payload (Some q) (if b then slice_get payload q else None)
+    go true e = some_of payload q (slice_get payload q) refl e
+    go false e = absurd cc
+
+placed : (base x q : ℕ) → (if nat_le base x then Some (x - base) else None) ≡ Some q → (base ≤ x) × (q ≡ x - base)
+placed base x q e = elim (cases_lt x base) [
+  | inl below ↦ absurd (none_some (sym (rw (lt-leb base x below) refl) ∙ e))
+  | inr from ↦ (from, same (nat_le base x) e)
+]
+  where
+    none_some : None ≡ Some q → ⊥
+    none_some e = cc
+
+    same : (b : Bool) → (if b then Some (x - base) else None) ≡ Some q → q ≡ x - base
+    same true e = cc
+    same false e = absurd cc
+
+put_is : {w : ℕ} (op : OpA) (m : MessageA w) (memory : Memory) (x : ℕ) → is_put op ≡ true → writes op m x ≡ true
+    → (is_some (byte_at 0 (message.A m) x) ≡ true)
+    × (after op m memory x ≡ unwrap_or (byte_at 0 (message.A m) x) (memory x))
+put_is a.PutFullData m memory x e written = (written, refl)
+put_is a.PutPartialData m memory x e written = (written, refl)
+put_is a.ArithmeticData m memory x e written = absurd cc
+put_is a.LogicalData m memory x e written = absurd cc
+put_is a.Get m memory x e written = absurd cc
+put_is a.Intent m memory x e written = absurd cc
+put_is a.AcquireBlock m memory x e written = absurd cc
+put_is a.AcquirePerm m memory x e written = absurd cc
+
+-- a Put's payload, moved to its place in the block, has what it writes there
+pub put-leaves : {w : ℕ} (access : Access w) (payload moved : List ℕ) (base p : ℕ) (memory : Memory) → IsWidth w
+    → is_put access.request.opcode ≡ true → base ≡ base_of w access.request.address
+    → moved ≡ moved_up base payload
+    → ((q : ℕ) → q < length access.request.payload → slice_index payload q ≡ slice_index access.request.payload q)
+    → p < 64 → access_writes (64 * (access.request.address / 64) + p) access ≡ true
+    → slice_index moved p
+    ≡ (effect (message.A access.request) memory).0 (64 * (access.request.address / 64) + p)
+unfolding effect
+put-leaves {w} access payload moved base p memory is put base_is moved_is same lt written =
+    let m = access.request in
+    let x = 64 * (m.address / 64) + p in
+    let start : w * (m.address / w) ≡ 64 * (m.address / 64) + base =
+    base_in_memory w m.address is ∙ ap (λ n. 64 * (m.address / 64) + n) (sym base_is) in
+    let is_put_of = put_is m.opcode m memory x put written in
+    let has = has_byte (a_carries_data m.opcode) (λ q. bit m.mask q) m.payload (place_of w m.address x) is_put_of.0 in
+    let at = placed (w * (m.address / w)) x has.place has.is_there in
+    let place : p - base ≡ has.place = omega (arith, start, at.0, at.1) in
+    let from : base ≤ p = omega (arith, start, at.0) in
+    ap (λ xs. slice_index xs p) moved_is ∙ moved_byte base payload p from lt ∙ ap (slice_index payload) place
+    ∙ same has.place has.inside ∙ sym (is_put_of.1 ∙ ap (λ o. unwrap_or o (memory x)) has.value)
+
+pub put-carries : (op : OpA) → is_put op ≡ true → a_carries_data op ≡ true
+put-carries a.PutFullData e = refl
+put-carries a.PutPartialData e = refl
+put-carries a.ArithmeticData e = absurd cc
+put-carries a.LogicalData e = absurd cc
+put-carries a.Get e = absurd cc
+put-carries a.Intent e = absurd cc
+put-carries a.AcquireBlock e = absurd cc
+put-carries a.AcquirePerm e = absurd cc

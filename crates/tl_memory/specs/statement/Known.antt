@@ -1,0 +1,82 @@
+-- What is known of the bytes of memory, after what all links of a manager have carried.
+use Rattle.std.specs.Prelude.{ℕ, Bool, true, false, None, [], ◌∷◌, ◌+◌, ◌*◌, ◌%◌, ◌^◌, ◌<◌, ◌≤◌, ◌≡◌, List, length, find, is_some, ⊤}
+use Rattle.std.specs.Prelude.{slice_index}
+use Rattle.tl_beat.specs.declared.beat.Beat.{Beat}
+use Rattle.tl_beat.specs.declared.beat.Beat.TheVariants as beat
+use Rattle.tl_beat.specs.declared.opcode.OpA.{OpA}
+use Rattle.tl_beat.specs.declared.opcode.OpA.TheVariants as a
+use Rattle.tl_beat.specs.statement.Opcode.{a_carries_data}
+use Rattle.tl_burst.specs.statement.Burst.{bit}
+use Rattle.tl_params.specs.declared.level.Level.TheVariants as level
+use Rattle.tl_rules.specs.code.Control.{a_control}
+use Rattle.tl_rules.specs.statement.Admission.{is_spoiled, lanes_of}
+use Rattle.tl_bytes.specs.statement.Bytes.{Access, carried_mask}
+use Rattle.tl_bytes.specs.statement.Known.{KnowsCarried}
+use Rattle.tl_memory.specs.declared.access.Asked.{Asked}
+use Rattle.tl_memory.specs.declared.message.CarriedMessage.{CarriedMessage}
+
+-- ---- messages
+
+-- the mask of a beat; 0 where its channel has none
+abbrev pub mask_of : {w : ℕ} → Beat w → ℕ
+mask_of (beat.A x) = x.mask
+mask_of _ = 0
+
+-- a block has room for the bytes of one more beat, and its mask names no lane that there isn't
+abbrev pub HasRoom : {w : ℕ} → Beat w → List (Beat w) → Type 0
+HasRoom {w} x burst = (w * length burst + w ≤ 64) × (mask_of x < 2 ^ w)
+
+-- this is what the beats of a message have brought, the newest of which is first
+pub record KnowsMessage {w : ℕ} (m : CarriedMessage) (burst : List (Beat w)) : Type 0 where
+  pub bytes_are : KnowsCarried m.bytes burst
+  pub mask_is : m.mask ≡ carried_mask burst
+  pub mask_below : m.mask < 2 ^ (w * length burst)
+  pub spoiled_is : m.spoiled ≡ is_some (find is_spoiled burst)
+
+-- each of these beats has a byte for each lane
+abbrev pub AreWide : {w : ℕ} → List (Beat w) → Type 0
+AreWide [] = ⊤
+AreWide {w} (x ∷ beats) = (length (lanes_of x) ≡ w) × AreWide beats
+
+-- ---- accesses
+
+-- the operation is a Put
+abbrev pub is_put : OpA → Bool
+is_put a.PutFullData = true
+is_put a.PutPartialData = true
+is_put _ = false
+
+-- the operation is an atomic
+abbrev pub is_atomic : OpA → Bool
+is_atomic a.ArithmeticData = true
+is_atomic a.LogicalData = true
+is_atomic _ = false
+
+-- an access with these control fields breaks no rule at TL-UH, whose accesses are those of all levels
+abbrev pub IsPerformable : ℕ → OpA → ℕ → ℕ → ℕ → Type 0
+IsPerformable w opcode param size address = a_control w level.UH opcode param size address ≡ None
+
+-- This is the access that was asked for. Where it carries data, these are the bytes that none of its beats
+-- has as corrupt, and its mask names no other.
+pub record IsAsked {w : ℕ} (asked : Asked w) (access : Access w) : Type 0 where
+  pub link_is : asked.link.0 ≡ access.link
+  pub opcode_is : asked.request.opcode ≡ access.request.opcode
+  pub param_is : asked.request.param ≡ access.request.param
+  pub size_is : asked.request.size ≡ access.request.size
+  pub source_is : asked.request.source ≡ access.request.source
+  pub address_is : asked.request.address ≡ access.request.address
+  pub mask_is : asked.request.mask ≡ access.request.mask
+  pub spoiled_is : asked.spoiled ≡ access.spoiled
+  pub moment_is : asked.moment ≡ access.asked
+  pub few : a_carries_data access.request.opcode ≡ true → length access.request.payload ≤ 64
+  pub payload_is : a_carries_data access.request.opcode ≡ true → access.spoiled ≡ false → (place : ℕ)
+      → place < length access.request.payload
+      → slice_index asked.request.payload place ≡ slice_index access.request.payload place
+  pub masked : a_carries_data access.request.opcode ≡ true → (place : ℕ) → bit access.request.mask place ≡ true
+      → place < length access.request.payload
+
+-- the beats of its request carried all bytes that it reaches
+abbrev pub IsWhole : {w : ℕ} → Access w → Type 0
+IsWhole {w} access =
+    a_carries_data access.request.opcode ≡ true
+    → access.request.address % w + 2 ^ access.request.size ≤ length access.request.payload

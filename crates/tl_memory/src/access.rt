@@ -1,0 +1,156 @@
+//! Accesses whose requests are complete.
+
+ghost use Rattle.std.specs.Prelude.{ℕ, true, false, not, ◌∷◌, ◌+◌, ◌*◌, ◌<◌, ◌≤◌, ◌≡◌, ◌&&◌, ◌||◌, ◌==◌, List, Option, None};
+ghost use Rattle.std.specs.Prelude.{is_some, length, nat_lt, slice_index, slice_index_or, unwrap_or};
+ghost use Rattle.tl_beat.specs.declared.beat.Beat.{Beat};
+ghost use Rattle.tl_beat.specs.declared.beat.Beat.TheVariants as beat;
+ghost use Rattle.tl_beat.specs.statement.Opcode.{a_carries_data};
+ghost use Rattle.tl_beat.specs.statement.Width.{IsWidth};
+ghost use Rattle.tl_burst.specs.declared.message.Message.TheVariants as message;
+ghost use Rattle.tl_burst.specs.statement.Burst as burst;
+ghost use Rattle.tl_burst.specs.statement.Burst.{byte_at};
+ghost use Rattle.tl_rules.specs.statement.History.{block_at};
+ghost use Rattle.tl_memory.specs.statement.Known.{IsAsked};
+ghost use Rattle.tl_bytes.specs.statement.Bytes as bytes;
+ghost use Rattle.tl_bytes.specs.statement.Bytes.{Access, access_writes, asked_by};
+
+use crate::message::CarriedMessage;
+use tl_beat::beat::{BeatA, Link};
+use tl_beat::opcode::OpA;
+use tl_burst::message::MessageA;
+use tl_rules::place::base;
+
+/// An access whose request is complete: its link, its request, whether a beat of that was corrupt, and how
+/// many beats had been taken when it was complete.
+#[derive(Clone, Copy)]
+pub struct Asked<const W: usize> {
+    pub link: Link,
+    pub request: MessageA<W>,
+    pub spoiled: bool,
+    pub moment: u64,
+}
+
+/// Whether an operation reads or writes.
+pub fn is_access(opcode: OpA) -> bool
+    ensures { result ≡ bytes.is_access opcode }
+{
+    !matches!(opcode, OpA::AcquireBlock | OpA::AcquirePerm | OpA::Intent)
+}
+
+/// The byte that is known at a place, or zero.
+fn byte_or_zero(bytes: &[Option<u8>; 64], place: usize) -> u8
+    ensures { result ≡ unwrap_or (slice_index_or bytes.now place None) 0 }
+{
+    match bytes.get(place) {
+        Some(Some(byte)) => *byte,
+        _ => 0,
+    }
+}
+
+/// The bytes that are known, and zeros.
+fn payload_of(bytes: &[Option<u8>; 64]) -> [u8; 64]
+    ensures { (place : ℕ) → place < 64 →
+        slice_index result place ≡ unwrap_or (slice_index_or bytes.now place None) 0 }
+{
+    let mut payload = [0; 64];
+    for place in 0..64usize {
+        payload[place] = byte_or_zero(bytes, place);
+    }
+    payload
+}
+
+/// Whether a bit of a mask is set.
+fn is_set(mask: u64, bit: usize) -> bool
+    ensures { result ≡ (nat_lt bit 64 && burst.bit mask bit) }
+{
+    bit < 64 && (mask >> bit) % 2 == 1
+}
+
+impl<const W: usize> Asked<W> {
+    ghost use Rattle.tl_memory.specs.statement.Known.{AreWide, KnowsMessage};
+
+    /// The access that a request asks for which is complete with this beat: this is what its beats brought.
+    pub fn new(link: Link, x: &BeatA<W>, brought: &CarriedMessage, moment: u64) -> Self
+        requires width { IsWidth W }
+        requires small { x.now.size ≤ 6 }
+        ensures { (older : List (Beat W)) → KnowsMessage brought.now (beat.A x.now ∷ older) →
+            (a_carries_data x.now.opcode ≡ true → AreWide (beat.A x.now ∷ older)) →
+            W * length (beat.A x.now ∷ older) ≤ 64 →
+            IsAsked result (asked_by link.0 x.now (beat.A x.now ∷ older) moment) }
+    {
+        Asked {
+            link,
+            request: MessageA {
+                opcode: x.opcode,
+                param: x.param,
+                size: x.size,
+                source: x.source,
+                address: x.address,
+                payload: payload_of(brought.bytes.bytes()),
+                mask: brought.mask,
+                corrupt: 0,
+            },
+            spoiled: brought.spoiled,
+            moment,
+        }
+    }
+
+    /// Whether it is the one with this source on a link.
+    pub fn is_of(&self, link: Link, source: u8) -> bool
+        ensures { (access : Access W) → IsAsked self.now access → result ≡ bytes.is_of link.0 source access }
+    {
+        self.link == link && self.request.source == source
+    }
+
+    /// Whether a Put writes the byte at a place of its block.
+    fn puts(&self, place: usize) -> bool
+        requires { IsWidth W }
+        ensures { (access : Access W) → IsAsked self.now access → place < 64 →
+            a_carries_data access.request.opcode ≡ true →
+            result ≡ is_some (byte_at 0 (message.A access.request) (64 * block_at access.request.address + place)) }
+    {
+        match place.checked_sub(base::<W>(self.request.address)) {
+            None => false,
+            Some(at) => is_set(self.request.mask, at),
+        }
+    }
+
+    /// Whether an atomic reaches the byte at a place of its block.
+    fn reaches(&self, place: usize) -> bool
+        ensures { (access : Access W) → IsAsked self.now access →
+            result ≡ burst.reaches access.request.address access.request.size
+            (64 * block_at access.request.address + place) }
+    {
+        let first = (self.request.address % 64) as usize;
+        match place.checked_sub(first) {
+            None => false,
+            Some(at) => at < 1 << self.request.size,
+        }
+    }
+
+    /// Whether it writes the byte at a place of its block.
+    pub fn writes(&self, place: usize) -> bool
+        requires { IsWidth W }
+        ensures { (access : Access W) → IsAsked self.now access → place < 64 →
+            result ≡ access_writes (64 * block_at access.request.address + place) access }
+    {
+        match self.request.opcode {
+            OpA::PutFullData | OpA::PutPartialData => self.puts(place),
+            OpA::ArithmeticData | OpA::LogicalData => self.reaches(place),
+            _ => false,
+        }
+    }
+}
+
+/// The places of its block that an access writes.
+pub fn places_of<const W: usize>(asked: &Asked<W>) -> [bool; 64]
+    requires { IsWidth W }
+    ensures { (access : Access W) → IsAsked asked.now access → (place : ℕ) → place < 64 →
+        slice_index_or result place false ≡ access_writes (64 * block_at access.request.address + place) access }
+{
+    let mut places = [false; 64];
+    for place in 0..64usize {
+        places[place] = asked.writes(place);
+    }
+    places
+}

@@ -1,0 +1,6 @@
+//! The bytes of memory, kept from the beats of all links of a manager: what a response may bring.
+#![tactic(auto)]
+
+pub mod access;
+pub mod message;
+pub mod performed;

@@ -10,6 +10,7 @@ pub mod SpelledDigits
 pub mod DigitTable
 pub mod AtPlaces
 pub mod VectorLanes
+pub mod LaneDigits
 pub mod SpelledLines
 pub mod ReadLines
 pub mod WellSpelled

@@ -4,6 +4,7 @@ ghost use Rattle.std.specs.Prelude.{◌≡◌, ◌<◌, ◌≤◌, ◌+◌, ◌*
 ghost use Rattle.tl_beat.specs.statement.Digits.{digit_char, digits, lane_digits, lanes_text, bit_text};
 ghost use Rattle.tl_beat.specs.statement.Width.{IsWidth};
 
+pub use crate::lanes::sixteen_digits;
 use arrayvec::ArrayVec;
 
 const DIGITS: [u8; 16] = *b"0123456789abcdef";
@@ -31,8 +32,9 @@ pub fn append_digits(text: &mut ArrayVec<u8, 64>, number: u32, count: u8)
     }
 }
 
+/// Appends the digits of lanes, one lane at a time.
 #[inline(always)]
-fn append_lanes<const W: usize>(text: &mut ArrayVec<u8, 64>, lanes: &[u8; W])
+fn append_each_lane<const W: usize>(text: &mut ArrayVec<u8, 64>, lanes: &[u8; W])
     requires width { IsWidth W }
     requires room { length text.old.items ≤ 32 }
     ensures text { text.new.items ≡ text.old.items ++ lane_digits lanes.now }
@@ -40,6 +42,37 @@ fn append_lanes<const W: usize>(text: &mut ArrayVec<u8, 64>, lanes: &[u8; W])
 {
     for i in 0..W {
         append_digits(text, u32::from(lanes[W - 1 - i]), 2);
+    }
+}
+
+/// Appends the digits of eight lanes.
+#[inline(always)]
+fn append_eight_lanes(text: &mut ArrayVec<u8, 64>, lanes: &[u8])
+    requires eight { length lanes.now ≡ 8 }
+    requires room { length text.old.items ≤ 48 }
+    ensures text { text.new.items ≡ text.old.items ++ lane_digits lanes.now }
+    ensures len { length text.new.items ≡ length text.old.items + 16 }
+{
+    let _ = text.try_extend_from_slice(&sixteen_digits(lanes));
+}
+
+#[inline(always)]
+fn append_lanes<const W: usize>(text: &mut ArrayVec<u8, 64>, lanes: &[u8; W])
+    requires width { IsWidth W }
+    requires room { length text.old.items ≤ 32 }
+    ensures text { text.new.items ≡ text.old.items ++ lane_digits lanes.now }
+    ensures len { length text.new.items ≡ length text.old.items + 2 * W }
+{
+    if W < 8 {
+        append_each_lane(text, lanes);
+        return;
+    }
+    let lanes = &lanes[..];
+    if W == 8 {
+        append_eight_lanes(text, lanes);
+    } else {
+        append_eight_lanes(text, &lanes[8..]);
+        append_eight_lanes(text, &lanes[..8]);
     }
 }
 

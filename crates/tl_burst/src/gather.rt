@@ -191,9 +191,41 @@ pub fn blank_for<const W: usize>(beat: &Beat<W>) -> Message<W>
     }
 }
 
-/// Whether a beat has the control fields of a message.
+/// Whether a beat has the control fields of a message, one after another.
 pub fn continues<const W: usize>(message: &Message<W>, beat: &Beat<W>) -> bool
     ensures { result ≡ same_control beat.now (beat_of message.now 0) }
 {
-    beat.has_control(&message.control())
+    match (message, beat) {
+        (Message::A(m), Beat::A(x)) => {
+            x.opcode == m.opcode
+                && x.param == m.param
+                && x.size == m.size
+                && x.source == m.source
+                && x.address == m.address
+        }
+        (Message::B(m), Beat::B(x)) => {
+            x.opcode == m.opcode
+                && x.param == m.param
+                && x.size == m.size
+                && x.source == m.source
+                && x.address == m.address
+        }
+        (Message::C(m), Beat::C(x)) => {
+            x.opcode == m.opcode
+                && x.param == m.param
+                && x.size == m.size
+                && x.source == m.source
+                && x.address == m.address
+        }
+        (Message::D(m), Beat::D(x)) => {
+            x.opcode == m.opcode
+                && x.param == m.param
+                && x.size == m.size
+                && x.source == m.source
+                && x.sink == m.sink
+                && x.denied == m.denied
+        }
+        (Message::E(m), Beat::E(x)) => x.sink == m.sink,
+        _ => false,
+    }
 }

@@ -1,14 +1,7 @@
-use Rattle.std.proofs.Common.{arith, ◌∙◌, sym}
-use Rattle.tl_beat.proofs.Written.{append_lane, lanes-none}
+use Rattle.tl_beat.proofs.LaneDigits.{halves, halves-digits}
 use Rattle.tl_beat.proofs.text.append_lanes.Goals as goal
 
-pub loop-i-preserved : goal.loop-i-preserved
-loop-i-preserved g c = record {
-  text = rw (c.append_digits.ensures.text, c.from.ensures) (append_lane c.loop-i.text.items _ c.args.lanes.now g.row.W
-      c.loop-i.i c.loop-i-test.true c.told-lanes c.loop-i.invariant.text);
-  len = omega arith;
-}
-
-pub returns-clause-text : goal.returns-clause-text
-returns-clause-text g c = sym (lanes-none c.loop-i.text.items c.args.lanes.now _ (omega arith))
-    ∙ c.loop-i.invariant.text
+pub returns-else-this-eq8-clause-text : goal.returns-else-this-eq8-clause-text
+returns-else-this-eq8-clause-text g c =
+    halves-digits c.args.text.now.items _ _ c.args.lanes.now _ _ c.append_eight_lanes-else-this-eq8.ensures.text
+    c.append_eight_lanes-else-this-eq8-2.ensures.text (halves c.args.lanes.now)

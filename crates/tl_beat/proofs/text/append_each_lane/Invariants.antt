@@ -1,6 +1,6 @@
 use Rattle.std.proofs.Common.{◌≡◌, ◌++◌, ◌+◌, ◌-◌, ◌*◌, length, take}
 use Rattle.tl_beat.specs.statement.Digits.{lane_digits}
-use Rattle.tl_beat.proofs.text.append_lanes.Given as goal
+use Rattle.tl_beat.proofs.text.append_each_lane.Given as goal
 
 abbrev pub invariant-loop-i : goal.invariant-loop-i
 invariant-loop-i g l = record {

@@ -1,5 +1,5 @@
 -- The requests and answers of accesses are those of the one memory's open operations.
-use Rattle.std.proofs.Common.{◌≡◌, ℕ, Bool, true, false, ◌+◌, List, ◌∷◌, Some, None, refl, sym, ◌∙◌, ap, subst, arith}
+use Rattle.std.proofs.Common.{◌≡◌, ℕ, true, false, ◌+◌, List, ◌∷◌, Some, None, refl, sym, ◌∙◌, ap, subst, arith}
 use Rattle.std.specs.Prelude.{◌==◌, map, suc}
 use Rattle.std.proofs.lemmas.Bool.{eqb-true}
 use Rattle.tl_beat.specs.declared.beat.Beat.{Beat}
@@ -7,7 +7,6 @@ use Rattle.tl_beat.specs.declared.beat.Beat.TheVariants as beat
 use Rattle.tl_beat.specs.declared.beat.BeatA.{BeatA}
 use Rattle.tl_beat.specs.declared.beat.BeatD.{BeatD}
 use Rattle.tl_beat.specs.declared.channel.Channel.TheVariants as channel
-use Rattle.tl_beat.specs.declared.opcode.OpA.{OpA}
 use Rattle.tl_beat.specs.declared.opcode.OpD.{OpD}
 use Rattle.tl_burst.specs.declared.message.Message.{Message}
 use Rattle.tl_burst.specs.declared.message.Message.TheVariants as message
@@ -18,9 +17,7 @@ use Rattle.tl_burst.specs.statement.Part.{completes}
 use Rattle.tl_params.specs.declared.config.Config.{Config}
 use Rattle.tl_rules.specs.statement.Conformance.{on_link}
 use Rattle.tl_rules.specs.statement.Effect.{AccessResult, answer_of}
-use Rattle.tl_rules.specs.statement.History.{ends}
 use Rattle.tl_bytes.specs.statement.Bytes.{is_access}
-use Rattle.tl_client.specs.declared.operation.Op.TheVariants as op
 use Rattle.tl_client.specs.statement.Send.{sourced}
 use Rattle.tl_manager.specs.statement.Handing.{access_answer}
 use Rattle.tl_manager.specs.statement.Service.{is_access_answer}
@@ -28,13 +25,12 @@ use Rattle.tl_coherence.specs.protocol.Invariant.{is_asked}
 use Rattle.tl_coherence.specs.protocol.Packet.{Acquire, Answer, Grant, GrantAck, Kind, Probe, ProbeAck, Release}
 use Rattle.tl_coherence.specs.protocol.Packet.{ReleaseAck, Request}
 use Rattle.tl_coherence.specs.protocol.Phase.{AcquireOpen, AcquirePhase, NoAcquire}
-use Rattle.tl_coherence.specs.protocol.Protocol.{Asked, Replied, SourceState, is_on, packet}
+use Rattle.tl_coherence.specs.protocol.Protocol.{SourceState, is_on, packet}
 use Rattle.tl_coherence.specs.refinement.AbstractStep.{AbstractState}
 use Rattle.tl_coherence.specs.refinement.MemoryRelation.{Answers, IsAccess, IsOpened}
 use Rattle.tl_coherence.specs.refinement.PacketMessages.{acquire_of, block_message, message_of, message_of_kind}
 use Rattle.tl_coherence.specs.refinement.SimulationRelation.{MonitorRelations, SimulationRelation, is_caching}
-use Rattle.tl_coherence.specs.statement.Delivery.{receiver}
-use Rattle.tl_coherence.specs.statement.Flow.{flow, trace_of}
+use Rattle.tl_coherence.specs.statement.Flow.{trace_of}
 use Rattle.tl_coherence.specs.statement.Headline.{IsGiven}
 use Rattle.tl_coherence.specs.statement.Log.{Log, system_after}
 use Rattle.tl_coherence.specs.statement.Machine.{Machine, Requests}
@@ -139,7 +135,8 @@ module _ {w : ℕ} (config : Config) (log : Log w) (given : IsGiven config log) 
           (λ j. is_asked (h.state.uses c j)) tokens refl (is.invariant.requests c)))
           (is.beside.requests c i))
       go Acquire i tokens own next = absurd (let no : false ≡ true =
-          sym (acquire_is_none ((h.state.block i).pair c).acquiring ((h.state.block i).source c) i next.k y next.beat_is)
+          sym (acquire_is_none ((h.state.block i).pair c).acquiring ((h.state.block i).source c) i next.k y
+          next.beat_is)
           ∙ accesses in cc)
       go Probe i tokens own next = absurd cc
       go ProbeAck i tokens own next = absurd cc
@@ -198,13 +195,15 @@ module _ {w : ℕ} (config : Config) (log : Log w) (given : IsGiven config log) 
       go : (k : Kind) (i : ℕ) → (h.state.link c).d ≡ packet k i ∷ first.rest → is_on channel.D k ≡ true → Next k i
           → IsAnswered machine c y (trace_of log)
       go Answer i tokens own next =
-          let due = answer-due (is_caching config) c i first.rest h.mail h.state is.invariant (is.answered c i) tokens in
+          let due = answer-due (is_caching config) c i first.rest h.mail h.state is.invariant (is.answered c i) tokens
+          in
           let opened = subst (λ (u : SourceState). IsOpened c i h.mail h.state u (machine.opened c Requests i)) due.used
           (is.beside.requests c i) in
           says i next.k
           (ap (λ (z : BeatD w). z.source) (same_d y (d_beat_of due.answer next.k)
           (next.beat_is ∙ ap (λ (z : Message w). beat_of z next.k) due.answer_is)) ∙ due.from)
-          (h.mail.request c i) (h.mail.answer c i) next.beat_is next.rest_is next.completes_is opened.0 opened.1 opened.2
+          (h.mail.request c i) (h.mail.answer c i) next.beat_is next.rest_is next.completes_is opened.0 opened.1
+          opened.2
       go Grant i tokens own next =
           let due = grant-due (is_caching config) c i first.rest h.state is.invariant tokens in
           no_answer (ap (λ (z : BeatD w). z.opcode) (same_d y _

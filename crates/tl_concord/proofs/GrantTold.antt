@@ -26,13 +26,11 @@ use Rattle.tl_manager.specs.statement.Handing.{grant_opcode}
 use Rattle.tl_manager.specs.statement.Service.{is_access_answer}
 use Rattle.tl_coherence.specs.protocol.Packet.{Acquire, Answer, Grant, GrantAck, Kind, Probe, ProbeAck, Release}
 use Rattle.tl_coherence.specs.protocol.Packet.{ReleaseAck, Request}
-use Rattle.tl_coherence.specs.protocol.Phase.{View, cap_fits}
-use Rattle.tl_coherence.specs.protocol.Protocol.{Acquires, Block, SourceState, is_on, is_unserved, packet}
+use Rattle.tl_coherence.specs.protocol.Phase.{cap_fits}
+use Rattle.tl_coherence.specs.protocol.Protocol.{Acquires, is_on, packet}
 use Rattle.tl_coherence.specs.refinement.AbstractStep.{AbstractState}
-use Rattle.tl_coherence.specs.refinement.MonitorRelation.{is_requested}
 use Rattle.tl_coherence.specs.refinement.PacketMessages.{block_message, message_of, message_of_kind}
 use Rattle.tl_coherence.specs.refinement.SimulationRelation.{MonitorRelations, SimulationRelation, asked_by, is_caching}
-use Rattle.tl_coherence.specs.statement.Delivery.{receiver}
 use Rattle.tl_coherence.specs.statement.Flow.{flow}
 use Rattle.tl_coherence.specs.statement.Headline.{IsGiven}
 use Rattle.tl_coherence.specs.statement.Log.{Log, system_after}
@@ -48,6 +46,7 @@ use Rattle.tl_coherence.proofs.queues.Carried.{IsNext}
 use Rattle.tl_coherence.proofs.queues.FirstToken.{IsFirst, first-token}
 use Rattle.tl_coherence.proofs.queues.Phases.{and_left, and_right}
 use Rattle.tl_concord.proofs.Carried.{carried-begun}
+use Rattle.tl_concord.proofs.GrantAsked.{grant-asked}
 use Rattle.tl_concord.proofs.ReportTold.{IsToldBy, said_of}
 
 same_beat : {w : ℕ} (x y : BeatD w) → beat.D x ≡ beat.D y → x ≡ y
@@ -163,25 +162,10 @@ module _ {w : ℕ} (config : Config) (log : Log w) (given : IsGiven config log) 
       → asks_unread (request_of y.source past) ≡ true
   unfolding block_message
   unread n due from whole =
-      ap asks_unread asked ∙ read
+      ap asks_unread (grant-asked config log given c n due y.source from) ∙ read
     where
       read : asks_unread (asked_by h.mail h.state c ((h.state.block n).source c)) ≡ true
       read = rw (due.used, due.wants, whole) refl
-
-      b : Block (List ℕ)
-      b = h.state.block n
-
-      rest_now : List (Beat w)
-      rest_now = unfinished channel.A (receiver channel.A c (system_after config log))
-
-      requested : is_requested c y.source rest_now (h.state.uses c y.source) h.state ≡ true
-      requested = ap (λ (u : SourceState). is_requested c y.source rest_now u h.state)
-          (ap (h.state.uses c) from ∙ due.used)
-          ∙ ap (λ (v : View). not (is_unserved v)) (own_view c due.data_too due.k b.service due.service)
-
-      asked : request_of y.source past ≡ asked_by h.mail h.state c (b.source c)
-      asked = (values c).asked_is y.source ((values c).requests y.source ∙ requested)
-          ∙ ap (asked_by h.mail h.state c) from
 
   -- who isn't told held Branch
   held_branch : (n : ℕ) (due : IsGrantDue c n h.state) → due.data_too ≡ false → due.whole ≡ false

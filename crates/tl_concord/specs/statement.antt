@@ -1,3 +1,4 @@
 pub mod Accesses
 pub mod Concord
+pub mod Responses
 pub mod Told

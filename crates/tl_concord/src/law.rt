@@ -3,6 +3,7 @@
 ghost use Rattle.tl_beat.specs.statement.Width.{IsWidth};
 ghost use Rattle.tl_concord.specs.statement.Accesses.{CarriesAccesses};
 ghost use Rattle.tl_concord.specs.statement.Concord.{Concord};
+ghost use Rattle.tl_concord.specs.statement.Responses.{Responses};
 ghost use Rattle.tl_concord.specs.statement.Told.{TellsOfMemory};
 
 /// Whatever happens to a manager and its clients, no beat of what their links carry, in the order of
@@ -24,4 +25,11 @@ pub fn tells_of_one_memory<const W: usize>()
 pub fn carries_open_accesses<const W: usize>()
     requires { IsWidth W }
     ensures { CarriesAccesses W }
+{}
+
+/// Responses go on with the opcode and the source with which they began, and while a Grant is on its way no link holds
+/// Trunk of its block.
+pub fn grants_undisturbed<const W: usize>()
+    requires { IsWidth W }
+    ensures { Responses W }
 {}

@@ -1,10 +1,9 @@
 -- That requests and answers of accesses are those of the one memory's open operations, beat by beat.
-use Rattle.std.specs.Prelude.{ℕ, true, List, ◌∷◌, ◌≡◌, Some, None, ⊤}
+use Rattle.std.specs.Prelude.{ℕ, true, ◌∷◌, ◌≡◌, Some, None, ⊤}
 use Rattle.tl_beat.specs.declared.beat.Beat.{Beat}
 use Rattle.tl_beat.specs.declared.beat.Beat.TheVariants as beat
 use Rattle.tl_beat.specs.declared.beat.BeatA.{BeatA}
 use Rattle.tl_beat.specs.declared.beat.BeatD.{BeatD}
-use Rattle.tl_beat.specs.declared.channel.Channel.TheVariants as channel
 use Rattle.tl_burst.specs.declared.message.Message.{Message}
 use Rattle.tl_burst.specs.declared.message.Message.TheVariants as message
 use Rattle.tl_burst.specs.declared.message.MessageA.{MessageA}

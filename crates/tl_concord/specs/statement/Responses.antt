@@ -1,0 +1,41 @@
+-- That responses go on as they began, and that no link may write a block while its Grant is on its way.
+use Rattle.std.specs.Prelude.{ℕ, true, List, ◌∷◌, ◌≡◌, None, ⊤}
+use Rattle.tl_beat.specs.declared.beat.Beat.{Beat}
+use Rattle.tl_beat.specs.declared.beat.Beat.TheVariants as beat
+use Rattle.tl_beat.specs.declared.beat.BeatD.{BeatD}
+use Rattle.tl_beat.specs.declared.channel.Channel.TheVariants as channel
+use Rattle.tl_burst.specs.statement.Messages.{unfinished}
+use Rattle.tl_params.specs.declared.config.Config.{Config}
+use Rattle.tl_params.specs.declared.perm.Perm.TheVariants as perm
+use Rattle.tl_rules.specs.statement.Conformance.{Trace, on_link}
+use Rattle.tl_rules.specs.statement.History.{grants}
+use Rattle.tl_rules.specs.statement.Windows.{is_free}
+use Rattle.tl_coherence.specs.statement.Flow.{EachTaken, trace_of}
+use Rattle.tl_coherence.specs.statement.Headline.{IsGiven}
+use Rattle.tl_coherence.specs.statement.Log.{Log}
+
+-- a beat of a response after t
+pub record IsResponse {w : ℕ} (link : ℕ) (x : BeatD w) (t : Trace w) : Type 0 where
+  -- if it continues one, it has its opcode and its source
+  pub continues : (y : BeatD w) (older : List (Beat w)) → unfinished channel.D (on_link link t) ≡ beat.D y ∷ older
+      → (x.opcode ≡ y.opcode) × (x.source ≡ y.source)
+  -- if it is of a Grant, no link holds Trunk of the block
+  pub free : (n block : ℕ) → grants block x (on_link link t) ≡ true → is_free n None perm.Branch block t ≡ true
+
+abbrev pub IsRightResponse : {w : ℕ} → ℕ → Beat w → Trace w → Type 0
+IsRightResponse link (beat.D x) t = IsResponse link x t
+IsRightResponse link _ t = ⊤
+
+-- where a Grant has begun and isn't complete, no link holds Trunk of its block
+abbrev pub IsUndisturbed : {w : ℕ} → Trace w → Type 0
+IsUndisturbed {w} t = (link n block : ℕ) (x : BeatD w) (older : List (Beat w))
+    → unfinished channel.D (on_link link t) ≡ beat.D x ∷ older → grants block x (on_link link t) ≡ true
+    → is_free n None perm.Branch block t ≡ true
+
+pub record AreResponses {w : ℕ} (log : Log w) : Type 0 where
+  pub each : EachTaken (λ earlier link x. IsRightResponse link x (trace_of earlier)) log
+  pub undisturbed : IsUndisturbed (trace_of log)
+
+-- so are the responses of each world
+abbrev pub Responses : ℕ → Type 0
+Responses w = (config : Config) (log : Log w) → IsGiven config log → AreResponses log

@@ -4,3 +4,4 @@
 pub mod access;
 pub mod message;
 pub mod performed;
+pub mod writer;

@@ -10,10 +10,13 @@ use Rattle.tl_burst.specs.statement.Burst.{bit}
 use Rattle.tl_params.specs.declared.level.Level.TheVariants as level
 use Rattle.tl_rules.specs.code.Control.{a_control}
 use Rattle.tl_rules.specs.statement.Admission.{is_spoiled, lanes_of}
-use Rattle.tl_bytes.specs.statement.Bytes.{Access, carried_mask}
+use Rattle.tl_bytes.specs.statement.Bytes.{Access, access_writes, carried_mask, pending_value}
+use Rattle.tl_bytes.specs.code.Tellings.{is_written, value_at}
+use Rattle.tl_bytes.specs.declared.write.Write.{Write}
 use Rattle.tl_bytes.specs.statement.Known.{KnowsCarried}
 use Rattle.tl_memory.specs.declared.access.Asked.{Asked}
 use Rattle.tl_memory.specs.declared.message.CarriedMessage.{CarriedMessage}
+use Rattle.tl_memory.specs.declared.writer.Writer.{Writer}
 
 -- ---- messages
 
@@ -80,3 +83,23 @@ abbrev pub IsWhole : {w : ℕ} → Access w → Type 0
 IsWhole {w} access =
     a_carries_data access.request.opcode ≡ true
     → access.request.address % w + 2 ^ access.request.size ≤ length access.request.payload
+
+-- it breaks no rule by itself, and its beats have all come
+abbrev pub IsLawful : {w : ℕ} → Access w → Type 0
+IsLawful {w} access =
+    IsPerformable w access.request.opcode access.request.param access.request.size access.request.address
+    × IsWhole access
+
+-- this is what an access may write in the block while it is pending
+abbrev pub IsPendingWrite : {w : ℕ} → Write → ℕ → Access w → Type 0
+IsPendingWrite write block access = (place : ℕ) → place < 64
+    → (is_written write place ≡ access_writes (64 * block + place) access)
+    × (is_written write place ≡ true
+    → value_at write place ≡ pending_value access.request.opcode access (64 * block + place))
+
+-- these are the accesses, and what they may write in the block, one by one
+abbrev pub AreWriters : {w : ℕ} → List (Writer w) → ℕ → List (Access w) → Type 0
+AreWriters [] block [] = ⊤
+AreWriters (writer ∷ writers) block (access ∷ accesses) =
+    IsAsked writer.asked access × IsPendingWrite writer.write block access × AreWriters writers block accesses
+AreWriters _ block _ = ⊥

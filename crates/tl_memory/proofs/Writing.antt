@@ -1,17 +1,20 @@
 -- What accesses write, and what those may write that are pending.
-use Rattle.std.proofs.Common.{◌≡◌, ℕ, Bool, true, false, not, ◌&&◌, ◌||◌, ◌+◌, ◌*◌, ◌<◌, List, [], ◌∷◌, ◌++◌, length}
-use Rattle.std.proofs.Common.{refl, sym, ap, ◌∙◌, inl, inr, get_or, take, append-nil}
+use Rattle.std.proofs.Common.{◌≡◌, ℕ, Bool, true, false, not, ◌&&◌, ◌||◌, ◌+◌, ◌*◌, ◌/◌, ◌<◌, List, [], ◌∷◌, ◌++◌, length}
+use Rattle.std.proofs.Common.{refl, sym, ap, ◌∙◌, arith, inl, inr, get_or, take, append-nil}
 use Rattle.std.proofs.lemmas.List.{take_more}
 use Rattle.std.specs.Prelude.{if◌then◌else◌, filter, is_some, None, Option, Some, ◌==◌}
-use Rattle.std.proofs.lemmas.Bool.{cases_Bool}
+use Rattle.std.proofs.lemmas.Bool.{cases_Bool, eq-eqb}
 use Rattle.tl_beat.specs.declared.opcode.OpA.{OpA}
 use Rattle.tl_beat.specs.declared.opcode.OpA.TheVariants as a
-use Rattle.tl_bytes.specs.code.Tellings.{is_written, leaves, value_at}
+use Rattle.tl_bytes.specs.code.Tellings.{is_written, leaves, value_at, left_as}
 use Rattle.tl_bytes.specs.statement.Bytes.{Access, access_writes, could_be, is_of, pending_value, value_written}
-use Rattle.tl_bytes.specs.statement.Known.{MayWrite}
+use Rattle.tl_bytes.specs.statement.Known.{MayWrite, others}
 use Rattle.tl_memory.specs.code.Writers.{names, writes_but}
 use Rattle.tl_memory.specs.declared.writer.Writer.{Writer}
-use Rattle.tl_memory.specs.statement.Known.{AreWriters, IsAsked, is_put}
+use Rattle.tl_rules.specs.statement.Conformance.{Trace}
+use Rattle.tl_bytes.specs.statement.Bytes.{pending_accesses, written_as}
+use Rattle.tl_memory.specs.declared.access.Asked.{Asked}
+use Rattle.tl_memory.specs.statement.Known.{AllWriteInside, AreWriters, AreWritersOf, IsAsked, is_put, is_to, WritesInside}
 
 pub spoiled_value : (b : Bool) (v : ℕ) → b ≡ true → (if b then None else Some v) ≡ None
 spoiled_value b v e = rw e refl
@@ -135,3 +138,54 @@ others-write link source block (x ∷ writers) (y ∷ accesses) are place byte l
           (first_of (leaves place byte x.write) _ x.write y _ _
           (leaves-is block place byte x y lt (are.1 place lt)) more)
     ]
+
+-- what is elsewhere writes nothing here
+apart : {w : ℕ} (block place : ℕ) (access : Access w) → place < 64 → WritesInside access → is_to block access ≡ false
+    → access_writes (64 * block + place) access ≡ false
+apart block place access lt inside other = elim (cases_Bool (access_writes (64 * block + place) access)) [
+  | inr none ↦ none
+  | inl some ↦
+      let here : (64 * block + place) / 64 ≡ block = omega arith in
+      absurd (differ (sym (eq-eqb (access.request.address / 64) block (sym (inside (64 * block + place) some) ∙ here))
+      ∙ other))
+]
+  where
+    differ : true ≡ false → ⊥
+    differ e = cc
+
+none_first : {X : Type 0} (b c : Bool) (x : X) (o : Option X) → b ≡ false
+    → is_some (if b && c then Some x else o) ≡ is_some o
+none_first b c x o e = rw e refl
+
+-- so what all others write here is what those write that are to the block
+pub written-here : {w : ℕ} (block place byte : ℕ) (keep : Access w → Bool) (accesses : List (Access w)) → place < 64
+    → AllWriteInside accesses
+    → written_as (64 * block + place) byte (filter keep (filter (is_to block) accesses))
+    ≡ written_as (64 * block + place) byte (filter keep accesses)
+written-here block place byte keep [] lt inside = refl
+written-here block place byte keep (x ∷ accesses) lt inside =
+    let more = written-here block place byte keep accesses lt inside.1 in
+    elim (cases_Bool (is_to block x)) [
+      | inl here ↦ elim (cases_Bool (keep x)) [
+        | inl kept ↦ rw (here, kept) (first_of _ _ x x _ _ refl more)
+        | inr left ↦ rw (here, left) more
+      ]
+      | inr elsewhere ↦ elim (cases_Bool (keep x)) [
+        | inl kept ↦
+            rw (elsewhere, kept)
+            (more ∙ sym (none_first _ _ x _ (apart block place x lt inside.0 elsewhere)))
+        | inr left ↦ rw (elsewhere, left) more
+      ]
+    ]
+
+-- what others may write than an access that is pending
+pub others-may-write : {w : ℕ} (writers : List (Writer w)) (block : ℕ) (asked : Asked w) (access : Access w) (t : Trace w)
+    → IsAsked asked access → AreWritersOf writers block t
+    → MayWrite (writes_but asked.link.0 asked.request.source writers) block (others access t)
+others-may-write writers block asked access t k are place byte lt =
+    ap (λ l. left_as place byte (writes_but l asked.request.source writers)) k.link_is
+    ∙ ap (λ s. left_as place byte (writes_but access.link s writers)) k.source_is
+    ∙ others-write access.link access.request.source block writers (filter (is_to block) (pending_accesses t))
+    are.writers_are place byte lt
+    ∙ written-here block place byte (λ other. not (is_of access.link access.request.source other)) (pending_accesses t)
+    lt are.inside

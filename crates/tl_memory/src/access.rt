@@ -10,6 +10,7 @@ ghost use Rattle.tl_burst.specs.declared.message.Message.TheVariants as message;
 ghost use Rattle.tl_burst.specs.statement.Burst as burst;
 ghost use Rattle.tl_burst.specs.statement.Burst.{byte_at};
 ghost use Rattle.tl_rules.specs.statement.History.{block_at};
+ghost use Rattle.tl_memory.specs.code.Writers.{names};
 ghost use Rattle.tl_memory.specs.statement.Known.{IsAsked};
 ghost use Rattle.tl_bytes.specs.statement.Bytes as bytes;
 ghost use Rattle.tl_bytes.specs.statement.Bytes.{Access, access_writes, asked_by};
@@ -48,7 +49,7 @@ fn byte_or_zero(bytes: &[Option<u8>; 64], place: usize) -> u8
 }
 
 /// The bytes that are known, and zeros.
-fn payload_of(bytes: &[Option<u8>; 64]) -> [u8; 64]
+pub fn payload_of(bytes: &[Option<u8>; 64]) -> [u8; 64]
     ensures { (place : ℕ) → place < 64 →
         slice_index result place ≡ unwrap_or (slice_index_or bytes.now place None) 0 }
 {
@@ -97,7 +98,7 @@ impl<const W: usize> Asked<W> {
 
     /// Whether it is the one with this source on a link.
     pub fn is_of(&self, link: Link, source: u8) -> bool
-        ensures { (access : Access W) → IsAsked self.now access → result ≡ bytes.is_of link.0 source access }
+        ensures { result ≡ names link.0 source self.now }
     {
         self.link == link && self.request.source == source
     }

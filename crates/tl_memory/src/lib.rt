@@ -3,4 +3,6 @@
 
 pub mod access;
 pub mod message;
+pub mod pending;
 pub mod performed;
+pub mod writer;

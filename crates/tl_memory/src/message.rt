@@ -48,7 +48,7 @@ fn with_mask<const W: usize>(mask: u64, beats: usize, bits: u16) -> u64
 }
 
 /// Whether one of two is true.
-fn either(one: bool, other: bool) -> bool
+pub fn either(one: bool, other: bool) -> bool
     ensures { result ≡ (one || other) }
 {
     one || other

@@ -52,7 +52,7 @@ fn perform_atomic<const W: usize>(request: &MessageA<W>, block: &mut [u8; 64])
 }
 
 /// Whether an operation is a Put.
-fn is_put(opcode: OpA) -> bool
+pub fn is_put(opcode: OpA) -> bool
     ensures { result ≡ is_put opcode }
 {
     matches!(opcode, OpA::PutFullData | OpA::PutPartialData)

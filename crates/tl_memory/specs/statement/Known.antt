@@ -1,5 +1,5 @@
 -- What is known of the bytes of memory, after what all links of a manager have carried.
-use Rattle.std.specs.Prelude.{ℕ, Bool, true, false, None, [], ◌∷◌, ◌+◌, ◌*◌, ◌%◌, ◌^◌, ◌<◌, ◌≤◌, ◌≡◌, List, length, find, is_some, ⊤}
+use Rattle.std.specs.Prelude.{ℕ, Bool, true, false, None, [], ◌∷◌, ◌+◌, ◌*◌, ◌%◌, ◌^◌, ◌==◌, ◌<◌, ◌≤◌, ◌≡◌, List, length, filter, find, is_some, ⊤}
 use Rattle.std.specs.Prelude.{slice_index}
 use Rattle.tl_beat.specs.declared.beat.Beat.{Beat}
 use Rattle.tl_beat.specs.declared.beat.Beat.TheVariants as beat
@@ -10,10 +10,16 @@ use Rattle.tl_burst.specs.statement.Burst.{bit}
 use Rattle.tl_params.specs.declared.level.Level.TheVariants as level
 use Rattle.tl_rules.specs.code.Control.{a_control}
 use Rattle.tl_rules.specs.statement.Admission.{is_spoiled, lanes_of}
-use Rattle.tl_bytes.specs.statement.Bytes.{Access, carried_mask}
+use Rattle.tl_bytes.specs.statement.Bytes.{Access, access_writes, carried_mask, pending_accesses}
+use Rattle.tl_bytes.specs.statement.Bytes.{pending_value}
+use Rattle.tl_rules.specs.statement.Conformance.{Trace}
+use Rattle.tl_rules.specs.statement.History.{block_at}
+use Rattle.tl_bytes.specs.code.Tellings.{is_written, value_at}
+use Rattle.tl_bytes.specs.declared.write.Write.{Write}
 use Rattle.tl_bytes.specs.statement.Known.{KnowsCarried}
 use Rattle.tl_memory.specs.declared.access.Asked.{Asked}
 use Rattle.tl_memory.specs.declared.message.CarriedMessage.{CarriedMessage}
+use Rattle.tl_memory.specs.declared.writer.Writer.{Writer}
 
 -- ---- messages
 
@@ -80,3 +86,43 @@ abbrev pub IsWhole : {w : ℕ} → Access w → Type 0
 IsWhole {w} access =
     a_carries_data access.request.opcode ≡ true
     → access.request.address % w + 2 ^ access.request.size ≤ length access.request.payload
+
+-- it breaks no rule by itself, and its beats have all come
+abbrev pub IsLawful : {w : ℕ} → Access w → Type 0
+IsLawful {w} access =
+    IsPerformable w access.request.opcode access.request.param access.request.size access.request.address
+    × IsWhole access
+
+-- this is what an access may write in the block while it is pending
+abbrev pub IsPendingWrite : {w : ℕ} → Write → ℕ → Access w → Type 0
+IsPendingWrite write block access = (place : ℕ) → place < 64
+    → (is_written write place ≡ access_writes (64 * block + place) access)
+    × (is_written write place ≡ true
+    → value_at write place ≡ pending_value access.request.opcode access (64 * block + place))
+
+-- these are the accesses, and what they may write in the block, one by one
+abbrev pub AreWriters : {w : ℕ} → List (Writer w) → ℕ → List (Access w) → Type 0
+AreWriters [] block [] = ⊤
+AreWriters (writer ∷ writers) block (access ∷ accesses) =
+    IsAsked writer.asked access × IsPendingWrite writer.write block access × AreWriters writers block accesses
+AreWriters _ block _ = ⊥
+
+-- the access is to the block
+abbrev pub is_to : {w : ℕ} → ℕ → Access w → Bool
+is_to block access = block_at access.request.address == block
+
+-- an access writes in its own block alone
+abbrev pub WritesInside : {w : ℕ} → Access w → Type 0
+WritesInside access = (address : ℕ) → access_writes address access ≡ true
+    → block_at address ≡ block_at access.request.address
+
+-- each of these does
+abbrev pub AllWriteInside : {w : ℕ} → List (Access w) → Type 0
+AllWriteInside [] = ⊤
+AllWriteInside (access ∷ accesses) = WritesInside access × AllWriteInside accesses
+
+-- these are the accesses to the block that are pending after t, and what they may write; each that is
+-- pending writes in its own block alone
+pub record AreWritersOf {w : ℕ} (writers : List (Writer w)) (block : ℕ) (t : Trace w) : Type 0 where
+  pub writers_are : AreWriters writers block (filter (is_to block) (pending_accesses t))
+  pub inside : AllWriteInside (pending_accesses t)

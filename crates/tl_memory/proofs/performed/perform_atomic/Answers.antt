@@ -1,4 +1,4 @@
-use Rattle.std.proofs.Common.{Bool, false, true, refl, ap, sym, ◌∙◌, ◌≡◌, ◌+◌, ◌*◌, ◌/◌}
+use Rattle.std.proofs.Common.{false, true, refl, ap, sym, ◌∙◌, ◌≡◌, ◌+◌, ◌*◌, ◌/◌}
 use Rattle.std.specs.Prelude.{is_ok}
 use Rattle.tl_params.specs.statement.Refusal.{ok_unless}
 use Rattle.tl_rules.specs.statement.Effect.{effect}

@@ -1,8 +1,7 @@
 use Rattle.std.proofs.Common.{ap, sym, ◌∙◌}
-use Rattle.tl_beat.specs.statement.Opcode.{a_carries_data}
 use Rattle.tl_rules.specs.code.Place.{base_of}
 use Rattle.tl_memory.specs.statement.Known.{is_put}
-use Rattle.tl_bytes.specs.statement.Bytes.{found_memory, writes}
+use Rattle.tl_bytes.specs.statement.Bytes.{found_memory}
 use Rattle.tl_memory.proofs.Atomics.{atomic-leaves, atomic-writes}
 use Rattle.tl_memory.proofs.Puts.{put-carries, put-leaves}
 use Rattle.tl_memory.proofs.performed.performed.Goals as goal

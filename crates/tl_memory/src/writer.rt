@@ -1,0 +1,105 @@
+//! What accesses write in their blocks.
+
+ghost use Rattle.std.specs.Prelude.{ℕ, true, ◌+◌, ◌*◌, ◌<◌, ◌≡◌, List, None, Option, Some, IfOk};
+ghost use Rattle.std.specs.Prelude.{slice_index, slice_index_or};
+ghost use Rattle.tl_beat.specs.declared.beat.Beat.{Beat};
+ghost use Rattle.tl_beat.specs.statement.Width.{IsWidth};
+ghost use Rattle.tl_rules.specs.statement.History.{block_at};
+ghost use Rattle.tl_bytes.specs.statement.Bytes.{Access, access_writes, value_written};
+ghost use Rattle.tl_bytes.specs.statement.Known.{IsWrite};
+ghost use Rattle.tl_memory.specs.code.Writers.{writes_but};
+ghost use Rattle.tl_memory.specs.statement.Known.{IsAsked, IsLawful, IsPendingWrite, KnowsMessage};
+
+use crate::access::{Asked, payload_of, places_of};
+use crate::message::{CarriedMessage, either};
+use crate::performed::{is_put, performed};
+use std::alloc::{AllocError, Global};
+use tl_beat::beat::Link;
+use tl_bytes::write::Write;
+
+/// Bytes that are known.
+fn known(bytes: &[u8; 64]) -> [Option<u8>; 64]
+    ensures { (place : ℕ) → place < 64 → slice_index_or result place None ≡ Some (slice_index bytes.now place) }
+{
+    let mut values = [None; 64];
+    for place in 0..64usize {
+        values[place] = Some(bytes[place]);
+    }
+    values
+}
+
+/// No bytes that are known.
+fn nothing_known() -> [Option<u8>; 64]
+    ensures { (place : ℕ) → place < 64 → slice_index_or result place None ≡ None }
+{
+    [None; 64]
+}
+
+/// The bytes of its block that an access leaves which writes, where this is its answer: none is known where
+/// a beat of one of them is corrupt.
+fn values_written<const W: usize>(asked: &Asked<W>, answer: &CarriedMessage) -> [Option<u8>; 64]
+    requires { IsWidth W }
+    ensures { (access : Access W) (burst : List (Beat W)) → IsAsked asked.now access →
+        KnowsMessage answer.now burst → IsLawful access → (place : ℕ) → place < 64 →
+        access_writes (64 * block_at access.request.address + place) access ≡ true →
+        slice_index_or result place None
+        ≡ value_written access burst (64 * block_at access.request.address + place) }
+{
+    if either(asked.spoiled, answer.spoiled) {
+        return nothing_known();
+    }
+    known(&performed(asked, &payload_of(answer.bytes.bytes())))
+}
+
+/// What an access writes, where this is its answer: where a beat of one of them is corrupt, anything.
+pub fn written<const W: usize>(asked: &Asked<W>, answer: &CarriedMessage) -> Write
+    requires { IsWidth W }
+    ensures { (access : Access W) (burst : List (Beat W)) → IsAsked asked.now access →
+        KnowsMessage answer.now burst → IsLawful access →
+        IsWrite result (block_at access.request.address) access burst }
+{
+    Write {
+        places: places_of(asked),
+        values: values_written(asked, answer),
+    }
+}
+
+/// What an access may write while it is pending: of an atomic, anything.
+pub fn pending_write<const W: usize>(asked: &Asked<W>) -> Write
+    requires { IsWidth W }
+    ensures { (access : Access W) → IsAsked asked.now access → IsLawful access →
+        IsPendingWrite result (block_at access.request.address) access }
+{
+    if is_put(asked.request.opcode) {
+        return written(asked, &CarriedMessage::new());
+    }
+    Write {
+        places: places_of(asked),
+        values: nothing_known(),
+    }
+}
+
+/// An access that is pending, and what it may write in its block.
+#[derive(Clone, Copy)]
+pub struct Writer<const W: usize> {
+    pub asked: Asked<W>,
+    pub write: Write,
+}
+
+/// What others may write than the access with this source on a link.
+pub fn writes_of_others<const W: usize>(
+    alloc: Global,
+    writers: &[Writer<W>],
+    link: Link,
+    source: u8,
+) -> Result<Vec<Write>, AllocError>
+    ensures { IfOk result (λ writes. writes.items ≡ writes_but link.0 source writers.now) }
+{
+    let mut writes = Vec::new(alloc);
+    for writer in writers {
+        if !writer.asked.is_of(link, source) {
+            writes.push(writer.write)?;
+        }
+    }
+    Ok(writes)
+}

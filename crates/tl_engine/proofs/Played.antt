@@ -19,9 +19,10 @@ use Rattle.tl_world.proofs.Drained.{drained-more}
 use Rattle.tl_coherence.proofs.bound.Settling.{drain}
 use Rattle.tl_schedule.specs.declared.line.Line.{Line}
 use Rattle.tl_schedule.specs.declared.line.Line.TheVariants as line_of
+use Rattle.tl_schedule.specs.statement.EventLine.{SpellsEvent}
 use Rattle.tl_schedule.specs.statement.OutcomeLine.{drained_line}
 use Rattle.tl_engine.specs.statement.Played.{delivery_text, deliveries_text, event_text, number_text, outcome_after}
-use Rattle.tl_engine.specs.code.Playing.{Drains, Happens, PlaysOn}
+use Rattle.tl_engine.specs.code.Playing.{Drains, Happens, PlaysLine, PlaysOn}
 use Rattle.tl_engine.specs.code.PlayableWorld.{Contained, Reaches}
 
 -- ---- deliveries
@@ -154,19 +155,29 @@ happened {w} trace old new event o was is (Ok x) says comes reached = λ config 
 
 -- ---- what a line says
 
-pub event-said : {w : ℕ} {E : Type 0} (trace : Bool) (old new : Contained w) (said : Line w) (event : Event w)
-    (was is : List ℕ) (r : Result (Unit {0}) E)
-    → said ≡ line_of.Event event → OnOk r (Happens trace old new event was is)
-    → OnOk r (PlaysOn trace old new said was is)
-event-said trace old new said event was is (Err e) same happens = tt
-event-said trace old new said event was is (Ok x) same happens = rw same (λ config log r.
+event-plays : {w : ℕ} (trace : Bool) (old new : Contained w) (event : Event w) (was is : List ℕ)
+    → Happens trace old new event was is → PlaysOn trace old new (line_of.Event event) was is
+event-plays trace old new event was is happens = λ config log r.
     let h = happens config log r in (
       event_text trace event (outcome_after config log event),
       (event, outcome_after config log event) ∷ log,
       (refl, refl),
       h.0,
       h.1,
-    ))
+    )
+
+pub event-said : {w : ℕ} {E : Type 0} (trace : Bool) (old new : Contained w) (said : Line w) (event : Event w)
+    (was is : List ℕ) (r : Result (Unit {0}) E)
+    → said ≡ line_of.Event event → OnOk r (Happens trace old new event was is)
+    → OnOk r (PlaysOn trace old new said was is)
+event-said trace old new said event was is (Err e) same happens = tt
+event-said trace old new said event was is (Ok x) same happens = rw same (event-plays trace old new event was is happens)
+
+-- a line that is read at its places
+pub line-said : {w : ℕ} (trace : Bool) (old new : Contained w) (line : List ℕ) (event : Event w) (was is : List ℕ)
+    → SpellsEvent line event → Happens trace old new event was is → PlaysLine trace old new line was is None
+line-said trace old new line event was is spells happens =
+    (line_of.Event event, spells, event-plays trace old new event was is happens)
 
 pub drain-said : {w : ℕ} (trace : Bool) (old new : Contained w) (said : Line w) (was mid is : List ℕ) (n : ℕ)
     → said ≡ line_of.Drain

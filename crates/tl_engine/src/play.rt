@@ -11,6 +11,7 @@ use std::alloc::AllocError;
 use tl_client::any::AnyClient;
 use tl_coherence::event::{Event, Outcome};
 use tl_manager::bits::BitDirectory;
+use tl_schedule::common::read_common;
 use tl_schedule::line::{Line, read_event};
 use tl_schedule::outcome::{append_drained, append_outcome, append_trace};
 use tl_world::world::World;
@@ -92,8 +93,8 @@ fn play_said<const W: usize>(
     }
 }
 
-/// Plays a line behind the header, its line feed included, or answers its fault.
-pub fn play<const W: usize>(
+/// Plays a line of any form, read from left to right, or answers its fault.
+fn play_any<const W: usize>(
     trace: bool,
     world: &mut World<W, AnyClient<W>, BitDirectory>,
     line: &[u8],
@@ -108,5 +109,24 @@ pub fn play<const W: usize>(
             Ok(None)
         }
         Err(fault) => Ok(Some(Fault::Event(fault))),
+    }
+}
+
+/// Plays a line behind the header, its line feed included, or answers its fault.
+pub fn play<const W: usize>(
+    trace: bool,
+    world: &mut World<W, AnyClient<W>, BitDirectory>,
+    line: &[u8],
+    out: &mut Vec<u8>,
+) -> Result<Option<Fault>, AllocError>
+    requires width { IsWidth W }
+    ensures { IfOk result (PlaysLine trace world.old world.new line.now out.old.items out.new.items) }
+{
+    match read_common(line) {
+        Some(common) => {
+            play_event(trace, world, common.event(), out)?;
+            Ok(None)
+        }
+        None => play_any(trace, world, line, out),
     }
 }

@@ -8,4 +8,5 @@ pub mod EventMeant
 pub mod EventTaken
 pub mod EventAgain
 pub mod WholeLines
+pub mod Commons
 pub mod ByteDigits

@@ -27,7 +27,7 @@ use Rattle.tl_schedule.proofs.SpelledFields.{map_taken}
 
 -- ---- a line and its line feed
 
-line-whole : (line : List ℕ) → ends_with_byte 10 line ≡ true → line ≡ take (length line - 1) line ++ 10 ∷ []
+pub line-whole : (line : List ℕ) → ends_with_byte 10 line ≡ true → line ≡ take (length line - 1) line ++ 10 ∷ []
 line-whole line e =
     let both = and_parts (nat_lt 0 (length line)) (get_or line (length line - 1) 0 == 10) e in
     let some : 0 < length line = ltb-true 0 (length line) both.0 in

@@ -1,3 +1,4 @@
+pub mod CommonReading
 pub mod EventReading
 pub mod FieldReading
 pub mod HeaderReading

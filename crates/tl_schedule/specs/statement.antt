@@ -1,3 +1,4 @@
+pub mod CommonLine
 pub mod EventLine
 pub mod OutcomeLine
 pub mod Schedule

@@ -10,6 +10,7 @@ ghost use Rattle.tl_schedule.specs.code.FieldReading.{Gives, bytes_in, fields_be
 ghost use Rattle.tl_schedule.specs.code.FieldReading.{is_none_left, last, number_in, pair_at, size_in};
 
 /// The value of a hexadecimal digit, lower-case.
+#[inline(always)]
 fn hex(byte: u8) -> Option<u8>
     ensures value { result ≡ digit_of byte }
     ensures small { IfSome result (λ d. d < 16) }
@@ -22,6 +23,7 @@ fn hex(byte: u8) -> Option<u8>
 }
 
 /// The number that a field of this many digits spells.
+#[inline(always)]
 pub fn number(field: &[u8], count: u8) -> Option<u64>
     requires { count ≤ 16 }
     ensures value { result ≡ number_in 0 count field.now }

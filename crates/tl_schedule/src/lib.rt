@@ -3,6 +3,7 @@
 #![tactic(auto)]
 
 pub mod access;
+pub mod common;
 mod field;
 pub mod header;
 pub mod line;

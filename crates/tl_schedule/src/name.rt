@@ -138,7 +138,7 @@ fn intent(field: &[u8]) -> Option<Intent>
     }
 }
 
-fn channel(field: &[u8]) -> Option<Channel>
+pub(crate) fn channel(field: &[u8]) -> Option<Channel>
     ensures { result ≡ channel_named field.now }
 {
     match field {

@@ -1,0 +1,228 @@
+//! Reads the lines that schedules have most of, each field at its place: Loads, Stores of eight bytes and
+//! deliveries.
+
+ghost use Rattle.std.specs.Prelude.{◌≡◌, ◌∷◌, ◌++◌, [], IfSome, codes};
+ghost use Rattle.tl_schedule.specs.statement.CommonLine.{SpellsCommon, common_event};
+ghost use Rattle.tl_schedule.specs.code.CommonReading.{HasFields, SpellsBody};
+ghost use Rattle.tl_schedule.specs.code.FieldReading.{size_in};
+
+use crate::field::number;
+use crate::name::channel;
+use tl_beat::beat::Link;
+use tl_beat::channel::Channel;
+use tl_client::operation::Op;
+use tl_coherence::event::Event;
+
+/// What such a line says.
+#[derive(Clone, Copy, Debug, PartialEq, Eq)]
+pub enum Common {
+    Load {
+        client: u8,
+        address: u32,
+        size: u8,
+    },
+    Store {
+        client: u8,
+        address: u32,
+        size: u8,
+        value: u64,
+    },
+    Deliver {
+        link: Link,
+        channel: Channel,
+    },
+}
+
+impl Common {
+    /// The event that is meant.
+    #[inline(always)]
+    pub fn event<const W: usize>(self) -> Event<W>
+        ensures { result ≡ common_event self }
+    {
+        match self {
+            Common::Load {
+                client,
+                address,
+                size,
+            } => {
+                let operation = Op::Load { address, size };
+                Event::Ask { client, operation }
+            }
+            Common::Store {
+                client,
+                address,
+                size,
+                value,
+            } => {
+                let operation = Op::Store {
+                    address,
+                    size,
+                    value,
+                };
+                Event::Ask { client, operation }
+            }
+            Common::Deliver { link, channel } => Event::Deliver { link, channel },
+        }
+    }
+}
+
+/// The size of a Load or a Store.
+#[inline(always)]
+fn size_of(digit: u8) -> Option<u8>
+    ensures { result ≡ size_in 3 (digit ∷ []) }
+{
+    let size = number(&[digit], 1)? as u8;
+    if size > 3 {
+        return None;
+    }
+    Some(size)
+}
+
+#[inline(always)]
+fn load(client: &[u8], size: u8, address: &[u8]) -> Option<Common>
+    ensures { IfSome result (HasFields (client.now ∷ codes "load" ∷ (size ∷ []) ∷ address.now ∷ [])) }
+{
+    let client = number(client, 2)? as u8;
+    let size = size_of(size)?;
+    let address = number(address, 8)? as u32;
+    Some(Common::Load {
+        client,
+        address,
+        size,
+    })
+}
+
+#[inline(always)]
+fn store(client: &[u8], address: &[u8], value: &[u8]) -> Option<Common>
+    ensures { IfSome result (HasFields (client.now ∷ codes "store" ∷ codes "3" ∷ address.now ∷ value.now ∷ [])) }
+{
+    let client = number(client, 2)? as u8;
+    let address = number(address, 8)? as u32;
+    let value = number(value, 16)?;
+    Some(Common::Store {
+        client,
+        address,
+        size: 3,
+        value,
+    })
+}
+
+#[inline(always)]
+fn deliver(link: &[u8], letter: u8) -> Option<Common>
+    ensures { IfSome result (HasFields (link.now ∷ codes "deliver" ∷ (letter ∷ []) ∷ [])) }
+{
+    let link = Link(number(link, 2)? as u8);
+    let channel = channel(&[letter])?;
+    Some(Common::Deliver { link, channel })
+}
+
+/// What stands before and behind a space at the ninth place.
+#[inline(always)]
+fn split_address(bytes: &[u8]) -> Option<(&[u8], &[u8])>
+    ensures { IfSome result (λ parts. bytes.now ≡ parts.0.now ++ 32 ∷ parts.1.now) }
+{
+    if bytes.len() > 8 && bytes[8] == b' ' {
+        Some((&bytes[..8], &bytes[9..]))
+    } else {
+        None
+    }
+}
+
+/// What the line of a delivery says, without its line feed.
+#[inline(always)]
+fn read_deliver(body: &[u8]) -> Option<Common>
+    ensures { IfSome result (SpellsBody body.now) }
+{
+    match body {
+        [
+            a,
+            b,
+            b' ',
+            b'd',
+            b'e',
+            b'l',
+            b'i',
+            b'v',
+            b'e',
+            b'r',
+            b' ',
+            letter,
+        ] => deliver(&[*a, *b], *letter),
+        _ => None,
+    }
+}
+
+/// What the line of a Load says, without its line feed.
+#[inline(always)]
+fn read_load(body: &[u8]) -> Option<Common>
+    ensures { IfSome result (SpellsBody body.now) }
+{
+    match body {
+        [
+            a,
+            b,
+            b' ',
+            b'l',
+            b'o',
+            b'a',
+            b'd',
+            b' ',
+            size,
+            b' ',
+            address @ ..,
+        ] => load(&[*a, *b], *size, address),
+        _ => None,
+    }
+}
+
+/// What the line of a Store of eight bytes says, without its line feed.
+#[inline(always)]
+fn read_store(body: &[u8]) -> Option<Common>
+    ensures { IfSome result (SpellsBody body.now) }
+{
+    match body {
+        [
+            a,
+            b,
+            b' ',
+            b's',
+            b't',
+            b'o',
+            b'r',
+            b'e',
+            b' ',
+            b'3',
+            b' ',
+            rest @ ..,
+        ] => {
+            let (address, value) = split_address(rest)?;
+            store(&[*a, *b], address, value)
+        }
+        _ => None,
+    }
+}
+
+/// What such a line says, without its line feed.
+#[inline(always)]
+fn read_body(body: &[u8]) -> Option<Common>
+    ensures { IfSome result (SpellsBody body.now) }
+{
+    match read_deliver(body) {
+        Some(deliver) => Some(deliver),
+        None => match read_load(body) {
+            Some(load) => Some(load),
+            None => read_store(body),
+        },
+    }
+}
+
+/// What such a line says, its line feed included. Of any other line it says nothing.
+#[inline(always)]
+pub fn read_common(line: &[u8]) -> Option<Common>
+    ensures { IfSome result (SpellsCommon line.now) }
+{
+    match line {
+        [body @ .., b'\n'] => read_body(body),
+        _ => None,
+    }
+}

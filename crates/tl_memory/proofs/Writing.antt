@@ -1,5 +1,6 @@
 -- What accesses write, and what those may write that are pending.
-use Rattle.std.proofs.Common.{◌≡◌, ℕ, zero, suc, Bool, true, false, not, ◌&&◌, ◌||◌, ◌+◌, ◌*◌, ◌/◌, ◌<◌, List, [], ◌∷◌, ◌++◌, length}
+use Rattle.std.proofs.Common.{◌≡◌, ℕ, zero, suc, Bool, true, false, not, ◌&&◌, ◌||◌, ◌+◌, ◌*◌}
+use Rattle.std.proofs.Common.{◌/◌, ◌<◌, List, [], ◌∷◌, ◌++◌, length}
 use Rattle.std.proofs.Common.{refl, sym, ap, ◌∙◌, arith, inl, inr, get_or, take, append-nil}
 use Rattle.std.proofs.lemmas.List.{take_more}
 use Rattle.std.specs.Prelude.{if◌then◌else◌, filter, is_some, nat_lt, None, Option, Some, ◌==◌}
@@ -17,7 +18,8 @@ use Rattle.tl_memory.specs.declared.writer.Writer.{Writer}
 use Rattle.tl_rules.specs.statement.Conformance.{Trace}
 use Rattle.tl_bytes.specs.statement.Bytes.{pending_accesses, written_as}
 use Rattle.tl_memory.specs.declared.access.Asked.{Asked}
-use Rattle.tl_memory.specs.statement.Known.{AllWriteInside, AreWriters, AreWritersOf, IsAsked, is_put, is_to, WritesInside}
+use Rattle.tl_memory.specs.statement.Known.{AllWriteInside, AreWriters, AreWritersOf, IsAsked, is_put, is_to}
+use Rattle.tl_memory.specs.statement.Known.{WritesInside}
 use Rattle.tl_memory.specs.statement.Known.{AreKnown, KnowsAccesses}
 
 pub spoiled_value : (b : Bool) (v : ℕ) → b ≡ true → (if b then None else Some v) ≡ None
@@ -179,7 +181,8 @@ written-here block place byte keep (x ∷ accesses) lt inside =
     ]
 
 -- what others may write than an access that is pending
-pub others-may-write : {w : ℕ} (writers : List (Writer w)) (block : ℕ) (asked : Asked w) (access : Access w) (t : Trace w)
+pub others-may-write : {w : ℕ} (writers : List (Writer w)) (block : ℕ) (asked : Asked w) (access : Access w)
+    (t : Trace w)
     → IsAsked asked access → AreWritersOf writers block t
     → MayWrite (writes_but asked.link.0 asked.request.source writers) block (others access t)
 others-may-write writers block asked access t k are place byte lt =

@@ -1,6 +1,6 @@
 -- What is known of the bytes of memory, after what all links of a manager have carried.
-use Rattle.std.specs.Prelude.{ℕ, Bool, true, false, None, [], ◌∷◌, ◌+◌, ◌*◌, ◌%◌, ◌^◌, ◌==◌, ◌<◌, ◌≤◌, ◌≡◌, List, length, filter, find, is_some, ⊤}
-use Rattle.std.specs.Prelude.{slice_index}
+use Rattle.std.specs.Prelude.{ℕ, Bool, true, false, None, [], ◌∷◌, ◌+◌, ◌*◌, ◌%◌, ◌^◌, ◌==◌, ◌<◌, ◌≤◌}
+use Rattle.std.specs.Prelude.{◌≡◌, List, length, filter, find, is_some, slice_index, ⊤}
 use Rattle.tl_beat.specs.declared.beat.Beat.{Beat}
 use Rattle.tl_beat.specs.declared.beat.Beat.TheVariants as beat
 use Rattle.tl_beat.specs.declared.opcode.OpA.{OpA}
@@ -10,8 +10,7 @@ use Rattle.tl_burst.specs.statement.Burst.{bit}
 use Rattle.tl_params.specs.declared.level.Level.TheVariants as level
 use Rattle.tl_rules.specs.code.Control.{a_control}
 use Rattle.tl_rules.specs.statement.Admission.{is_spoiled, lanes_of}
-use Rattle.tl_bytes.specs.statement.Bytes.{Access, access_writes, carried_mask, pending_accesses}
-use Rattle.tl_bytes.specs.statement.Bytes.{pending_value}
+use Rattle.tl_bytes.specs.statement.Bytes.{Access, access_writes, carried_mask, pending_accesses, pending_value}
 use Rattle.tl_rules.specs.statement.Conformance.{Trace}
 use Rattle.tl_rules.specs.statement.History.{block_at}
 use Rattle.tl_bytes.specs.code.Tellings.{is_written, value_at}

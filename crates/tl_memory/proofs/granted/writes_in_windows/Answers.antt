@@ -1,4 +1,4 @@
-use Rattle.std.proofs.Common.{rules, ap, true, false, sym, ◌∙◌, ◌≡◌, ◌++◌, [], ◌∷◌}
+use Rattle.std.proofs.Common.{rules, ap, true, false, ◌∙◌, ◌≡◌, ◌++◌, [], ◌∷◌}
 use Rattle.std.proofs.lemmas.List.{take_all}
 use Rattle.tl_memory.specs.code.Writers.{some_window, writes_windowed}
 use Rattle.tl_memory.proofs.Writing.{none_yet, one_kept, one_left}

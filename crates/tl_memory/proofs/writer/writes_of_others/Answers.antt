@@ -1,4 +1,4 @@
-use Rattle.std.proofs.Common.{rules, ap, not, true, false, sym, ◌∙◌, ◌≡◌, ◌++◌, [], ◌∷◌}
+use Rattle.std.proofs.Common.{rules, ap, not, true, false, ◌∙◌, ◌≡◌, ◌++◌, [], ◌∷◌}
 use Rattle.std.proofs.lemmas.List.{take_all}
 use Rattle.tl_memory.specs.code.Writers.{names, writes_but}
 use Rattle.tl_memory.proofs.Writing.{none_yet, one_kept, one_left}
@@ -17,7 +17,8 @@ loop-writer-preserved g c = elim c.if-not-is_of.branch [
       search rules in
       pushed ∙ ap (λ l. l ++ c.writer-item.result.write ∷ []) c.loop-writer.invariant
       ∙ one_kept (λ x. not (names c.args.link.0 c.args.source x.asked)) (λ x. x.write) c.loop-writer.writer-index
-      c.args.writers.now c.writer-item.result c.writer-item.result c.writer-item.is c.loop-writer-test.true (ap not kept)
+      c.args.writers.now c.writer-item.result c.writer-item.result c.writer-item.is c.loop-writer-test.true
+      (ap not kept)
   | else-not-is_of w ↦
       let own : names c.args.link.0 c.args.source c.writer-item.result.asked ≡ true = search rules in
       ap (λ v. v.items) w.writes-is ∙ c.loop-writer.invariant

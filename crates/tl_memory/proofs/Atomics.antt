@@ -1,5 +1,6 @@
 -- What an atomic leaves in its block.
-use Rattle.std.proofs.Common.{◌≡◌, ℕ, Bool, true, false, not, ◌&&◌, ◌+◌, ◌-◌, ◌*◌, ◌/◌, ◌%◌, ◌^◌, ◌<◌, ◌≤◌, List, length}
+use Rattle.std.proofs.Common.{◌≡◌, ℕ, Bool, true, false, not, ◌&&◌, ◌+◌, ◌-◌, ◌*◌, ◌/◌}
+use Rattle.std.proofs.Common.{◌%◌, ◌^◌, ◌<◌, ◌≤◌, List, length}
 use Rattle.std.proofs.Common.{refl, sym, ap, ◌∙◌, ◌⊎◌, [], ◌∷◌, arith, inl, inr, pow_pos}
 use Rattle.std.specs.Prelude.{if◌then◌else◌, nat_le, nat_lt, None, Option, slice_index, unwrap_or, ◌==◌}
 use Rattle.std.proofs.lemmas.Bool.{cases_eq, eqb-true, ne_eqb}
@@ -16,7 +17,8 @@ use Rattle.tl_beat.specs.declared.channel.Channel.TheVariants as channel
 use Rattle.tl_beat.specs.statement.First.{first_if}
 use Rattle.tl_params.specs.declared.rule.Rule.TheVariants.{L1, L2, L3}
 use Rattle.tl_rules.specs.code.Control.{a_control, a_own}
-use Rattle.tl_rules.specs.statement.Legality.{a_has_mask, a_has_param, a_has_size, a_of_level, each_below, illegal_message}
+use Rattle.tl_rules.specs.statement.Legality.{a_has_mask, a_has_param, a_has_size, a_of_level, each_below}
+use Rattle.tl_rules.specs.statement.Legality.{illegal_message}
 use Rattle.tl_rules.specs.statement.Legality.{is_full_mask, is_one_of}
 use Rattle.tl_rules.proofs.Checks.{a_beats, both}
 use Rattle.tl_rules.proofs.Legal.{legal_from_beats}
@@ -285,7 +287,8 @@ module _ (address i : ℕ) where
 -- in each width and size
 full_mask : (w size address i : ℕ) → IsWidth w → (size ≡ 2) ⊎ (size ≡ 3) → address % 2 ^ size ≡ 0
     → i < data_beats w size → is_full_mask w size address (mask_at w (whole_mask size (address % w)) i) ≡ true
-full_mask w size address i (inl w4) (inl s) e lt = rw (w4, s) (full_4_2 address i (zero_at (rw (w4, s) at lt)) (rw s at e))
+full_mask w size address i (inl w4) (inl s) e lt = rw (w4, s)
+    (full_4_2 address i (zero_at (rw (w4, s) at lt)) (rw s at e))
   where
     zero_at : i < 1 → i ≡ 0
     zero_at less = omega (arith, less)

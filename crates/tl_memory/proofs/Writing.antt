@@ -1,20 +1,26 @@
 -- What accesses write, and what those may write that are pending.
-use Rattle.std.proofs.Common.{◌≡◌, ℕ, Bool, true, false, not, ◌&&◌, ◌||◌, ◌+◌, ◌*◌, ◌/◌, ◌<◌, List, [], ◌∷◌, ◌++◌, length}
+use Rattle.std.proofs.Common.{◌≡◌, ℕ, zero, suc, Bool, true, false, not, ◌&&◌, ◌||◌, ◌+◌, ◌*◌}
+use Rattle.std.proofs.Common.{◌/◌, ◌<◌, List, [], ◌∷◌, ◌++◌, length}
 use Rattle.std.proofs.Common.{refl, sym, ap, ◌∙◌, arith, inl, inr, get_or, take, append-nil}
 use Rattle.std.proofs.lemmas.List.{take_more}
-use Rattle.std.specs.Prelude.{if◌then◌else◌, filter, is_some, None, Option, Some, ◌==◌}
-use Rattle.std.proofs.lemmas.Bool.{cases_Bool, eq-eqb}
+use Rattle.std.specs.Prelude.{if◌then◌else◌, filter, is_some, nat_lt, None, Option, Some, ◌==◌}
+use Rattle.std.proofs.lemmas.Bool.{cases_Bool, eq-eqb, lt-ltb}
 use Rattle.tl_beat.specs.declared.opcode.OpA.{OpA}
 use Rattle.tl_beat.specs.declared.opcode.OpA.TheVariants as a
+use Rattle.tl_bytes.specs.declared.write.Write.{Write}
 use Rattle.tl_bytes.specs.code.Tellings.{is_written, leaves, value_at, left_as}
 use Rattle.tl_bytes.specs.statement.Bytes.{Access, access_writes, could_be, is_of, pending_value, value_written}
-use Rattle.tl_bytes.specs.statement.Known.{MayWrite, others}
-use Rattle.tl_memory.specs.code.Writers.{names, writes_but}
+use Rattle.tl_bytes.specs.statement.Known.{count_of, MayWrite, others, windowed}
+use Rattle.tl_bytes.specs.statement.Bytes.{windows_since}
+use Rattle.tl_memory.specs.declared.pending.PendingAccess.{PendingAccess}
+use Rattle.tl_memory.specs.code.Writers.{names, picked, some_window, writes_but, writes_windowed}
 use Rattle.tl_memory.specs.declared.writer.Writer.{Writer}
 use Rattle.tl_rules.specs.statement.Conformance.{Trace}
 use Rattle.tl_bytes.specs.statement.Bytes.{pending_accesses, written_as}
 use Rattle.tl_memory.specs.declared.access.Asked.{Asked}
-use Rattle.tl_memory.specs.statement.Known.{AllWriteInside, AreWriters, AreWritersOf, IsAsked, is_put, is_to, WritesInside}
+use Rattle.tl_memory.specs.statement.Known.{AllWriteInside, AreWriters, AreWritersOf, IsAsked, is_put, is_to}
+use Rattle.tl_memory.specs.statement.Known.{WritesInside}
+use Rattle.tl_memory.specs.statement.Known.{AreKnown, KnowsAccesses}
 
 pub spoiled_value : (b : Bool) (v : ℕ) → b ≡ true → (if b then None else Some v) ≡ None
 spoiled_value b v e = rw e refl
@@ -48,47 +54,43 @@ other_pending a.Intent access address e = refl
 other_pending a.AcquireBlock access address e = refl
 other_pending a.AcquirePerm access address e = refl
 
--- ---- what others write
+-- ---- what those write that are kept
 
-pub none_yet : {w : ℕ} (link source : ℕ) (writers : List (Writer w)) → [] ≡ writes_but link source (take 0 writers)
-unfolding writes_but
-none_yet link source writers = refl
+module _ {X : Type 0} (keep : X → Bool) (write : X → Write) where
+  pub none_yet : (xs : List X) → [] ≡ picked keep write (take 0 xs)
+  unfolding picked
+  none_yet xs = refl
 
-but-append : {w : ℕ} (link source : ℕ) (xs ys : List (Writer w))
-    → writes_but link source (xs ++ ys) ≡ writes_but link source xs ++ writes_but link source ys
-unfolding writes_but
-but-append link source [] ys = refl
-but-append link source (x ∷ xs) ys = elim (cases_Bool (names link source x.asked)) [
-  | inl own ↦ rw own (but-append link source xs ys)
-  | inr other ↦ rw other (ap (λ l. x.write ∷ l) (but-append link source xs ys))
-]
+  picked-append : (xs ys : List X) → picked keep write (xs ++ ys) ≡ picked keep write xs ++ picked keep write ys
+  unfolding picked
+  picked-append [] ys = refl
+  picked-append (x ∷ xs) ys = elim (cases_Bool (keep x)) [
+    | inl on ↦ rw on (ap (λ l. write x ∷ l) (picked-append xs ys))
+    | inr off ↦ rw off (picked-append xs ys)
+  ]
 
-own_none : {w : ℕ} (link source : ℕ) (x : Writer w) → names link source x.asked ≡ true
-    → writes_but link source (x ∷ []) ≡ []
-unfolding writes_but
-own_none link source x e = rw e refl
+  alone : (x : X) → keep x ≡ true → picked keep write (x ∷ []) ≡ write x ∷ []
+  unfolding picked
+  alone x e = rw e refl
 
-other_one : {w : ℕ} (link source : ℕ) (x : Writer w) → names link source x.asked ≡ false
-    → writes_but link source (x ∷ []) ≡ x.write ∷ []
-unfolding writes_but
-other_one link source x e = rw e refl
+  none : (x : X) → keep x ≡ false → picked keep write (x ∷ []) ≡ []
+  unfolding picked
+  none x e = rw e refl
 
-pub one_kept : {w : ℕ} (link source i : ℕ) (writers : List (Writer w)) (x d : Writer w) → x ≡ get_or writers i d
-    → i < length writers → names link source x.asked ≡ false
-    → writes_but link source (take i writers) ++ x.write ∷ [] ≡ writes_but link source (take (i + 1) writers)
-one_kept link source i writers x d is lt other = sym (ap (writes_but link source) (take_more writers i d lt)
-    ∙ but-append link source (take i writers) (get_or writers i d ∷ [])
-    ∙ ap (λ y. writes_but link source (take i writers) ++ writes_but link source (y ∷ [])) (sym is)
-    ∙ ap (λ l. writes_but link source (take i writers) ++ l) (other_one link source x other))
+  next : (i : ℕ) (xs : List X) (x d : X) → x ≡ get_or xs i d → i < length xs
+      → picked keep write (take (i + 1) xs) ≡ picked keep write (take i xs) ++ picked keep write (x ∷ [])
+  next i xs x d is lt = ap (picked keep write) (take_more xs i d lt)
+      ∙ picked-append (take i xs) (get_or xs i d ∷ [])
+      ∙ ap (λ y. picked keep write (take i xs) ++ picked keep write (y ∷ [])) (sym is)
 
-pub one_left : {w : ℕ} (link source i : ℕ) (writers : List (Writer w)) (x d : Writer w) → x ≡ get_or writers i d
-    → i < length writers → names link source x.asked ≡ true
-    → writes_but link source (take i writers) ≡ writes_but link source (take (i + 1) writers)
-one_left link source i writers x d is lt own = sym (ap (writes_but link source) (take_more writers i d lt)
-    ∙ but-append link source (take i writers) (get_or writers i d ∷ [])
-    ∙ ap (λ y. writes_but link source (take i writers) ++ writes_but link source (y ∷ [])) (sym is)
-    ∙ ap (λ l. writes_but link source (take i writers) ++ l) (own_none link source x own)
-    ∙ append-nil (writes_but link source (take i writers)))
+  pub one_kept : (i : ℕ) (xs : List X) (x d : X) → x ≡ get_or xs i d → i < length xs → keep x ≡ true
+      → picked keep write (take i xs) ++ write x ∷ [] ≡ picked keep write (take (i + 1) xs)
+  one_kept i xs x d is lt on = sym (next i xs x d is lt ∙ ap (λ l. picked keep write (take i xs) ++ l) (alone x on))
+
+  pub one_left : (i : ℕ) (xs : List X) (x d : X) → x ≡ get_or xs i d → i < length xs → keep x ≡ false
+      → picked keep write (take i xs) ≡ picked keep write (take (i + 1) xs)
+  one_left i xs x d is lt off = sym (next i xs x d is lt ∙ ap (λ l. picked keep write (take i xs) ++ l) (none x off)
+      ∙ append-nil (picked keep write (take i xs)))
 
 -- an access that is kept has the names that it has
 named : {w : ℕ} (link source : ℕ) (writer : Writer w) (access : Access w) → IsAsked writer.asked access
@@ -124,7 +126,7 @@ first_of false true x y o p e f = absurd cc
 pub others-write : {w : ℕ} (link source block : ℕ) (writers : List (Writer w)) (accesses : List (Access w))
     → AreWriters writers block accesses
     → MayWrite (writes_but link source writers) block (filter (λ other. not (is_of link source other)) accesses)
-unfolding writes_but
+unfolding picked
 others-write link source block [] [] are place byte lt = refl
 others-write link source block [] (x ∷ accesses) are place byte lt = absurd are
 others-write link source block (x ∷ writers) [] are place byte lt = absurd are
@@ -179,7 +181,8 @@ written-here block place byte keep (x ∷ accesses) lt inside =
     ]
 
 -- what others may write than an access that is pending
-pub others-may-write : {w : ℕ} (writers : List (Writer w)) (block : ℕ) (asked : Asked w) (access : Access w) (t : Trace w)
+pub others-may-write : {w : ℕ} (writers : List (Writer w)) (block : ℕ) (asked : Asked w) (access : Access w)
+    (t : Trace w)
     → IsAsked asked access → AreWritersOf writers block t
     → MayWrite (writes_but asked.link.0 asked.request.source writers) block (others access t)
 others-may-write writers block asked access t k are place byte lt =
@@ -189,3 +192,35 @@ others-may-write writers block asked access t k are place byte lt =
     are.writers_are place byte lt
     ∙ written-here block place byte (λ other. not (is_of access.link access.request.source other)) (pending_accesses t)
     lt are.inside
+
+-- ---- what those may write that have had a window
+
+some-is : (k : ℕ) → some_window (count_of k) ≡ nat_lt 0 k
+some-is zero = refl
+some-is (suc zero) = refl
+some-is (suc (suc k)) = sym (lt-ltb 0 (suc (suc k)) (omega arith))
+
+windowed-write : {w : ℕ} (n block : ℕ) (t : Trace w) (pending : List (PendingAccess w)) (accesses : List (Access w))
+    → AreKnown pending n block accesses t
+    → MayWrite (writes_windowed pending) block (filter (λ x. nat_lt 0 (windows_since n block x.asked t)) accesses)
+unfolding picked
+windowed-write n block t [] [] are place byte lt = refl
+windowed-write n block t [] (y ∷ accesses) are place byte lt = absurd are
+windowed-write n block t (x ∷ pending) [] are place byte lt = absurd are
+windowed-write n block t (x ∷ pending) (y ∷ accesses) are place byte lt =
+    let more = windowed-write n block t pending accesses are.1 place byte lt in
+    let same = ap some_window are.0.windows_are.count_is ∙ some-is (windows_since n block y.asked t) in
+    elim (cases_Bool (nat_lt 0 (windows_since n block y.asked t))) [
+      | inl had ↦
+          rw (same ∙ had, had)
+          (first_of (leaves place byte x.writer.write) _ x.writer.write y _ _
+          (leaves-is block place byte x.writer y lt (are.0.write_is place lt)) more)
+      | inr none ↦ rw (same ∙ none, none) more
+    ]
+
+-- so that a Grant may bring it
+pub windowed-may-write : {w : ℕ} (n block : ℕ) (t : Trace w) (pending : List (PendingAccess w))
+    → KnowsAccesses pending n block t → MayWrite (writes_windowed pending) block (windowed n block t)
+windowed-may-write n block t pending k place byte lt =
+    windowed-write n block t pending (filter (is_to block) (pending_accesses t)) k.accesses_are place byte lt
+    ∙ written-here block place byte (λ x. nat_lt 0 (windows_since n block x.asked t)) (pending_accesses t) lt k.inside

@@ -1,6 +1,6 @@
 //! Accesses whose requests are complete.
 
-ghost use Rattle.std.specs.Prelude.{ℕ, true, false, not, ◌∷◌, ◌+◌, ◌*◌, ◌<◌, ◌≤◌, ◌≡◌, ◌&&◌, ◌||◌, ◌==◌, List, Option, None};
+ghost use Rattle.std.specs.Prelude.{ℕ, true, false, ◌∷◌, ◌+◌, ◌*◌, ◌<◌, ◌≤◌, ◌≡◌, ◌&&◌, List, None};
 ghost use Rattle.std.specs.Prelude.{is_some, length, nat_lt, slice_index, slice_index_or, unwrap_or};
 ghost use Rattle.tl_beat.specs.declared.beat.Beat.{Beat};
 ghost use Rattle.tl_beat.specs.declared.beat.Beat.TheVariants as beat;

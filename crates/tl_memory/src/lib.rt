@@ -2,6 +2,7 @@
 #![tactic(auto)]
 
 pub mod access;
+pub mod granted;
 pub mod message;
 pub mod pending;
 pub mod performed;

@@ -1,6 +1,6 @@
 //! What accesses write in their blocks.
 
-ghost use Rattle.std.specs.Prelude.{ℕ, true, ◌+◌, ◌*◌, ◌<◌, ◌≡◌, List, None, Option, Some, IfOk};
+ghost use Rattle.std.specs.Prelude.{ℕ, true, ◌+◌, ◌*◌, ◌<◌, ◌≡◌, List, None, Some, IfOk};
 ghost use Rattle.std.specs.Prelude.{slice_index, slice_index_or};
 ghost use Rattle.tl_beat.specs.declared.beat.Beat.{Beat};
 ghost use Rattle.tl_beat.specs.statement.Width.{IsWidth};

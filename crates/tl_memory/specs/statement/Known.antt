@@ -1,6 +1,6 @@
 -- What is known of the bytes of memory, after what all links of a manager have carried.
-use Rattle.std.specs.Prelude.{ℕ, Bool, true, false, None, [], ◌∷◌, ◌+◌, ◌*◌, ◌%◌, ◌^◌, ◌==◌, ◌<◌, ◌≤◌, ◌≡◌, List, length, filter, find, is_some, ⊤}
-use Rattle.std.specs.Prelude.{slice_index}
+use Rattle.std.specs.Prelude.{ℕ, Bool, true, false, None, [], ◌∷◌, ◌+◌, ◌*◌, ◌%◌, ◌^◌, ◌==◌, ◌<◌, ◌≤◌}
+use Rattle.std.specs.Prelude.{◌≡◌, List, length, filter, find, is_some, slice_index, ⊤}
 use Rattle.tl_beat.specs.declared.beat.Beat.{Beat}
 use Rattle.tl_beat.specs.declared.beat.Beat.TheVariants as beat
 use Rattle.tl_beat.specs.declared.opcode.OpA.{OpA}
@@ -10,13 +10,13 @@ use Rattle.tl_burst.specs.statement.Burst.{bit}
 use Rattle.tl_params.specs.declared.level.Level.TheVariants as level
 use Rattle.tl_rules.specs.code.Control.{a_control}
 use Rattle.tl_rules.specs.statement.Admission.{is_spoiled, lanes_of}
-use Rattle.tl_bytes.specs.statement.Bytes.{Access, access_writes, carried_mask, pending_accesses}
-use Rattle.tl_bytes.specs.statement.Bytes.{pending_value}
+use Rattle.tl_bytes.specs.statement.Bytes.{Access, access_writes, carried_mask, pending_accesses, pending_value}
 use Rattle.tl_rules.specs.statement.Conformance.{Trace}
 use Rattle.tl_rules.specs.statement.History.{block_at}
 use Rattle.tl_bytes.specs.code.Tellings.{is_written, value_at}
 use Rattle.tl_bytes.specs.declared.write.Write.{Write}
-use Rattle.tl_bytes.specs.statement.Known.{KnowsCarried}
+use Rattle.tl_bytes.specs.statement.Known.{KnowsCarried, KnowsRead, KnowsWindows}
+use Rattle.tl_memory.specs.declared.pending.PendingAccess.{PendingAccess}
 use Rattle.tl_memory.specs.declared.access.Asked.{Asked}
 use Rattle.tl_memory.specs.declared.message.CarriedMessage.{CarriedMessage}
 use Rattle.tl_memory.specs.declared.writer.Writer.{Writer}
@@ -125,4 +125,27 @@ AllWriteInside (access ∷ accesses) = WritesInside access × AllWriteInside acc
 -- pending writes in its own block alone
 pub record AreWritersOf {w : ℕ} (writers : List (Writer w)) (block : ℕ) (t : Trace w) : Type 0 where
   pub writers_are : AreWriters writers block (filter (is_to block) (pending_accesses t))
+  pub inside : AllWriteInside (pending_accesses t)
+
+-- this is kept of an access to the block that is pending after t
+pub record KnowsAccess {w : ℕ} (pending : PendingAccess w) (n block : ℕ) (access : Access w) (t : Trace w) : Type 0
+  where
+    pub asked_is : IsAsked pending.writer.asked access
+    pub lawful : IsLawful access
+    pub write_is : IsPendingWrite pending.writer.write block access
+    pub before : access.asked ≤ length t
+    pub windows_are : KnowsWindows pending.windows n block access.asked t
+    pub read_is : KnowsRead pending.read n block access t
+
+-- of these accesses, one by one
+abbrev pub AreKnown : {w : ℕ} → List (PendingAccess w) → ℕ → ℕ → List (Access w) → Trace w → Type 0
+AreKnown [] n block [] t = ⊤
+AreKnown (pending ∷ more) n block (access ∷ accesses) t =
+    KnowsAccess pending n block access t × AreKnown more n block accesses t
+AreKnown _ n block _ t = ⊥
+
+-- this is kept of the accesses to the block that are pending after t, the last first; each that is pending
+-- writes in its own block alone
+pub record KnowsAccesses {w : ℕ} (pending : List (PendingAccess w)) (n block : ℕ) (t : Trace w) : Type 0 where
+  pub accesses_are : AreKnown pending n block (filter (is_to block) (pending_accesses t)) t
   pub inside : AllWriteInside (pending_accesses t)

@@ -1,6 +1,3 @@
-use Rattle.tl_bytes.specs.code.Tellings.{left_as}
-use Rattle.tl_bytes.specs.statement.Bytes.{may_be, told_as}
-use Rattle.tl_bytes.specs.statement.Known.{tellings_at}
 use Rattle.tl_bytes.proofs.Reading.{granted-is}
 use Rattle.tl_bytes.proofs.read_bytes.ReadBytes.granted.Goals as goal
 

@@ -12,7 +12,8 @@ returns-in-A g c = λ burst k room.
     let low : c.args.self.now.mask < 2 ^ (g.row.W * c.count.result) = rw beats k.mask_below in
     let small : c.in-A.x.mask < 2 ^ g.row.W = omega (arith, ap mask_of c.in-A.is, room.1) in
     let fits : g.row.W * c.count.result + g.row.W ≤ 64 = rw beats room.0 in
-    let is = c.with_mask.ensures fits small low ∙ ap (λ n. c.args.self.now.mask + c.in-A.x.mask * 2 ^ (g.row.W * n)) beats in (
+    let is = c.with_mask.ensures fits small low
+    ∙ ap (λ n. c.args.self.now.mask + c.in-A.x.mask * 2 ^ (g.row.W * n)) beats in (
       rw c.in-A.is (is ∙ ap (λ m. m + c.in-A.x.mask * 2 ^ (g.row.W * length burst)) k.mask_is),
       rw is (added_below g.row.W (length burst) c.args.self.now.mask c.in-A.x.mask k.mask_below small room.0),
     )

@@ -1,0 +1,55 @@
+//! What may be granted of a block.
+
+ghost use Rattle.std.specs.Prelude.{ℕ, ◌≡◌, IfOk};
+ghost use Rattle.tl_rules.specs.statement.Conformance.{Trace};
+ghost use Rattle.tl_bytes.specs.statement.Known.{KnowsBlock, KnowsGrant};
+ghost use Rattle.tl_memory.specs.code.Writers.{some_window, writes_windowed};
+ghost use Rattle.tl_memory.specs.statement.Known.{KnowsAccesses};
+
+use crate::pending::PendingAccess;
+use std::alloc::{AllocError, Global};
+use tl_bytes::block_bytes::BlockBytes;
+use tl_bytes::read_bytes::ReadBytes;
+use tl_bytes::windows::WindowCount;
+use tl_bytes::write::Write;
+
+/// Whether there was a window.
+fn some_window(count: WindowCount) -> bool
+    ensures { result ≡ some_window count }
+{
+    match count {
+        WindowCount::Zero => false,
+        _ => true,
+    }
+}
+
+/// What accesses may write that have had a window.
+fn writes_in_windows<const W: usize>(
+    alloc: Global,
+    accesses: &[PendingAccess<W>],
+) -> Result<Vec<Write>, AllocError>
+    ensures { IfOk result (λ writes. writes.items ≡ writes_windowed accesses.now) }
+{
+    let mut writes = Vec::new(alloc);
+    for access in accesses {
+        if some_window(access.windows.count) {
+            writes.push(access.writer.write)?;
+        }
+    }
+    Ok(writes)
+}
+
+/// What may be granted of a block, of which these are the bytes, and these the accesses to it that are
+/// pending.
+pub fn granted<const W: usize>(
+    alloc: Global,
+    bytes: &BlockBytes,
+    accesses: &[PendingAccess<W>],
+) -> Result<ReadBytes, AllocError>
+    ensures { IfOk result (λ read. (n block : ℕ) (t : Trace W) → KnowsBlock bytes.now n block t →
+        KnowsAccesses accesses.now n block t → KnowsGrant read n block t) }
+{
+    let writes = writes_in_windows(alloc, accesses)?;
+    let read = ReadBytes::granted(alloc, bytes, writes.as_slice())?;
+    Ok(read)
+}

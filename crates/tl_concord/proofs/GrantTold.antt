@@ -52,7 +52,7 @@ use Rattle.tl_concord.proofs.ReportTold.{IsToldBy, said_of}
 same_beat : {w : ℕ} (x y : BeatD w) → beat.D x ≡ beat.D y → x ≡ y
 same_beat x y e = cc
 
-same_acquire : (n j : ℕ) → Acquires n ≡ Acquires j → j ≡ n
+pub same_acquire : (n j : ℕ) → Acquires n ≡ Acquires j → j ≡ n
 same_acquire n j e = cc
 
 module _ {w : ℕ} (config : Config) (log : Log w) (given : IsGiven config log) (c : ℕ) (y : BeatD w)

@@ -27,8 +27,8 @@ pub fn carries_open_accesses<const W: usize>()
     ensures { CarriesAccesses W }
 {}
 
-/// Responses go on with the opcode and the source with which they began, and while a Grant is on its way no link holds
-/// Trunk of its block.
+/// Responses go on with the opcode and the source with which they began, no request comes with that source meanwhile,
+/// and while a Grant is on its way no link holds Trunk of its block.
 pub fn grants_undisturbed<const W: usize>()
     requires { IsWidth W }
     ensures { Responses W }

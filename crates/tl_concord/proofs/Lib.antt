@@ -6,3 +6,4 @@ pub mod Quiet
 pub mod ReportTold
 pub mod Responses
 pub mod Told
+pub mod WholeStores

@@ -2,3 +2,4 @@ pub mod Accesses
 pub mod Concord
 pub mod Responses
 pub mod Told
+pub mod WholeStores

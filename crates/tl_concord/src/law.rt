@@ -5,6 +5,7 @@ ghost use Rattle.tl_concord.specs.statement.Accesses.{CarriesAccesses};
 ghost use Rattle.tl_concord.specs.statement.Concord.{Concord};
 ghost use Rattle.tl_concord.specs.statement.Responses.{Responses};
 ghost use Rattle.tl_concord.specs.statement.Told.{TellsOfMemory};
+ghost use Rattle.tl_concord.specs.statement.WholeStores.{WholeStores};
 
 /// Whatever happens to a manager and its clients, no beat of what their links carry, in the order of
 /// delivery, breaks a rule of its link, M1 or M4: a judge of all links finds nothing.
@@ -32,4 +33,10 @@ pub fn carries_open_accesses<const W: usize>()
 pub fn grants_undisturbed<const W: usize>()
     requires { IsWidth W }
     ensures { Responses W }
+{}
+
+/// The store of a whole block, which comes with the last beat of its Grant, leaves Trunk on its link.
+pub fn stores_whole_blocks_under_trunk<const W: usize>()
+    requires { IsWidth W }
+    ensures { WholeStores W }
 {}

@@ -7,3 +7,4 @@ pub mod ReportTold
 pub mod Responses
 pub mod Told
 pub mod WholeStores
+pub mod WritesBeside

@@ -106,6 +106,15 @@ same_is perm.Branch perm.Trunk e = absurd cc
 same_is perm.Trunk perm.None e = absurd cc
 same_is perm.Trunk perm.Branch e = absurd cc
 
+-- a client whose Grant is on its way is recorded with something of the block
+pub due-recorded : {w : ℕ} (h : AbstractState w) (c block : ℕ) → IsGrantDue c block h.state
+    → same_perm ((h.state.block block).pair c).recorded perm.None ≡ false
+due-recorded h c block due =
+    let fits = and_right (same_perm ((h.state.block block).pair c).recorded (cap_right due.k)) _ due.fits in
+    ap (λ (p : Perm). same_perm p perm.None) (same_is ((h.state.block block).pair c).recorded (cap_right due.k)
+    (and_left (same_perm ((h.state.block block).pair c).recorded (cap_right due.k)) _ due.fits))
+    ∙ gives_some due.whole due.g due.k (and_left (cap_fits due.whole due.g due.k) _ fits)
+
 pub due-free : {w : ℕ} (config : Config) (log : Log w) → IsGiven config log → (c block : ℕ)
     → IsGrantDue c block (shadow config log).state → (n : ℕ)
     → is_free n None perm.Branch block (trace_of log) ≡ true
@@ -127,17 +136,6 @@ due-free {w} config log given c block due n = free-where n None perm.Branch bloc
     b : Block (List ℕ)
     b = (shadow config log).state.block block
 
-    parts : (same_perm (b.pair c).recorded (cap_right due.k) ≡ true) × (cap_fits due.whole due.g due.k ≡ true)
-    parts = (
-      and_left (same_perm (b.pair c).recorded (cap_right due.k)) _ due.fits,
-      and_left (cap_fits due.whole due.g due.k) _
-          (and_right (same_perm (b.pair c).recorded (cap_right due.k)) _ due.fits),
-    )
-
-    some : same_perm (b.pair c).recorded perm.None ≡ false
-    some = ap (λ (p : Perm). same_perm p perm.None) (same_is (b.pair c).recorded (cap_right due.k) parts.0)
-        ∙ gives_some due.whole due.g due.k parts.1
-
     held_low : same_perm (b.pair c).held perm.Trunk ≡ false
     held_low = asking_low due.whole due.g (b.pair c).held (acquire_fits due.whole due.g (b.pair c) (view b.service c)
         ((is.invariant.blocks block).phases c) due.wants)
@@ -147,7 +145,7 @@ due-free {w} config log given c block due n = free-where n None perm.Branch bloc
       where
         go : (x : Bool) → same_perm (b.pair other).recorded perm.Trunk ≡ x → x ≡ false
         go false e = refl
-        go true e = absurd (let no : false ≡ true = sym some
+        go true e = absurd (let no : false ≡ true = sym (due-recorded (shadow config log) c block due)
             ∙ (is.invariant.blocks block).one_owner other c e (λ same. ne (sym same)) in cc)
 
     at_most : (p q : Perm) → perm_le p q ≡ true → same_perm q perm.Trunk ≡ false → same_perm p perm.Trunk ≡ false
@@ -269,7 +267,8 @@ module _ {w : ℕ} (config : Config) (log : Log w) (given : IsGiven config log) 
           (own_kind (is_caching config) h.state c channel.D p.kind p.number rest is.invariant e) last.0 last.1
 
   -- a Grant that has begun is due
-  begun-due : (block : ℕ) (x : BeatD w) (older : List (Beat w)) → unfinished channel.D (flow c log) ≡ beat.D x ∷ older
+  pub begun-due : (block : ℕ) (x : BeatD w) (older : List (Beat w))
+      → unfinished channel.D (flow c log) ≡ beat.D x ∷ older
       → grants block x (flow c log) ≡ true → IsGrantDue c block h.state
   begun-due block x older begun_so granted = begun-on (IsGrantDue c block h.state) x older begun_so
       (λ i j due e. no_grant (ap (λ (z : BeatD w). z.opcode) e)

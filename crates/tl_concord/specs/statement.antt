@@ -3,3 +3,4 @@ pub mod Concord
 pub mod Responses
 pub mod Told
 pub mod WholeStores
+pub mod WritesBeside

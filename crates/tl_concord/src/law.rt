@@ -6,6 +6,7 @@ ghost use Rattle.tl_concord.specs.statement.Concord.{Concord};
 ghost use Rattle.tl_concord.specs.statement.Responses.{Responses};
 ghost use Rattle.tl_concord.specs.statement.Told.{TellsOfMemory};
 ghost use Rattle.tl_concord.specs.statement.WholeStores.{WholeStores};
+ghost use Rattle.tl_concord.specs.statement.WritesBeside.{WritesBesideNoGrant};
 
 /// Whatever happens to a manager and its clients, no beat of what their links carry, in the order of
 /// delivery, breaks a rule of its link, M1 or M4: a judge of all links finds nothing.
@@ -39,4 +40,10 @@ pub fn grants_undisturbed<const W: usize>()
 pub fn stores_whole_blocks_under_trunk<const W: usize>()
     requires { IsWidth W }
     ensures { WholeStores W }
+{}
+
+/// An access that writes is performed while no Grant of its block is on its way.
+pub fn writes_beside_no_grant<const W: usize>()
+    requires { IsWidth W }
+    ensures { WritesBesideNoGrant W }
 {}

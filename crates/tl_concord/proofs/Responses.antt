@@ -58,6 +58,7 @@ use Rattle.tl_coherence.proofs.queues.Codes.{access_kind}
 use Rattle.tl_coherence.proofs.queues.Facts.{acquire_fits, held_at_most}
 use Rattle.tl_coherence.proofs.queues.FirstToken.{IsFirst, first-token, own_kind}
 use Rattle.tl_coherence.proofs.queues.Phases.{and_left, and_right}
+use Rattle.tl_concord.proofs.Beats.{same_a, same_d}
 use Rattle.tl_concord.proofs.GrantAsked.{grant-block}
 use Rattle.tl_concord.proofs.GrantTold.{grant-burst, same_acquire}
 use Rattle.tl_concord.specs.statement.Responses.{IsRightBeat, Responses}
@@ -165,12 +166,6 @@ due-free {w} config log given c block due n = free-where n None perm.Branch bloc
     ]
 
 -- ---- a response that has begun
-
-same_d : {w : ℕ} (x y : BeatD w) → beat.D x ≡ beat.D y → x ≡ y
-same_d x y e = cc
-
-same_a : {w : ℕ} (x y : BeatA w) → beat.A x ≡ beat.A y → x ≡ y
-same_a x y e = cc
 
 acquire_source : {w : ℕ} (phase : AcquirePhase) (source n k : ℕ) (x : BeatA w)
     → beat.A x ≡ beat_of (acquire_of phase source n) k → x.source ≡ source

@@ -46,13 +46,8 @@ use Rattle.tl_coherence.proofs.protocol.HeadOfD.{answer-due, grant-due, grant-re
 use Rattle.tl_coherence.proofs.queues.Carried.{IsNext}
 use Rattle.tl_coherence.proofs.queues.FirstToken.{IsFirst, first-token}
 use Rattle.tl_coherence.proofs.queues.Tokens.{holds-first}
+use Rattle.tl_concord.proofs.Beats.{same_a, same_d}
 use Rattle.tl_concord.specs.statement.Accesses.{CarriesAccesses, HasCome, IsAnswered, IsAsked, IsOfAccess}
-
-same_a : {w : ℕ} (x y : BeatA w) → beat.A x ≡ beat.A y → x ≡ y
-same_a x y e = cc
-
-same_d : {w : ℕ} (x y : BeatD w) → beat.D x ≡ beat.D y → x ≡ y
-same_d x y e = cc
 
 -- the beat that is next of a message
 come-next : {w : ℕ} (m : Message w) (x : Beat w) (past : History w) (k : ℕ) → x ≡ beat_of m k

@@ -45,14 +45,12 @@ use Rattle.tl_coherence.proofs.protocol.HeadOfD.{grant-rendered, grant_message, 
 use Rattle.tl_coherence.proofs.queues.Carried.{IsNext}
 use Rattle.tl_coherence.proofs.queues.FirstToken.{IsFirst, first-token}
 use Rattle.tl_coherence.proofs.queues.Phases.{and_left, and_right}
+use Rattle.tl_concord.proofs.Beats.{same_d}
 use Rattle.tl_concord.proofs.Carried.{carried-begun}
 use Rattle.tl_concord.proofs.GrantAsked.{grant-asked}
 use Rattle.tl_concord.proofs.ReportTold.{IsToldBy, said_of}
 
-same_beat : {w : ℕ} (x y : BeatD w) → beat.D x ≡ beat.D y → x ≡ y
-same_beat x y e = cc
-
-same_acquire : (n j : ℕ) → Acquires n ≡ Acquires j → j ≡ n
+pub same_acquire : (n j : ℕ) → Acquires n ≡ Acquires j → j ≡ n
 same_acquire n j e = cc
 
 module _ {w : ℕ} (config : Config) (log : Log w) (given : IsGiven config log) (c : ℕ) (y : BeatD w)
@@ -121,18 +119,18 @@ module _ {w : ℕ} (config : Config) (log : Log w) (given : IsGiven config log) 
           due = grant-due (is_caching config) c i first.rest h.state is.invariant tokens
 
           beat_is : y ≡ d_beat_of (grant_sent c i h.state due) next.k
-          beat_is = same_beat y (d_beat_of (grant_sent c i h.state due) next.k)
+          beat_is = same_d y (d_beat_of (grant_sent c i h.state due) next.k)
               (next.beat_is ∙ ap (λ (z : Message w). beat_of z next.k) (grant-rendered c i h.state due))
       go Answer i tokens own next =
           let due = answer-due (is_caching config) c i first.rest h.mail h.state is.invariant (is.answered c i) tokens
           in
-          let e : y ≡ d_beat_of due.answer next.k = same_beat y (d_beat_of due.answer next.k)
+          let e : y ≡ d_beat_of due.answer next.k = same_d y (d_beat_of due.answer next.k)
           (next.beat_is ∙ ap (λ (m : Message w). beat_of m next.k) due.answer_is) in
           absurd (no_grant grant (ap (λ (z : BeatD w). z.opcode) e) (λ d f.
           let no : false ≡ true = sym (grants_no_access d) ∙ ap is_access_answer f ∙ due.answers_access in cc))
       go ReleaseAck i tokens own next =
           absurd (no_grant grant (ap (λ (z : BeatD w). z.opcode)
-          (same_beat y (d_beat_of (ack_message ((h.state.block i).release_source c)) next.k)
+          (same_d y (d_beat_of (ack_message ((h.state.block i).release_source c)) next.k)
           (next.beat_is ∙ acked i next.k))) not_ack)
         where
           acked : (i k : ℕ) → beat_of (message_of_kind ReleaseAck h.mail h.state c i) k

@@ -1,4 +1,5 @@
 pub mod Accesses
+pub mod Beats
 pub mod Carried
 pub mod GrantAsked
 pub mod GrantTold
@@ -6,3 +7,5 @@ pub mod Quiet
 pub mod ReportTold
 pub mod Responses
 pub mod Told
+pub mod WholeStores
+pub mod WritesBeside

@@ -49,6 +49,7 @@ use Rattle.tl_coherence.proofs.queues.Facts.{answered_other, granting_alone, is_
 use Rattle.tl_coherence.proofs.queues.FirstToken.{first-token}
 use Rattle.tl_coherence.proofs.queues.Phases.{and_left, and_right}
 use Rattle.tl_coherence.proofs.queues.Tokens.{holds-first}
+use Rattle.tl_concord.proofs.Beats.{same_c}
 use Rattle.tl_concord.proofs.Carried.{carried-begun}
 
 -- What a beat tells of a block is what the memory has, and what it says without telling is said by one who holds
@@ -80,9 +81,6 @@ other_ungranted Own e = absurd cc
 other_ungranted (Granting d k) e = absurd cc
 other_ungranted Acknowledging e = absurd cc
 other_ungranted GrantedOther e = absurd cc
-
-same_beat : {w : ℕ} (x y : BeatC w) → beat.C x ≡ beat.C y → x ≡ y
-same_beat x y e = cc
 
 same_said : (p q : Perm) → Some p ≡ Some q → q ≡ p
 same_said p q e = cc
@@ -119,7 +117,7 @@ module _ {w : ℕ} (config : Config) (log : Log w) (given : IsGiven config log) 
       past = flow c log
 
       same : y ≡ c_beat_of m k
-      same = same_beat y (c_beat_of m k) beat_is
+      same = same_c y (c_beat_of m k) beat_is
 
       of_block : block_at y.address ≡ n
       of_block = ap (λ (z : BeatC w). block_at z.address) same ∙ says.block

@@ -1,14 +1,16 @@
--- That responses go on as they began, and that no link may write a block while its Grant is on its way.
-use Rattle.std.specs.Prelude.{ℕ, true, List, ◌∷◌, ◌≡◌, None, ⊤}
+-- That responses go on as they began, that no request comes with the source of one that is on its way, and that no link
+-- may write a block while its Grant is.
+use Rattle.std.specs.Prelude.{ℕ, true, false, List, ◌∷◌, ◌≡◌, None, ⊤}
 use Rattle.tl_beat.specs.declared.beat.Beat.{Beat}
 use Rattle.tl_beat.specs.declared.beat.Beat.TheVariants as beat
+use Rattle.tl_beat.specs.declared.beat.BeatA.{BeatA}
 use Rattle.tl_beat.specs.declared.beat.BeatD.{BeatD}
 use Rattle.tl_beat.specs.declared.channel.Channel.TheVariants as channel
 use Rattle.tl_burst.specs.statement.Messages.{unfinished}
 use Rattle.tl_params.specs.declared.config.Config.{Config}
 use Rattle.tl_params.specs.declared.perm.Perm.TheVariants as perm
 use Rattle.tl_rules.specs.statement.Conformance.{Trace, on_link}
-use Rattle.tl_rules.specs.statement.History.{grants}
+use Rattle.tl_rules.specs.statement.History.{grants, is_release_ack}
 use Rattle.tl_rules.specs.statement.Windows.{is_free}
 use Rattle.tl_coherence.specs.statement.Flow.{EachTaken, trace_of}
 use Rattle.tl_coherence.specs.statement.Headline.{IsGiven}
@@ -22,9 +24,16 @@ pub record IsResponse {w : ℕ} (link : ℕ) (x : BeatD w) (t : Trace w) : Type 
   -- if it is of a Grant, no link holds Trunk of the block
   pub free : (n block : ℕ) → grants block x (on_link link t) ≡ true → is_free n None perm.Branch block t ≡ true
 
-abbrev pub IsRightResponse : {w : ℕ} → ℕ → Beat w → Trace w → Type 0
-IsRightResponse link (beat.D x) t = IsResponse link x t
-IsRightResponse link _ t = ⊤
+-- a beat of a request after t has the source of no response that is on its way, but of a ReleaseAck
+abbrev pub IsFreshRequest : {w : ℕ} → ℕ → BeatA w → Trace w → Type 0
+IsFreshRequest {w} link x t = (y : BeatD w) (older : List (Beat w))
+    → unfinished channel.D (on_link link t) ≡ beat.D y ∷ older → is_release_ack y.opcode ≡ false
+    → y.source ≡ x.source → ⊥
+
+abbrev pub IsRightBeat : {w : ℕ} → ℕ → Beat w → Trace w → Type 0
+IsRightBeat link (beat.D x) t = IsResponse link x t
+IsRightBeat link (beat.A x) t = IsFreshRequest link x t
+IsRightBeat link _ t = ⊤
 
 -- where a Grant has begun and isn't complete, no link holds Trunk of its block
 abbrev pub IsUndisturbed : {w : ℕ} → Trace w → Type 0
@@ -33,7 +42,7 @@ IsUndisturbed {w} t = (link n block : ℕ) (x : BeatD w) (older : List (Beat w))
     → is_free n None perm.Branch block t ≡ true
 
 pub record AreResponses {w : ℕ} (log : Log w) : Type 0 where
-  pub each : EachTaken (λ earlier link x. IsRightResponse link x (trace_of earlier)) log
+  pub each : EachTaken (λ earlier link x. IsRightBeat link x (trace_of earlier)) log
   pub undisturbed : IsUndisturbed (trace_of log)
 
 -- so are the responses of each world

@@ -23,9 +23,11 @@ two_digits x lt =
 abbrev spelled : List ℕ → List ℕ
 spelled xs =
     lane_char (get_or xs 7 0 / 16) ∷ lane_char ((get_or xs 7 0 * 16 % 256) / 16) ∷ lane_char (get_or xs 6 0 / 16)
-    ∷ lane_char ((get_or xs 6 0 * 16 % 256) / 16) ∷ lane_char (get_or xs 5 0 / 16) ∷ lane_char ((get_or xs 5 0 * 16 % 256) / 16)
+    ∷ lane_char ((get_or xs 6 0 * 16 % 256) / 16) ∷ lane_char (get_or xs 5 0 / 16) ∷ lane_char
+    ((get_or xs 5 0 * 16 % 256) / 16)
     ∷ lane_char (get_or xs 4 0 / 16) ∷ lane_char ((get_or xs 4 0 * 16 % 256) / 16) ∷ lane_char (get_or xs 3 0 / 16)
-    ∷ lane_char ((get_or xs 3 0 * 16 % 256) / 16) ∷ lane_char (get_or xs 2 0 / 16) ∷ lane_char ((get_or xs 2 0 * 16 % 256) / 16)
+    ∷ lane_char ((get_or xs 3 0 * 16 % 256) / 16) ∷ lane_char (get_or xs 2 0 / 16) ∷ lane_char
+    ((get_or xs 2 0 * 16 % 256) / 16)
     ∷ lane_char (get_or xs 1 0 / 16) ∷ lane_char ((get_or xs 1 0 * 16 % 256) / 16) ∷ lane_char (get_or xs 0 0 / 16)
     ∷ lane_char ((get_or xs 0 0 * 16 % 256) / 16) ∷ []
 
@@ -52,7 +54,8 @@ lane_digits-append (x ∷ xs) ys =
     (digits 2 x)
 
 -- the last lanes are written, and then the first
-pub halves-digits : (text one two xs front back : List ℕ) → one ≡ text ++ lane_digits back → two ≡ one ++ lane_digits front
+pub halves-digits : (text one two xs front back : List ℕ) → one ≡ text ++ lane_digits back
+    → two ≡ one ++ lane_digits front
     → xs ≡ front ++ back → two ≡ text ++ lane_digits xs
 halves-digits text one two xs front back e f whole =
     f ∙ ap (λ (t : List ℕ). t ++ lane_digits front) e ∙ append_assoc text (lane_digits back) (lane_digits front)

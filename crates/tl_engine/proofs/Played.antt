@@ -171,7 +171,8 @@ pub event-said : {w : ℕ} {E : Type 0} (trace : Bool) (old new : Contained w) (
     → said ≡ line_of.Event event → OnOk r (Happens trace old new event was is)
     → OnOk r (PlaysOn trace old new said was is)
 event-said trace old new said event was is (Err e) same happens = tt
-event-said trace old new said event was is (Ok x) same happens = rw same (event-plays trace old new event was is happens)
+event-said trace old new said event was is (Ok x) same happens =
+    rw same (event-plays trace old new event was is happens)
 
 -- a line that is read at its places
 pub line-said : {w : ℕ} (trace : Bool) (old new : Contained w) (line : List ℕ) (event : Event w) (was is : List ℕ)

@@ -11,7 +11,7 @@ use Rattle.tl_beat.proofs.ReadLines.{letter-named}
 use Rattle.tl_schedule.specs.declared.common.Common.{Common}
 use Rattle.tl_schedule.specs.declared.common.Common.TheVariants as common
 use Rattle.tl_schedule.specs.statement.CommonLine.{SpellsCommon, common_event}
-use Rattle.tl_schedule.specs.statement.EventLine.{Fits, SpellsEvent, event_of}
+use Rattle.tl_schedule.specs.statement.EventLine.{Fits, event_of}
 use Rattle.tl_schedule.specs.code.CommonReading.{HasFields, SpellsBody, common_said}
 use Rattle.tl_schedule.specs.code.FieldReading.{number_in, size_in}
 use Rattle.tl_schedule.proofs.SpelledFields.{number_taken, size_taken}

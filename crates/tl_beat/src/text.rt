@@ -4,7 +4,7 @@ ghost use Rattle.std.specs.Prelude.{◌≡◌, ◌<◌, ◌≤◌, ◌+◌, ◌*
 ghost use Rattle.tl_beat.specs.statement.Digits.{digit_char, digits, lane_digits, lanes_text, bit_text};
 ghost use Rattle.tl_beat.specs.statement.Width.{IsWidth};
 
-pub use crate::lanes::sixteen_digits;
+use crate::lanes::sixteen_digits;
 use arrayvec::ArrayVec;
 
 const DIGITS: [u8; 16] = *b"0123456789abcdef";

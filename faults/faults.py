@@ -23,6 +23,8 @@ COMMANDS = [
     "explain two_caches.trace",
     "explain wrong_report.trace",
     "explain H12",
+    "chart --block 000 --lines 12-40 two_caches.trace",
+    "chart wrong_report.trace",
     "run schedules/a_writer_becomes_a_reader.schedule",
     "run --trace schedules/sixteen_readers_and_a_put.schedule",
     "random --seed 1 --events 40",

@@ -22,7 +22,9 @@ PROBED_TOLD = """  4: 00 D Grant
   a Probe of block 00000000 is pending since line 3:
   3: 00 B ProbeBlock
 """
-# What the options of `random` take.
+# What the options of `chart` and `random` take.
+LINES = "the numbers of the first line and of the last, without leading zeros, as 2-80"
+BLOCK = "the number of a block in three digits or in seven, of 0 to 9 and a to f, as 00f"
 NUMBER = "a number from 0 to 18446744073709551615"
 LIST = "1 to 16 clients with commas between them, each UL, UH or C with its number of sources from 1 to 8, as C:2,C:2,UH:1"
 ROWS = [
@@ -45,6 +47,7 @@ ROWS = [
     ("tltool coherent a b", 2, "", "error: unexpected argument 'b' found.."),
     ("tltool coherent --width 4 two_caches.trace", 2, "", "error: unexpected argument '--width' found.."),
     ("tltool explain --help", 0, "..", ""),
+    ("tltool chart --help", 0, "..", ""),
     ("tltool run --help", 0, "..", ""),
     ("tltool explain", 2, "", "error: .."),
     ("tltool monitor two_caches.trace wrong_report.trace", 2, "", "error: unexpected argument 'wrong_report.trace' found.."),
@@ -57,6 +60,17 @@ ROWS = [
     ("tltool run --trace=x", 2, "", "error: .."),
     ("tltool run --trace --trace", 2, "", "error: .."),
     ("tltool decode --version", 2, "", "error: unexpected argument '--version' found.."),
+    # words of a chart
+    *(
+        (f"tltool chart --lines {word} two_caches.trace", 2, "", f"error: invalid value '{word}' for '--lines <A-B>': {LINES}\n..")
+        for word in ("5", "5-", "5-4", "0-4", "05-9", "1-2-3", "1-99999999999999999999", "a-b")
+    ),
+    *(
+        (f"tltool chart --block {word} two_caches.trace", 2, "", f"error: invalid value '{word}' for '--block <BBB>': {BLOCK}\n..")
+        for word in ("0", "00", "0000", "00F", "00g", "00000000")
+    ),
+    ("tltool chart --block", 2, "", "error: .."),
+    ("tltool chart a b", 2, "", "error: unexpected argument 'b' found.."),
     # words of a random schedule
     ("tltool random", 2, "", "error: the following required arguments were not provided:\n  --seed <N>.."),
     ("tltool random 1", 2, "", "error: unexpected argument '1' found.."),
@@ -121,6 +135,19 @@ ROWS = [
     ("tltool explain H12", 0, "H12 (ProbeAck, ProbeAckData): ..", ""),
     # a Grant of a block that is probed: the request and the Probe are told
     (f"{PROBED} >probed.trace; tltool explain probed.trace | grep -o '^  [a-z].*line .*\\|^  [0-9]*: .. . [A-Za-z]*'", 0, PROBED_TOLD, ""),
+    # charts
+    ("tltool chart two_caches.trace", 0, "<svg ..", ""),
+    ("tltool chart <two_caches.trace", 0, "<svg ..", ""),
+    ("tltool chart wrong_report.trace", 1, "<svg ..", ""),
+    ("tltool chart wrong_report.trace | grep -c \"<g class='X'>\"", 0, "2\n", ""),
+    ("tltool chart two_caches.trace | grep -c '<circle'", 0, "8\n", ""),
+    ("tltool chart --lines 14-24 --block 000 two_caches.trace | grep -c '<circle'", 0, "4\n", ""),
+    ("tltool chart --block 001 two_caches.trace | grep -c '<circle'", 1, "0\n", ""),
+    ("(cat two_caches.trace; echo '<x>&') | tltool chart | tail -n 3 | head -n 1", 0, "<text class='v' x='70' y='268'>line 31 F1</text>\n", ""),
+    ("tltool chart </dev/null | grep -c 'line 1 F7'", 0, "2\n", ""),
+    ("tltool chart nope.trace", 3, "", "tltool: cannot open nope.trace\n"),
+    ("tltool chart rules", 3, "", "tltool: read failed\n"),
+    ("tltool chart two_caches.trace >/dev/full", 3, "", "tltool: write failed\n"),
     # files and devices
     ("tltool monitor nope.trace", 3, "", "tltool: cannot open nope.trace\n"),
     ("tltool coherent nope.trace", 3, "", "tltool: cannot open nope.trace\n"),

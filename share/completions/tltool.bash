@@ -3,7 +3,7 @@ _tltool() {
     local current=${COMP_WORDS[COMP_CWORD]} previous=${COMP_WORDS[COMP_CWORD-1]} options=
     COMPREPLY=()
     if ((COMP_CWORD == 1)); then
-        COMPREPLY=($(compgen -W 'decode monitor coherent explain run random help --help --version -h -V' -- "$current"))
+        COMPREPLY=($(compgen -W 'decode monitor coherent explain chart run random help --help --version -h -V' -- "$current"))
         return
     fi
     if [[ $previous == --width ]]; then
@@ -19,9 +19,10 @@ _tltool() {
     monitor) options='--help -h' ;;
     coherent) options='--help -h' ;;
     explain) options='--help -h' ;;
+    chart) options='--lines --block --help -h' ;;
     run) options='--trace --help -h' ;;
     random) options='--seed --events --contend --clients --blocks --trackers --width --profile --help -h' ;;
-    help) COMPREPLY=($(compgen -W 'decode monitor coherent explain run random' -- "$current")); return ;;
+    help) COMPREPLY=($(compgen -W 'decode monitor coherent explain chart run random' -- "$current")); return ;;
     esac
     if [[ $current == -* || ${COMP_WORDS[1]} == random ]]; then
         COMPREPLY=($(compgen -W "$options" -- "$current"))

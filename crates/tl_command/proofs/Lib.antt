@@ -1,3 +1,4 @@
+pub mod ChartLines
 mod ClientWords
 mod NumberWords
 pub mod RandomOptions

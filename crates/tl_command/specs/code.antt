@@ -1,1 +1,2 @@
+pub mod ChartReading
 pub mod ClientReading

@@ -1,2 +1,3 @@
+pub mod ChartWords
 pub mod RandomWords
 pub mod Words

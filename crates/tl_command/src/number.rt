@@ -7,7 +7,7 @@ ghost use Rattle.tl_command.specs.statement.Words.{IsNamed, IsNumber};
 use itoa::Buffer;
 
 /// The number that a word spells in decimal, without a sign and without leading zeros.
-fn decimal(word: &str) -> Option<u64>
+pub(crate) fn decimal(word: &str) -> Option<u64>
     ensures { MatchOption result ((n : ℕ) → n < 2 ^ 64 → word.now ≢ fmt.decimal n) (λ n. word.now ≡ fmt.decimal n) }
 {
     let Ok(number) = word.parse::<u64>() else {

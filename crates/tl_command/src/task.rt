@@ -1,5 +1,6 @@
 //! What the words of the program ask for.
 
+use crate::chart::Range;
 use crate::command::Command;
 use crate::random::Options;
 
@@ -9,6 +10,11 @@ pub enum Task {
     /// A command over the file of this name, or over standard input.
     Read {
         command: Command,
+        file: Option<String>,
+    },
+    /// A chart of the trace in the file of this name, or on standard input.
+    Chart {
+        range: Range,
         file: Option<String>,
     },
     /// A random schedule.

@@ -1,3 +1,4 @@
+pub mod Charted
 pub mod Coherent
 pub mod Decoded
 pub mod Exit

@@ -48,7 +48,7 @@ use tl_rules::level::Level;
 use tl_rules::rule::Rule;
 
 /// The outcome of a run that writes into memory alone, where a writer fails for want of it.
-fn in_memory(outcome: Result<Status, ToolFault>) -> Result<Status, ToolFault>
+pub(crate) fn in_memory(outcome: Result<Status, ToolFault>) -> Result<Status, ToolFault>
     ensures ok { IfOk result (λ status. outcome ≡ Ok status) }
     ensures fault { IfErr result (λ fault. fault ≢ ToolFault.Write) }
     ensures done { IfOk outcome (λ status. result ≡ Ok status) }

@@ -2,6 +2,8 @@
 #![tactic(auto)]
 
 pub mod beat_judge;
+pub mod chart;
+pub mod charting;
 pub mod decoder;
 pub mod engine;
 pub mod examiner;

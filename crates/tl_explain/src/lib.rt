@@ -2,7 +2,7 @@
 #![tactic(auto)]
 
 mod answer;
-mod blocks;
+pub mod blocks;
 pub mod bursts;
 mod example;
 pub mod heading;
@@ -14,7 +14,7 @@ mod memory;
 mod missing;
 pub mod named;
 mod names;
-mod params;
+pub mod params;
 pub mod reason;
 pub mod recorder;
 mod sentence;

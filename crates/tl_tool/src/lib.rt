@@ -3,8 +3,8 @@
 
 pub use tl_command::{random, random_words, task};
 pub use tl_engine::{
-    beat_judge, command, decoder, engine, explain, explain_fault, fault, header, law, line_handler,
-    lines, monitor_lines, named, output, play, run_lines, status, tool, trace_header,
+    beat_judge, chart, command, decoder, engine, explain, explain_fault, fault, header, law,
+    line_handler, lines, monitor_lines, named, output, play, run_lines, status, tool, trace_header,
 };
 pub use tl_random::schedule;
 pub use tl_words::words;

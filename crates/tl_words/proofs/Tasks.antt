@@ -3,10 +3,12 @@ use Rattle.std.proofs.Common.{◌≡◌, true, false, List, refl, sym, subst, co
 use Rattle.std.specs.Prelude.{IfErr, IfOk, Option, Some, None}
 use Rattle.std.specs.Str.{bytes_eq}
 use Rattle.std.proofs.lemmas.Slice.Eq.{bytes_eq-Decides}
-use Rattle.clap.specs.Words.{Row, Text, subcommand_of}
+use Rattle.clap.specs.Words.{Row, Text, first_of, subcommand_of}
 use Rattle.tl_command.specs.declared.random_words.RandomOption.{RandomOption}
 use Rattle.tl_command.specs.declared.task.Task.{Task}
-use Rattle.tl_command.specs.declared.task.Task.TheVariants.{Draw, Read}
+use Rattle.tl_command.specs.declared.task.Task.TheVariants.{Chart, Draw, Read}
+use Rattle.tl_command.specs.declared.chart.Range.{Range}
+use Rattle.tl_command.specs.statement.ChartWords.{IsRange}
 use Rattle.tl_command.specs.statement.RandomWords.{IsWrong, Words}
 use Rattle.tl_command.proofs.RandomOptions.{wrong_for_all}
 use Rattle.tl_words.specs.declared.words.WordsFault.{WordsFault}
@@ -41,13 +43,27 @@ words_alike t u v w x y z o = rw (t, u, v, w, x, y, z, o) refl
 pub no_draw : (rows : List Row) (option : RandomOption) → IsWrong (words_in rows) option → (task : Task)
     → ¬ IsTaskOf (codes "random") rows task
 no_draw rows option wrong (Read command file) is = let none = is.0 in absurd cc
+no_draw rows option wrong (Chart range file) is = let none = is.0 in absurd cc
 no_draw rows option wrong (Draw options) is = wrong_for_all (words_in rows) option wrong options is.1
 
--- a name that is no command's, and not `random`, asks for nothing
+-- the same words name the same lines and block
+pub range_alike : (range : Range) {a b x y : Option Text} → a ≡ x → b ≡ y → IsRange a b range → IsRange x y range
+range_alike range {a} {b} {x} {y} p q is =
+    subst (λ (o : Option Text). IsRange o y range) p (subst (λ (o : Option Text). IsRange a o range) q is)
+
+-- words that name no lines, or no block, ask for nothing
+pub no_chart : (rows : List Row) → ((range : Range) → ¬ IsRange (first_of (codes "lines") rows)
+    (first_of (codes "block") rows) range) → (task : Task) → ¬ IsTaskOf (codes "chart") rows task
+no_chart rows wrong (Read command file) is = let none = is.0 in absurd cc
+no_chart rows wrong (Chart range file) is = wrong range is.1
+no_chart rows wrong (Draw options) is = let none = is.0 in absurd cc
+
+-- a name that is no command's, and neither `chart` nor `random`, asks for nothing
 pub no_read : (name : Text) (rows : List Row) → command_in name rows ≡ None → bytes_eq name (codes "random") ≡ false
-    → (task : Task) → ¬ IsTaskOf name rows task
-no_read name rows none other (Read command file) is = let some = is.0 in absurd cc
-no_read name rows none other (Draw options) is = let same = is.0 in absurd cc
+    → bytes_eq name (codes "chart") ≡ false → (task : Task) → ¬ IsTaskOf name rows task
+no_read name rows none other another (Read command file) is = let some = is.0 in absurd cc
+no_read name rows none other another (Chart range file) is = let same = is.0 in absurd cc
+no_read name rows none other another (Draw options) is = let same = is.0 in absurd cc
 
 module _ (texts : List Text) (name : Text) (rows : List Row) (is : subcommand_of tool_of texts ≡ Some (name, rows))
   where
@@ -64,15 +80,15 @@ module _ (texts : List Text) (name : Text) (rows : List Row) (is : subcommand_of
     task_refused (Err fault.Memory) none = tt
     task_refused (Err (fault.Usage error)) none = inr (subst AsksNothing (sym is) none.0, none.1)
 
--- the name that the words have is `random`
-pub named_random : (name : Text) → bytes_eq name (codes "random") ≡ true → name ≡ codes "random"
-named_random name is = (bytes_eq-Decides name (codes "random")).0 is
+-- the name that the words have is this one
+pub named_so : (name word : Text) → bytes_eq name word ≡ true → name ≡ word
+named_so name word is = (bytes_eq-Decides name word).0 is
 
--- so what `random` asks for is what a subcommand of this name does
-pub drawn_so : (name : Text) (rows : List Row) (r : Result Task WordsFault) → name ≡ codes "random"
-    → IfOk r (IsTaskOf (codes "random") rows) → IfOk r (IsTaskOf name rows)
-drawn_so name rows r e asked = subst (λ (x : Text). IfOk r (IsTaskOf x rows)) (sym e) asked
+-- so what this command asks for is what a subcommand of the name does
+pub asked_so : (name word : Text) (rows : List Row) (r : Result Task WordsFault) → name ≡ word
+    → IfOk r (IsTaskOf word rows) → IfOk r (IsTaskOf name rows)
+asked_so name word rows r e asked = subst (λ (x : Text). IfOk r (IsTaskOf x rows)) (sym e) asked
 
-pub undrawn_so : (name : Text) (rows : List Row) (r : Result Task WordsFault) → name ≡ codes "random"
-    → IfErr r (IsFaultOf (codes "random") rows) → IfErr r (IsFaultOf name rows)
-undrawn_so name rows r e none = subst (λ (x : Text). IfErr r (IsFaultOf x rows)) (sym e) none
+pub unasked_so : (name word : Text) (rows : List Row) (r : Result Task WordsFault) → name ≡ word
+    → IfErr r (IsFaultOf word rows) → IfErr r (IsFaultOf name rows)
+unasked_so name word rows r e none = subst (λ (x : Text). IfErr r (IsFaultOf x rows)) (sym e) none

@@ -7,7 +7,8 @@ use Rattle.clap.specs.Words.{App, Row, Rule, Text, first_of, new_app, new_rule, 
 use Rattle.tl_command.specs.declared.command.Command.{Command}
 use Rattle.tl_command.specs.declared.command.Command.TheVariants.{Coherent, Decode, Explain, Monitor, Run}
 use Rattle.tl_command.specs.declared.task.Task.{Task}
-use Rattle.tl_command.specs.declared.task.Task.TheVariants.{Draw, Read}
+use Rattle.tl_command.specs.declared.task.Task.TheVariants.{Chart, Draw, Read}
+use Rattle.tl_command.specs.statement.ChartWords.{IsRange}
 use Rattle.tl_command.specs.statement.RandomWords.{AreOptions, Words}
 use Rattle.tl_command.specs.statement.Words.{width_named}
 
@@ -34,6 +35,11 @@ coherent_of = with_rule (new_app (codes "coherent")) (new_rule (codes "FILE"))
 -- `explain [FILE]`
 abbrev pub explain_of : App
 explain_of = with_rule (new_app (codes "explain")) (new_rule (codes "FILE"))
+
+-- `chart [--lines A-B] [--block BBB] [FILE]`
+abbrev pub chart_of : App
+chart_of = with_rule (with_rule (with_rule (new_app (codes "chart")) (valued_rule (codes "lines")))
+    (valued_rule (codes "block"))) (new_rule (codes "FILE"))
 
 -- `--trace`
 abbrev pub trace_rule : Rule
@@ -80,9 +86,13 @@ judging_of = with_subcommand reading_of coherent_of.top
 abbrev pub explaining_of : App
 explaining_of = with_subcommand judging_of explain_of.top
 
+-- and with the one that charts
+abbrev pub charting_of : App
+charting_of = with_subcommand explaining_of chart_of.top
+
 -- and with the one that plays
 abbrev pub playing_of : App
-playing_of = with_subcommand explaining_of run_of.top
+playing_of = with_subcommand charting_of run_of.top
 
 -- and with the one that draws
 abbrev pub tool_of : App
@@ -123,8 +133,12 @@ words_in rows = record {
   contend = first_of (codes "contend") rows;
 }
 
--- what a subcommand's name and entries ask for: a command over FILE, or a random schedule
+-- what a subcommand's name and entries ask for: a command over FILE, a chart of it, or a random schedule
 abbrev pub IsTaskOf : Text → List Row → Task → Type 0
 IsTaskOf name rows (Read command file) =
     (command_in name rows ≡ Some command) × (option_map string_bytes file ≡ file_in rows)
+IsTaskOf name rows (Chart range file) =
+    (bytes_eq name (codes "chart") ≡ true)
+    × IsRange (first_of (codes "lines") rows) (first_of (codes "block") rows) range
+    × (option_map string_bytes file ≡ file_in rows)
 IsTaskOf name rows (Draw options) = (bytes_eq name (codes "random") ≡ true) × AreOptions (words_in rows) options

@@ -20,6 +20,14 @@ pub const PROFILE: &str = "The profile, 1 or 2 [default: 1]";
 pub const CONTEND: &str =
     "Of how many blocks, from the first on, most operations speak [default: 2, or the blocks if fewer]";
 
+/// What help says of `--lines`.
+pub const LINES: &str =
+    "The first line and the last that are drawn [default: the first 200 messages]";
+
+/// What help says of `--block`.
+pub const BLOCK: &str =
+    "The one block that is drawn, with what each client holds of it: three hex digits, or seven";
+
 /// What stands behind the options of a command: what is said of its codes, the codes that it can write, each
 /// with what it says, the exit status, and examples.
 macro_rules! outcomes {
@@ -160,6 +168,17 @@ pub const TOGETHER: &str = outcomes_of_a_trace!(
     "\n  tltool coherent rules/M1.trace",
     "\n  tltool explain M1",
     "\n  tltool run --trace schedules/a_writer_becomes_a_reader.schedule | tltool coherent",
+);
+
+/// Behind the options of `chart`.
+pub const CHART: &str = outcomes_of_a_trace!(
+    "In a chart it stands below the last row, and the beat at fault is red. `tltool explain FILE` says\n",
+    "why.\n",
+    ;
+    ;
+    "\n  tltool chart two_caches.trace >two_caches.svg",
+    "\n  tltool chart --block 000 --lines 14-30 two_caches.trace >block.svg",
+    "\n  tltool run --trace schedules/a_release_races_with_a_probe.schedule | tltool chart >race.svg",
 );
 
 /// Behind the options of `run`.

@@ -1,6 +1,7 @@
 //! Reads the program's words: `tltool decode [--width 4|8|16] [FILE]`, `tltool monitor [FILE]`,
-//! `tltool coherent [FILE]`, `tltool explain FILE`, `tltool run [--trace] [FILE]`, `tltool random --seed N` with
-//! its options, and those that ask for help or the version.
+//! `tltool coherent [FILE]`, `tltool explain FILE`, `tltool chart [--lines A-B] [--block BBB] [FILE]`,
+//! `tltool run [--trace] [FILE]`, `tltool random --seed N` with its options, and those that ask for help or the
+//! version.
 
 ghost use Rattle.std.specs.Prelude.{◌≡◌, IfOk, IfErr, true, false, List, Some, bytes_eq, codes, map, option_map};
 ghost use Rattle.std.specs.String.{string_bytes};
@@ -9,7 +10,8 @@ ghost use Rattle.clap.specs.Words.{kind_of, rows_of, rule_of, subcommand_of};
 ghost use Rattle.clap.specs.declared.builder.command.Command.TheViews.{out-Command};
 ghost use Rattle.tl_words.specs.Refused.{IsFaultOf, IsRefusal, status_of_usage, usage_status, words_fault};
 ghost use Rattle.tl_command.specs.statement.RandomWords.{words_of};
-ghost use Rattle.tl_words.specs.Tool.{IsTaskOf, coherent_of, command_named, decode_of, drawing_of, explain_of};
+ghost use Rattle.tl_words.specs.Tool.{IsTaskOf, chart_of, charting_of, coherent_of, command_named, decode_of};
+ghost use Rattle.tl_words.specs.Tool.{drawing_of, explain_of};
 ghost use Rattle.tl_words.specs.Tool.{explaining_of, flag_named, judging_of, monitor_of, playing_of, random_of};
 ghost use Rattle.tl_words.specs.Tool.{reading_of, run_of, sizing_of, tool_of, valued_rule, words_in};
 
@@ -17,6 +19,7 @@ use crate::help;
 use clap::error::ErrorKind;
 use clap::{Arg, ArgAction, ArgMatches};
 use std::alloc::{AllocError, Global};
+use tl_command::chart::{ChartOption, range_named};
 use tl_command::command::Command;
 use tl_command::random_words::{RandomOption, RandomWords, options_named};
 use tl_command::task::Task;
@@ -120,6 +123,21 @@ fn explain<'a>(alloc: Global) -> Result<clap::Command<'a>, AllocError>
         .arg(file)
 }
 
+fn chart<'a>(alloc: Global) -> Result<clap::Command<'a>, AllocError>
+    ensures app { IfOk result (λ c. app_of c ≡ chart_of) }
+    ensures local { IfOk result (λ c. (out-Command c).has_globals ≡ false) }
+{
+    let lines = valued(alloc, "lines", "A-B", help::LINES);
+    let block = valued(alloc, "block", "BBB", help::BLOCK);
+    let file = Arg::new(alloc, "FILE").help(FILE_HELP);
+    clap::Command::new(alloc, "chart")
+        .about("Draws the messages of a recorded trace: a sequence chart, in SVG")
+        .after_help(help::CHART)
+        .arg(lines)?
+        .arg(block)?
+        .arg(file)
+}
+
 fn run<'a>(alloc: Global) -> Result<clap::Command<'a>, AllocError>
     ensures app { IfOk result (λ c. app_of c ≡ run_of) }
     ensures local { IfOk result (λ c. (out-Command c).has_globals ≡ false) }
@@ -167,12 +185,20 @@ fn explaining<'a>(alloc: Global) -> Result<clap::Command<'a>, AllocError>
     judging(alloc)?.subcommand(explain)
 }
 
+/// The program with its commands that read traces, explain them and draw them.
+fn charting<'a>(alloc: Global) -> Result<clap::Command<'a>, AllocError>
+    ensures { IfOk result (λ c. app_of c ≡ charting_of) }
+{
+    let chart = chart(alloc)?;
+    explaining(alloc)?.subcommand(chart)
+}
+
 /// The program with its commands that read.
 fn playing<'a>(alloc: Global) -> Result<clap::Command<'a>, AllocError>
     ensures { IfOk result (λ c. app_of c ≡ playing_of) }
 {
     let run = run(alloc)?;
-    explaining(alloc)?.subcommand(run)
+    charting(alloc)?.subcommand(run)
 }
 
 /// An option with a value.
@@ -371,9 +397,56 @@ fn draw(alloc: Global, found: &ArgMatches) -> Result<Task, WordsFault>
     }
 }
 
+/// The error of an option of `chart` whose word stands for nothing.
+fn wrong_range(
+    alloc: Global,
+    option: ChartOption,
+    word: Option<&str>,
+) -> Result<clap::Error, AllocError>
+    ensures { IfOk result (λ error. status_of_usage error ≡ 2) }
+{
+    let (word, name, wanted) = (word.unwrap_or(""), option.name(), option.wanted());
+    let message = format!(in alloc; "invalid value '{word}' for '{name}': {wanted}")?;
+    let mut chart = chart(alloc)?.bin_name("tltool chart")?;
+    chart.error(ErrorKind::InvalidValue, message.as_str())
+}
+
+/// The word of an option of `chart`.
+fn word_of<'a>(
+    option: ChartOption,
+    lines: Option<&'a str>,
+    block: Option<&'a str>,
+) -> Option<&'a str> {
+    match option {
+        ChartOption::Lines => lines,
+        ChartOption::Block => block,
+    }
+}
+
+/// The chart that the entries of `chart` ask for.
+fn draw_chart(alloc: Global, found: &ArgMatches) -> Result<Task, WordsFault>
+    ensures drawn { IfOk result (IsTaskOf (codes "chart") (rows_of (found_of found.now))) }
+    ensures wrong { IfErr result (IsFaultOf (codes "chart") (rows_of (found_of found.now))) }
+{
+    let lines = found.get_str("lines");
+    let block = found.get_str("block");
+    let name_of_file = found.get_str("FILE");
+    match range_named(lines, block) {
+        Ok(range) => {
+            let file = copied(alloc, name_of_file)?;
+            Ok(Task::Chart { range, file })
+        }
+        Err(option) => {
+            let error = wrong_range(alloc, option, word_of(option, lines, block))?;
+            Err(WordsFault::Usage(error))
+        }
+    }
+}
+
 /// What the entries of a command ask for that reads.
 fn read(alloc: Global, name: &str, found: &ArgMatches) -> Result<Task, WordsFault>
-    requires { bytes_eq name.now (codes "random") ≡ false }
+    requires random { bytes_eq name.now (codes "random") ≡ false }
+    requires chart { bytes_eq name.now (codes "chart") ≡ false }
     ensures read { IfOk result (IsTaskOf name.now (rows_of (found_of found.now))) }
     ensures wrong { IfErr result (IsFaultOf name.now (rows_of (found_of found.now))) }
 {
@@ -403,6 +476,8 @@ pub fn invocation(alloc: Global, words: &[String]) -> Result<Task, WordsFault>
     };
     if name == "random" {
         draw(alloc, found)
+    } else if name == "chart" {
+        draw_chart(alloc, found)
     } else {
         read(alloc, name, found)
     }

@@ -1,16 +1,19 @@
-//! `tltool`: reads and judges TileLink traces, and writes and plays schedules.
+//! `tltool`: reads, judges and draws TileLink traces, and writes and plays schedules.
 #![tactic(auto)]
 
 ghost use Rattle.std.specs.Prelude.{◌≡◌, IfOk, OnOk, OnErr, Err};
 ghost use Rattle.tl_engine.specs.statement.Exit.{exit_status};
-ghost use Rattle.tltool.specs.Ended.{EndsAs, EndsDrawn, EndsExplained, EndsOver, IsRefused, explain_status};
+ghost use Rattle.tltool.specs.Ended.{EndsAs, EndsCharted, EndsDrawn, EndsExplained, EndsOver, IsRefused};
+ghost use Rattle.tltool.specs.Ended.{explain_status};
 
 use std::fs::File;
 use std::io::{Read, Write};
 use std::process::ExitCode;
 use std::{env, fs, io};
+use tl_command::chart::Range;
 use tl_command::random::Options;
 use tl_command::task::Task;
+use tl_engine::chart::{Window, chart_input, window_of};
 use tl_engine::command::Command;
 use tl_engine::explain::explain_input;
 use tl_engine::explain_fault::ExplainFault;
@@ -178,10 +181,37 @@ fn draw<W: Write>(rt: &HostRuntime, options: &Options, output: &mut W) -> u8
     told(rt, written.map(|_| Status::Clean))
 }
 
+/// Draws what a reader gives.
+fn chart_over<R: Read, W: Write>(
+    rt: &HostRuntime,
+    window: Window,
+    input: &mut R,
+    output: &mut W,
+) -> u8
+    ensures { EndsCharted (R.remaining input.old) (R.remaining input.new) (W.contents output.old)
+        (W.contents output.new) result }
+{
+    told(rt, chart_input(rt.alloc(), window, input, output))
+}
+
+/// Draws a chart of the trace on standard input, or in the file of this name.
+fn chart(rt: &HostRuntime, range: Range, name: Option<String>) -> u8 {
+    let window = window_of(range);
+    let mut output = io::writer(rt);
+    match name {
+        None => chart_over(rt, window, &mut rt.reader(), &mut output),
+        Some(name) => match fs::open(rt, name.as_str()) {
+            Ok(mut file) => chart_over(rt, window, &mut file, &mut output),
+            Err(_) => unopened(rt, name.as_str()),
+        },
+    }
+}
+
 /// Does what the words of the program ask for.
 fn run(rt: &HostRuntime, task: Task) -> u8 {
     match task {
         Task::Read { command, file } => read(rt, command, file),
+        Task::Chart { range, file } => chart(rt, range, file),
         Task::Draw { options } => draw(rt, &options, &mut io::writer(rt)),
     }
 }

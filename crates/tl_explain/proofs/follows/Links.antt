@@ -249,7 +249,7 @@ released_step (beat.C x) h s = released_if _ x (release_of s h)
 released_step (beat.D x) h s = refl
 released_step (beat.E x) h s = refl
 
-blocks_taken : {w : ℕ} (b c : Blocks) (y : Beat w) (h : History w) (first : Bool) → first ≡ begins y h
+pub blocks_taken : {w : ℕ} (b c : Blocks) (y : Beat w) (h : History w) (first : Bool) → first ≡ begins y h
     → ((s : ℕ) → at c.asked s ≡ asked_next first y s (at b.asked s))
     → ((s : ℕ) → at c.released s ≡ released_next first y s (at b.released s)) → AreBlocks b h → AreBlocks c (y ∷ h)
 blocks_taken b c y h first is asked released are = record {
@@ -257,7 +257,7 @@ blocks_taken b c y h first is asked released are = record {
   released_are = λ s. released s ∙ rw (is, are.released_are s) (released_step y h s);
 }
 
-on_own_link : {w : ℕ} (n : ℕ) (x : Link × Beat w) (t : Trace w) → (x.0.0 == n) ≡ true
+pub on_own_link : {w : ℕ} (n : ℕ) (x : Link × Beat w) (t : Trace w) → (x.0.0 == n) ≡ true
     → on_link n (x ∷ t) ≡ x.1 ∷ on_link n t
 unfolding on_link
 on_own_link n x t own = rw own refl

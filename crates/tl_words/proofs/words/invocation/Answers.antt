@@ -1,5 +1,5 @@
 use Rattle.std.proofs.Common.{ap, ap₂, refl, rules, sym, Bool, true, false, inl, ◌≡◌, ◌∙◌, List, map, subst}
-use Rattle.std.proofs.Common.{Result, Ok, Err}
+use Rattle.std.proofs.Common.{Result, Ok, Err, codes}
 use Rattle.std.specs.Prelude.{IfErr, Option, Some, None, option_map, Box, if◌then◌else◌}
 use Rattle.std.specs.Result.{IsErrAnd}
 use Rattle.std.specs.Box.{box_value}
@@ -16,7 +16,7 @@ use Rattle.clap.specs.declared.error.Error.{Error}
 use Rattle.tl_words.specs.declared.words.WordsFault.{WordsFault}
 use Rattle.tl_words.specs.declared.words.WordsFault.TheVariants as words
 use Rattle.tl_words.specs.Refused.{AreRefused, IsRefusal, is_want_of_memory, words_fault}
-use Rattle.tl_words.proofs.Tasks.{drawn_so, named_random, task_given, task_refused, undrawn_so}
+use Rattle.tl_words.proofs.Tasks.{asked_so, named_so, task_given, task_refused, unasked_so}
 use Rattle.tl_words.specs.Tool.{tool_of}
 use Rattle.tl_words.proofs.words.invocation.Goals as goal
 
@@ -83,8 +83,8 @@ returns-then-eq-clause-given c =
     (c.in_ok-matches.ensures.ok.2 (ap is_simple c.in_ok-tool.ensures ∙ simple)).1 c.in-Some.ensures.name
     c.in-Some.ensures.rows in
     task_given texts c.in-Some.name.now rows is c.draw.result
-    (drawn_so c.in-Some.name.now rows c.draw.result (named_random c.in-Some.name.now (search rules))
-    c.draw.ensures.drawn)
+    (asked_so c.in-Some.name.now (codes "random") rows c.draw.result
+    (named_so c.in-Some.name.now (codes "random") (search rules)) c.draw.ensures.drawn)
 
 pub returns-then-eq-clause-refused : goal.returns-then-eq-clause-refused
 returns-then-eq-clause-refused c =
@@ -94,8 +94,30 @@ returns-then-eq-clause-refused c =
     (c.in_ok-matches.ensures.ok.2 (ap is_simple c.in_ok-tool.ensures ∙ simple)).1 c.in-Some.ensures.name
     c.in-Some.ensures.rows in
     task_refused texts c.in-Some.name.now rows is c.draw.result
-    (undrawn_so c.in-Some.name.now rows c.draw.result (named_random c.in-Some.name.now (search rules))
-    c.draw.ensures.wrong)
+    (unasked_so c.in-Some.name.now (codes "random") rows c.draw.result
+    (named_so c.in-Some.name.now (codes "random") (search rules)) c.draw.ensures.wrong)
+
+pub returns-then-eq-2-clause-given : goal.returns-then-eq-2-clause-given
+returns-then-eq-2-clause-given c =
+    let texts = map string_bytes c.args.words.now in
+    let rows = rows_of (found_of c.in-Some.found.now) in
+    let is = chosen texts _ c.in_ok-matches.matches c.in-Some.name.now rows c.in_ok-tool.ensures
+    (c.in_ok-matches.ensures.ok.2 (ap is_simple c.in_ok-tool.ensures ∙ simple)).1 c.in-Some.ensures.name
+    c.in-Some.ensures.rows in
+    task_given texts c.in-Some.name.now rows is c.draw_chart.result
+    (asked_so c.in-Some.name.now (codes "chart") rows c.draw_chart.result
+    (named_so c.in-Some.name.now (codes "chart") (search rules)) c.draw_chart.ensures.drawn)
+
+pub returns-then-eq-2-clause-refused : goal.returns-then-eq-2-clause-refused
+returns-then-eq-2-clause-refused c =
+    let texts = map string_bytes c.args.words.now in
+    let rows = rows_of (found_of c.in-Some.found.now) in
+    let is = chosen texts _ c.in_ok-matches.matches c.in-Some.name.now rows c.in_ok-tool.ensures
+    (c.in_ok-matches.ensures.ok.2 (ap is_simple c.in_ok-tool.ensures ∙ simple)).1 c.in-Some.ensures.name
+    c.in-Some.ensures.rows in
+    task_refused texts c.in-Some.name.now rows is c.draw_chart.result
+    (unasked_so c.in-Some.name.now (codes "chart") rows c.draw_chart.result
+    (named_so c.in-Some.name.now (codes "chart") (search rules)) c.draw_chart.ensures.wrong)
 
 pub returns-clause-given : goal.returns-clause-given
 returns-clause-given c =

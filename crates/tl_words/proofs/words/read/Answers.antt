@@ -12,7 +12,8 @@ returns-in_default-clause-wrong c = (
       (c.get_str-trace.ensures ∙ first_value-rows (found_of c.args.found.now) (codes "trace"))
       (c.get_str-name_of_file.ensures ∙ first_value-rows (found_of c.args.found.now) (codes "FILE")) ∙ sym
       c.in_default.ensures)
-      c.requires,
+      c.requires.random
+      c.requires.chart,
   c.in_ok-wrong_words.ensures,
 )
 

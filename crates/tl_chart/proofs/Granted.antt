@@ -1,0 +1,37 @@
+-- The blocks of a link, with one more beat.
+use Rattle.std.proofs.Common.{◌≡◌, ℕ, Bool, [], ◌∷◌, refl, ◌∙◌}
+use Rattle.std.specs.Prelude.{Option, None}
+use Rattle.tl_beat.specs.declared.beat.Beat.{Beat}
+use Rattle.tl_beat.specs.declared.beat.Beat.TheVariants as beat
+use Rattle.tl_burst.specs.statement.Messages.{History}
+use Rattle.tl_chart.specs.code.Gathered.{KnowsBlocks, granted_next}
+use Rattle.tl_chart.specs.declared.blocks.LinkBlocks.{LinkBlocks}
+use Rattle.tl_chart.specs.statement.Messages.{block_granted}
+use Rattle.tl_explain.proofs.follows.Links.{blocks_taken}
+use Rattle.tl_explain.specs.code.Recorded.{AreBlocks, asked_next, block_of, released_next}
+use Rattle.tl_monitor.specs.code.Count.{at}
+use Rattle.tl_rules.specs.statement.History.{begins}
+
+pub granted_none : (w s : ℕ) → block_granted {w = w} s [] ≡ None
+unfolding block_granted
+granted_none w s = refl
+
+granted_step : {w : ℕ} (y : Beat w) (h : History w) (s : ℕ)
+    → granted_next (begins y h) y (block_of y h) s (block_granted s h) ≡ block_granted s (y ∷ h)
+unfolding block_granted
+granted_step (beat.A x) h s = refl
+granted_step (beat.B x) h s = refl
+granted_step (beat.C x) h s = refl
+granted_step (beat.D x) h s = refl
+granted_step (beat.E x) h s = refl
+
+pub granted_taken : {w : ℕ} (b c : LinkBlocks) (y : Beat w) (h : History w) (first : Bool) (block : Option ℕ)
+    → first ≡ begins y h → (AreBlocks b.blocks h → block ≡ block_of y h)
+    → ((s : ℕ) → at c.granted s ≡ granted_next first y block s (at b.granted s))
+    → ((s : ℕ) → at c.blocks.asked s ≡ asked_next first y s (at b.blocks.asked s))
+    → ((s : ℕ) → at c.blocks.released s ≡ released_next first y s (at b.blocks.released s))
+    → KnowsBlocks b h → KnowsBlocks c (y ∷ h)
+granted_taken b c y h first block is of granted asked released knows = record {
+  blocks_are = blocks_taken b.blocks c.blocks y h first is asked released knows.blocks_are;
+  granted_are = λ s. granted s ∙ rw (is, of knows.blocks_are, knows.granted_are s) (granted_step y h s);
+}

@@ -1,0 +1,5 @@
+pub mod Continuing
+pub mod Gathering
+pub mod Granted
+pub mod Linked
+pub mod Texts

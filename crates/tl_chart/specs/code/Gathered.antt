@@ -1,0 +1,42 @@
+-- What a gatherer has of a trace.
+use Rattle.std.specs.Prelude.{ℕ, Bool, List, ◌≡◌, ◌<◌, ◌==◌, ◌&&◌, if◌then◌else◌, length, slice_index_or, Option}
+use Rattle.tl_beat.specs.declared.beat.Beat.{Beat}
+use Rattle.tl_beat.specs.declared.beat.Beat.TheVariants as beat
+use Rattle.tl_burst.specs.statement.Messages.{History}
+use Rattle.tl_chart.specs.declared.blocks.LinkBlocks.{LinkBlocks}
+use Rattle.tl_chart.specs.declared.gatherer.Gatherer.{Gatherer}
+use Rattle.tl_chart.specs.statement.Drawn.{Drawn, drawn}
+use Rattle.tl_chart.specs.statement.Messages.{block_granted}
+use Rattle.tl_explain.specs.code.Recorded.{AreBlocks}
+use Rattle.tl_monitor.specs.code.Count.{at}
+use Rattle.tl_rules.specs.statement.Conformance.{Trace, on_link}
+use Rattle.tl_rules.specs.statement.History.{is_grant}
+
+-- the blocks of the last messages of a link with each source or sink
+pub record KnowsBlocks {w : ℕ} (b : LinkBlocks) (t : History w) : Type 0 where
+  pub blocks_are : AreBlocks b.blocks t
+  pub granted_are : (s : ℕ) → at b.granted s ≡ block_granted s t
+
+-- the block of the last Grant with a sink, with one more beat, whose message is of this block
+abbrev pub granted_next : {w : ℕ} → Bool → Beat w → Option ℕ → ℕ → Option ℕ → Option ℕ
+granted_next first (beat.D x) block s before = if first && (is_grant x.opcode && (x.sink == s)) then block else before
+granted_next first _ block s before = before
+
+-- the blocks of each link are known
+abbrev pub KnowLinks : {w : ℕ} → List LinkBlocks → Trace w → Type 0
+KnowLinks links t = (n : ℕ) (d : LinkBlocks) → n < length links → KnowsBlocks (slice_index_or links n d) (on_link n t)
+
+-- what has been gathered
+abbrev pub drawn_of : Gatherer → Drawn
+drawn_of g = record {
+  arrows = g.arrows.items;
+  marks = g.marks.items;
+  more = g.more;
+  end = g.end;
+  closed = g.closed;
+}
+
+-- what is drawn of the trace has been gathered
+pub record Gathers {w : ℕ} (g : Gatherer) (t : Trace w) : Type 0 where
+  pub drawn_is : drawn_of g ≡ drawn g.window t
+  pub links_are : KnowLinks g.links.items t

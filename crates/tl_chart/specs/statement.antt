@@ -1,0 +1,5 @@
+pub mod Chart
+pub mod Drawn
+pub mod Messages
+pub mod Picture
+pub mod Words

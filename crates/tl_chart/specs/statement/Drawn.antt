@@ -1,0 +1,138 @@
+-- What is drawn of a trace: messages, and what is held of a block.
+use Rattle.std.specs.Prelude.{ℕ, Bool, true, false, not, List, [], ◌∷◌, ◌++◌, ◌==◌, ◌&&◌, ◌||◌, ◌+◌, if◌then◌else◌}
+use Rattle.std.specs.Prelude.{filter, length, map, nat_le, nat_lt, Option, Some, None}
+use Rattle.tl_beat.specs.declared.beat.Beat.{Beat}
+use Rattle.tl_beat.specs.declared.beat.Beat.TheVariants as beat
+use Rattle.tl_beat.specs.declared.beat.Link.{Link}
+use Rattle.tl_beat.specs.declared.control.Control.{Control}
+use Rattle.tl_beat.specs.declared.control.Control.TheVariants as control
+use Rattle.tl_chart.specs.declared.arrow.Arrow.{Arrow}
+use Rattle.tl_chart.specs.declared.mark.Mark.{Mark}
+use Rattle.tl_chart.specs.declared.window.Window.{Window}
+use Rattle.tl_chart.specs.statement.Messages.{continued, message_block, message_from}
+use Rattle.tl_explain.specs.statement.Evidence.{next_line}
+use Rattle.tl_params.specs.declared.perm.Perm.{Perm}
+use Rattle.tl_params.specs.declared.perm.Perm.TheVariants as perm
+use Rattle.tl_rules.specs.statement.Conformance.{Trace, on_link, same_perm}
+use Rattle.tl_rules.specs.statement.History.{begins, ends, held, is_grant, is_probe, is_probe_ack, is_release}
+use Rattle.tl_rules.specs.statement.History.{is_release_ack}
+
+-- ---- what is still open before the window
+
+-- these are blocks, and the same one
+abbrev pub same_block : Option ℕ → Option ℕ → Bool
+same_block (Some a) (Some b) = a == b
+same_block _ _ = false
+
+-- the message wants an answer
+abbrev pub wants_answer : Control → Bool
+wants_answer (control.A x) = true
+wants_answer (control.B x) = is_probe x.opcode
+wants_answer (control.C x) = is_release x.opcode
+wants_answer (control.D x) = is_grant x.opcode
+wants_answer (control.E x) = false
+
+-- a message of this block that is complete with the beat answers this one
+abbrev pub answers : {w : ℕ} → Beat w → Option ℕ → Control → Option ℕ → Bool
+answers (beat.D x) block (control.A y) of = not (is_release_ack x.opcode) && (x.source == y.source)
+answers (beat.D x) block (control.C y) of = is_release_ack x.opcode && (is_release y.opcode && (x.source == y.source))
+answers (beat.E x) block (control.D y) of = is_grant y.opcode && (x.sink == y.sink)
+answers (beat.C x) block (control.B y) of = is_probe_ack x.opcode && (is_probe y.opcode && same_block block of)
+answers _ block _ of = false
+
+-- a beat of the message is missing behind a beat of this link, with which a message of this block is complete or isn't;
+-- or its answer is
+abbrev pub open_by : {w : ℕ} → Link → Bool → Beat w → Option ℕ → Arrow → Bool
+open_by link last x block m =
+    not m.complete
+    || (wants_answer m.control
+    && not ((m.link.0 == link.0) && (last && answers x block m.control m.block)))
+
+-- the same behind the beat x
+abbrev pub is_open : {w : ℕ} → Link × Beat w → Trace w → Arrow → Bool
+is_open x t m = open_by x.0 (ends x.1 (on_link x.0.0 t)) x.1 (message_block x.1 (on_link x.0.0 t)) m
+
+-- ---- what is drawn
+
+-- the messages that are drawn, what is held from which line on, how many messages follow, the last line that is drawn,
+-- and whether what comes is drawn no more
+pub record Drawn : Type 0 where
+  pub arrows : List Arrow
+  pub marks : List Mark
+  pub more : ℕ
+  pub end : ℕ
+  pub closed : Bool
+
+-- messages of this block are drawn: of the one that is asked for, or of all
+abbrev pub shows : Option ℕ → Option ℕ → Bool
+shows None block = true
+shows (Some k) block = same_block (Some k) block
+
+-- a message that is drawn begins with the beat x behind t
+abbrev pub starts : {w : ℕ} → Window → Link × Beat w → Trace w → Bool
+starts win x t = begins x.1 (on_link x.0.0 t) && shows win.block (message_block x.1 (on_link x.0.0 t))
+
+-- what comes is drawn no more: the line is behind the window, or its message is one too many
+abbrev pub closes : Window → Drawn → ℕ → Bool → Bool
+closes win d line begins =
+    d.closed || (nat_lt win.last line || (begins && (nat_le win.most (length d.arrows) && nat_le win.first line)))
+
+-- the messages with one more beat
+abbrev pub with_beat : {w : ℕ} → Window → Link × Beat w → Trace w → List Arrow → List Arrow
+with_beat win x t arrows =
+    if begins x.1 (on_link x.0.0 t)
+    then (if starts win x t && nat_lt (length arrows) win.most then arrows ++ message_from x t ∷ [] else arrows)
+    else map (continued x t) arrows
+
+-- before the window those alone that are open
+abbrev pub within : {w : ℕ} → Window → Link × Beat w → Trace w → List Arrow → List Arrow
+within win x t arrows = if nat_lt (next_line t) win.first then filter (is_open x t) arrows else arrows
+
+-- what a link holds of the block that is asked for
+abbrev pub holds : {w : ℕ} → Option ℕ → Link → Trace w → Perm
+holds None link t = perm.None
+holds (Some k) link t = held k (on_link link.0 t)
+
+-- what is held with one more beat: from its line on, where it is another permission. Before the window only the last of
+-- each link.
+abbrev pub marks_with : {w : ℕ} → Window → Link × Beat w → Trace w → List Mark → List Mark
+marks_with win x t marks =
+    if same_perm (holds win.block x.0 t) (holds win.block x.0 (x ∷ t)) then marks else
+    (if nat_lt (next_line t) win.first then filter (λ m. not (m.link.0 == x.0.0)) marks else marks)
+    ++ record { link = x.0; line = next_line t; held = holds win.block x.0 (x ∷ t) } ∷ []
+
+-- draws no more, and counts a message that begins
+abbrev pub skipped : Bool → Drawn → Drawn
+skipped begins d = record {
+  arrows = d.arrows;
+  marks = d.marks;
+  more = if begins then d.more + 1 else d.more;
+  end = d.end;
+  closed = true;
+}
+
+-- draws the beat x behind t
+abbrev pub drawn_more : {w : ℕ} → Window → Link × Beat w → Trace w → Drawn → Drawn
+drawn_more win x t d = record {
+  arrows = within win x t (with_beat win x t d.arrows);
+  marks = marks_with win x t d.marks;
+  more = d.more;
+  end = next_line t;
+  closed = false;
+}
+
+-- what is drawn with the beat x behind t
+abbrev pub drawn_next : {w : ℕ} → Window → Link × Beat w → Trace w → Drawn → Drawn
+drawn_next win x t d =
+    if closes win d (next_line t) (starts win x t) then skipped (starts win x t) d else drawn_more win x t d
+
+-- What is drawn of a trace. Line 1 is the header's.
+unfoldable pub drawn : {w : ℕ} → Window → Trace w → Drawn
+drawn win [] = record { arrows = []; marks = []; more = 0; end = 1; closed = false }
+drawn win (x ∷ t) = drawn_next win x t (drawn win t)
+
+-- the beat x behind t as a message that begins, where its line is in the window and none too many stands before it
+abbrev pub fault_drawn : {w : ℕ} → Window → Link × Beat w → Trace w → Option Arrow
+fault_drawn win x t =
+    if closes win (drawn win t) (next_line t) false || nat_lt (next_line t) win.first then None else
+    Some (message_from x t)

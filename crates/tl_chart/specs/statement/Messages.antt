@@ -1,0 +1,60 @@
+-- The messages of a trace. Traces have the newest beat first, lists of messages the oldest.
+use Rattle.std.specs.Prelude.{ℕ, Bool, not, List, [], ◌∷◌, ◌++◌, ◌==◌, ◌&&◌, if◌then◌else◌, map, Option, None}
+use Rattle.tl_beat.specs.declared.beat.Beat.{Beat}
+use Rattle.tl_beat.specs.declared.beat.Beat.TheVariants as beat
+use Rattle.tl_beat.specs.declared.beat.Link.{Link}
+use Rattle.tl_beat.specs.statement.Control.{control_of}
+use Rattle.tl_burst.specs.statement.Messages.{History, burst_length, on}
+use Rattle.tl_burst.specs.statement.Part.{is_small}
+use Rattle.tl_chart.specs.declared.arrow.Arrow.{Arrow}
+use Rattle.tl_explain.specs.code.Recorded.{block_of, channel_in}
+use Rattle.tl_explain.specs.statement.Evidence.{next_line}
+use Rattle.tl_rules.specs.statement.Conformance.{Trace, on_link}
+use Rattle.tl_rules.specs.statement.History.{begins, ends, is_grant}
+
+-- the block of the last Grant that began with this sink
+unfoldable pub block_granted : {w : ℕ} → ℕ → History w → Option ℕ
+block_granted s [] = None
+block_granted s (beat.D x ∷ t) =
+    if begins (beat.D x) t && (is_grant x.opcode && (x.sink == s)) then block_of (beat.D x) t else block_granted s t
+block_granted s (_ ∷ t) = block_granted s t
+
+-- the block of a beat's message: that of its address, and for an answer that of what it answers
+abbrev pub message_block : {w : ℕ} → Beat w → History w → Option ℕ
+message_block (beat.A x) t = block_of (beat.A x) t
+message_block (beat.B x) t = block_of (beat.B x) t
+message_block (beat.C x) t = block_of (beat.C x) t
+message_block (beat.D x) t = block_of (beat.D x) t
+message_block (beat.E x) t = block_granted x.sink t
+
+-- how many beats its message has; one where it has a size that no message may have
+abbrev pub beats_in : {w : ℕ} → Beat w → ℕ
+beats_in x = if is_small x then burst_length x else 1
+
+-- the message that begins with the beat x behind t
+abbrev pub message_from : {w : ℕ} → Link × Beat w → Trace w → Arrow
+message_from x t = record {
+  link = x.0;
+  control = control_of x.1;
+  block = message_block x.1 (on_link x.0.0 t);
+  beats = beats_in x.1;
+  first = next_line t;
+  last = next_line t;
+  complete = ends x.1 (on_link x.0.0 t);
+}
+
+-- the beat x is of this message: of its link and channel, where beats of it are missing
+abbrev pub is_of : {w : ℕ} → Link × Beat w → Arrow → Bool
+is_of x m = (m.link.0 == x.0.0) && (on (channel_in m.control) x.1 && not m.complete)
+
+-- the message with the beat x behind t, where that is of it
+abbrev pub continued : {w : ℕ} → Link × Beat w → Trace w → Arrow → Arrow
+continued x t m =
+    if is_of x m then record m { last = next_line t; complete = ends x.1 (on_link x.0.0 t) } else m
+
+-- The messages of a trace, each once, in the order of their first beats: a beat begins one, or it is of one that has
+-- begun.
+unfoldable pub messages : {w : ℕ} → Trace w → List Arrow
+messages [] = []
+messages (x ∷ t) =
+    if begins x.1 (on_link x.0.0 t) then messages t ++ message_from x t ∷ [] else map (continued x t) (messages t)

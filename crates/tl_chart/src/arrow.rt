@@ -1,0 +1,129 @@
+//! The messages of a trace, as a chart draws them.
+
+ghost use Rattle.std.specs.Prelude.{◌≡◌};
+ghost use Rattle.tl_beat.specs.declared.beat.Link.{Link};
+ghost use Rattle.tl_burst.specs.statement.Messages.{on};
+ghost use Rattle.tl_chart.specs.code.Moment.{IsMoment};
+ghost use Rattle.tl_chart.specs.statement.Drawn;
+ghost use Rattle.tl_chart.specs.statement.Messages.{continued, is_of};
+ghost use Rattle.tl_explain.specs.code.Recorded.{channel_in};
+ghost use Rattle.tl_rules.specs.statement.Conformance.{Trace};
+
+use crate::window::is_same_block;
+use tl_beat::beat::{Beat, Link};
+use tl_beat::control::Control;
+use tl_rules::kind::{is_grant, is_probe, is_probe_ack, is_release, is_release_ack};
+
+/// A message of a trace: the control fields of its beats, its block, and the lines of its first beat and
+/// of its last so far.
+#[derive(Clone, Copy)]
+pub struct Arrow {
+    pub link: Link,
+    pub control: Control,
+    pub block: Option<u32>,
+    /// How many beats the message has.
+    pub beats: u8,
+    pub first: u64,
+    pub last: u64,
+    pub complete: bool,
+}
+
+/// A beat of a trace: its link, the number of its line, whether it begins a message, and whether one is
+/// complete with it.
+#[derive(Clone, Copy)]
+pub struct Moment {
+    pub link: Link,
+    pub line: u64,
+    pub first: bool,
+    pub last: bool,
+}
+
+/// Whether a beat is of the channel of these control fields.
+fn is_of_channel<const W: usize>(control: &Control, beat: &Beat<W>) -> bool
+    ensures { result ≡ on (channel_in control.now) beat.now }
+{
+    match (control, beat) {
+        (Control::A(_), Beat::A(_)) => true,
+        (Control::B(_), Beat::B(_)) => true,
+        (Control::C(_), Beat::C(_)) => true,
+        (Control::D(_), Beat::D(_)) => true,
+        (Control::E(_), Beat::E(_)) => true,
+        _ => false,
+    }
+}
+
+/// Whether a message wants an answer.
+fn wants_answer(control: &Control) -> bool
+    ensures { result ≡ Drawn.wants_answer control.now }
+{
+    match control {
+        Control::A(_) => true,
+        Control::B(x) => is_probe(x.opcode),
+        Control::C(x) => is_release(x.opcode),
+        Control::D(x) => is_grant(x.opcode),
+        Control::E(_) => false,
+    }
+}
+
+/// Whether a message of this block that is complete with a beat answers an earlier one.
+fn answers<const W: usize>(
+    beat: &Beat<W>,
+    block: Option<u32>,
+    earlier: &Control,
+    of: Option<u32>,
+) -> bool
+    ensures { result ≡ Drawn.answers beat.now block earlier.now of }
+{
+    match (beat, earlier) {
+        (Beat::D(x), Control::A(y)) => !is_release_ack(x.opcode) && x.source == y.source,
+        (Beat::D(x), Control::C(y)) => {
+            is_release_ack(x.opcode) && is_release(y.opcode) && x.source == y.source
+        }
+        (Beat::E(x), Control::D(y)) => is_grant(y.opcode) && x.sink == y.sink,
+        (Beat::C(x), Control::B(y)) => {
+            is_probe_ack(x.opcode) && is_probe(y.opcode) && is_same_block(block, of)
+        }
+        _ => false,
+    }
+}
+
+impl Arrow {
+    /// Whether a beat of a link is of the message: of its link and channel, where beats of it are missing.
+    fn is_of<const W: usize>(&self, link: Link, beat: &Beat<W>) -> bool
+        ensures { result ≡ is_of (link, beat.now) self.now }
+    {
+        self.link.0 == link.0 && is_of_channel(&self.control, beat) && !self.complete
+    }
+
+    /// The message with one more beat, where that is of it.
+    pub fn with<const W: usize>(self, moment: Moment, beat: &Beat<W>) -> Arrow
+        ensures { (t : Trace W) → IsMoment moment (moment.link, beat.now) t →
+            result ≡ continued (moment.link, beat.now) t self }
+    {
+        if self.is_of(moment.link, beat) {
+            Arrow {
+                last: moment.line,
+                complete: moment.last,
+                ..self
+            }
+        } else {
+            self
+        }
+    }
+
+    /// Whether a beat of the message is missing behind this one, whose message is of this block, or its
+    /// answer.
+    pub fn is_open<const W: usize>(
+        &self,
+        moment: Moment,
+        beat: &Beat<W>,
+        block: Option<u32>,
+    ) -> bool
+        ensures { result ≡ Drawn.open_by moment.link moment.last beat.now block self.now }
+    {
+        let answered = self.link.0 == moment.link.0
+            && moment.last
+            && answers(beat, block, &self.control, self.block);
+        !self.complete || wants_answer(&self.control) && !answered
+    }
+}

@@ -1,0 +1,68 @@
+//! The blocks of the messages of a link.
+
+ghost use Rattle.std.specs.Prelude.{ℕ, ◌≡◌, ◌∷◌, []};
+ghost use Rattle.tl_burst.specs.statement.Messages.{History};
+ghost use Rattle.tl_chart.specs.code.Gathered.{KnowsBlocks, granted_next};
+ghost use Rattle.tl_chart.specs.statement.Messages.{message_block};
+ghost use Rattle.tl_monitor.specs.code.Count.{at};
+ghost use Rattle.tl_rules.specs.statement.History.{begins};
+
+use tl_beat::beat::Beat;
+use tl_explain::blocks::Blocks;
+use tl_monitor::byte_table::ByteTable;
+use tl_rules::kind::is_grant;
+
+/// The blocks of the last request and the last Release with each source, and of the last Grant with each
+/// sink.
+#[derive(Drop)]
+pub struct LinkBlocks {
+    blocks: Blocks,
+    granted: ByteTable<u32>,
+}
+
+impl LinkBlocks {
+    /// There was no message.
+    pub fn new() -> Self
+        ensures { (w : ℕ) → KnowsBlocks {w = w} result [] }
+    {
+        LinkBlocks {
+            blocks: Blocks::new(),
+            granted: ByteTable::new(),
+        }
+    }
+
+    /// The block of a beat's message; for an answer that of what it answers.
+    pub fn of<const W: usize>(&self, beat: &Beat<W>) -> Option<u32>
+        ensures { (t : History W) → KnowsBlocks self.now t → result ≡ message_block beat.now t }
+    {
+        match beat {
+            Beat::E(x) => self.granted.get(x.sink),
+            _ => self.blocks.of(beat),
+        }
+    }
+
+    /// Takes a beat, which begins a message or doesn't.
+    pub fn take<const W: usize>(&mut self, beat: &Beat<W>, first: bool)
+        ensures { (t : History W) → KnowsBlocks self.old t → first ≡ begins beat.now t →
+            KnowsBlocks self.new (beat.now ∷ t) }
+    {
+        let block = self.blocks.of(beat);
+        grant(&mut self.granted, beat, first, block);
+        self.blocks.take(beat, first);
+    }
+}
+
+/// Notes the block of a Grant that begins, under its sink.
+fn grant<const W: usize>(
+    granted: &mut ByteTable<u32>,
+    beat: &Beat<W>,
+    first: bool,
+    block: Option<u32>,
+)
+    ensures { (s : ℕ) → at granted.new s ≡ granted_next first beat.now block s (at granted.old s) }
+{
+    match beat {
+        Beat::D(x) if first && is_grant(x.opcode) => granted.set(x.sink, block),
+        _ => {}
+    }
+}

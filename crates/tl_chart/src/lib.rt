@@ -1,0 +1,14 @@
+//! A trace as a picture: a sequence chart of its messages, in SVG.
+#![tactic(auto)]
+
+pub mod arrow;
+pub mod blocks;
+pub mod chart;
+mod draw;
+pub mod gatherer;
+pub mod layout;
+pub mod mark;
+mod style;
+pub mod text;
+pub mod window;
+pub mod words;

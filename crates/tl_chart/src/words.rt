@@ -1,0 +1,161 @@
+//! A message in words.
+
+ghost use Rattle.std.specs.Prelude.{◌≡◌, ◌++◌, OnOk, option_map};
+ghost use Rattle.tl_chart.specs.statement.Words;
+
+use crate::arrow::Arrow;
+use crate::layout::letter;
+use crate::text::{append_block, append_byte, append_number};
+use std::alloc::AllocError;
+use tl_beat::control::Control;
+use tl_explain::params::{name_on_a, name_on_b, name_on_c, name_on_d};
+use tl_rules::kind::is_grant;
+
+/// The name of a message.
+fn name(control: &Control) -> &'static str
+    ensures { result.now ≡ Words.message_name control.now }
+{
+    match control {
+        Control::A(x) => x.opcode.name(),
+        Control::B(x) => x.opcode.name(),
+        Control::C(x) => x.opcode.name(),
+        Control::D(x) => x.opcode.name(),
+        Control::E(_) => "GrantAck",
+    }
+}
+
+/// The name of its param, where it has one.
+fn param(control: &Control) -> Option<&'static str>
+    ensures { option_map (λ s. s.now) result ≡ Words.message_param control.now }
+{
+    match control {
+        Control::A(x) => name_on_a(x.opcode, x.param),
+        Control::B(x) => name_on_b(x.opcode, x.param),
+        Control::C(x) => name_on_c(x.opcode, x.param),
+        Control::D(x) => name_on_d(x.opcode, x.param),
+        Control::E(_) => None,
+    }
+}
+
+/// Appends a word behind a space, where there is one.
+fn append_word(word: Option<&str>, out: &mut Vec<u8>) -> Result<(), AllocError>
+    ensures { OnOk result (out.new.items ≡ out.old.items
+        ++ Words.word_text (option_map (λ s. s.now) word.entry)) }
+{
+    match word {
+        None => Ok(()),
+        Some(word) => {
+            out.extend_from_slice(b" ")?;
+            out.extend_from_slice(word.as_bytes())
+        }
+    }
+}
+
+#[tactic(auto, unfolding(crate::specs::statement::Words::name_text))]
+/// Appends link, channel, name and param.
+fn append_name(arrow: &Arrow, out: &mut Vec<u8>) -> Result<(), AllocError>
+    ensures { OnOk result (out.new.items ≡ out.old.items ++ Words.name_text arrow.now) }
+{
+    append_byte(arrow.link.0, out)?;
+    out.extend_from_slice(b" ")?;
+    out.extend_from_slice(letter(&arrow.control).as_bytes())?;
+    out.extend_from_slice(b" ")?;
+    out.extend_from_slice(name(&arrow.control).as_bytes())?;
+    append_word(param(&arrow.control), out)
+}
+
+#[tactic(auto, unfolding(crate::specs::statement::Words::block_text))]
+/// Appends the block, where there is one.
+fn append_block_word(block: Option<u32>, out: &mut Vec<u8>) -> Result<(), AllocError>
+    ensures { OnOk result (out.new.items ≡ out.old.items ++ Words.block_text block) }
+{
+    match block {
+        None => Ok(()),
+        Some(block) => {
+            out.extend_from_slice(b" block ")?;
+            append_block(block, out)
+        }
+    }
+}
+
+#[tactic(auto, unfolding(crate::specs::statement::Words::source_text))]
+/// Appends the source.
+fn append_source(source: u8, out: &mut Vec<u8>) -> Result<(), AllocError>
+    ensures { OnOk result (out.new.items ≡ out.old.items ++ Words.source_text source) }
+{
+    out.extend_from_slice(b" source ")?;
+    append_byte(source, out)
+}
+
+#[tactic(auto, unfolding(crate::specs::statement::Words::sink_text))]
+/// Appends the sink.
+fn append_sink(sink: u8, out: &mut Vec<u8>) -> Result<(), AllocError>
+    ensures { OnOk result (out.new.items ≡ out.old.items ++ Words.sink_text sink) }
+{
+    out.extend_from_slice(b" sink ")?;
+    append_byte(sink, out)
+}
+
+/// Appends source and sink.
+fn append_both(source: u8, sink: u8, out: &mut Vec<u8>) -> Result<(), AllocError>
+    ensures { OnOk result (out.new.items ≡ out.old.items ++ (Words.source_text source ++ Words.sink_text sink)) }
+{
+    append_source(source, out)?;
+    append_sink(sink, out)
+}
+
+#[tactic(auto, unfolding(crate::specs::statement::Words::ends_text))]
+/// Appends source and sink, where the message has them.
+fn append_ends(control: &Control, out: &mut Vec<u8>) -> Result<(), AllocError>
+    ensures { OnOk result (out.new.items ≡ out.old.items ++ Words.ends_text control.now) }
+{
+    match control {
+        Control::A(x) => append_source(x.source, out),
+        Control::B(_) => Ok(()),
+        Control::C(x) => append_source(x.source, out),
+        Control::D(x) => {
+            if is_grant(x.opcode) {
+                append_both(x.source, x.sink, out)
+            } else {
+                append_source(x.source, out)
+            }
+        }
+        Control::E(sink) => append_sink(*sink, out),
+    }
+}
+
+#[tactic(auto, unfolding(crate::specs::statement::Words::count_text))]
+/// Appends how many beats the message has, where it has more than one.
+fn append_count(beats: u8, out: &mut Vec<u8>) -> Result<(), AllocError>
+    ensures { OnOk result (out.new.items ≡ out.old.items ++ Words.count_text beats) }
+{
+    if beats <= 1 {
+        return Ok(());
+    }
+    out.extend_from_slice(b" ")?;
+    append_number(u64::from(beats), out)?;
+    out.extend_from_slice(b" beats")
+}
+
+#[tactic(auto, unfolding(crate::specs::statement::Words::beats_text))]
+/// Appends how many beats the message has, and whether some are missing.
+fn append_beats(beats: u8, complete: bool, out: &mut Vec<u8>) -> Result<(), AllocError>
+    ensures { OnOk result (out.new.items ≡ out.old.items ++ Words.beats_text beats complete) }
+{
+    append_count(beats, out)?;
+    if complete {
+        Ok(())
+    } else {
+        out.extend_from_slice(b", not all")
+    }
+}
+
+/// Appends the words of a message.
+pub fn append_words(arrow: &Arrow, out: &mut Vec<u8>) -> Result<(), AllocError>
+    ensures { OnOk result (out.new.items ≡ out.old.items ++ Words.words_of arrow.now) }
+{
+    append_name(arrow, out)?;
+    append_block_word(arrow.block, out)?;
+    append_ends(&arrow.control, out)?;
+    append_beats(arrow.beats, arrow.complete, out)
+}

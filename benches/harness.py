@@ -80,22 +80,27 @@ def icarus(name, top, sources, *flags):
 
 
 def with_library(name, sources, cpp, *flags):
-    """The example with a checker on each link and one of all links, and what else stands on the library."""
+    """The example with the checkers that the flags choose, and what else stands on the library."""
     extra = files(cpp) + [LIBRARY, "-CFLAGS", "-I" + os.path.join(HERE, "include")]
     sources = SV + ["sv/tl_manager_checker.sv", "sv/tl_link_checker.sv"] + sources + EXAMPLE
-    return verilator(name, "bench_recorded", sources, "-DCHECKED", *flags, *extra)
+    return verilator(name, "bench_recorded", sources, *flags, *extra)
 
 
 def checked(count=0):
     """The example with a checker on each link."""
-    return with_library(f"checked{count}", [], ["sv/tl_checker_dpi.cpp"], f"-DCOUNT={count}")
+    return with_library(f"checked{count}", [], ["sv/tl_checker_dpi.cpp"], "-DCHECKED", f"-DCOUNT={count}")
 
 
-def proved(width=8):
+def together():
+    """The example with one checker of all links."""
+    return with_library("together", [], ["sv/tl_checker_dpi.cpp"], "-DTOGETHER", "-DCOUNT=0")
+
+
+def proved(width=8, checkers="CHECKED"):
     """The example under the proved manager, with a proved client in place of the second cache, and a checker on each
-    link."""
-    return with_library(f"proved{width}", ["sv/tl_proved_manager.sv", "sv/tl_proved_client.sv"],
-                        ["sv/tl_checker_dpi.cpp", "sv/tl_agents_dpi.cpp"], "-DPROVED", "-DCOUNT=0",
+    link, or one of all links."""
+    return with_library(f"proved{width}{checkers}", ["sv/tl_proved_manager.sv", "sv/tl_proved_client.sv"],
+                        ["sv/tl_checker_dpi.cpp", "sv/tl_agents_dpi.cpp"], "-DPROVED", f"-D{checkers}", "-DCOUNT=0",
                         f"-DWIDTH={width}")
 
 

@@ -25,6 +25,12 @@ def a_cache_and_a_device_under_the_proved_manager_at_width_16():
 
 
 @test
+def all_links_together_are_coherent_under_the_proved_manager():
+    told = run([proved(checkers="TOGETHER"), "+seed=1", "+cycles=20000"])
+    want("agree" in told and "faults: 0" in told, told)
+
+
+@test
 def each_bug_is_found_under_the_proved_manager():
     for bug, (rule, own) in BUGS.items():
         told = run([proved(), "+seed=1", "+cycles=20000", f"+bug={bug}"], status=None)

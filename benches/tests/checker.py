@@ -3,14 +3,15 @@
 import subprocess
 
 from harness import (
-    SV, HOME_BUGS, BUGS, test, want, run, path, files, verilator, icarus, checked, recorded, judged, beat_lines,
+    SV, HOME_BUGS, BUGS, test, want, run, path, files, verilator, icarus, checked, recorded, together, judged, beat_lines,
 )
 
 
 @test
-def the_checker_is_silent_without_a_fault():
-    told = run([checked(), "+seed=7", "+cycles=20000"])
-    want("agree" in told and "faults: 0" in told, told)
+def the_checkers_are_silent_without_a_fault():
+    for built in (checked(), together()):
+        told = run([built, "+seed=7", "+cycles=20000"])
+        want("agree" in told and "faults: 0" in told, told)
 
 
 @test
@@ -32,7 +33,7 @@ def the_checker_of_all_links_stops_at_the_beat_that_breaks_a_rule_of_memory():
     for bug, rule in HOME_BUGS.items():
         run([recorded(), "+seed=1", "+cycles=20000", f"+home_bug={bug}", f"+trace={path('home')}"])
         beat = beat_lines("home")[int(judged(path("home"), "coherent").split()[1]) - 1].split()
-        told = run([checked(), "+seed=1", "+cycles=20000", f"+home_bug={bug}"], status=None)
+        told = run([together(), "+seed=1", "+cycles=20000", f"+home_bug={bug}"], status=None)
         want(f"tl_manager_checker: link {int(beat[0], 16)} breaks {rule}: channel {beat[1]} " in told, f"bug {bug}: {told}")
         want("agree" not in told, f"bug {bug}: not stopped: {told}")
 

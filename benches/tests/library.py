@@ -2,7 +2,7 @@
 
 import os
 
-from harness import TLTOOL, test, want, run, path, checked, recorded, compiled, least_times
+from harness import TLTOOL, test, want, run, path, checked, recorded, together, compiled, least_times
 
 
 SANITIZERS = ["-fsanitize=address,undefined", "-fno-sanitize-recover=all"]
@@ -73,9 +73,18 @@ def a_struct_takes_less_time_than_a_line():
     want(struct < line, f"a struct {struct:.0f} ns, a line {line:.0f} ns")
 
 
-@test
-def the_checker_at_most_doubles_the_benchs_time():
+def at_most_doubles(built, what):
     plus = ["+seed=3", "+cycles=300000"]
-    without, beside = least_times([recorded(), *plus], [checked(), *plus])
-    print(f"        the bench {without:.2f} s, with a checker on each link {beside:.2f} s")
-    want(beside <= 2 * without, f"{without:.2f} s without, {beside:.2f} s with the checker")
+    without, beside = least_times([recorded(), *plus], [built, *plus])
+    print(f"        the bench {without:.2f} s, with {what} {beside:.2f} s")
+    want(beside <= 2 * without, f"{without:.2f} s without, {beside:.2f} s with {what}")
+
+
+@test
+def checkers_of_links_at_most_double_the_benchs_time():
+    at_most_doubles(checked(), "a checker on each link")
+
+
+@test
+def a_checker_of_all_links_at_most_doubles_the_benchs_time():
+    at_most_doubles(together(), "one of all links")

@@ -35,7 +35,7 @@ pub(crate) fn eight_lanes(field: &[u8]) -> Option<[u8; 8]>
 
 /// The sixteen digits of eight lanes, those of the last lane first.
 #[inline(always)]
-pub(crate) fn sixteen_digits(lanes: &[u8]) -> [u8; 16]
+pub fn sixteen_digits(lanes: &[u8]) -> [u8; 16]
     requires { length lanes.now ≡ 8 }
     ensures { result ≡ lane_digits lanes.now }
 {

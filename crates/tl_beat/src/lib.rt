@@ -5,7 +5,7 @@ pub mod beat;
 pub mod channel;
 pub mod control;
 pub mod fault;
-mod lanes;
+pub mod lanes;
 pub mod opcode;
 pub mod read;
 pub mod text;

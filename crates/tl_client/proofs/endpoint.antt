@@ -6,3 +6,4 @@ pub mod Inside
 pub mod Outstanding
 pub mod Rows
 pub mod Stalls
+pub mod Words

@@ -1,8 +1,9 @@
 //! What a client is, by its end of the link (SiFive TileLink Specification 1.8, the master's side of
 //! a link).
 
-ghost use Rattle.std.specs.Prelude.{◌≡◌};
+ghost use Rattle.std.specs.Prelude.{◌≡◌, None};
 ghost use Rattle.tl_rules.specs.statement.History;
+ghost use Rattle.tl_client.specs.declared.operation.Op.TheVariants.{Load, Store};
 ghost use Rattle.tl_client.specs.statement.Ask.{asked};
 ghost use Rattle.tl_client.specs.statement.Endpoint.{EndConfig, Endpoint};
 ghost use Rattle.tl_client.specs.statement.Offer;
@@ -34,6 +35,21 @@ pub trait Agent<const W: usize>: Drop {
             result.1 ≡ (asked (terms self.old) operation.entry e).message }
         ensures after { (e : Endpoint W) → represents self.old e →
             represents self.new (asked (terms self.old) operation.entry e).after }
+        ensures terms { terms self.new ≡ terms self.old };
+
+    /// Answers a Load as `ask` does. It hands out no message, and changes nothing.
+    fn ask_load(&self, address: u32, size: u8) -> Reply
+        ensures { (e : Endpoint W) → represents self.now e →
+            result ≡ (asked (terms self.now) (Load address size) e).reply };
+
+    /// Answers a Store as `ask` does. It hands out no message.
+    fn ask_store(&mut self, address: u32, size: u8, value: u64) -> Reply
+        ensures reply { (e : Endpoint W) → represents self.old e →
+            result ≡ (asked (terms self.old) (Store address size value) e).reply }
+        ensures message { (e : Endpoint W) → represents self.old e →
+            None ≡ (asked (terms self.old) (Store address size value) e).message }
+        ensures after { (e : Endpoint W) → represents self.old e →
+            represents self.new (asked (terms self.old) (Store address size value) e).after }
         ensures terms { terms self.new ≡ terms self.old };
 
     /// Takes a beat of the channel named, stalls it, or refuses it by the first rule that it breaks.

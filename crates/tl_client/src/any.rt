@@ -78,6 +78,20 @@ impl<const W: usize> Agent<W> for AnyClient<W> {
         }
     }
 
+    fn ask_load(&self, address: u32, size: u8) -> Reply {
+        match self {
+            AnyClient::Caching(client) => client.ask_load(address, size),
+            AnyClient::Plain(client) => client.ask_load(address, size),
+        }
+    }
+
+    fn ask_store(&mut self, address: u32, size: u8, value: u64) -> Reply {
+        match self {
+            AnyClient::Caching(client) => client.ask_store(address, size, value),
+            AnyClient::Plain(client) => client.ask_store(address, size, value),
+        }
+    }
+
     fn offer(
         &mut self,
         channel: Channel,

@@ -11,6 +11,7 @@ mod table;
 mod take;
 
 use crate::agent::Agent;
+use crate::check::check_word;
 use crate::operation::Op;
 use crate::order::check_alone;
 use crate::release::Release;
@@ -109,6 +110,20 @@ impl<const W: usize> Agent<W> for Caching<W> {
         match self.busy(&operation) {
             Some(busy) => (Reply::Busy(busy), None),
             None => self.begin(operation),
+        }
+    }
+
+    fn ask_load(&self, address: u32, size: u8) -> Reply {
+        match check_word(self.config.level, self.blocks, address, size) {
+            Some(busy) => Reply::Busy(busy),
+            None => self.load(address, size),
+        }
+    }
+
+    fn ask_store(&mut self, address: u32, size: u8, value: u64) -> Reply {
+        match check_word(self.config.level, self.blocks, address, size) {
+            Some(busy) => Reply::Busy(busy),
+            None => self.store(address, size, value),
         }
     }
 

@@ -3,6 +3,8 @@
 ghost use Rattle.std.specs.Prelude.{◌≡◌, ◌||◌, None, not, nat_le};
 ghost use Rattle.tl_beat.specs.statement.Width.{IsWidth};
 ghost use Rattle.tl_beat.specs.statement.First.{first_if};
+ghost use Rattle.tl_rules.specs.statement.History;
+ghost use Rattle.tl_rules.specs.statement.Legality.{has_transfers};
 ghost use Rattle.tl_client.specs.statement.Ask;
 ghost use Rattle.tl_client.specs.statement.Ask.{breaks_b4, op_block};
 ghost use Rattle.tl_client.specs.declared.busy.Busy.TheVariants.{B4, B5};
@@ -68,6 +70,20 @@ pub fn check<const W: usize>(level: Level, blocks: u16, operation: &Op<W>) -> Op
         return Some(Busy::B4);
     }
     if op_block(operation) >= u32::from(blocks) || !is_formed(level, operation) {
+        return Some(Busy::B5);
+    }
+    None
+}
+
+/// Why a Load or a Store isn't done on a map of this many blocks: as `check` says of both.
+pub fn check_word(level: Level, blocks: u16, address: u32, size: u8) -> Option<Busy>
+    ensures { result ≡ first_if (not (has_transfers level)) B4
+        (first_if (nat_le blocks (History.block_at address) || not (Ask.is_word address size)) B5 None) }
+{
+    if level != Level::C {
+        return Some(Busy::B4);
+    }
+    if block_at(address) >= u32::from(blocks) || !is_word(address, size) {
         return Some(Busy::B5);
     }
     None

@@ -163,6 +163,14 @@ impl<const W: usize> Agent<W> for Plain<W> {
         }
     }
 
+    fn ask_load(&self, _address: u32, _size: u8) -> Reply {
+        Reply::Busy(Busy::B4)
+    }
+
+    fn ask_store(&mut self, _address: u32, _size: u8, _value: u64) -> Reply {
+        Reply::Busy(Busy::B4)
+    }
+
     fn offer(
         &mut self,
         channel: Channel,

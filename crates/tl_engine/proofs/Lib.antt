@@ -8,6 +8,7 @@ pub mod Replaying
 pub mod Runs
 pub mod BeatJudging
 pub mod Decoded
+pub mod Answered
 pub mod Headers
 pub mod Judged
 pub mod OneText

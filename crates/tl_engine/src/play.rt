@@ -2,18 +2,22 @@
 
 ghost use Rattle.std.specs.Prelude.{◌≡◌, ◌++◌, [], IfOk, OnOk};
 ghost use Rattle.tl_beat.specs.statement.Width.{IsWidth};
+ghost use Rattle.tl_client.specs.declared.operation.Op.TheVariants.{Load, Store};
+ghost use Rattle.tl_coherence.specs.declared.event.Event.TheVariants.{Ask};
+ghost use Rattle.tl_schedule.specs.statement.CommonLine.{common_event};
 ghost use Rattle.tl_schedule.specs.statement.OutcomeLine.{HasLine};
 ghost use Rattle.tl_engine.specs.statement.Played.{event_text};
-ghost use Rattle.tl_engine.specs.code.Playing.{Drains, Happens, PlaysLine, PlaysOn};
+ghost use Rattle.tl_engine.specs.code.Playing.{Drains, Happens, PlaysLine, PlaysOn, asked_text};
 
 use crate::fault::Fault;
 use std::alloc::AllocError;
 use tl_client::any::AnyClient;
+use tl_client::reply::Reply;
 use tl_coherence::event::{Event, Outcome};
 use tl_manager::bits::BitDirectory;
-use tl_schedule::common::read_common;
+use tl_schedule::common::{Common, read_common};
 use tl_schedule::line::{Line, read_event};
-use tl_schedule::outcome::{append_drained, append_outcome, append_trace};
+use tl_schedule::outcome::{append_answer, append_drained, append_outcome, append_trace};
 use tl_world::world::World;
 
 /// Appends what is written of an event, or shown of it by a trace.
@@ -112,6 +116,89 @@ fn play_any<const W: usize>(
     }
 }
 
+/// Appends what is written of an answer to a Load of this size, or with size 0 to a Store. A trace shows nothing.
+#[inline(always)]
+fn append_asked(
+    trace: bool,
+    size: u8,
+    answer: Option<Reply>,
+    out: &mut Vec<u8>,
+) -> Result<(), AllocError>
+    ensures { OnOk result (out.new.items ≡ out.old.items ++ asked_text trace size answer) }
+{
+    if trace {
+        Ok(())
+    } else {
+        append_answer(size, answer, out)
+    }
+}
+
+/// A client is asked for a Load, and what it answers is appended.
+#[inline(always)]
+fn play_load<const W: usize>(
+    trace: bool,
+    world: &World<W, AnyClient<W>, BitDirectory>,
+    client: u8,
+    address: u32,
+    size: u8,
+    out: &mut Vec<u8>,
+) -> Result<(), AllocError>
+    requires width { IsWidth W }
+    ensures { OnOk result (Happens trace world.now world.now (Ask client (Load address size)) out.old.items
+        out.new.items) }
+{
+    let answer = world.ask_load(client, address, size);
+    append_asked(trace, size, answer, out)
+}
+
+/// A client is asked for a Store, and what it answers is appended.
+#[inline(always)]
+fn play_store<const W: usize>(
+    trace: bool,
+    world: &mut World<W, AnyClient<W>, BitDirectory>,
+    client: u8,
+    address: u32,
+    size: u8,
+    value: u64,
+    out: &mut Vec<u8>,
+) -> Result<(), AllocError>
+    requires width { IsWidth W }
+    ensures { OnOk result (Happens trace world.old world.new (Ask client (Store address size value)) out.old.items
+        out.new.items) }
+{
+    let answer = world.ask_store(client, address, size, value);
+    append_asked(trace, 0, answer, out)
+}
+
+/// Plays what a common line says.
+#[inline(always)]
+fn play_common<const W: usize>(
+    trace: bool,
+    world: &mut World<W, AnyClient<W>, BitDirectory>,
+    common: Common,
+    out: &mut Vec<u8>,
+) -> Result<(), AllocError>
+    requires width { IsWidth W }
+    ensures { OnOk result (Happens trace world.old world.new (common_event common) out.old.items out.new.items) }
+{
+    match common {
+        Common::Load {
+            client,
+            address,
+            size,
+        } => play_load(trace, world, client, address, size, out),
+        Common::Store {
+            client,
+            address,
+            size,
+            value,
+        } => play_store(trace, world, client, address, size, value, out),
+        Common::Deliver { link, channel } => {
+            play_event(trace, world, Event::Deliver { link, channel }, out)
+        }
+    }
+}
+
 /// Plays a line behind the header, its line feed included, or answers its fault.
 pub fn play<const W: usize>(
     trace: bool,
@@ -124,7 +211,7 @@ pub fn play<const W: usize>(
 {
     match read_common(line) {
         Some(common) => {
-            play_event(trace, world, common.event(), out)?;
+            play_common(trace, world, common, out)?;
             Ok(None)
         }
         None => play_any(trace, world, line, out),

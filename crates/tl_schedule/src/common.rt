@@ -2,7 +2,7 @@
 //! deliveries.
 
 ghost use Rattle.std.specs.Prelude.{◌≡◌, ◌∷◌, ◌++◌, [], IfSome, codes};
-ghost use Rattle.tl_schedule.specs.statement.CommonLine.{SpellsCommon, common_event};
+ghost use Rattle.tl_schedule.specs.statement.CommonLine.{SpellsCommon};
 ghost use Rattle.tl_schedule.specs.code.CommonReading.{HasFields, SpellsBody};
 ghost use Rattle.tl_schedule.specs.code.FieldReading.{size_in};
 
@@ -10,8 +10,6 @@ use crate::field::number;
 use crate::name::channel;
 use tl_beat::beat::Link;
 use tl_beat::channel::Channel;
-use tl_client::operation::Op;
-use tl_coherence::event::Event;
 
 /// What such a line says.
 #[derive(Clone, Copy, Debug, PartialEq, Eq)]
@@ -31,39 +29,6 @@ pub enum Common {
         link: Link,
         channel: Channel,
     },
-}
-
-impl Common {
-    /// The event that is meant.
-    #[inline(always)]
-    pub fn event<const W: usize>(self) -> Event<W>
-        ensures { result ≡ common_event self }
-    {
-        match self {
-            Common::Load {
-                client,
-                address,
-                size,
-            } => {
-                let operation = Op::Load { address, size };
-                Event::Ask { client, operation }
-            }
-            Common::Store {
-                client,
-                address,
-                size,
-                value,
-            } => {
-                let operation = Op::Store {
-                    address,
-                    size,
-                    value,
-                };
-                Event::Ask { client, operation }
-            }
-            Common::Deliver { link, channel } => Event::Deliver { link, channel },
-        }
-    }
 }
 
 /// The size of a Load or a Store.

@@ -1,10 +1,11 @@
 //! Writes the lines of outcomes.
 
 ghost use Rattle.std.specs.Prelude.{◌≡◌, ◌<◌, ◌≤◌, ◌^◌, ◌++◌, ◌∷◌, [], length, take, OnOk};
+ghost use Rattle.std.specs.Int.{to_le_bytes, w64};
 ghost use Rattle.tl_beat.specs.statement.Digits.{digit_char, digits, lane_digits};
 ghost use Rattle.tl_beat.specs.statement.Line.{IsWritable, fields_of, spaced};
 ghost use Rattle.tl_beat.specs.statement.Width.{IsWidth};
-ghost use Rattle.tl_schedule.specs.statement.OutcomeLine.{HasLine, asked_size, busy_name, data_text, done_text};
+ghost use Rattle.tl_schedule.specs.statement.OutcomeLine.{HasLine, answer_line, asked_size, busy_name, data_text, done_text};
 ghost use Rattle.tl_schedule.specs.statement.OutcomeLine.{drained_line, finish_text, link_of, outcome_line};
 ghost use Rattle.tl_schedule.specs.statement.OutcomeLine.{outcome_text, perm_name, reply_text, trace_text};
 
@@ -12,6 +13,7 @@ use arrayvec::ArrayVec;
 use itoa::Buffer;
 use std::alloc::AllocError;
 use tl_beat::beat::{Beat, Link};
+use tl_beat::lanes::sixteen_digits;
 use tl_beat::write::write_line;
 use tl_client::busy::Busy;
 use tl_client::operation::Op;
@@ -74,6 +76,18 @@ fn append_data(size: u8, bytes: &[u8], out: &mut Vec<u8>) -> Result<(), AllocErr
     append_bytes(shown(size, bytes), out)
 }
 
+/// Appends the digits of the low `2^size` bytes of a number, eight at most.
+fn append_value(size: u8, value: u64, out: &mut Vec<u8>) -> Result<(), AllocError>
+    ensures { OnOk result (out.new.items ≡ out.old.items ++ data_text size (to_le_bytes w64 value)) }
+{
+    let bytes = value.to_le_bytes();
+    if size == 3 {
+        out.extend_from_slice(&sixteen_digits(&bytes))
+    } else {
+        append_data(size, &bytes, out)
+    }
+}
+
 fn busy_name(busy: Busy) -> &'static str
     ensures { result.now ≡ busy_name busy }
 {
@@ -93,7 +107,7 @@ fn append_reply(size: u8, reply: Reply, out: &mut Vec<u8>) -> Result<(), AllocEr
     match reply {
         Reply::Value(value) => {
             out.extend_from_slice(b"value ")?;
-            append_data(size, &value.to_le_bytes(), out)
+            append_value(size, value, out)
         }
         Reply::Stored => out.extend_from_slice(b"stored"),
         Reply::Miss => out.extend_from_slice(b"miss"),
@@ -225,6 +239,20 @@ pub fn append_outcome<const W: usize>(
     append_text(event, outcome, out)?;
     out.push(b'\n')?;
     Ok(())
+}
+
+/// Appends the line of what a client answers to a Load of this size, or with size 0 to a Store.
+pub fn append_answer(size: u8, answer: Option<Reply>, out: &mut Vec<u8>) -> Result<(), AllocError>
+    ensures { OnOk result (out.new.items ≡ out.old.items ++ answer_line size answer) }
+{
+    match answer {
+        None => out.extend_from_slice(b"no client\n"),
+        Some(reply) => {
+            append_reply(size, reply, out)?;
+            out.push(b'\n')?;
+            Ok(())
+        }
+    }
 }
 
 /// Appends what a trace shows of an event: the line of the beat that was taken, if one was.

@@ -9,4 +9,5 @@ pub mod Sending
 pub mod SentProbes
 pub mod Stepping
 pub mod Unmoved
+pub mod Words
 pub mod WorldObservers

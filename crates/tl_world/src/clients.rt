@@ -1,6 +1,8 @@
 //! Calls on one of several clients.
 
 ghost use Rattle.std.specs.Prelude.{◌≡◌, ◌<◌, ◌≤◌, length, slice_index_or, true, None};
+ghost use Rattle.tl_client.specs.declared.operation.Op.TheVariants.{Load, Store};
+ghost use Rattle.tl_client.specs.statement.Ask.{asked};
 ghost use Rattle.tl_client.specs.statement.Endpoint;
 ghost use Rattle.tl_client.specs.statement.Endpoint.{Endpoint};
 ghost use Rattle.tl_client.specs.statement.Offer;
@@ -27,6 +29,35 @@ pub fn ask_at<const W: usize, A: Agent<W>>(
     ensures { IsAsked A.represents A.terms clients.old.items clients.new.items i operation.entry result }
 {
     clients[i].ask(operation)
+}
+
+/// Asks one client for a Load.
+pub fn ask_load_at<const W: usize, A: Agent<W>>(
+    clients: &Vec<A>,
+    i: usize,
+    address: u32,
+    size: u8,
+) -> Reply
+    requires { i < length clients.now.items }
+    ensures { (e : Endpoint W) (d : A) → A.represents (slice_index_or clients.now.items i d) e →
+        result ≡ (asked (A.terms (slice_index_or clients.now.items i d)) (Load address size) e).reply }
+{
+    clients[i].ask_load(address, size)
+}
+
+/// Asks one client for a Store, and leaves the others.
+pub fn ask_store_at<const W: usize, A: Agent<W>>(
+    clients: &mut Vec<A>,
+    i: usize,
+    address: u32,
+    size: u8,
+    value: u64,
+) -> Reply
+    requires { i < length clients.old.items }
+    ensures { IsAsked A.represents A.terms clients.old.items clients.new.items i (Store address size value)
+        (result, None) }
+{
+    clients[i].ask_store(address, size, value)
 }
 
 /// Offers a beat to one client, and leaves the others.

@@ -7,15 +7,18 @@ ghost use Rattle.tl_world.specs.code.Holds.{Holds, HasRoom, IsStepped, clients_o
 ghost use Rattle.tl_coherence.specs.statement.Step;
 ghost use Rattle.tl_coherence.specs.statement.Step.{stepped};
 ghost use Rattle.tl_coherence.specs.statement.System.{System};
+ghost use Rattle.tl_client.specs.declared.operation.Op.TheVariants.{Load, Store};
 ghost use Rattle.tl_coherence.specs.declared.event.Event.TheVariants.{Ask, Deliver};
+ghost use Rattle.tl_world.specs.statement.Answered.{answered};
 ghost use Rattle.tl_coherence.specs.declared.event.Outcome.TheVariants as outcome;
 
-use crate::clients::{ask_at, offer_at};
+use crate::clients::{ask_at, ask_load_at, ask_store_at, offer_at};
 use crate::network::Network;
 use tl_beat::beat::{Beat, Link};
 use tl_beat::channel::Channel;
 use tl_client::agent::Agent;
 use tl_client::operation::Op;
+use tl_client::reply::Reply;
 use tl_client::verdict::Verdict;
 use tl_coherence::event::{Event, Outcome};
 use tl_manager::directory::Directory;
@@ -74,6 +77,32 @@ impl<const W: usize, A: Agent<W>, D: Directory> Network<W, A, D> {
         let (reply, message) = ask_at(&mut self.clients, usize::from(client), operation);
         self.rings.send_if_any(Link(client), &message);
         *outcome = Outcome::Replied { reply };
+    }
+
+    /// A client of this number is asked for a Load: its answer, or None where there is no such client.
+    pub fn ask_load(&self, client: u8, address: u32, size: u8) -> Option<Reply>
+        ensures { (config : Config) (s : System W) → Holds A.represents A.terms D.perm_of config self.now s →
+            HasRoom config (stepped config (Ask client (Load address size)) s).after →
+            IsStepped A.represents A.terms D.perm_of config self.now self.now (Ask client (Load address size))
+            (answered result) s }
+    {
+        if usize::from(client) >= self.clients.len() {
+            return None;
+        }
+        Some(ask_load_at(&self.clients, usize::from(client), address, size))
+    }
+
+    /// A client of this number is asked for a Store: its answer, or None where there is no such client.
+    pub fn ask_store(&mut self, client: u8, address: u32, size: u8, value: u64) -> Option<Reply>
+        ensures { (config : Config) (s : System W) → Holds A.represents A.terms D.perm_of config self.old s →
+            HasRoom config (stepped config (Ask client (Store address size value)) s).after →
+            IsStepped A.represents A.terms D.perm_of config self.old self.new (Ask client (Store address size value))
+            (answered result) s }
+    {
+        if usize::from(client) >= self.clients.len() {
+            return None;
+        }
+        Some(ask_store_at(&mut self.clients, usize::from(client), address, size, value))
     }
 
     /// The first beat of a channel is brought to a client.

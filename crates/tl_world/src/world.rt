@@ -4,6 +4,8 @@ ghost use Rattle.std.specs.Prelude.{ℕ, [], ◌∷◌, ◌≡◌, ◌≤◌, �
 ghost use Rattle.tl_beat.specs.statement.Width.{IsWidth};
 ghost use Rattle.tl_params.specs.declared.config.Config.{Config};
 ghost use Rattle.tl_client.specs.statement.EndpointInvariant.{holds};
+ghost use Rattle.tl_client.specs.declared.operation.Op.TheVariants.{Load, Store};
+ghost use Rattle.tl_coherence.specs.declared.event.Event.TheVariants.{Ask};
 ghost use Rattle.tl_coherence.specs.statement.Delivery.{capacity, sources_of};
 ghost use Rattle.tl_coherence.specs.statement.Load;
 ghost use Rattle.tl_coherence.specs.statement.Load.{IsBalanced};
@@ -11,6 +13,7 @@ ghost use Rattle.tl_coherence.specs.statement.Log.{Log, system_after, logged};
 ghost use Rattle.tl_coherence.specs.statement.Step.{stepped};
 ghost use Rattle.tl_coherence.specs.statement.System.{terms_at};
 ghost use Rattle.tl_world.specs.statement.World.{IsReached, IsWorld, IsNewWorld, IsReplayed};
+ghost use Rattle.tl_world.specs.statement.Answered.{answered};
 ghost use Rattle.tl_world.specs.statement.World.{AreReady, IsEmpty, held_by, copy_by, deepest_by};
 ghost use Rattle.tl_coherence.specs.statement.Movable;
 ghost use Rattle.tl_coherence.specs.statement.Movable.{drained};
@@ -27,6 +30,7 @@ use std::marker::Model;
 use tl_beat::beat::Link;
 use tl_beat::channel::Channel;
 use tl_client::agent::Agent;
+use tl_client::reply::Reply;
 use tl_coherence::event::{Event, Outcome};
 use tl_manager::directory::Directory;
 use tl_manager::manager::Manager;
@@ -109,6 +113,35 @@ impl<const W: usize, A: Agent<W>, D: Directory> World<W, A, D> {
         self.state.network.step(event, &mut outcome);
         self.state.outstanding.count(&event, &outcome);
         outcome
+    }
+
+    /// A client is asked for a Load, as by `step`: its answer, or None where there is no such client.
+    pub fn ask_load(&self, client: u8, address: u32, size: u8) -> Option<Reply>
+        ensures world { IsWorld A.represents A.terms D.perm_of self.now }
+        ensures reached { (config : Config) (log : Log W) →
+            IsReached A.represents A.terms D.perm_of config self.now log →
+            IsReached A.represents A.terms D.perm_of config self.now
+            ((Ask client (Load address size), answered result) ∷ log) }
+        ensures outcome { (config : Config) (log : Log W) →
+            IsReached A.represents A.terms D.perm_of config self.now log →
+            answered result ≡ (stepped config (Ask client (Load address size)) (system_after config log)).outcome }
+    {
+        self.state.network.ask_load(client, address, size)
+    }
+
+    /// A client is asked for a Store, as by `step`: its answer, or None where there is no such client.
+    pub fn ask_store(&mut self, client: u8, address: u32, size: u8, value: u64) -> Option<Reply>
+        ensures world { IsWorld A.represents A.terms D.perm_of self.old }
+        ensures reached { (config : Config) (log : Log W) →
+            IsReached A.represents A.terms D.perm_of config self.old log →
+            IsReached A.represents A.terms D.perm_of config self.new
+            ((Ask client (Store address size value), answered result) ∷ log) }
+        ensures outcome { (config : Config) (log : Log W) →
+            IsReached A.represents A.terms D.perm_of config self.old log →
+            answered result
+            ≡ (stepped config (Ask client (Store address size value)) (system_after config log)).outcome }
+    {
+        self.state.network.ask_store(client, address, size, value)
     }
 
     /// The events happen one after another: what comes of each.

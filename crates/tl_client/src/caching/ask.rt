@@ -75,7 +75,7 @@ impl<const W: usize> Caching<W> {
     }
 
     /// Reads a number of a block that is held.
-    fn load(&self, address: u32, size: u8) -> Reply
+    pub(super) fn load(&self, address: u32, size: u8) -> Reply
         requires small { size ≤ 3 }
         requires aligned { IsTrue (is_aligned address size) }
         ensures { result ≡ load_reply self.now address size }
@@ -85,11 +85,14 @@ impl<const W: usize> Caching<W> {
             return Reply::Miss;
         }
         let span = Span::new::<W>(address, size);
-        Reply::Value(number_at(&self.bytes(block), span.in_block, span.count))
+        match self.table.copy_of(block) {
+            Some(bytes) => Reply::Value(number_at(bytes, span.in_block, span.count)),
+            None => Reply::Value(number_at(&[0; 64], span.in_block, span.count)),
+        }
     }
 
     /// Writes a number to a block of which Trunk is held.
-    fn store(&mut self, address: u32, size: u8, value: u64) -> Reply
+    pub(super) fn store(&mut self, address: u32, size: u8, value: u64) -> Reply
         requires small { size ≤ 3 }
         requires aligned { IsTrue (is_aligned address size) }
         requires inside { address / 64 < self.old.blocks }

@@ -1,6 +1,7 @@
 //! What a client keeps of each block.
 
 ghost use Rattle.std.specs.Prelude.{ℕ, ◌≡◌, ◌<◌, ◌==◌, ◌&&◌, not, if◌then◌else◌, length, IfOk, Option};
+ghost use Rattle.std.specs.Option.{option_copied};
 ghost use Rattle.tl_client.specs.statement.EndpointInvariant.{holds};
 ghost use Rattle.tl_client.specs.code.Table.{held_in, copy_in, waiting_in, block_count};
 ghost use Rattle.tl_params.specs.declared.perm.Perm.TheVariants as perm;
@@ -57,6 +58,16 @@ impl Table {
     {
         match self.blocks.get(block as usize) {
             Some(block) => block.copy,
+            None => None,
+        }
+    }
+
+    /// The copy of a block, where it stands.
+    pub fn copy_of(&self, block: u32) -> Option<&[u8; 64]>
+        ensures { option_copied result ≡ copy_in self.now block }
+    {
+        match self.blocks.get(block as usize) {
+            Some(block) => block.copy.as_ref(),
             None => None,
         }
     }

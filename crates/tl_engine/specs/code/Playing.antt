@@ -1,9 +1,11 @@
 -- What a handler of schedules knows.
-use Rattle.std.specs.Prelude.{◌≡◌, ℕ, ◌+◌, Bool, ◌==◌, List, [], ◌∷◌, ◌++◌, length, Option, Some, None}
+use Rattle.std.specs.Prelude.{◌≡◌, ℕ, ◌+◌, Bool, true, false, ◌==◌, List, [], ◌∷◌, ◌++◌, length, Option, Some, None}
 use Rattle.tl_params.specs.declared.config.Config.{Config}
 use Rattle.tl_params.specs.declared.header.Version.{Version}
 use Rattle.tl_schedule.specs.declared.line.Line.{Line}
 use Rattle.tl_schedule.specs.statement.EventLine.{SpellsLine, event_fault}
+use Rattle.tl_schedule.specs.statement.OutcomeLine.{answer_line}
+use Rattle.tl_client.specs.declared.reply.Reply.{Reply}
 use Rattle.tl_coherence.specs.declared.event.Event.{Event}
 use Rattle.tl_coherence.specs.statement.Draining.{IsDrained}
 use Rattle.tl_coherence.specs.statement.Log.{Log}
@@ -16,6 +18,11 @@ use Rattle.tl_engine.specs.declared.status.Status.{Status}
 use Rattle.tl_engine.specs.statement.Played.{HeadsSchedule, Played, PlayedAfter, Plays, deliveries_text, event_text}
 use Rattle.tl_engine.specs.statement.Played.{outcome_after}
 use Rattle.tl_engine.specs.code.PlayableWorld.{Contained, Reaches}
+
+-- what is written of the answer to a Load of this size, or of a Store's
+abbrev pub asked_text : Bool → ℕ → Option Reply → List ℕ
+asked_text false size answer = answer_line size answer
+asked_text true size answer = []
 
 -- An event has happened to a world, and what came of it stands behind the text.
 abbrev pub Happens : {w : ℕ} → Bool → Contained w → Contained w → Event w → List ℕ → List ℕ → Type 0

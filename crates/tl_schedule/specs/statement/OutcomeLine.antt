@@ -1,5 +1,5 @@
 -- The line of an outcome, and what a trace shows of it.
-use Rattle.std.specs.Prelude.{ℕ, ◌^◌, List, [], ◌∷◌, ◌++◌, take, codes, ⊤}
+use Rattle.std.specs.Prelude.{ℕ, ◌^◌, List, [], ◌∷◌, ◌++◌, take, codes, ⊤, Option, Some, None}
 use Rattle.std.specs.Fmt.{decimal}
 use Rattle.std.specs.Int.{to_le_bytes, w64}
 use Rattle.tl_beat.specs.declared.beat.Link.{Link}
@@ -86,6 +86,11 @@ outcome_text event outcome.NoSuchClient = codes "no client"
 -- the one line of what comes of an event
 abbrev pub outcome_line : {w : ℕ} → Event w → Outcome w → List ℕ
 outcome_line event outcome = outcome_text event outcome ++ 10 ∷ []
+
+-- that of a Load of this size, or of a Store, whose answer a client gives, if there is one
+abbrev pub answer_line : ℕ → Option Reply → List ℕ
+answer_line size None = codes "no client\n"
+answer_line size (Some reply) = reply_text size reply ++ 10 ∷ []
 
 -- what a trace shows of it: the line of the beat that was taken, if one was
 abbrev pub trace_text : {w : ℕ} → Event w → Outcome w → List ℕ

@@ -1,0 +1,35 @@
+use Rattle.std.proofs.Common.{refl, sym, None}
+use Rattle.tl_client.proofs.Imports.{Store}
+use Rattle.tl_client.proofs.caching_client.Answered.{asked-busy}
+use Rattle.tl_client.specs.code.KnowsCaching.{terms_of}
+use Rattle.tl_client.proofs.endpoint.Words.{store-silent}
+use Rattle.tl_client.proofs.caching_client.Asked.{answers-asked, knows-asked}
+use Rattle.tl_client.proofs.caching.CachingAgent.ask_store.Goals as goal
+
+pub returns-in-Some-clause-reply : goal.returns-in-Some-clause-reply
+returns-in-Some-clause-reply g c = λ e k.
+    rw (asked-busy c.args.self.now (Store c.args.address c.args.size c.args.value) e c.in-Some.busy k
+    c.in-Some.ensures) refl
+
+pub returns-in-Some-clause-after : goal.returns-in-Some-clause-after
+returns-in-Some-clause-after g c = λ e k.
+    rw (asked-busy c.args.self.now (Store c.args.address c.args.size c.args.value) e c.in-Some.busy k
+    c.in-Some.ensures) k
+
+pub returns-in-None-clause-reply : goal.returns-in-None-clause-reply
+returns-in-None-clause-reply g c = λ e k.
+    (answers-asked c.args.self.now c.store.new.self (Store c.args.address c.args.size c.args.value) e
+    (c.store.result, None) k (sym c.in-None.ensures) c.store.ensures).0
+
+pub returns-in-None-clause-after : goal.returns-in-None-clause-after
+returns-in-None-clause-after g c = λ e k.
+    knows-asked c.args.self.now c.store.new.self (Store c.args.address c.args.size c.args.value) e
+    (c.store.result, None) k (sym c.in-None.ensures) c.store.ensures
+
+pub returns-in-Some-clause-message : goal.returns-in-Some-clause-message
+returns-in-Some-clause-message g c = λ e k.
+    sym (store-silent (terms_of c.args.self.now) c.args.address c.args.size c.args.value e).message
+
+pub returns-in-None-clause-message : goal.returns-in-None-clause-message
+returns-in-None-clause-message g c = λ e k.
+    sym (store-silent (terms_of c.args.self.now) c.args.address c.args.size c.args.value e).message

@@ -1,0 +1,14 @@
+use Rattle.tl_client.specs.declared.operation.Op.TheVariants.{Store}
+use Rattle.tl_coherence.specs.declared.event.Event.TheVariants.{Ask}
+use Rattle.tl_world.specs.statement.Answered.{answered}
+use Rattle.tl_engine.proofs.Answered.{written}
+use Rattle.tl_engine.proofs.Played.{happened}
+use Rattle.tl_engine.proofs.play.play_store.Goals as goal
+
+pub returns : goal.returns
+returns g c =
+    let event = Ask c.args.client (Store c.args.address c.args.size c.args.value) in
+    happened c.args.trace c.args.world.now c.ask_store-answer.new.self event (answered c.ask_store-answer.result) c.args.out.now.items
+    c.append_asked.new.out.items c.append_asked.result
+    (rw (written {w = g.row.W} c.args.trace event c.ask_store-answer.result) c.append_asked.ensures)
+    c.ask_store-answer.ensures.outcome c.ask_store-answer.ensures.reached

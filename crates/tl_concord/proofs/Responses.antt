@@ -188,7 +188,7 @@ same_response (message.C m) x y k j e f = absurd cc
 same_response (message.E m) x y k j e f = absurd cc
 
 -- the last of the first beats of a message
-last_begun : {w : ℕ} (m : Message w) (k : ℕ) (x : Beat w) (older : List (Beat w)) → x ∷ older ≡ begun m k
+pub last_begun : {w : ℕ} (m : Message w) (k : ℕ) (x : Beat w) (older : List (Beat w)) → x ∷ older ≡ begun m k
     → (j : ℕ) × (x ≡ beat_of m j)
 last_begun m zero x older e = absurd cc
 last_begun {w} m (suc k) x older e = (k, first_is x (beat_of m k) older (begun m k) e)

@@ -49,7 +49,7 @@ whole_ends : {w : ℕ} (opened : Option (Open w)) (o : Open w) (block : ℕ) (by
     → Ends opened x f → opened ≡ Some o → o.asked ≡ op.AcquireWhole block bytes → f ≡ finish.Granted perm.Trunk
 whole_ends opened o block bytes x f ends is asked = (rw (is, asked) at ends)
 
-allowed_ends : {w : ℕ} (link : Link) (ch : Channel) (x : Beat w) (source : ℕ) (f : Finish) (m : Machine w)
+pub allowed_ends : {w : ℕ} (link : Link) (ch : Channel) (x : Beat w) (source : ℕ) (f : Finish) (m : Machine w)
     → Allows (Deliver link ch) (outcome.Done x source f) m → Ends (m.opened link.0 (pool_of f) source) x f
 allowed_ends link channel.D x source f m allows = allows
 allowed_ends link channel.A x source f m allows = absurd allows

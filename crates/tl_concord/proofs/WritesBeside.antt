@@ -39,16 +39,16 @@ answer_in None = None
 answer_in (Some o) = o.answer
 
 -- what is open with an answer, as it was asked
-same_open : {w : ℕ} (i j : Op w) (r s : Option AccessResult)
+pub same_open : {w : ℕ} (i j : Op w) (r s : Option AccessResult)
     → ◌≡◌ {A = Option (Open w)} (Some (record { asked = i; answer = r })) (Some (record { asked = j; answer = s }))
     → (i ≡ j) × (r ≡ s)
 same_open i j r s e = (ap (asked_in i) e, ap answer_in e)
 
-same_access : {w : ℕ} (m n : MessageA w) → op.Access (message.A m) ≡ op.Access (message.A n) → m ≡ n
+pub same_access : {w : ℕ} (m n : MessageA w) → op.Access (message.A m) ≡ op.Access (message.A n) → m ≡ n
 same_access m n e = cc
 
 -- one that is open with an answer is replied, with its request
-replied_with : {w : ℕ} (c source : ℕ) (mail : AccessMessages w) (s : State (List ℕ)) (u : SourceState)
+pub replied_with : {w : ℕ} (c source : ℕ) (mail : AccessMessages w) (s : State (List ℕ)) (u : SourceState)
     (m : MessageA w) (r : AccessResult)
     → IsOpened c source mail s u (Some (record { asked = op.Access (message.A m); answer = Some r }))
     → (u ≡ Replied) × (mail.request c source ≡ message.A (sourced source m))

@@ -7,3 +7,4 @@ pub mod Pending
 pub mod Read
 pub mod Spans
 pub mod Values
+pub mod Worked

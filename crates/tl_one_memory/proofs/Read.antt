@@ -144,7 +144,7 @@ module _ {w : ℕ} (n : ℕ) (first : Memory) where
   -- ---- an answer that has begun
 
   -- what has begun on channel D has beats of it
-  begun-on_d : (b : Beat w) (older : List (Beat w)) (h : History w) → unfinished channel.D h ≡ b ∷ older
+  pub begun-on_d : (b : Beat w) (older : List (Beat w)) (h : History w) → unfinished channel.D h ≡ b ∷ older
       → on channel.D b ≡ true
   unfolding unfinished
   begun-on_d b older [] e = absurd cc

@@ -281,7 +281,7 @@ carried-ask {w} config log h sys c terms o width is known =
 
 -- ---- the one memory
 
-none_answered : {w : ℕ} (c : ℕ) (o : Op w) (r : Reply) (h : AbstractState w) (m : Option (Message w)) → IsReply o r
+pub none_answered : {w : ℕ} (c : ℕ) (o : Op w) (r : Reply) (h : AbstractState w) (m : Option (Message w)) → IsReply o r
     → IsHandedOut c o r h m → accesses_answered (handed_by c m) ≡ []
 unfolding accesses_answered
 none_answered {w} c o r h m may_be = reply-cases (λ i j. IsHandedOut c i j h m → accesses_answered (handed_by c m) ≡ [])

@@ -27,13 +27,13 @@ with_data_only : (x : Bool) → grant_opcode x ≡ opd.GrantData → x ≡ true
 with_data_only true e = refl
 with_data_only false e = absurd cc
 
-true-next : {w : ℕ} (config : Config) (log : Log w) → IsGiven config log → (c : ℕ) (y : BeatD w) (queue : List (Beat w))
-    → (system_after config log).channels c channel.D ≡ beat.D y ∷ queue
+pub true-next : {w : ℕ} (config : Config) (log : Log w) → IsGiven config log → (c : ℕ) (y : BeatD w)
+    (queue : List (Beat w)) → (system_after config log).channels c channel.D ≡ beat.D y ∷ queue
     → (n : ℕ) → grants n y (flow c log) ≡ true → y.opcode ≡ opd.GrantData
-    → (bytes : List ℕ) × IsBlock (one_memory_after config log).memory n bytes
+    → (bytes : List ℕ) × (length bytes ≡ 64) × IsBlock (one_memory_after config log).memory n bytes
     × (y.lanes ≡ lanes_at true w bytes (length (unfinished channel.D (flow c log))))
 true-next {w} config log given c y queue beats n granted with_data =
-    ((h.state.block n).truth, is.beside.memory n, lanes)
+    ((h.state.block n).truth, (is.sized n).truth, is.beside.memory n, lanes)
   where
     h : AbstractState w
     h = shadow config log
@@ -65,8 +65,9 @@ true-moved : {w : ℕ} (config : Config) (log : Log w) → IsGiven config log �
 true-moved {w} config log given c (beat.D y) queue beats = λ n granted with_data.
     subst (λ (t : History w). (bytes : List ℕ) × IsBlock (one_memory_after config log).memory n bytes
     × (y.lanes ≡ lanes_at true w bytes (length (unfinished channel.D t)))) (sym (trace-flows c log))
-    (true-next config log given c y queue beats n
-    (subst (λ (t : History w). grants n y t ≡ true) (trace-flows c log) granted) with_data)
+    (let found = true-next config log given c y queue beats n
+    (subst (λ (t : History w). grants n y t ≡ true) (trace-flows c log) granted) with_data in
+    (found.0, found.2, found.3))
 true-moved config log given c (beat.A y) queue beats = tt
 true-moved config log given c (beat.B y) queue beats = tt
 true-moved config log given c (beat.C y) queue beats = tt

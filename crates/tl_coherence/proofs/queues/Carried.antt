@@ -62,7 +62,7 @@ pub record IsNext {w : ℕ} (x : Beat w) (rest : List (Beat w)) (m : Message w) 
   -- the last one: the message is gone, and the receiver has it whole
   pub last : k + 1 ≡ beats_of m → (grown x rest ≡ []) × (x ∷ rest ≡ burst_of m) × IsCarried [] ms queue
 
-tail_is : {w : ℕ} (x y : Beat w) (xs ys : List (Beat w)) → x ∷ xs ≡ y ∷ ys → (x ≡ y) × (xs ≡ ys)
+pub tail_is : {w : ℕ} (x y : Beat w) (xs ys : List (Beat w)) → x ∷ xs ≡ y ∷ ys → (x ≡ y) × (xs ≡ ys)
 tail_is x y xs ys e = (cc, cc)
 
 carried_rest : {w : ℕ} (ms : List (Message w)) → ((n : Message w) → 0 < beats_of n) → IsCarried [] ms (spelled ms)

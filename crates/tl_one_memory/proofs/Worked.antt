@@ -1,0 +1,200 @@
+-- A worked run: one link writes eight bytes, and then another reads them.
+use Rattle.std.proofs.Common.{◌≡◌, ◌+◌, ◌-◌, ◌*◌, ◌/◌, ℕ, zero, suc, true, false}
+use Rattle.std.proofs.Common.{List, [], ◌∷◌, refl, sym, ◌∙◌, subst, arith}
+use Rattle.std.specs.Prelude.{find, nat_le, nat_lt, Some, None, unwrap_or}
+use Rattle.std.proofs.lemmas.Bool.{and_parts, ltb-true}
+use Rattle.tl_beat.specs.declared.beat.Beat.{Beat}
+use Rattle.tl_beat.specs.declared.beat.Beat.TheVariants as beat
+use Rattle.tl_beat.specs.declared.beat.BeatA.{BeatA}
+use Rattle.tl_beat.specs.declared.beat.BeatD.{BeatD}
+use Rattle.tl_beat.specs.declared.beat.Link.{Link}
+use Rattle.tl_beat.specs.declared.channel.Channel.TheVariants as channel
+use Rattle.tl_beat.specs.declared.opcode.OpD.TheVariants as d
+use Rattle.tl_burst.specs.statement.Burst.{reaches}
+use Rattle.tl_burst.specs.statement.Messages.{unfinished}
+use Rattle.tl_params.specs.declared.perm.Perm.TheVariants as perm
+use Rattle.tl_rules.specs.statement.Admission.{bytes_carried}
+use Rattle.tl_rules.specs.statement.Conformance.{on_link}
+use Rattle.tl_rules.specs.statement.Effect.{Memory, bytes_from, effect, number_from}
+use Rattle.tl_rules.specs.statement.History.{block_at, held, request_of}
+use Rattle.tl_rules.specs.statement.Windows.{is_free}
+use Rattle.tl_bytes.specs.statement.Bytes.{Access, carried_byte, carried_mask, is_of, pending_accesses, tells}
+use Rattle.tl_bytes.proofs.WorkedBeats.{done, eight, found, get, put}
+use Rattle.tl_one_memory.specs.statement.Run.{Happening, IsAnswer, IsPerformed, IsRun, IsTaken, Performs, Run, Takes}
+use Rattle.tl_one_memory.specs.statement.Run.{found_in, memory_in, trace_in}
+
+abbrev zeros : Memory
+zeros address = 0
+
+-- the beat is taken on its link
+abbrev takes : Link × Beat 8 → Happening 8
+takes x = Takes x.0 x.1
+
+-- a Put of sevens is asked for, performed and answered
+abbrev written : Run 8
+written = takes (done 0 0 3) ∷ Performs 0 0 ∷ takes (put 0 0 3 (eight 7) 255) ∷ []
+
+-- and then a Get
+abbrev read : Run 8
+read = takes (found 1 0 3 (eight 7)) ∷ Performs 1 0 ∷ takes (get 1 0 3 255) ∷ written
+
+same_d : (x y : BeatD 8) → beat.D x ≡ beat.D y → x ≡ y
+same_d x y e = cc
+
+-- an answer to the access that is pending with its source
+answers-one : (first : Memory) (link : ℕ) (x : BeatD 8) (p : Access 8) (run : Run 8)
+    → find (is_of link x.source) (pending_accesses (trace_in run)) ≡ Some p → IsAnswer first link x p run
+    → (z : BeatD 8) (access : Access 8) → beat.D x ≡ beat.D z
+    → find (is_of link z.source) (pending_accesses (trace_in run)) ≡ Some access → IsAnswer first link z access run
+answers-one first link x p run is answer z access e =
+    subst (λ (i : BeatD 8). find (is_of link i.source) (pending_accesses (trace_in run)) ≡ Some access
+    → IsAnswer first link i access run) (same_d x z e)
+    (λ pending. subst (λ (q : Access 8). IsAnswer first link x q run) (same p access is pending) answer)
+  where
+    same : (q r : Access 8) → find (is_of link x.source) (pending_accesses (trace_in run)) ≡ Some q
+        → find (is_of link x.source) (pending_accesses (trace_in run)) ≡ Some r → q ≡ r
+    same q r f g = cc
+
+nil-cons : {X : Type 0} (x : X) (xs : List X) → [] ≡ x ∷ xs → ⊥
+nil-cons x xs e = cc
+
+unequal : true ≡ false → ⊥
+unequal e = cc
+
+-- a beat that begins where no response has, tells nothing and is no Grant, where no link holds anything
+plain : (link : Link) (x : Beat 8) (run : Run 8) → unfinished channel.D (on_link link.0 (trace_in run)) ≡ []
+    → ((z : BeatA 8) → x ≡ beat.A z → found_in zeros link.0 z.source run ≡ None)
+    → ((z : BeatD 8) (access : Access 8) → x ≡ beat.D z
+    → find (is_of link.0 z.source) (pending_accesses (trace_in run)) ≡ Some access → IsAnswer zeros link.0 z access run)
+    → ((z : BeatD 8) → x ≡ beat.D z → z.opcode ≡ d.GrantData → ⊥)
+    → ((block : ℕ) → tells block x (on_link link.0 (trace_in run)) ≡ false)
+    → ((block : ℕ) → is_free 2 None perm.Branch block (trace_in run) ≡ true)
+    → ((block : ℕ) → is_free 2 None perm.Trunk block ((link, x) ∷ trace_in run) ≡ true)
+    → IsTaken 2 zeros link x run
+plain link x run fresh asks answers no_grant untold before after = record {
+  asks = λ z e both. asks z e;
+  asks_first = λ z y older e both begun no_ack same. nil-cons (beat.D y) older (sym fresh ∙ begun);
+  continues = λ z y older e begun. absurd (nil-cons (beat.D y) older (sym fresh ∙ begun));
+  answers_rightly = λ z access e no_ack pending. answers z access e pending;
+  grants_rightly = λ z asked e grant open_so. absurd (no_grant z e grant);
+  tells_rightly = λ address free told. absurd (unequal (sym told ∙ untold (block_at address)));
+  closes_told = λ block free closed. absurd (unequal (sym (after block) ∙ closed));
+  given_up_told = λ block held_so free. absurd (unequal (sym (before block) ∙ held_so));
+}
+
+-- a response in a beat, and an access among those that are pending
+abbrev response : Beat 8 → BeatD 8 → BeatD 8
+response (beat.D x) other = x
+response _ other = other
+
+abbrev pending_of : ℕ → ℕ → Run 8 → Access 8 → Access 8
+pending_of link source run other = unwrap_or (find (is_of link source) (pending_accesses (trace_in run))) other
+
+put-taken : IsTaken {w = 8} 2 zeros (record { 0 = 0 }) (put 0 0 3 (eight 7) 255).1 []
+unfolding trace_in found_in memory_in on_link unfinished pending_accesses held request_of is_free carried_byte
+    carried_mask bytes_carried effect bytes_from number_from
+put-taken = plain (record { 0 = 0 }) (put 0 0 3 (eight 7) 255).1 [] refl (λ z e. refl) (λ z access e. absurd cc)
+    (λ z e. absurd cc) (λ block. refl) (λ block. refl) (λ block. refl)
+
+abbrev asked : Run 8
+asked = takes (put 0 0 3 (eight 7) 255) ∷ []
+
+put-performed : IsPerformed 2 zeros 0 0 asked
+unfolding trace_in found_in memory_in on_link unfinished pending_accesses held request_of is_free carried_byte
+    carried_mask bytes_carried effect bytes_from number_from
+put-performed = record {
+  access = _;
+  pending = refl;
+  once = refl;
+  reads_free = λ address reached. refl;
+  writes_free = λ address written. refl;
+}
+
+abbrev performed : Run 8
+performed = Performs 0 0 ∷ asked
+
+put-answered : (z : BeatD 8) (access : Access 8)
+    → IsAnswer zeros 0 (response (done 0 0 3).1 z) (pending_of 0 0 performed access) performed
+unfolding trace_in found_in memory_in on_link unfinished pending_accesses held request_of is_free carried_byte
+    carried_mask bytes_carried effect bytes_from number_from
+put-answered z access = record {
+  found = zeros;
+  performed = refl;
+  admitted = refl;
+  lanes_fit = omega arith;
+  brings = λ reads address reached come. absurd cc;
+}
+
+done-taken : IsTaken 2 zeros (record { 0 = 0 }) (done 0 0 3).1 performed
+unfolding trace_in found_in memory_in on_link unfinished pending_accesses held request_of is_free carried_byte
+    carried_mask bytes_carried effect bytes_from number_from
+done-taken = plain (record { 0 = 0 }) (done 0 0 3).1 performed refl (λ z e. absurd cc)
+    (λ z access e pending. answers-one zeros 0 (response (done 0 0 3).1 z) (pending_of 0 0 performed access) performed
+    refl (put-answered z access) z access e pending)
+    (λ z e grant. cc) (λ block. refl) (λ block. refl) (λ block. refl)
+
+get-taken : IsTaken 2 zeros (record { 0 = 1 }) (get 1 0 3 255).1 written
+unfolding trace_in found_in memory_in on_link unfinished pending_accesses held request_of is_free carried_byte
+    carried_mask bytes_carried effect bytes_from number_from
+get-taken = plain (record { 0 = 1 }) (get 1 0 3 255).1 written refl (λ z e. refl) (λ z access e. absurd cc)
+    (λ z e. absurd cc) (λ block. refl) (λ block. refl) (λ block. refl)
+
+abbrev wanted : Run 8
+wanted = takes (get 1 0 3 255) ∷ written
+
+get-performed : IsPerformed 2 zeros 1 0 wanted
+unfolding trace_in found_in memory_in on_link unfinished pending_accesses held request_of is_free carried_byte
+    carried_mask bytes_carried effect bytes_from number_from
+get-performed = record {
+  access = _;
+  pending = refl;
+  once = refl;
+  reads_free = λ address reached. refl;
+  writes_free = λ address writing. refl;
+}
+
+abbrev looked : Run 8
+looked = Performs 1 0 ∷ wanted
+
+-- memory has the bytes that were written
+sevens : (address : ℕ) → reaches 0 3 address ≡ true
+    → carried_byte {w = 8} ((found 1 0 3 (eight 7)).1 ∷ []) (address - 8 * (0 / 8)) ≡ Some
+    (memory_in zeros wanted address)
+unfolding trace_in found_in memory_in on_link unfinished pending_accesses held request_of is_free carried_byte
+    carried_mask bytes_carried effect bytes_from number_from
+sevens zero reached = refl
+sevens (suc zero) reached = refl
+sevens (suc (suc zero)) reached = refl
+sevens (suc (suc (suc zero))) reached = refl
+sevens (suc (suc (suc (suc zero)))) reached = refl
+sevens (suc (suc (suc (suc (suc zero))))) reached = refl
+sevens (suc (suc (suc (suc (suc (suc zero)))))) reached = refl
+sevens (suc (suc (suc (suc (suc (suc (suc zero))))))) reached = refl
+sevens (suc (suc (suc (suc (suc (suc (suc (suc n)))))))) reached =
+    let both = and_parts (nat_le 0 (8 + n)) (nat_lt (8 + n) 8)
+    (let e : suc (suc (suc (suc (suc (suc (suc (suc n))))))) ≡ 8 + n = omega arith in rw e at reached) in
+    absurd (omega (arith, ltb-true (8 + n) 8 both.1))
+
+get-answered : (z : BeatD 8) (access : Access 8)
+    → IsAnswer zeros 1 (response (found 1 0 3 (eight 7)).1 z) (pending_of 1 0 looked access) looked
+unfolding trace_in found_in memory_in on_link unfinished pending_accesses held request_of is_free carried_byte
+    carried_mask bytes_carried effect bytes_from number_from
+get-answered z access = record {
+  found = memory_in zeros wanted;
+  performed = refl;
+  admitted = refl;
+  lanes_fit = omega arith;
+  brings = λ reads address reached come. sevens address reached;
+}
+
+found-taken : IsTaken 2 zeros (record { 0 = 1 }) (found 1 0 3 (eight 7)).1 looked
+unfolding trace_in found_in memory_in on_link unfinished pending_accesses held request_of is_free carried_byte
+    carried_mask bytes_carried effect bytes_from number_from
+found-taken = plain (record { 0 = 1 }) (found 1 0 3 (eight 7)).1 looked refl (λ z e. absurd cc)
+    (λ z access e pending. answers-one zeros 1 (response (found 1 0 3 (eight 7)).1 z) (pending_of 1 0 looked access)
+    looked refl (get-answered z access) z access e pending)
+    (λ z e grant. cc) (λ block. refl) (λ block. refl) (λ block. refl)
+
+reads_what_was_written : IsRun 2 zeros read
+unfolding IsRun
+reads_what_was_written = (found-taken, (get-performed, (get-taken, (done-taken, (put-performed, (put-taken, tt))))))

@@ -1,0 +1,186 @@
+-- An access of a world is performed rightly in the run beside it.
+use Rattle.std.proofs.Common.{◌≡◌, ℕ, zero, suc, ◌+◌, ◌%◌, ◌^◌, ◌≤◌, true, [], ◌∷◌, inl, inr}
+use Rattle.std.proofs.Common.{Some, None, refl, sym, ◌∙◌, ap, subst, arith}
+use Rattle.std.specs.Prelude.{find, is_some, nat_le, nat_lt, Option, unwrap_or}
+use Rattle.std.proofs.lemmas.Bool.{and_from, and_parts, cases_eq, leb-true, ltb-true}
+use Rattle.tl_beat.specs.declared.beat.Link.{Link}
+use Rattle.tl_beat.specs.declared.channel.Channel.{Channel}
+use Rattle.tl_beat.specs.declared.opcode.OpA.{OpA}
+use Rattle.tl_beat.specs.declared.opcode.OpA.TheVariants as a
+use Rattle.tl_beat.specs.statement.Width.{IsWidth}
+use Rattle.tl_burst.specs.declared.message.Message.TheVariants as message
+use Rattle.tl_burst.specs.declared.message.MessageA.{MessageA}
+use Rattle.tl_burst.specs.statement.Burst.{IsBlankAfter, a_beat_of, beats_of, byte_at, reaches}
+use Rattle.tl_params.specs.declared.config.Config.{Config}
+use Rattle.tl_params.specs.declared.level.Level.{Level}
+use Rattle.tl_params.specs.declared.perm.Perm.{Perm}
+use Rattle.tl_params.specs.declared.perm.Perm.TheVariants as perm
+use Rattle.tl_rules.specs.statement.Conformance.{Trace, on_link}
+use Rattle.tl_rules.specs.statement.Effect.{AccessResult, Memory, after, effect}
+use Rattle.tl_rules.specs.statement.History.{block_at, held}
+use Rattle.tl_rules.specs.statement.Windows.{is_free, leaves, needs}
+use Rattle.tl_bytes.specs.statement.Bytes.{access_writes, is_access, is_of, pending_accesses, writes}
+use Rattle.tl_client.specs.declared.operation.Op.TheVariants as op
+use Rattle.tl_client.specs.statement.Send.{sourced}
+use Rattle.tl_manager.specs.code.Kept.{illegal_message_at}
+use Rattle.tl_manager.specs.statement.Offer.{level_of}
+use Rattle.tl_coherence.specs.declared.event.Event.TheVariants.{Deliver}
+use Rattle.tl_coherence.specs.declared.event.Outcome.{Outcome}
+use Rattle.tl_coherence.specs.refinement.SimulationRelation.{IsRequest}
+use Rattle.tl_coherence.specs.statement.Flow.{trace_of}
+use Rattle.tl_coherence.specs.statement.Headline.{IsGiven}
+use Rattle.tl_coherence.specs.statement.Log.{Log, system_after}
+use Rattle.tl_coherence.specs.statement.Machine.{Requests, moved}
+use Rattle.tl_coherence.specs.statement.OneMemory.{accesses_answered, one_memory_after}
+use Rattle.tl_coherence.specs.statement.Step.{stepped}
+use Rattle.tl_coherence.proofs.bound.Settling.{given-before}
+use Rattle.tl_coherence.proofs.manager.Memories.{access-room}
+use Rattle.tl_coherence.proofs.theorem.Performed.{performed_free}
+use Rattle.tl_one_memory.specs.statement.Run.{IsPerformed, Run, found_in, trace_in}
+use Rattle.tl_true_bytes.specs.code.Beside.{IsBeside, IsOpenAs, result_in}
+use Rattle.tl_true_bytes.proofs.Asked.{IsSomePending}
+use Rattle.tl_true_bytes.proofs.Beside.{same_asked}
+use Rattle.tl_true_bytes.proofs.Quiet.{other-memory}
+use Rattle.tl_true_bytes.proofs.Requests.{answered-pending, request-asked, request-known, writes_sourced}
+use Rattle.tl_true_bytes.proofs.Runs.{answered-after}
+use Rattle.tl_true_bytes.proofs.Taken.{none-found}
+
+-- ---- who may write may read
+
+trunk-branch : {w : ℕ} (n block : ℕ) (t : Trace w) → is_free n None perm.Trunk block t ≡ true
+    → is_free n None perm.Branch block t ≡ true
+unfolding is_free
+trunk-branch zero block t free = refl
+trunk-branch {w} (suc n) block t free =
+    let both = and_parts (is_free n None perm.Trunk block t) (leaves perm.Trunk (held block (on_link n t))) free in
+    and_from _ _ (trunk-branch n block t both.0) (weaker (held block (on_link n t)) both.1)
+  where
+    weaker : (p : Perm) → leaves perm.Trunk p ≡ true → leaves perm.Branch p ≡ true
+    weaker perm.None e = refl
+    weaker perm.Branch e = absurd cc
+    weaker perm.Trunk e = absurd cc
+
+needs-branch : {w : ℕ} (n block : ℕ) (t : Trace w) (o : OpA) → is_access o ≡ true
+    → is_free n None (needs o) block t ≡ true
+    → is_free n None perm.Branch block t ≡ true
+needs-branch n block t a.Get e free = free
+needs-branch n block t a.PutFullData e free = trunk-branch n block t free
+needs-branch n block t a.PutPartialData e free = trunk-branch n block t free
+needs-branch n block t a.ArithmeticData e free = trunk-branch n block t free
+needs-branch n block t a.LogicalData e free = trunk-branch n block t free
+needs-branch n block t a.Intent e free = absurd cc
+needs-branch n block t a.AcquireBlock e free = absurd cc
+needs-branch n block t a.AcquirePerm e free = absurd cc
+
+-- ---- what an access reaches and writes is in its block
+
+reached-here : (base size x : ℕ) → base % 64 + 2 ^ size ≤ 64 → reaches base size x ≡ true → block_at x ≡ block_at base
+reached-here base size x room e =
+    let both = and_parts (nat_le base x) (nat_lt x (base + 2 ^ size)) e in
+    let from = leb-true base x both.0 in
+    let to = ltb-true x (base + 2 ^ size) both.1 in
+    omega (arith, from, to, room)
+
+written-here : {w : ℕ} (m : MessageA w) (o : Option Level) (x : ℕ) → IsWidth w
+    → illegal_message_at o (message.A m) ≡ None → IsBlankAfter (beats_of (message.A m)) (message.A m)
+    → writes m.opcode m x ≡ true → (needs m.opcode ≡ perm.Trunk) × (block_at x ≡ block_at m.address)
+unfolding effect
+written-here {w} m o x width lawful blank = go m.opcode refl
+  where
+    -- a byte that a Put has is of its block: otherwise it would stay, whatever it was
+    never : (k : OpA) → m.opcode ≡ k → ((f : Memory) → after k m f x ≡ unwrap_or (byte_at 0 (message.A m) x) (f x))
+        → (block_at x ≡ block_at m.address → ⊥) → (b : Option ℕ) → byte_at 0 (message.A m) x ≡ b → is_some b ≡ true → ⊥
+    never k e puts other None f some = cc
+    never k e puts other (Some v) f some =
+        let stays : after m.opcode m (λ i. suc v) x ≡ suc v =
+        other-memory m o (λ i. suc v) x width lawful blank (λ n here. other here) in
+        let one : v ≡ suc v = sym (ap (λ (i : Option ℕ). unwrap_or i (suc v)) f) ∙ sym (puts (λ i. suc v))
+        ∙ ap (λ (i : OpA). after i m (λ j. suc v) x) (sym e) ∙ stays in
+        absurd (omega (arith, one))
+
+    put : (k : OpA) → m.opcode ≡ k → ((f : Memory) → after k m f x ≡ unwrap_or (byte_at 0 (message.A m) x) (f x))
+        → is_some (byte_at 0 (message.A m) x) ≡ true → block_at x ≡ block_at m.address
+    put k e puts some = elim (cases_eq (block_at x) (block_at m.address)) [
+      | inl same ↦ same
+      | inr other ↦ absurd (never k e puts other (byte_at 0 (message.A m) x) refl some)
+    ]
+
+    reached : reaches m.address m.size x ≡ true → block_at x ≡ block_at m.address
+    reached e = reached-here m.address m.size x (access-room o m width lawful) e
+
+    go : (k : OpA) → m.opcode ≡ k → writes k m x ≡ true → (needs k ≡ perm.Trunk) × (block_at x ≡ block_at m.address)
+    go a.PutFullData e some = (refl, put a.PutFullData e (λ f. refl) some)
+    go a.PutPartialData e some = (refl, put a.PutPartialData e (λ f. refl) some)
+    go a.ArithmeticData e some = (refl, reached some)
+    go a.LogicalData e some = (refl, reached some)
+    go a.Get e some = absurd cc
+    go a.Intent e some = absurd cc
+    go a.AcquireBlock e some = absurd cc
+    go a.AcquirePerm e some = absurd cc
+
+-- ---- the access that a delivery answers
+
+pub performs-well : {w : ℕ} (config : Config) (log : Log w) (link : Link) (ch : Channel) (o : Outcome w)
+    → IsGiven config ((Deliver link ch, o) ∷ log) → (n q source : ℕ) (a : MessageA w)
+    → accesses_answered (stepped config (Deliver link ch) (system_after config log)).handed ≡ (q, source) ∷ []
+    → moved (Deliver link ch) (stepped config (Deliver link ch) (system_after config log)).outcome
+    (one_memory_after config log) ≡ one_memory_after config log
+    → (one_memory_after config log).opened q Requests source
+    ≡ Some (record { asked = op.Access (message.A a); answer = None })
+    → is_access a.opcode ≡ true → (run : Run w)
+    → IsBeside run (one_memory_after config log) (trace_of ((Deliver link ch, o) ∷ log))
+    → IsPerformed n (λ address. 0) q source run
+performs-well {w} config log link ch o given n q source a one still opened accesses run is = record {
+  access = p.0;
+  pending = subst (λ (u : Trace w). find (is_of q source) (pending_accesses u) ≡ Some p.0) (sym is.trace_is) p.1;
+  once = none-found (found_in (λ address. 0) q source run)
+      (result_in ((one_memory_after config log).opened q Requests source)) (ap result_in opened)
+      (is.found_are q source);
+  reads_free = λ x reached. now perm.Branch x
+      (reached-here a.address a.size x (access-room (level_of config q) (sourced source a) given.width known.1)
+      (sym (reaching x) ∙ reached))
+      (needs-branch n (block_at a.address) t a.opcode accesses (free n));
+  writes_free = λ x writing.
+      let here = written-here (sourced source a) (level_of config q) x given.width known.1 known.2
+      (writes_sourced source a a.opcode x ∙ sym (writing_is x) ∙ writing) in
+      now perm.Trunk x here.1 (subst (λ (k : Perm). is_free n None k (block_at a.address) t ≡ true) here.0 (free n));
+}
+  where
+    t : Trace w
+    t = trace_of ((Deliver link ch, o) ∷ log)
+
+    result : AccessResult
+    result = (effect (message.A a) (one_memory_after config log).memory).1
+
+    after_it : (one_memory_after config ((Deliver link ch, o) ∷ log)).opened q Requests source
+        ≡ Some (record { asked = op.Access (message.A a); answer = Some result })
+    after_it = answered-after config log link ch o given q source a one still opened
+
+    p : IsSomePending q source t
+    p = answered-pending config ((Deliver link ch, o) ∷ log) given q source a result after_it accesses
+
+    open_as : IsOpenAs p.0 ((one_memory_after config log).opened q Requests source)
+    open_as = is.pending_are q source p.0 p.1
+
+    same : open_as.asked ≡ a
+    same = same_asked open_as.asked a open_as.answer None (sym open_as.opened ∙ opened)
+
+    known : IsRequest config q source (message.A (sourced source a))
+    known = request-known config log (given-before config (Deliver link ch, o) log given) q source a None opened
+
+    free : (k : ℕ) → is_free k None (needs a.opcode) (block_at a.address) t ≡ true
+    free = (performed_free config log link ch o given q source [] (a_beat_of (sourced source a) 0) one
+        (request-asked config ((Deliver link ch, o) ∷ log) given q source a result after_it)).1
+
+    now : (k : Perm) (x : ℕ) → block_at x ≡ block_at a.address → is_free n None k (block_at a.address) t ≡ true
+        → is_free n None k (block_at x) (trace_in run) ≡ true
+    now k x here e = subst (λ (u : Trace w). is_free n None k (block_at x) u ≡ true) (sym is.trace_is)
+        (subst (λ (b : ℕ). is_free n None k b t ≡ true) (sym here) e)
+
+    reaching : (x : ℕ) → reaches p.0.request.address p.0.request.size x ≡ reaches a.address a.size x
+    reaching x = ap (λ (k : ℕ). reaches k p.0.request.size x)
+        (open_as.like.address_is ∙ ap (λ (i : MessageA w). i.address) same)
+        ∙ ap (λ (k : ℕ). reaches a.address k x) (open_as.like.size_is ∙ ap (λ (i : MessageA w). i.size) same)
+
+    writing_is : (x : ℕ) → access_writes x p.0 ≡ writes a.opcode a x
+    writing_is x = open_as.like.writes_is x ∙ ap (λ (i : MessageA w). writes i.opcode i x) same

@@ -1,0 +1,4 @@
+//! That the bytes which all links of a world carry are true.
+#![tactic(auto)]
+
+pub mod law;

@@ -25,15 +25,17 @@ use Rattle.tl_coherence.proofs.memory.BesideRequests.{IsOnce, accesses-answer}
 use Rattle.tl_coherence.proofs.deliveries.CarriedReports.{carried-followed_c}
 use Rattle.tl_coherence.proofs.manager.Choices.{plain-past}
 use Rattle.tl_coherence.proofs.queues.FirstToken.{first-token}
-use Rattle.tl_coherence.proofs.protocol.FollowKept.{settled_all}
-use Rattle.tl_coherence.proofs.deliveries.DeliverDWhole.{IsDelivered, remembered_after}
+use Rattle.tl_coherence.proofs.protocol.RequestsKept.{settled_all}
+use Rattle.tl_coherence.proofs.deliveries.DeliverDWhole.{remembered_after}
+use Rattle.tl_coherence.proofs.deliveries.DeliverDUnmoved.{IsDelivered}
 use Rattle.tl_coherence.proofs.manager.ManagerAfter.{others_probed}
-use Rattle.tl_coherence.proofs.deliveries.ManagerDelivered.{channel_c-delivered, pushed, pushed_last}
+use Rattle.tl_coherence.proofs.deliveries.ManagerDelivered.{channel_c-delivered}
+use Rattle.tl_coherence.proofs.deliveries.LastReportDelivered.{pushed, pushed_last}
 use Rattle.tl_coherence.proofs.deliveries.ManagerDelivered.{releases-delivered, reports-delivered}
 use Rattle.tl_coherence.proofs.deliveries.ManagerFollowed.{client-of, followed-taken, step-taken}
 use Rattle.tl_coherence.proofs.manager.ManagerTakes.{by-first_c}
-use Rattle.tl_coherence.proofs.manager.RequestsTaken.{next_tracker}
-use Rattle.tl_coherence.proofs.simulation.SizedAfter.{served-request}
+use Rattle.tl_coherence.proofs.manager.UnwaitedRequests.{next_tracker}
+use Rattle.tl_coherence.proofs.simulation.SourcedAfter.{served-request}
 use Rattle.tl_coherence.proofs.queues.Tokens.{holds-first, set_at-same}
 use Rattle.tl_coherence.proofs.protocol.BothParts.{answered-is}
 use Rattle.tl_coherence.proofs.rank.RankParts.{serving-use}

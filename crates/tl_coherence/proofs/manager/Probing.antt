@@ -23,7 +23,7 @@ use Rattle.tl_manager.proofs.pending.Probing.{missing-own_b, missing-else_b, req
 use Rattle.tl_coherence.specs.protocol.Phase.{ProbeSent}
 use Rattle.tl_coherence.specs.protocol.PhaseSteps.{after_served}
 use Rattle.tl_coherence.specs.protocol.Protocol.{served_pair, served_block}
-use Rattle.tl_coherence.proofs.manager.Accounts.{IsTraced}
+use Rattle.tl_coherence.proofs.manager.BlockAccounts.{IsTraced}
 use Rattle.tl_coherence.proofs.manager.Traces.{traced-at}
 use Rattle.tl_coherence.proofs.manager.Arrivals.{link_of, with_beat, IsComing, service_for}
 use Rattle.tl_coherence.proofs.manager.ManagedServed.{same_above}

@@ -27,7 +27,8 @@ use Rattle.tl_coherence.proofs.manager.Arrivals.{link_of, with_beat, IsComing, s
 use Rattle.tl_coherence.proofs.protocol.Heads.{IsAsked, IsWanted}
 use Rattle.tl_coherence.proofs.manager.Memories.{performed-reply}
 use Rattle.tl_coherence.proofs.manager.Requests.{recorded-beat}
-use Rattle.tl_coherence.proofs.manager.RequestsTaken.{next_tracker, reaction-performed, acquire_wanted, unheld-same}
+use Rattle.tl_coherence.proofs.manager.RequestsTaken.{acquire_wanted}
+use Rattle.tl_coherence.proofs.manager.UnwaitedRequests.{next_tracker, reaction-performed, unheld-same}
 use Rattle.tl_coherence.proofs.queues.Tokens.{same_number, set-same}
 use Rattle.tl_coherence.proofs.queues.Codes.{acquires-so, gives-some, data-same}
 

@@ -31,7 +31,7 @@ use Rattle.tl_coherence.specs.statement.System.{terms_at, with_client, with_chan
 use Rattle.tl_coherence.proofs.manager.Admitted.{first_counts}
 use Rattle.tl_coherence.proofs.protocol.FollowKept.{IsAskable}
 use Rattle.tl_coherence.proofs.manager.ManagersEnd.{at_manager-matched}
-use Rattle.tl_coherence.proofs.manager.RequestsTaken.{next_tracker}
+use Rattle.tl_coherence.proofs.manager.UnwaitedRequests.{next_tracker}
 use Rattle.tl_coherence.proofs.queues.Steps.{manager-with_messages, stepped-asked, stepped-to-client, stepped-empty}
 use Rattle.tl_coherence.proofs.manager.Unseen.{at_manager-asked, is_to_clients, at_manager-client_taken}
 use Rattle.tl_coherence.proofs.manager.ManagerAfter.{IsManagerOf}

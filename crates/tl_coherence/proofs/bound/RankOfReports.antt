@@ -1,7 +1,7 @@
 -- What is owed in a world falls as the last beat of a report is taken.
 use Rattle.tl_coherence.proofs.bound.Imports.{IsWidth, Message, MessageA, Config, Report, AbstractState, kind_taken}
 use Rattle.tl_coherence.proofs.bound.Imports.{IsInvariant, Log, system_after, ProbeAnswered, Service, Free, Waits}
-use Rattle.tl_coherence.proofs.bound.Imports.{GrantSent, GrantTaken, Block, State, packet, view, ended_block}
+use Rattle.tl_coherence.proofs.bound.Imports.{GrantSent, GrantTaken, Block, packet, view, ended_block}
 use Rattle.tl_coherence.proofs.bound.Imports.{report_taken, System, ProbeAck, Packet, SimulationRelation, is_caching}
 use Rattle.std.proofs.Common.{◌≡◌, ℕ, ◌+◌, ◌<◌, ◌≤◌, Bool, true, false, List, ◌∷◌, refl, subst}
 use Rattle.std.specs.Prelude.{◌==◌, if◌then◌else◌, length}

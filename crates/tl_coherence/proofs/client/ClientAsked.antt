@@ -4,7 +4,7 @@ use Rattle.tl_coherence.proofs.client.Imports.{AcquireOf, ReleaseOf, Perm, sent,
 use Rattle.tl_coherence.proofs.client.Imports.{held, pending, same_perm, Op, copy_stored, whole_grow, EndConfig}
 use Rattle.tl_coherence.proofs.client.Imports.{Endpoint, copy_at, held_at, sending, acquisition, same_block}
 use Rattle.tl_coherence.proofs.client.Imports.{AbstractState, ClientBlock, is_unreleased}
-use Rattle.tl_coherence.proofs.client.Imports.{after_release, Block, State, Asked, is_wanting}
+use Rattle.tl_coherence.proofs.client.Imports.{after_release, Block, State, is_wanting}
 use Rattle.tl_coherence.proofs.client.Imports.{releasing_block, stored_block, AccessMessages}
 use Rattle.tl_coherence.proofs.client.Imports.{asked_by, is_whole}
 use Rattle.std.proofs.Common.{◌≡◌, subst, ℕ, Bool, true, false, not, ◌&&◌, cond, List, Option, Some, None, refl, sym}

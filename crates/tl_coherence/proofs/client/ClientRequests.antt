@@ -1,13 +1,13 @@
 -- A client's end after it was asked for an access or an Acquire.
 use Rattle.tl_coherence.proofs.client.Imports.{IsWidth, BeatA, MessageA, a_beat_of}
 use Rattle.tl_coherence.proofs.client.Imports.{AcquireOf, Grow, Perm, block_at, is_acquire}
-use Rattle.tl_coherence.proofs.client.Imports.{held, pending, same_perm}
+use Rattle.tl_coherence.proofs.client.Imports.{pending, same_perm}
 use Rattle.tl_coherence.proofs.client.Imports.{Endpoint, sending, acquisition, same_block}
 use Rattle.tl_coherence.proofs.client.Imports.{acquire_opcode, ClientBlock, AcquireOpen, is_unreleased}
 use Rattle.tl_coherence.proofs.client.Imports.{after_acquire, Block, State, Asked, Acquires, is_wanting}
 use Rattle.tl_coherence.proofs.client.Imports.{acquiring_block, AccessMessages, set_at}
 use Rattle.tl_coherence.proofs.client.Imports.{asked_by, is_whole}
-use Rattle.std.proofs.Common.{◌≡◌, ℕ, Bool, true, false, ◌&&◌, cond, List, Option, Some, None, refl, sym}
+use Rattle.std.proofs.Common.{◌≡◌, ℕ, Bool, true, false, ◌&&◌, cond, List, Option, Some, refl, sym}
 use Rattle.std.proofs.Common.{◌∙◌, ap, ◌⊎◌, inl, inr}
 use Rattle.std.specs.Prelude.{◌==◌, ◌*◌}
 use Rattle.std.proofs.lemmas.Bool.{cases_eq, ne_eqb}

@@ -4,7 +4,7 @@ use Rattle.tl_coherence.proofs.client.Imports.{Config, Rule, Finish, EndConfig, 
 use Rattle.tl_coherence.proofs.client.Imports.{ended, AbstractState, packet_taken, Log}
 use Rattle.tl_coherence.proofs.client.Imports.{is_unreleased, State, AccessMessages, System}
 use Rattle.tl_coherence.proofs.client.Imports.{terms_at}
-use Rattle.tl_coherence.proofs.client.Imports.{Grant, ReleaseAck, Packet, SimulationRelation, is_caching}
+use Rattle.tl_coherence.proofs.client.Imports.{Packet, SimulationRelation, is_caching}
 use Rattle.std.proofs.Common.{◌≡◌, subst, ℕ, Bool, true, false, ◌&&◌, List, [], ◌∷◌, Option, Some, None, refl}
 use Rattle.std.proofs.Common.{sym, ◌∙◌, ap, ◌⊎◌, inl, inr}
 use Rattle.std.specs.Prelude.{if◌then◌else◌, Result, Ok, Err}

@@ -4,7 +4,7 @@ use Rattle.tl_coherence.proofs.deliveries.Imports.{IsWidth, MessageA, Config, Pe
 use Rattle.tl_coherence.proofs.deliveries.Imports.{block_at, same_perm, Op, EndConfig, release, AbstractState, Log}
 use Rattle.tl_coherence.proofs.deliveries.Imports.{Machine, Requests, NoAcquire}
 use Rattle.tl_coherence.proofs.deliveries.Imports.{State, SourceState, one_memory_after}
-use Rattle.tl_coherence.proofs.deliveries.Imports.{Acquire, System, terms_at, SimulationRelation, is_caching, IsRequest}
+use Rattle.tl_coherence.proofs.deliveries.Imports.{System, terms_at, SimulationRelation, is_caching, IsRequest}
 use Rattle.std.proofs.Common.{◌≡◌, ℕ, ◌%◌, ◌^◌, true, false, not, ◌||◌, List, Option, Some}
 use Rattle.std.proofs.Common.{None, refl, sym, ◌∙◌, ap, subst}
 use Rattle.std.specs.Prelude.{◌==◌, is_none, unwrap_or, slice_index, nat_le}

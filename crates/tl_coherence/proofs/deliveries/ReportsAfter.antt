@@ -4,7 +4,7 @@ use Rattle.tl_coherence.proofs.deliveries.Imports.{Report, on_link, Handed, reac
 use Rattle.tl_coherence.proofs.deliveries.Imports.{AbstractState, ack_taken, answers, kind_taken, last_taken}
 use Rattle.tl_coherence.proofs.deliveries.Imports.{some_below, packet_taken, with_state, Log, system_after, Machine}
 use Rattle.tl_coherence.proofs.deliveries.Imports.{Requests, ProbeAnswered, Service, Free, Waits, GrantSent, GrantTaken}
-use Rattle.tl_coherence.proofs.deliveries.Imports.{Block, State, SourceState, packet, let_block, release_taken}
+use Rattle.tl_coherence.proofs.deliveries.Imports.{Block, SourceState, packet, let_block, release_taken}
 use Rattle.tl_coherence.proofs.deliveries.Imports.{report_taken, shown, one_memory_after, performing, accesses_answered}
 use Rattle.tl_coherence.proofs.deliveries.Imports.{message_of, prune_told, block_message, report_told, stepped, IsFor}
 use Rattle.tl_coherence.proofs.deliveries.Imports.{System, ProbeAck, Release, ReleaseAck, Grant, Packet}

@@ -17,7 +17,7 @@ use Rattle.std.proofs.lemmas.Bool.{cases_eq, eqb-true}
 use Rattle.tl_beat.specs.declared.beat.Beat.TheVariants as beat
 use Rattle.tl_beat.specs.declared.channel.Channel.TheVariants as channel
 use Rattle.tl_burst.specs.declared.message.Message.TheVariants as message
-use Rattle.tl_rules.proofs.Sent.{is_last, not_last}
+use Rattle.tl_rules.proofs.Sent.{not_last}
 use Rattle.tl_coherence.specs.declared.event.Outcome.TheVariants as outcome
 use Rattle.tl_coherence.specs.refinement.AbstractStep as follow
 use Rattle.tl_coherence.proofs.memory.BesideRequests.{IsOnce}

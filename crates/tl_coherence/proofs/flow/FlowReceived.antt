@@ -20,7 +20,6 @@ use Rattle.tl_coherence.specs.declared.event.Outcome.TheVariants as outcome
 use Rattle.tl_coherence.specs.statement.Draining.{is_moving}
 use Rattle.tl_coherence.specs.refinement.AbstractStep.{abstract_step, packet_taken}
 use Rattle.tl_coherence.specs.statement.Log.{system_after}
-use Rattle.tl_coherence.specs.protocol.Protocol.{on}
 use Rattle.tl_coherence.specs.statement.Step.{Step, stepped, outcome_of, is_to_client}
 use Rattle.tl_coherence.specs.statement.System.{terms_at, same_channel, with_manager, with_channel, with_messages}
 use Rattle.tl_coherence.proofs.links.FifoOfChannels.{on_it, flow_moved, taken_at}

@@ -7,7 +7,7 @@ use Rattle.tl_coherence.proofs.manager.Imports.{is_unprobed, ok, Service, Free, 
 use Rattle.tl_coherence.proofs.manager.Imports.{view}
 use Rattle.tl_coherence.proofs.manager.Imports.{is_granting, is_acknowledging, IsInvariant}
 use Rattle.tl_coherence.proofs.manager.Imports.{ManagerRelation, is_own, client_in, service_with}
-use Rattle.tl_coherence.proofs.manager.Imports.{IsFor, is_granted}
+use Rattle.tl_coherence.proofs.manager.Imports.{IsFor}
 use Rattle.std.proofs.Common.{◌≡◌, ℕ, ◌==◌, Bool, true, false, not, ◌&&◌, ◌||◌, List, [], ◌∷◌, Some, None, refl}
 use Rattle.std.proofs.Common.{sym, ◌∙◌, ap, inl, inr}
 use Rattle.std.specs.Prelude.{if◌then◌else◌}

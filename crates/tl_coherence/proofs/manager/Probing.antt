@@ -1,7 +1,7 @@
 -- What the manager knows after a request for which others are probed: an Acquire, or an access.
 use Rattle.tl_coherence.proofs.manager.Imports.{A, MessageA, a_beat_of, beats_of, unfinished, Config, ProbeOf, Cap}
 use Rattle.tl_coherence.proofs.manager.Imports.{Trace, on_link, pending, held, block_at, request_of, held_unsaid}
-use Rattle.tl_coherence.proofs.manager.Imports.{swapped, with_handed, probes, recorded, cap_probed, is_spared, probed}
+use Rattle.tl_coherence.proofs.manager.Imports.{swapped, with_handed, probes, recorded, is_spared, probed}
 use Rattle.tl_coherence.proofs.manager.Imports.{services, service_of_block, least_untaken, trackers_of, End}
 use Rattle.tl_coherence.proofs.manager.Imports.{whole-taken, ClientBlock, is_unprobed, is_above, set, Free, Waits}
 use Rattle.tl_coherence.proofs.manager.Imports.{Block, State, client_in, service_with, IsFor}

@@ -1,7 +1,7 @@
 -- What the manager hands out at the last beat of a request: the messages of the tokens that the protocol pushes.
 use Rattle.tl_coherence.proofs.manager.Imports.{Message, MessageA, a_beat_of, beats_of, Config, Cap, cap_right, Memory}
-use Rattle.tl_coherence.proofs.manager.Imports.{bytes_from, effect, answer_of, block_at, Reaction, probes, performed}
-use Rattle.tl_coherence.proofs.manager.Imports.{access_answer, cap_granted, recorded, probed, cap_probed, Trace}
+use Rattle.tl_coherence.proofs.manager.Imports.{bytes_from, answer_of, block_at, Reaction}
+use Rattle.tl_coherence.proofs.manager.Imports.{access_answer, cap_granted, recorded, cap_probed, Trace}
 use Rattle.tl_coherence.proofs.manager.Imports.{same_perm, same_block, reaction, End, level_of, performed-access}
 use Rattle.tl_coherence.proofs.manager.Imports.{performed-acquire, answers, gift, is_unheld, Log, ClientBlock}
 use Rattle.tl_coherence.proofs.manager.Imports.{after_grant_sent, is_granted_data, GrantSent, Block, State, view}

@@ -1,7 +1,7 @@
 -- The last beat of a request that is taken: what the protocol does then is what the manager does.
 use Rattle.tl_coherence.proofs.manager.Imports.{Message, MessageA, a_beat_of, beats_of, Config, Cap, Grow}
 use Rattle.tl_coherence.proofs.manager.Imports.{block_at, is_acquire, same_block}
-use Rattle.tl_coherence.proofs.manager.Imports.{performed, cap_granted, recorded, is_nobody, probed}
+use Rattle.tl_coherence.proofs.manager.Imports.{performed, cap_granted, is_nobody, probed}
 use Rattle.tl_coherence.proofs.manager.Imports.{cap_probed, reaction}
 use Rattle.tl_coherence.proofs.manager.Imports.{End, must_wait, AbstractState, some_below, acquire_opcode, is_unheld}
 use Rattle.tl_coherence.proofs.manager.Imports.{gift, kind_taken, IsInvariant, Log}

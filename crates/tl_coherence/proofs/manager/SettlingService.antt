@@ -5,7 +5,7 @@ use Rattle.tl_coherence.proofs.manager.Imports.{report_left, report_right, Trace
 use Rattle.tl_coherence.proofs.manager.Imports.{is_release_ack, pending}
 use Rattle.tl_coherence.proofs.manager.Imports.{performed, services}
 use Rattle.tl_coherence.proofs.manager.Imports.{service_of_block, reaction, End}
-use Rattle.tl_coherence.proofs.manager.Imports.{AbstractState, answers, some_below}
+use Rattle.tl_coherence.proofs.manager.Imports.{AbstractState, some_below}
 use Rattle.tl_coherence.proofs.manager.Imports.{AreNamed, is_unprobed}
 use Rattle.tl_coherence.proofs.manager.Imports.{Waits}
 use Rattle.tl_coherence.proofs.manager.Imports.{IsFor}

@@ -1,7 +1,7 @@
 -- Steps of the whole that the manager doesn't see: an event of a client that there isn't, a client that is asked, and a
 -- delivery to a client.
 use Rattle.tl_coherence.proofs.manager.Imports.{Beat, Link, Channel, Message, unfinished, Config, AbstractState}
-use Rattle.tl_coherence.proofs.manager.Imports.{kind_taken, IsInvariant, Log, packet, is_on, on, System, Kind, Request}
+use Rattle.tl_coherence.proofs.manager.Imports.{IsInvariant, Log, packet, is_on, on, System, Kind, Request}
 use Rattle.tl_coherence.proofs.manager.Imports.{Acquire, Probe, ProbeAck, Release, Answer, Grant, ReleaseAck, GrantAck}
 use Rattle.tl_coherence.proofs.manager.Imports.{Packet, SimulationRelation, is_caching}
 use Rattle.std.proofs.Common.{◌≡◌, subst, ℕ, Bool, true, false, ◌&&◌, List, [], ◌∷◌, Option, Some, None, refl, sym, ◌∙◌}

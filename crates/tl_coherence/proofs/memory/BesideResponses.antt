@@ -13,7 +13,6 @@ use Rattle.std.proofs.Math.Bool.{and-false}
 use Rattle.tl_burst.specs.declared.message.Message.TheVariants as message
 use Rattle.tl_client.specs.declared.operation.Op.TheVariants as op
 use Rattle.tl_coherence.specs.refinement.MemoryRelation.{op_of, IsOpened, IsLet}
-use Rattle.tl_coherence.specs.refinement.AbstractStep.{answers}
 use Rattle.tl_coherence.specs.protocol.Invariant.{acquires_of, IsInvariant}
 use Rattle.tl_coherence.specs.protocol.Phase.{AcquirePhase, NoAcquire}
 use Rattle.tl_coherence.specs.protocol.Phase.{is_unreleased, is_whole}

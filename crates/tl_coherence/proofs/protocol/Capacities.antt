@@ -3,7 +3,7 @@ use Rattle.tl_coherence.proofs.protocol.Imports.{Channel, View, Other, Idle, Own
 use Rattle.tl_coherence.proofs.protocol.Imports.{GrantedOther, is_unprobed, Kind, Request, Acquire}
 use Rattle.tl_coherence.proofs.protocol.Imports.{Probe, ProbeAck, Release, Answer, Grant, ReleaseAck, GrantAck, Packet}
 use Rattle.tl_coherence.proofs.protocol.Imports.{State}
-use Rattle.tl_coherence.proofs.protocol.Imports.{SourceState, SourceFree, Asked, Replied, Acquires, view, on}
+use Rattle.tl_coherence.proofs.protocol.Imports.{SourceState, SourceFree, Asked, Replied, Acquires, view}
 use Rattle.tl_coherence.proofs.protocol.Imports.{packets_on, is_on, is_acknowledging, shown}
 use Rattle.tl_coherence.proofs.protocol.Imports.{IsInvariant, is_asked, is_replied}
 use Rattle.std.proofs.Common.{◌≡◌, ℕ, ◌+◌, ◌<◌, ◌≤◌, Bool, true, false, refl, sym, ◌∙◌, ap, subst, arith}
@@ -11,7 +11,7 @@ use Rattle.std.specs.Prelude.{not, length, Some}
 use Rattle.std.proofs.lemmas.Bool.{and_parts}
 use Rattle.tl_beat.specs.declared.channel.Channel.TheVariants as channel
 use Rattle.tl_coherence.specs.protocol.Phase.{is_idle}
-use Rattle.tl_coherence.specs.protocol.Packet.{same_kind, is}
+use Rattle.tl_coherence.specs.protocol.Packet.{same_kind}
 use Rattle.tl_coherence.proofs.queues.Distinct.{passing, pass-or-not, all-pass, few, IsThere}
 use Rattle.tl_coherence.proofs.protocol.BothParts.{not-answered, not-sent, acked-open, releasing-open, is_replied-is}
 use Rattle.tl_coherence.proofs.protocol.BothParts.{is_asked-is}

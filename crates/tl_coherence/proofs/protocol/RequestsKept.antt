@@ -23,7 +23,7 @@ use Rattle.tl_rules.specs.statement.Effect.{Memory, bytes_from, effect}
 use Rattle.tl_rules.specs.statement.History.{block_at, is_acquire}
 use Rattle.tl_manager.specs.statement.Holders.{cap_probed}
 use Rattle.tl_manager.proofs.blocks.Written.{bytes_are}
-use Rattle.tl_coherence.specs.refinement.AbstractStep.{AbstractState, asked, some_below, bytes_at, performs}
+use Rattle.tl_coherence.specs.refinement.AbstractStep.{AbstractState, some_below, bytes_at, performs}
 use Rattle.tl_coherence.specs.refinement.AbstractStep.{probes_some, access_taken, request_taken, is_unheld, gift}
 use Rattle.tl_coherence.specs.refinement.AbstractStep.{acquire_taken}
 use Rattle.tl_coherence.specs.protocol.Invariant.{AreOutside}

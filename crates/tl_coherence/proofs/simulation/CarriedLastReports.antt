@@ -4,7 +4,7 @@ use Rattle.tl_coherence.proofs.simulation.Imports.{ProbeAck, Answer, Grant, Pack
 use Rattle.tl_coherence.proofs.simulation.Imports.{set_at, Waits, Block, State, packet, packets_on, shown}
 use Rattle.tl_coherence.proofs.simulation.Imports.{IsInvariant, Move, Stays, ChannelRelation, AccessMessages}
 use Rattle.tl_coherence.proofs.simulation.Imports.{block_message, message_of, System, same_channel, channel_of_message}
-use Rattle.std.proofs.Common.{◌≡◌, ℕ, ◌+◌, Bool, true, false, ◌&&◌, List, [], ◌∷◌, ◌++◌}
+use Rattle.std.proofs.Common.{◌≡◌, ℕ, Bool, true, false, ◌&&◌, List, [], ◌∷◌, ◌++◌}
 use Rattle.std.proofs.Common.{Some, None, refl, sym, ◌∙◌, ap, ◌⊎◌, inl, inr}
 use Rattle.std.specs.Prelude.{◌==◌, if◌then◌else◌}
 use Rattle.std.proofs.lemmas.Bool.{cases_eq, ne_eqb}

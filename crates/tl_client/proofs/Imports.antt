@@ -50,7 +50,7 @@ pub use Rattle.tl_rules.specs.statement.History.{is_probe, is_probe_ack, is_rele
 unfoldable pub use Rattle.tl_rules.specs.statement.History.{grant_sink, held, pending, release_of, request_of}
 pub use Rattle.tl_rules.specs.statement.Legality.{breaks_l1, has_transfers}
 unfoldable pub use Rattle.tl_rules.specs.statement.Legality.{illegal}
-pub use Rattle.tl_client.specs.code.KnowsCaching.{KnowsCaching, has_sink, is_granting, terms_of}
+pub use Rattle.tl_client.specs.code.KnowsCaching.{KnowsCaching, has_sink, is_granting, caching_terms}
 pub use Rattle.tl_client.specs.code.KnowsPlain.{KnowsPlain}
 pub use Rattle.tl_client.specs.code.Plain.{response_rule}
 pub use Rattle.tl_client.specs.code.Sources.{open_at}

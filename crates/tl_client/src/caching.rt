@@ -90,22 +90,22 @@ impl<const W: usize> Caching<W> {
 }
 
 impl<const W: usize> Agent<W> for Caching<W> {
-    ghost use Rattle.tl_client.specs.code.KnowsCaching.{KnowsCaching, terms_of};
+    ghost use Rattle.tl_client.specs.code.KnowsCaching.{KnowsCaching, caching_terms};
     ghost use Rattle.tl_client.specs.statement.Ask.{asked};
     ghost use Rattle.tl_client.specs.statement.Endpoint.{Endpoint};
 
     ghost represents = { λ c e. KnowsCaching c e };
 
-    ghost terms = { terms_of };
+    ghost terms = { caching_terms };
 
     fn ask(&mut self, operation: Op<W>) -> (Reply, Option<Message<W>>)
         ensures reply { (e : Endpoint W) → KnowsCaching self.old e →
-            result.0 ≡ (asked (terms_of self.old) operation.entry e).reply }
+            result.0 ≡ (asked (caching_terms self.old) operation.entry e).reply }
         ensures message { (e : Endpoint W) → KnowsCaching self.old e →
-            result.1 ≡ (asked (terms_of self.old) operation.entry e).message }
+            result.1 ≡ (asked (caching_terms self.old) operation.entry e).message }
         ensures after { (e : Endpoint W) → KnowsCaching self.old e →
-            KnowsCaching self.new (asked (terms_of self.old) operation.entry e).after }
-        ensures terms { terms_of self.new ≡ terms_of self.old }
+            KnowsCaching self.new (asked (caching_terms self.old) operation.entry e).after }
+        ensures terms { caching_terms self.new ≡ caching_terms self.old }
     {
         match self.busy(&operation) {
             Some(busy) => (Reply::Busy(busy), None),

@@ -53,7 +53,7 @@ pub struct Plain<const W: usize> {
 
 impl<const W: usize> Plain<W> {
     ghost use Rattle.tl_client.specs.statement.Endpoint.{Endpoint};
-    ghost use Rattle.tl_client.specs.code.KnowsPlain.{IsNewPlain, KnowsPlain, terms_of};
+    ghost use Rattle.tl_client.specs.code.KnowsPlain.{IsNewPlain, KnowsPlain, plain_terms};
 
     /// A client on this many blocks, which has sent and taken nothing: N2 where these are out of their
     /// limits, otherwise N4 where its sources are. It takes no memory.
@@ -127,7 +127,7 @@ impl<const W: usize> Plain<W> {
             (if ends_request self.old.responses beat.now s then None else open_at self.old.requests s) }
         ensures responses { self.new.responses ≡ grown beat.now self.old.responses }
         ensures closed { self.new.closed ≡ self.old.closed }
-        ensures terms { terms_of self.new ≡ terms_of self.old }
+        ensures terms { plain_terms self.new ≡ plain_terms self.old }
     {
         match complete(&mut self.responses, beat) {
             Some(response) => close(&mut self.requests, &response).1,
@@ -137,22 +137,22 @@ impl<const W: usize> Plain<W> {
 }
 
 impl<const W: usize> Agent<W> for Plain<W> {
-    ghost use Rattle.tl_client.specs.code.KnowsPlain.{KnowsPlain, terms_of};
+    ghost use Rattle.tl_client.specs.code.KnowsPlain.{KnowsPlain, plain_terms};
     ghost use Rattle.tl_client.specs.statement.Ask.{asked};
     ghost use Rattle.tl_client.specs.statement.Endpoint.{Endpoint};
 
     ghost represents = { λ p e. KnowsPlain p e };
 
-    ghost terms = { terms_of };
+    ghost terms = { plain_terms };
 
     fn ask(&mut self, operation: Op<W>) -> (Reply, Option<Message<W>>)
         ensures reply { (e : Endpoint W) → KnowsPlain self.old e →
-            result.0 ≡ (asked (terms_of self.old) operation.entry e).reply }
+            result.0 ≡ (asked (plain_terms self.old) operation.entry e).reply }
         ensures message { (e : Endpoint W) → KnowsPlain self.old e →
-            result.1 ≡ (asked (terms_of self.old) operation.entry e).message }
+            result.1 ≡ (asked (plain_terms self.old) operation.entry e).message }
         ensures after { (e : Endpoint W) → KnowsPlain self.old e →
-            KnowsPlain self.new (asked (terms_of self.old) operation.entry e).after }
-        ensures terms { terms_of self.new ≡ terms_of self.old }
+            KnowsPlain self.new (asked (plain_terms self.old) operation.entry e).after }
+        ensures terms { plain_terms self.new ≡ plain_terms self.old }
     {
         if let Some(busy) = check(self.config.level, self.blocks, &operation) {
             return (Reply::Busy(busy), None);

@@ -1,6 +1,7 @@
 pub mod Beginnings
 pub mod DeliveriesDecrease
 pub mod EventDecreases
+pub mod Imports
 pub mod PartialMessages
 pub mod RankAfter
 pub mod RankByKind
@@ -11,4 +12,3 @@ pub mod ReportDecreases
 pub mod RequestDecreases
 pub mod ResponseDecreases
 pub mod Settling
-pub mod Imports

@@ -7,14 +7,16 @@ pub mod ClientDeliverD
 pub mod ClientDelivered
 pub mod ClientEnd
 pub mod ClientProbed
+pub mod ClientRequests
 pub mod ClientSent
 pub mod ClientStep
 pub mod ClientTaken
 pub mod ClientTakes
 pub mod DeliverD
 pub mod GrantMatchesAcquire
+pub mod Imports
 pub mod KnownProbed
+pub mod ManagerStep
 pub mod ProbeDelivered
 pub mod ResponseOrder
 pub mod Waiting
-pub mod Imports

@@ -1,11 +1,17 @@
 pub mod AcksAfter
 pub mod AskedAfter
 pub mod AskedWell
+pub mod BusyWell
 pub mod CarriedReports
 pub mod CarriedRequests
 pub mod DeliverDAfter
+pub mod DeliverDUnmoved
 pub mod DeliverDWhole
+pub mod FirstRequest
+pub mod Imports
 pub mod InvariantKept
+pub mod LandedReports
+pub mod LastReportDelivered
 pub mod ManagerDelivered
 pub mod ManagerFollowed
 pub mod ManagerKept
@@ -14,4 +20,3 @@ pub mod Matching
 pub mod ProbesAfter
 pub mod ReportsAfter
 pub mod RequestsDelivered
-pub mod Imports

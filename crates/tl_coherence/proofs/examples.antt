@@ -1,7 +1,9 @@
+pub mod AccessRows
 pub mod Alone
 pub mod Checks
+pub mod FollowChecks
 pub mod Following
 pub mod Holding
+pub mod Imports
 pub mod Play
 pub mod Rows
-pub mod Imports

@@ -2,6 +2,7 @@ pub mod ChannelA
 pub mod ChannelB
 pub mod ChannelCE
 pub mod ChannelD
+pub mod ComingRequests
 pub mod Excluded
 pub mod FlowAccess
 pub mod FlowAcquired
@@ -20,6 +21,7 @@ pub mod FlowOrders
 pub mod FlowOthers
 pub mod FlowOwn
 pub mod FlowProbe
+pub mod FlowReceived
 pub mod FlowReleased
 pub mod FlowReport
 pub mod FlowReported

@@ -4,5 +4,5 @@ pub mod FifoSteps
 pub mod FromInvariant
 pub mod Granting
 pub mod HeadsOfLinks
-pub mod Stalling
 pub mod Imports
+pub mod Stalling

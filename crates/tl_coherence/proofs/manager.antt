@@ -2,7 +2,10 @@ pub mod Accounts
 pub mod Admitted
 pub mod Arrivals
 pub mod AtRequests
+pub mod BlockAccounts
 pub mod Choices
+pub mod GivenGrants
+pub mod Imports
 pub mod ManagedAcks
 pub mod ManagedEndings
 pub mod ManagedGrants
@@ -23,7 +26,8 @@ pub mod Reporting
 pub mod Requests
 pub mod RequestsHanded
 pub mod RequestsTaken
+pub mod SettlingService
 pub mod Traces
 pub mod Unseen
 pub mod UnseenSteps
-pub mod Imports
+pub mod UnwaitedRequests

@@ -1,5 +1,6 @@
 pub mod Acknowledged
 pub mod Alike
+pub mod AlikeRequests
 pub mod Answered
 pub mod Asked
 pub mod AtOnce
@@ -13,13 +14,15 @@ pub mod Granted
 pub mod GrantedAll
 pub mod HeadOfD
 pub mod Heads
+pub mod Imports
 pub mod OpenCounts
 pub mod Probed
 pub mod QuiescentBlock
 pub mod QuiescentProtocol
 pub mod Reported
+pub mod RequestsKept
 pub mod Room
 pub mod Served
 pub mod Taken
 pub mod TakenAll
-pub mod Imports
+pub mod TokenNames

@@ -7,11 +7,14 @@ pub mod Distinct
 pub mod Ends
 pub mod Facts
 pub mod FirstToken
+pub mod Imports
+pub mod KindMoves
 pub mod Landed
 pub mod Limits
 pub mod Moves
 pub mod Passes
 pub mod Perms
+pub mod PhaseFacts
 pub mod PhaseSteps
 pub mod Phases
 pub mod QuiescentQueues
@@ -21,4 +24,3 @@ pub mod Shown
 pub mod Steps
 pub mod Sums
 pub mod Tokens
-pub mod Imports

@@ -1,6 +1,6 @@
 pub mod BeatsRemainingSums
 pub mod Frames
+pub mod Imports
 pub mod RankDecreases
 pub mod RankParts
 pub mod Weights
-pub mod Imports

@@ -1,9 +1,13 @@
 pub mod BeatsInFlight
 pub mod Bounded
+pub mod CarriedAsks
 pub mod CarriedEvents
+pub mod CarriedLastReports
 pub mod CarriedProbes
+pub mod CarriedResponses
 pub mod FollowCases
 pub mod Fresh
+pub mod Imports
 pub mod InvariantAtClients
 pub mod Moved
 pub mod Owned
@@ -11,5 +15,5 @@ pub mod Popped
 pub mod Sized
 pub mod SizedAfter
 pub mod SoundAfter
+pub mod SourcedAfter
 pub mod Strangers
-pub mod Imports

@@ -13,6 +13,7 @@ use Rattle.tl_beat.specs.statement.Line.{AreLanes, Spells, spaced}
 use Rattle.tl_beat.specs.statement.Names.{a_name, b_name, c_name, d_name}
 use Rattle.tl_beat.specs.statement.Opcode.{a_code, b_code, c_code, d_code}
 use Rattle.tl_beat.specs.statement.Width.{IsWidth}
+use Rattle.tl_explain.specs.declared.columns.TheConstants.{FIRST_FIELD, BEHIND_ADDRESS, BEHIND_DENIED, DATA_END}
 use Rattle.tl_explain.specs.code.Cuts.{request_text, release_text, response_text, acknowledgement_text}
 use Rattle.tl_explain.specs.statement.ParamNames.{a_param_name, b_param_name, c_param_name, d_param_name}
 use Rattle.tl_explain.specs.statement.Text.{text_of}
@@ -70,7 +71,8 @@ data_short w (inr (inr sixteen)) (Some lanes) are = omega (arith, length-lane_di
 
 request_long : (w : ℕ) → IsWidth w → (letter link opcode param size source address mask : ℕ) (d : List ℕ)
     (corrupt : Bool) → length d ≤ 32
-    → (27 + w / 4 ≤ length (request_line (w / 4) letter link opcode param size source address mask d corrupt))
+    → (BEHIND_ADDRESS + 1 + DATA_END + w / 4 ≤ length (request_line (w / 4) letter link opcode param size source address
+    mask d corrupt))
     × (length (request_line (w / 4) letter link opcode param size source address mask d corrupt) ≤ 63)
 unfolding digits spaced
 request_long w (inl four) letter link opcode param size source address mask d corrupt few =
@@ -81,19 +83,19 @@ request_long w (inr (inr sixteen)) letter link opcode param size source address 
     rw sixteen (omega (arith, end_length d corrupt, few), omega (arith, end_length d corrupt, few))
 
 pub long_a : {w : ℕ} (line : List ℕ) (link : Link) (x : BeatA w) → IsWidth w → Spells line link (A x)
-    → (27 + w / 4 ≤ length line) × (length line ≤ 63)
+    → (BEHIND_ADDRESS + 1 + DATA_END + w / 4 ≤ length line) × (length line ≤ 63)
 long_a {w} line link x width s =
     rw s.is_line (request_long w width 65 link.0 (a_code x.opcode) x.param x.size x.source x.address x.mask
     (lanes_text x.lanes) x.corrupt (data_short w width x.lanes s.in_range.2))
 
 pub long_b : {w : ℕ} (line : List ℕ) (link : Link) (x : BeatB w) → IsWidth w → Spells line link (B x)
-    → (27 + w / 4 ≤ length line) × (length line ≤ 63)
+    → (BEHIND_ADDRESS + 1 + DATA_END + w / 4 ≤ length line) × (length line ≤ 63)
 long_b {w} line link x width s =
     rw s.is_line (request_long w width 66 link.0 (b_code x.opcode) x.param x.size x.source x.address x.mask
     (lanes_text x.lanes) x.corrupt (data_short w width x.lanes s.in_range.2))
 
 pub long_c : {w : ℕ} (line : List ℕ) (link : Link) (x : BeatC w) → IsWidth w → Spells line link (C x)
-    → (26 ≤ length line) × (length line ≤ 63)
+    → (BEHIND_ADDRESS + DATA_END ≤ length line) × (length line ≤ 63)
 unfolding digits spaced
 long_c {w} line link x width s =
     let few = data_short w width x.lanes s.in_range.2 in
@@ -110,7 +112,7 @@ response_line link x denied =
     ∷ bit_text denied ∷ lanes_text x.lanes ∷ bit_text x.corrupt ∷ []) ++ 10 ∷ []
 
 response_long : {w : ℕ} (link : Link) (x : BeatD w) (denied : Bool) → length (lanes_text x.lanes) ≤ 32
-    → (22 ≤ length (response_line link x denied)) × (length (response_line link x denied) ≤ 63)
+    → (BEHIND_DENIED + DATA_END ≤ length (response_line link x denied)) × (length (response_line link x denied) ≤ 63)
 unfolding digits spaced
 response_long link x false few = (
   omega (arith, end_length (lanes_text x.lanes) x.corrupt, few),
@@ -124,10 +126,10 @@ response_long link x true few = (
 )
 
 pub long_d : {w : ℕ} (line : List ℕ) (link : Link) (x : BeatD w) → IsWidth w → Spells line link (D x)
-    → (22 ≤ length line) × (length line ≤ 63)
+    → (BEHIND_DENIED + DATA_END ≤ length line) × (length line ≤ 63)
 long_d {w} line link x width s = rw s.is_line (response_long link x x.denied (data_short w width x.lanes s.in_range.2))
 
 pub long_e : {w : ℕ} (line : List ℕ) (link : Link) (x : BeatE) → Spells {w = w} line link (E x)
-    → (5 ≤ length line) × (length line ≤ 63)
+    → (FIRST_FIELD ≤ length line) × (length line ≤ 63)
 unfolding digits spaced
 long_e {w} line link x s = rw s.is_line (omega arith, omega arith)

@@ -7,6 +7,8 @@ use Rattle.std.proofs.Math.Seq.{take-append_seam}
 use Rattle.tl_beat.specs.statement.Digits.{digits, bit_text}
 use Rattle.tl_beat.specs.statement.Line.{spaced}
 use Rattle.tl_beat.specs.statement.Width.{IsWidth}
+use Rattle.tl_explain.specs.declared.columns.TheConstants.{FIRST_FIELD, PARAM, BEHIND_ADDRESS, SINK, DENIED}
+use Rattle.tl_explain.specs.declared.columns.TheConstants.{BEHIND_DENIED}
 use Rattle.tl_explain.specs.code.Cuts.{address_text, head_text, size_and_source, tail_text}
 use Rattle.tl_explain.specs.code.Cuts.{request_text, release_text, response_text, acknowledgement_text}
 use Rattle.tl_explain.specs.statement.Text.{param_text}
@@ -33,20 +35,24 @@ four_parts : (a b c d rest : List ℕ) → (((a ++ b) ++ c) ++ d) ++ rest ≡ a 
 four_parts a b c d rest = simp append_assoc
 
 head_then : (line name : List ℕ) (param : Option (List ℕ)) (rest : List ℕ)
-    → head_text line name param ++ rest ≡ take 5
-    line ++ (name ++ (32 ∷ (unwrap_or param (slice_range line 7 8) ++ rest)))
+    → head_text line name param ++ rest ≡ take FIRST_FIELD
+    line ++ (name ++ (32 ∷ (unwrap_or param (slice_range line PARAM (PARAM + 1)) ++ rest)))
 unfolding head_text
-head_then line name param rest = four_parts (take 5 line) name (32 ∷ []) (unwrap_or param (slice_range line 7 8)) rest
+head_then line name param rest =
+    four_parts (take FIRST_FIELD line) name (32 ∷ []) (unwrap_or param (slice_range line PARAM (PARAM + 1))) rest
 
 request_then : (m : ℕ) (line name : List ℕ) (param : Option (List ℕ))
-    → request_text m line name param ≡ take 5
-    line ++ (name ++ (32 ∷ (unwrap_or param (slice_range line 7 8) ++ (size_and_source line (address_text line [])
-    ++ (codes " mask=" ++ (slice_range line 23 (23 + m) ++ tail_text (drop (24 + m) line)))))))
+    → request_text m line name param ≡ take FIRST_FIELD
+    line ++ (name ++ (32 ∷ (unwrap_or param (slice_range line PARAM (PARAM + 1))
+    ++ (size_and_source line (address_text line [])
+    ++ (codes " mask=" ++ (slice_range line BEHIND_ADDRESS (BEHIND_ADDRESS + m) ++ tail_text
+    (drop (BEHIND_ADDRESS + m + 1) line)))))))
 unfolding request_text
 request_then m line name param =
     four_parts (head_text line name param) (size_and_source line (address_text line [])) (codes " mask=")
-    (slice_range line 23 (23 + m)) (tail_text (slice_range line (24 + m) (length line)))
-    ∙ head_then line name param _ ∙ rw (to_end (24 + m) line) refl
+    (slice_range line BEHIND_ADDRESS (BEHIND_ADDRESS + m))
+    (tail_text (slice_range line (BEHIND_ADDRESS + m + 1) (length line)))
+    ∙ head_then line name param _ ∙ rw (to_end (BEHIND_ADDRESS + m + 1) line) refl
 
 -- the beat line and the readable line of channel A or B, by their fields
 abbrev pub request_line : ℕ → ℕ → ℕ → ℕ → ℕ → ℕ → ℕ → ℕ → ℕ → List ℕ → Bool → List ℕ
@@ -91,12 +97,12 @@ request_is w (inr (inr sixteen)) = rw sixteen request_four
 
 -- the same of channel C
 release_then : (line name : List ℕ) (param : Option (List ℕ))
-    → release_text line name param ≡ take 5
-    line ++ (name ++ (32 ∷ (unwrap_or param (slice_range line 7 8)
-    ++ (size_and_source line (address_text line []) ++ tail_text (drop 23 line)))))
+    → release_text line name param ≡ take FIRST_FIELD
+    line ++ (name ++ (32 ∷ (unwrap_or param (slice_range line PARAM (PARAM + 1))
+    ++ (size_and_source line (address_text line []) ++ tail_text (drop BEHIND_ADDRESS line)))))
 unfolding release_text
 release_then line name param = append_assoc (head_text line name param) _ _ ∙ head_then line name param _ ∙ rw
-    (to_end 23 line) refl
+    (to_end BEHIND_ADDRESS line) refl
 
 pub release_is : (link opcode : ℕ) (name : List ℕ) (known : Option (List ℕ)) (param size source address : ℕ)
     (d : List ℕ) (corrupt : Bool)
@@ -113,12 +119,13 @@ release_is link opcode name known param size source address d corrupt =
 
 -- of channel D
 response_then : (line name : List ℕ) (param : Option (List ℕ))
-    → response_text line name param ≡ take 5 line ++ (name ++ (32 ∷ (unwrap_or param (slice_range line 7 8)
-    ++ (size_and_source line (codes " sink=" ++ slice_index line 14 ∷ slice_index line
-    15 ∷ (codes " denied=" ++ slice_index line 17 ∷ [])) ++ tail_text (drop 19 line)))))
+    → response_text line name param ≡ take FIRST_FIELD
+    line ++ (name ++ (32 ∷ (unwrap_or param (slice_range line PARAM (PARAM + 1))
+    ++ (size_and_source line (codes " sink=" ++ slice_index line SINK ∷ slice_index line (SINK + 1)
+    ∷ (codes " denied=" ++ slice_index line DENIED ∷ [])) ++ tail_text (drop BEHIND_DENIED line)))))
 unfolding response_text
 response_then line name param = append_assoc (head_text line name param) _ _ ∙ head_then line name param _ ∙ rw
-    (to_end 19 line) refl
+    (to_end BEHIND_DENIED line) refl
 
 pub response_is : (link opcode : ℕ) (name : List ℕ) (known : Option (List ℕ)) (param size source sink : ℕ)
     (denied : Bool) (d : List ℕ) (corrupt : Bool)

@@ -4,6 +4,7 @@
 mod answer;
 pub mod blocks;
 pub mod bursts;
+mod columns;
 mod example;
 pub mod heading;
 mod key;

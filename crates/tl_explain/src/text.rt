@@ -1,6 +1,6 @@
 //! Writes a beat line as a readable line. The digits are those of the beat line.
 
-ghost use Rattle.std.specs.Prelude.{◌≡◌, ◌+◌, ◌≤◌, ◌/◌, ◌++◌, length, OnOk, option_map};
+ghost use Rattle.std.specs.Prelude.{◌≡◌, ◌+◌, ◌<◌, ◌≤◌, ◌/◌, ◌++◌, length, OnOk, option_map};
 ghost use Rattle.std.specs.Prelude.{unwrap_or, slice_index, slice_range, codes, [], ◌∷◌};
 ghost use Rattle.tl_beat.specs.declared.beat.Link.{Link};
 ghost use Rattle.tl_beat.specs.statement.Line.{Spells};
@@ -9,19 +9,36 @@ ghost use Rattle.tl_explain.specs.statement.Text.{text_of};
 ghost use Rattle.tl_explain.specs.code.Cuts.{IsShort, acknowledgement_text, address_text, head_text, release_text};
 ghost use Rattle.tl_explain.specs.code.Cuts.{request_text, response_text, size_and_source, tail_text};
 
+use crate::columns::{
+    ADDRESS, BEHIND_ADDRESS, BEHIND_DENIED, CORRUPT, DATA_END, DENIED, FIRST_FIELD, PARAM, SINK,
+    SIZE, SOURCE,
+};
 use crate::params::{name_on_a, name_on_b, name_on_c, name_on_d};
 use arrayvec::ArrayVec;
 use std::alloc::AllocError;
 use tl_beat::beat::Beat;
 
+/// The digits in the words of `address_block`, `sink_block` and `append_tail`.
+const SIZE_DIGIT: usize = 6;
+
+const SOURCE_DIGITS: usize = 15;
+
+const ADDRESS_DIGITS: usize = 26;
+
+const SINK_DIGITS: usize = 23;
+
+const DENIED_DIGIT: usize = 33;
+
+const CORRUPT_DIGIT: usize = 9;
+
 /// A param by its name, or by its digit in the line where it has none.
 fn param_text<'a>(line: &'a [u8], param: Option<&'a str>) -> &'a [u8]
-    requires { 8 ≤ length line.now }
-    ensures { result.now ≡ unwrap_or (option_map (λ s. s.now) param.entry) (slice_range line.now 7 8) }
+    requires { PARAM < length line.now }
+    ensures { result.now ≡ unwrap_or (option_map (λ s. s.now) param.entry) (slice_range line.now PARAM (PARAM + 1)) }
 {
     match param {
         Some(name) => name.as_bytes(),
-        None => &line[7..8],
+        None => &line[PARAM..PARAM + 1],
     }
 }
 
@@ -39,13 +56,13 @@ fn append(text: &mut ArrayVec<u8, 128>, bytes: &[u8])
 #[inline(always)]
 #[tactic(auto, unfolding(crate::specs::code::Cuts::head_text))]
 fn append_head(text: &mut ArrayVec<u8, 128>, line: &[u8], name: &str, param: Option<&str>)
-    requires line { 13 ≤ length line.now }
+    requires line { SOURCE + 2 ≤ length line.now }
     requires names { (length name.now ≤ 14) × IsShort (option_map (λ s. s.now) param) }
     requires empty { text.old.items ≡ [] }
     ensures text { text.new.items ≡ head_text line.now name.now (option_map (λ s. s.now) param.entry) }
     ensures len { length text.new.items ≤ 33 }
 {
-    append(text, &line[..5]);
+    append(text, &line[..FIRST_FIELD]);
     append(text, name.as_bytes());
     text.push(b' ');
     append(text, param_text(line, param));
@@ -55,21 +72,21 @@ fn append_head(text: &mut ArrayVec<u8, 128>, line: &[u8], name: &str, param: Opt
 #[inline(always)]
 #[tactic(auto, unfolding(crate::specs::code::Cuts::size_and_source, crate::specs::code::Cuts::address_text))]
 fn address_block(line: &[u8]) -> [u8; 34]
-    requires { 22 ≤ length line.now }
+    requires { ADDRESS + 8 ≤ length line.now }
     ensures { result ≡ size_and_source line.now (address_text line.now []) }
 {
     let mut block = *b" size=0 source=00 address=00000000";
-    block[6] = line[9];
-    block[15] = line[11];
-    block[16] = line[12];
-    block[26] = line[14];
-    block[27] = line[15];
-    block[28] = line[16];
-    block[29] = line[17];
-    block[30] = line[18];
-    block[31] = line[19];
-    block[32] = line[20];
-    block[33] = line[21];
+    block[SIZE_DIGIT] = line[SIZE];
+    block[SOURCE_DIGITS] = line[SOURCE];
+    block[SOURCE_DIGITS + 1] = line[SOURCE + 1];
+    block[ADDRESS_DIGITS] = line[ADDRESS];
+    block[ADDRESS_DIGITS + 1] = line[ADDRESS + 1];
+    block[ADDRESS_DIGITS + 2] = line[ADDRESS + 2];
+    block[ADDRESS_DIGITS + 3] = line[ADDRESS + 3];
+    block[ADDRESS_DIGITS + 4] = line[ADDRESS + 4];
+    block[ADDRESS_DIGITS + 5] = line[ADDRESS + 5];
+    block[ADDRESS_DIGITS + 6] = line[ADDRESS + 6];
+    block[ADDRESS_DIGITS + 7] = line[ADDRESS + 7];
     block
 }
 
@@ -77,17 +94,17 @@ fn address_block(line: &[u8]) -> [u8; 34]
 #[inline(always)]
 #[tactic(auto, unfolding(crate::specs::code::Cuts::size_and_source))]
 fn sink_block(line: &[u8]) -> [u8; 34]
-    requires { 18 ≤ length line.now }
-    ensures { result ≡ size_and_source line.now (codes " sink=" ++ slice_index line.now 14 ∷ slice_index line.now 15
-        ∷ (codes " denied=" ++ slice_index line.now 17 ∷ [])) }
+    requires { DENIED < length line.now }
+    ensures { result ≡ size_and_source line.now (codes " sink=" ++ slice_index line.now SINK
+        ∷ slice_index line.now (SINK + 1) ∷ (codes " denied=" ++ slice_index line.now DENIED ∷ [])) }
 {
     let mut block = *b" size=0 source=00 sink=00 denied=0";
-    block[6] = line[9];
-    block[15] = line[11];
-    block[16] = line[12];
-    block[23] = line[14];
-    block[24] = line[15];
-    block[33] = line[17];
+    block[SIZE_DIGIT] = line[SIZE];
+    block[SOURCE_DIGITS] = line[SOURCE];
+    block[SOURCE_DIGITS + 1] = line[SOURCE + 1];
+    block[SINK_DIGITS] = line[SINK];
+    block[SINK_DIGITS + 1] = line[SINK + 1];
+    block[DENIED_DIGIT] = line[DENIED];
     block
 }
 
@@ -96,13 +113,13 @@ fn sink_block(line: &[u8]) -> [u8; 34]
 #[tactic(auto, unfolding(crate::specs::code::Cuts::tail_text))]
 fn append_tail<const W: usize>(text: &mut ArrayVec<u8, 128>, tail: &[u8])
     requires width { IsWidth W }
-    requires tail { 3 ≤ length tail.now }
+    requires tail { DATA_END ≤ length tail.now }
     requires room { length text.old.items + length tail.now + 14 ≤ 128 }
     ensures { text.new.items ≡ text.old.items ++ tail_text tail.now }
 {
     let mut end = *b" corrupt=0\n";
-    end[9] = tail[tail.len() - 2];
-    let data = &tail[..tail.len() - 3];
+    end[CORRUPT_DIGIT] = tail[tail.len() - CORRUPT];
+    let data = &tail[..tail.len() - DATA_END];
     append(text, b" data=");
     // A number of bytes that the compiler knows is copied without a call.
     if data.len() == 2 * W {
@@ -123,7 +140,7 @@ fn append_request<const W: usize>(
     param: Option<&str>,
 )
     requires width { IsWidth W }
-    requires line { (27 + W / 4 ≤ length line.now) × (length line.now ≤ 63) }
+    requires line { (BEHIND_ADDRESS + 1 + DATA_END + W / 4 ≤ length line.now) × (length line.now ≤ 63) }
     requires names { (length name.now ≤ 14) × IsShort (option_map (λ s. s.now) param) }
     requires empty { text.old.items ≡ [] }
     ensures { text.new.items ≡ request_text (W / 4) line.now name.now (option_map (λ s. s.now) param.entry) }
@@ -132,8 +149,8 @@ fn append_request<const W: usize>(
     append_head(text, line, name, param);
     append(text, &address_block(line));
     append(text, b" mask=");
-    append(text, &line[23..23 + mask]);
-    append_tail::<W>(text, &line[24 + mask..]);
+    append(text, &line[BEHIND_ADDRESS..BEHIND_ADDRESS + mask]);
+    append_tail::<W>(text, &line[BEHIND_ADDRESS + mask + 1..]);
 }
 
 /// A line of channel C.
@@ -146,14 +163,14 @@ fn append_release<const W: usize>(
     param: Option<&str>,
 )
     requires width { IsWidth W }
-    requires line { (26 ≤ length line.now) × (length line.now ≤ 63) }
+    requires line { (BEHIND_ADDRESS + DATA_END ≤ length line.now) × (length line.now ≤ 63) }
     requires names { (length name.now ≤ 14) × IsShort (option_map (λ s. s.now) param) }
     requires empty { text.old.items ≡ [] }
     ensures { text.new.items ≡ release_text line.now name.now (option_map (λ s. s.now) param.entry) }
 {
     append_head(text, line, name, param);
     append(text, &address_block(line));
-    append_tail::<W>(text, &line[23..]);
+    append_tail::<W>(text, &line[BEHIND_ADDRESS..]);
 }
 
 /// A line of channel D.
@@ -166,27 +183,27 @@ fn append_response<const W: usize>(
     param: Option<&str>,
 )
     requires width { IsWidth W }
-    requires line { (22 ≤ length line.now) × (length line.now ≤ 63) }
+    requires line { (BEHIND_DENIED + DATA_END ≤ length line.now) × (length line.now ≤ 63) }
     requires names { (length name.now ≤ 14) × IsShort (option_map (λ s. s.now) param) }
     requires empty { text.old.items ≡ [] }
     ensures { text.new.items ≡ response_text line.now name.now (option_map (λ s. s.now) param.entry) }
 {
     append_head(text, line, name, param);
     append(text, &sink_block(line));
-    append_tail::<W>(text, &line[19..]);
+    append_tail::<W>(text, &line[BEHIND_DENIED..]);
 }
 
 /// A line of channel E.
 #[inline(always)]
 #[tactic(auto, unfolding(crate::specs::code::Cuts::acknowledgement_text))]
 fn append_acknowledgement(text: &mut ArrayVec<u8, 128>, line: &[u8])
-    requires line { (5 ≤ length line.now) × (length line.now ≤ 63) }
+    requires line { (FIRST_FIELD ≤ length line.now) × (length line.now ≤ 63) }
     requires empty { text.old.items ≡ [] }
     ensures { text.new.items ≡ acknowledgement_text line.now }
 {
-    append(text, &line[..5]);
+    append(text, &line[..FIRST_FIELD]);
     append(text, b"GrantAck sink=");
-    append(text, &line[5..]);
+    append(text, &line[FIRST_FIELD..]);
 }
 
 /// The readable line of the beat that a line spells.

@@ -1,22 +1,27 @@
 -- A monitor that knows one more beat.
-use Rattle.std.proofs.Common.{◌≡◌, ℕ, zero, suc, Bool, false, List, [], ◌∷◌, ◌++◌, length, ◌<◌, ◌≤◌, ◌≢◌, refl, sym, ap}
-use Rattle.std.proofs.Common.{◌∙◌, arith, inl, inr, ◌+◌, take, drop, reverse}
-use Rattle.std.specs.Prelude.{slice_index_or, slice_get, slice_set, Option, Some, None, Err}
+use Rattle.std.proofs.Common.{◌≡◌, ℕ, Bool, false, List, [], ◌∷◌, ◌++◌, length, ◌<◌, ◌≤◌, ◌≢◌, refl, sym, ap}
+use Rattle.std.proofs.Common.{◌∙◌, arith, inl, inr, ◌+◌, take, drop, reverse, length-append}
+use Rattle.std.specs.Prelude.{slice_index_or, slice_get, slice_set, option_map, Option, Some, None, Err}
 use Rattle.std.proofs.lemmas.Bool.{cases_eq, eq-eqb, ne_eqb}
 use Rattle.std.proofs.lemmas.List.{get_or-set_same, get_or-set_other, drop_more, take_more, drop_all, reverse-append}
-use Rattle.std.proofs.lemmas.List.{length-reverse, length-take-le}
+use Rattle.std.proofs.lemmas.List.{length-map, length-reverse, length-take-le, map-append}
+use Rattle.std.proofs.lemmas.Option.{slice_get-map, slice_get_read}
+use Rattle.std.proofs.Math.ListN.{get_or-append}
+use Rattle.std.proofs.Math.Seq.{get_or-append_seam, map-set_same}
 use Rattle.tl_beat.specs.declared.beat.Beat.{Beat}
 use Rattle.tl_beat.specs.declared.beat.Link.{Link}
 use Rattle.tl_params.specs.declared.level.Level.{Level}
 use Rattle.tl_params.specs.declared.profile.Profile.{Profile}
 use Rattle.tl_params.specs.declared.rule.Rule.{Rule}
 use Rattle.tl_rules.specs.statement.Conformance.{Trace, on_link, broken_after, broken_on_link, fault_from}
-use Rattle.tl_monitor.specs.declared.link_state.LinkState.{LinkState}
 use Rattle.tl_monitor.specs.code.Keeps.{Keeps}
+use Rattle.tl_monitor.specs.code.LinkState.{IsEmpty}
 use Rattle.tl_monitor.proofs.Keepings.{keeps-none}
 use Rattle.tl_monitor.specs.declared.monitor.Monitor.{Monitor}
+use Rattle.tl_monitor.specs.declared.monitor.MonitoredLink.{MonitoredLink}
 use Rattle.tl_params.specs.statement.Config.{IsCount}
-use Rattle.tl_monitor.specs.statement.Knows.{Knows, AllEmpty, Answers, AnswersTrace, fault_of, broken, trace_fault_of}
+use Rattle.tl_monitor.specs.statement.Knows.{Knows, AreEmpty, levels_of, Answers}
+use Rattle.tl_monitor.specs.statement.Knows.{AnswersTrace, fault_of, broken, trace_fault_of}
 use Rattle.tl_monitor.specs.declared.fault.MonitorFault.{MonitorFault}
 use Rattle.tl_monitor.specs.declared.fault.MonitorFault.TheVariants as monitor
 
@@ -30,71 +35,99 @@ on_link-other : {w : ℕ} (n : ℕ) (link : Link) (x : Beat w) (t : Trace w) →
 unfolding on_link
 on_link-other n link x t apart = rw (ne_eqb link.0 n apart) refl
 
+-- a monitor has a level for each link
+pub count-is : {w : ℕ} (m : Monitor w) (levels : List Level) (p : Profile) (t : Trace w) (closed : Bool)
+    → Knows m levels p t closed → length m.links.items ≡ length levels
+count-is m levels p t closed k = sym (length-map m.links.items (λ link. link.level)) ∙ ap length k.levels_are
+
 -- what is kept of one link was put anew
 knows-at : {w : ℕ} (m m' : Monitor w) (levels : List Level) (p : Profile) (t s : Trace w) (closed : Bool) (i : ℕ)
-    (link_state : LinkState)
-    → Knows m levels p t closed → m'.levels ≡ m.levels → m'.profile ≡ m.profile → m'.closed ≡ false
-    → m'.links.items ≡ slice_set m.links.items i link_state → i < length m.links.items
-    → Keeps link_state (on_link i s) → ((n : ℕ) → n ≢ i → on_link n s ≡ on_link n t) → Knows m' levels p s false
-knows-at m m' levels p t s closed i link_state k levels_same profile_same open_still links lt own other = record {
-  levels_are = ap (λ v. v.items) levels_same ∙ k.levels_are;
+    (old new : MonitoredLink)
+    → Knows m levels p t closed → m'.profile ≡ m.profile → m'.closed ≡ false
+    → m'.links.items ≡ slice_set m.links.items i new → i < length m.links.items
+    → old ≡ slice_index_or m.links.items i old → new.level ≡ old.level
+    → Keeps new.state (on_link i s) → ((n : ℕ) → n ≢ i → on_link n s ≡ on_link n t) → Knows m' levels p s false
+knows-at m m' levels p t s closed i old new k profile_same open_still links lt was level own other = record {
+  levels_are = ap levels_of links ∙ map-set_same (λ link. link.level) m.links.items i new old
+      (level ∙ ap (λ link. link.level) was) ∙ k.levels_are;
   profile_is = profile_same ∙ k.profile_is;
   closed_is = open_still;
   links_are = λ n d below. elim (cases_eq n i) [
-    | inl here ↦ rw (links, here, get_or-set_same m.links.items i link_state d lt) own
-    | inr apart ↦ rw (links, get_or-set_other m.links.items i n link_state d apart, other n apart)
+    | inl here ↦ rw (links, here, get_or-set_same m.links.items i new d lt) own
+    | inr apart ↦ rw (links, get_or-set_other m.links.items i n new d apart, other n apart)
         (k.links_are n d below)
   ];
 }
 
 -- a link has one more beat
 pub knows-more : {w : ℕ} (m m' : Monitor w) (levels : List Level) (p : Profile) (t : Trace w) (closed : Bool) (i : ℕ)
-    (link : Link) (x : Beat w) (link_state : LinkState)
-    → Knows m levels p t closed → m'.levels ≡ m.levels → m'.profile ≡ m.profile → m'.closed ≡ false
-    → m'.links.items ≡ slice_set m.links.items i link_state → i ≡ link.0 → i < length m.links.items
-    → Keeps link_state (x ∷ on_link i t) → Knows m' levels p ((link, x) ∷ t) false
-knows-more m m' levels p t closed i link x link_state k levels_same profile_same open_still links i_is lt own =
-    knows-at m m' levels p t ((link, x) ∷ t) closed i link_state k levels_same profile_same open_still links lt
+    (link : Link) (x : Beat w) (old new : MonitoredLink)
+    → Knows m levels p t closed → m'.profile ≡ m.profile → m'.closed ≡ false
+    → m'.links.items ≡ slice_set m.links.items i new → i ≡ link.0 → i < length m.links.items
+    → old ≡ slice_index_or m.links.items i old → new.level ≡ old.level
+    → Keeps new.state (x ∷ on_link i t) → Knows m' levels p ((link, x) ∷ t) false
+knows-more m m' levels p t closed i link x old new k profile_same open_still links i_is lt was level own =
+    knows-at m m' levels p t ((link, x) ∷ t) closed i old new k profile_same open_still links lt was level
     (rw (on_link-own i link x t (sym i_is)) own)
     (λ n apart. on_link-other n link x t (λ e. apart (sym e ∙ sym i_is)))
 
-get_is : {X : Type 0} (xs : List X) (i : ℕ) (x : X) → i < length xs → x ≡ slice_index_or xs i x
-    → slice_get xs i ≡ Some x
-get_is [] i x lt is = absurd (omega arith)
-get_is (y ∷ ys) zero x lt is = ap Some (sym is)
-get_is (y ∷ ys) (suc i) x lt is = get_is ys i x (omega arith) is
-
 -- what is kept of the link of a beat
 pub link_state-of : {w : ℕ} (m : Monitor w) (levels : List Level) (p : Profile) (t : Trace w) (closed : Bool) (i : ℕ)
-    (link_state : LinkState) → Knows m levels p t closed → i < length m.levels.items
-    → link_state ≡ slice_index_or m.links.items i link_state → Keeps link_state (on_link i t)
-link_state-of m levels p t closed i link_state k lt is = let at_i : i < length levels = rw k.levels_are at lt in
-    rw is (k.links_are i link_state at_i)
+    (link : MonitoredLink) → Knows m levels p t closed → i < length m.links.items
+    → link ≡ slice_index_or m.links.items i link → Keeps link.state (on_link i t)
+link_state-of m levels p t closed i link k lt is =
+    let at_i : i < length levels = rw (count-is m levels p t closed k) at lt in
+    rw is (k.links_are i link at_i)
 
 -- the fault of a beat is the rule that it breaks after what its link has carried
 pub fault-is : {w : ℕ} (m : Monitor w) (levels : List Level) (p : Profile) (t : Trace w) (closed : Bool) (i : ℕ)
-    (link : Link) (x : Beat w) (l : Level) (o : Option Rule)
-    → Knows m levels p t closed → m.closed ≡ false → i ≡ link.0 → i < length m.levels.items
-    → l ≡ slice_index_or m.levels.items i l
-    → o ≡ broken_after l m.profile x (on_link i t) → fault_of levels p t closed (link, x) ≡ broken o
-fault-is m levels p t closed i link x l o k open_still i_is lt level_is rule =
+    (link : Link) (x : Beat w) (monitored : MonitoredLink) (o : Option Rule)
+    → Knows m levels p t closed → m.closed ≡ false → i ≡ link.0 → i < length m.links.items
+    → monitored ≡ slice_index_or m.links.items i monitored
+    → o ≡ broken_after monitored.level m.profile x (on_link i t) → fault_of levels p t closed (link, x) ≡ broken o
+fault-is m levels p t closed i link x monitored o k open_still i_is lt is rule =
     let not_closed : closed ≡ false = sym k.closed_is ∙ open_still in
-    let got : slice_get levels link.0 ≡ Some l = rw (← i_is, ← k.levels_are) (get_is m.levels.items i l lt level_is) in
-    let same : broken_after l p x (on_link link.0 t) ≡ o = sym (rule ∙ rw (k.profile_is, i_is) refl) in
+    let got : slice_get levels link.0 ≡ Some monitored.level =
+    rw (← i_is, ← k.levels_are) (slice_get-map (λ link. link.level) m.links.items i
+    ∙ ap (option_map (λ link. link.level)) (slice_get_read m.links.items (length m.links.items) i monitored refl lt is))
+    in
+    let same : broken_after monitored.level p x (on_link link.0 t) ≡ o = sym (rule ∙ rw (k.profile_is, i_is) refl) in
     rw (not_closed, got, same) refl
 
 on_link-none : {w : ℕ} (n : ℕ) → on_link {w = w} n [] ≡ []
 unfolding on_link
 on_link-none n = refl
 
-pub knows-new : {w : ℕ} (m : Monitor w) (levels : List Level) (p : Profile) → m.levels.items ≡ levels → m.profile ≡ p
-    → m.closed ≡ false → AllEmpty (length levels) m.links.items
+-- the links of one level more
+pub empty-more : (levels : List Level) (i : ℕ) (l : Level) (links : List MonitoredLink) (link : MonitoredLink)
+    → AreEmpty (take i levels) links → i < length levels → link.level ≡ slice_index_or levels i l
+    → IsEmpty link.state → AreEmpty (take (i + 1) levels) (links ++ link ∷ [])
+empty-more levels i l links link empty lt level_is fresh =
+    let more : take (i + 1) levels ≡ take i levels ++ link.level ∷ [] =
+    take_more levels i l lt ∙ ap (λ l. take i levels ++ l ∷ []) (sym level_is) in
+    let count : length links ≡ length (take i levels) =
+    sym (length-map links (λ l. l.level)) ∙ ap length empty.levels_are in
+    let size : length (take (i + 1) levels) ≡ length (take i levels) + 1 =
+    ap length more ∙ length-append (take i levels) (link.level ∷ []) in
+    record {
+      levels_are = map-append (λ l. l.level) links (link ∷ [])
+          ∙ ap (λ ls. ls ++ link.level ∷ []) empty.levels_are ∙ sym more;
+      all_empty = λ n d below. elim (cases_eq n (length links)) [
+        | inl last ↦ rw (last, get_or-append_seam links link [] d) fresh
+        | inr other ↦ rw (get_or-append links (link ∷ []) d n (omega (arith, below, size, count, other)))
+            (empty.all_empty n d (omega (arith, below, size, count, other)))
+      ];
+    }
+
+pub knows-new : {w : ℕ} (m : Monitor w) (levels : List Level) (p : Profile) → m.profile ≡ p
+    → m.closed ≡ false → AreEmpty levels m.links.items
     → Knows m levels p [] false
-knows-new m levels p levels_are profile_is open_still all = record {
-  levels_are = levels_are;
+knows-new m levels p profile_is open_still empty = record {
+  levels_are = empty.levels_are;
   profile_is = profile_is;
   closed_is = open_still;
-  links_are = λ n d lt. rw (on_link-none n) (keeps-none (slice_index_or m.links.items n d) (all.all_empty n d lt));
+  links_are = λ n d lt. rw (on_link-none n)
+      (keeps-none (slice_index_or m.links.items n d).state (empty.all_empty n d lt));
 }
 
 -- the first fault of a trace of which a beginning was judged

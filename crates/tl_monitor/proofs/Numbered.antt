@@ -19,7 +19,7 @@ use Rattle.tl_rules.specs.code.Tables.{kept_block, block_next, bears_on, empty_b
 use Rattle.tl_rules.proofs.Tables.{block-next, pending-probe, pending-grant}
 use Rattle.tl_monitor.specs.code.Count.{sum_below, count_below, one_if, at}
 use Rattle.tl_monitor.specs.code.Blocks.{block_in, is_held, open_of}
-use Rattle.tl_monitor.specs.code.LinkState.{is_first, touched, is_block, entries_in, IsNew}
+use Rattle.tl_monitor.specs.code.LinkState.{is_first, touched, is_block, entries_in, OpensBlock}
 use Rattle.tl_monitor.specs.code.LinkState as link_state
 use Rattle.tl_monitor.specs.code.Keeps.{Keeps}
 use Rattle.tl_monitor.specs.statement.Numbers.{numbers, entry_count, AnyMore}
@@ -114,7 +114,7 @@ some_open c pos = elim (cases_Bool (is_held c.held)) [
 ]
 
 pub some-more : {w : ℕ} (l : Level) (p : Profile) (k : LinkState) (x : Beat w) (t : History w) (b : ℕ) → IsWidth w
-    → Keeps k t → broken_after l p x t ≡ None → IsNew k x b
+    → Keeps k t → broken_after l p x t ≡ None → OpensBlock k x b
     → AnyMore (numbers t) (numbers (x ∷ t))
 some-more {w} l p k x t b width keeps legal new =
     let step : (n : ℕ) → kept_block n (x ∷ t) ≡ (if is_block n (Some b) then block_next (is_first x k)

@@ -20,9 +20,10 @@ use Rattle.tl_monitor.specs.code.LinkState.{touched, is_block, block_of_request,
 use Rattle.tl_monitor.specs.code.Keeps.{Keeps}
 use Rattle.tl_monitor.specs.declared.link_state.LinkState.{LinkState}
 use Rattle.tl_monitor.specs.declared.monitor.Monitor.{Monitor}
+use Rattle.tl_monitor.specs.declared.monitor.MonitoredLink.{MonitoredLink}
 use Rattle.tl_monitor.specs.statement.Knows.{Knows, LeavesOthers}
 use Rattle.tl_monitor.proofs.Keeping.{same_touched}
-use Rattle.tl_monitor.proofs.Knowing.{link_state-of}
+use Rattle.tl_monitor.proofs.Knowing.{count-is, link_state-of}
 
 either_less : (f g : Bool) (b : ℕ) (o : Option ℕ) → is_block b o ≡ false
     → is_block b (if f || g then o else None) ≡ false
@@ -78,15 +79,15 @@ no_level levels p link x t le fine = let e = none_beyond levels link.0 le in
     not_none e = cc
 
 pub left_on_link : {w : ℕ} (m : Monitor w) (levels : List Level) (p : Profile) (t : Trace w) (closed : Bool) (i : ℕ)
-    (link : Link) (x : Beat w) (link_state : LinkState) (block : Option ℕ)
-    → Knows m levels p t closed → i ≡ link.0 → i < length m.levels.items
-    → link_state ≡ slice_index_or m.links.items i link_state → block ≡ touched true true x link_state
+    (link : Link) (x : Beat w) (monitored : MonitoredLink) (block : Option ℕ)
+    → Knows m levels p t closed → i ≡ link.0 → i < length m.links.items
+    → monitored ≡ slice_index_or m.links.items i monitored → block ≡ touched true true x monitored.state
     → broken_on_link levels p (link, x) t ≡ None → LeavesOthers block x (on_link link.0 t)
-left_on_link m levels p t closed i link x link_state block k i_is lt is touched_is fine =
-    let keeps : Keeps link_state (on_link link.0 t) =
-    rw (← i_is) (link_state-of m levels p t closed i link_state k lt is) in
-    let below : link.0 < length levels = rw (i_is, k.levels_are) at lt in
+left_on_link m levels p t closed i link x monitored block k i_is lt is touched_is fine =
+    let keeps : Keeps monitored.state (on_link link.0 t) =
+    rw (← i_is) (link_state-of m levels p t closed i monitored k lt is) in
+    let below : link.0 < length levels = rw (i_is, count-is m levels p t closed k) at lt in
     let level = some_within levels link.0 below in
     let legal : broken_after level.0 p x (on_link link.0 t) ≡ None =
     sym (ap (λ o. broken_at_level o p x (on_link link.0 t)) level.1) ∙ fine in
-    rw touched_is (unmoved_held level.0 p link_state x (on_link link.0 t) keeps legal)
+    rw touched_is (unmoved_held level.0 p monitored.state x (on_link link.0 t) keeps legal)

@@ -11,7 +11,7 @@ ghost use Rattle.tl_rules.specs.code.Tables.{empty_block, request_next, release_
 ghost use Rattle.tl_monitor.specs.code.Count.{at};
 ghost use Rattle.tl_monitor.specs.code.Blocks.{block_in, open_of};
 ghost use Rattle.tl_monitor.specs.code.LinkState.{is_block, sink_with, touched, block_of_request};
-ghost use Rattle.tl_monitor.specs.code.LinkState.{block_of_release, entries_in, IsNext, IsNew, IsEmpty};
+ghost use Rattle.tl_monitor.specs.code.LinkState.{block_of_release, entries_in, IsNext, OpensBlock, IsEmpty};
 
 use crate::blocks::Blocks;
 use crate::bursts::Bursts;
@@ -275,7 +275,7 @@ impl LinkState {
         requires small { IsTrue (is_small beat.now) }
         ensures next { OnOk result (IsNext self.old beat.now self.new) }
         ensures unchanged { OnErr result (self.new ≡ self.old) }
-        ensures new { OnErr result ((b : ℕ) × IsNew self.old beat.now b) }
+        ensures new { OnErr result ((b : ℕ) × OpensBlock self.old beat.now b) }
     {
         let first = self.bursts.begins(beat);
         let last = self.bursts.completes(beat);

@@ -1,6 +1,6 @@
 //! A monitor of links: what it answers to each beat.
 
-ghost use Rattle.std.specs.Prelude.{Bool, None, List, IfOk, length, ◌≡◌};
+ghost use Rattle.std.specs.Prelude.{Bool, None, List, IfOk, ◌≡◌};
 ghost use Rattle.tl_beat.specs.declared.beat.Beat.{Beat};
 ghost use Rattle.tl_beat.specs.statement.Width.{IsWidth};
 ghost use Rattle.tl_params.specs.declared.level.Level.{Level};
@@ -23,25 +23,33 @@ use tl_rules::rule::Rule;
 /// pending and held on each link, and no beat.
 #[derive(Drop)]
 pub struct Monitor<const W: usize> {
-    levels: Vec<Level>,
+    links: Vec<MonitoredLink>,
     profile: Profile,
-    links: Vec<LinkState>,
     closed: bool,
-    ghost one_each: { length links.items ≡ length levels.items },
+}
+
+/// A link of a monitor: its level, and what is kept of the beats that it has carried.
+#[derive(Drop)]
+pub struct MonitoredLink {
+    level: Level,
+    state: LinkState,
 }
 
 impl<const W: usize> Monitor<W> {
     ghost use Rattle.tl_monitor.specs.statement.Numbers.{IsMoreWhereRefused, entry_count};
     ghost use Rattle.tl_monitor.specs.statement.Knows.{Knows, IsNew, Answers, fault_of, recorded_after, closed_after};
-    ghost use Rattle.tl_monitor.specs.statement.Knows.{request_on, held_on, begins_on, LeavesOthers, AllEmpty};
+    ghost use Rattle.tl_monitor.specs.statement.Knows.{request_on, held_on, begins_on, LeavesOthers, AreEmpty};
 
-    /// What is kept of this many links that have carried nothing.
-    fn empty_links(alloc: Global, count: usize) -> Result<Vec<LinkState>, AllocError>
-        ensures { IfOk result (λ v. AllEmpty count v.items) }
+    /// Links of these levels that have carried nothing.
+    fn empty_links(alloc: Global, levels: &[Level]) -> Result<Vec<MonitoredLink>, AllocError>
+        ensures { IfOk result (λ v. AreEmpty levels.now v.items) }
     {
         let mut links = Vec::new(alloc);
-        for _ in 0..count {
-            links.push(LinkState::new(alloc))?;
+        for level in levels {
+            links.push(MonitoredLink {
+                level: *level,
+                state: LinkState::new(alloc),
+            })?;
         }
         Ok(links)
     }
@@ -54,16 +62,12 @@ impl<const W: usize> Monitor<W> {
         if levels.is_empty() || levels.len() > MOST_CLIENTS {
             return Err(MonitorFault::Levels);
         }
-        let Ok(links) = Self::empty_links(alloc, levels.len()) else {
-            return Err(MonitorFault::Memory);
-        };
-        let Ok(levels) = Vec::from_slice(alloc, levels) else {
+        let Ok(links) = Self::empty_links(alloc, levels) else {
             return Err(MonitorFault::Memory);
         };
         Ok(Monitor {
-            levels,
-            profile,
             links,
+            profile,
             closed: false,
         })
     }
@@ -87,18 +91,18 @@ impl<const W: usize> Monitor<W> {
             return Err(MonitorFault::Closed);
         }
         let n = usize::from(link.0);
-        if n >= self.levels.len() {
+        if n >= self.links.len() {
             self.closed = true;
             return Err(MonitorFault::Broken(Rule::L1));
         }
-        let link_state = &mut self.links[n];
-        link_state.cache_block(beat);
-        match broken_after(self.levels[n], self.profile, beat, link_state) {
+        let monitored = &mut self.links[n];
+        monitored.state.cache_block(beat);
+        match broken_after(monitored.level, self.profile, beat, &monitored.state) {
             Some(rule) => {
                 self.closed = true;
                 Err(MonitorFault::Broken(rule))
             }
-            None => match link_state.take(beat) {
+            None => match monitored.state.take(beat) {
                 Ok(()) => Ok(()),
                 Err(_) => Err(MonitorFault::Memory),
             },
@@ -112,10 +116,10 @@ impl<const W: usize> Monitor<W> {
             result ≡ request_on levels link source t }
     {
         let n = usize::from(link.0);
-        if n >= self.levels.len() {
+        if n >= self.links.len() {
             return None;
         }
-        Past::<W>::request(&self.links[n], source)
+        Past::<W>::request(&self.links[n].state, source)
     }
 
     /// What is held of a block on a link; nothing on a link without a level.
@@ -125,10 +129,10 @@ impl<const W: usize> Monitor<W> {
             result ≡ held_on levels link block t }
     {
         let n = usize::from(link.0);
-        if n >= self.levels.len() {
+        if n >= self.links.len() {
             return Perm::None;
         }
-        Past::<W>::held(&self.links[n], block)
+        Past::<W>::held(&self.links[n].state, block)
     }
 
     /// Whether a beat begins a message on its link; on a link without a level none does.
@@ -138,10 +142,10 @@ impl<const W: usize> Monitor<W> {
             result ≡ begins_on levels link beat.now t }
     {
         let n = usize::from(link.0);
-        if n >= self.levels.len() {
+        if n >= self.links.len() {
             return false;
         }
-        self.links[n].bursts.begins(beat)
+        self.links[n].state.bursts.begins(beat)
     }
 
     /// The block of which a beat may change what is held on its link, where it breaks no rule there; none
@@ -153,10 +157,10 @@ impl<const W: usize> Monitor<W> {
             LeavesOthers result beat.now (on_link link.0 t) }
     {
         let n = usize::from(link.0);
-        if n >= self.levels.len() {
+        if n >= self.links.len() {
             return None;
         }
-        self.links[n].touched(true, true, beat)
+        self.links[n].state.touched(true, true, beat)
     }
 
     /// How many keys are pending on a link, and how many blocks aren't held as None; 0 for a link
@@ -167,9 +171,9 @@ impl<const W: usize> Monitor<W> {
             result ≡ entry_count levels link t }
     {
         let n = usize::from(link.0);
-        if n >= self.levels.len() {
+        if n >= self.links.len() {
             return 0;
         }
-        self.links[n].entries()
+        self.links[n].state.entries()
     }
 }

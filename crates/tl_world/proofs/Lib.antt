@@ -1,6 +1,7 @@
 pub mod AgentsOfConfig
 pub mod Drained
 pub mod Happened
+pub mod Holding
 pub mod Loads
 pub mod Made
 pub mod Movables

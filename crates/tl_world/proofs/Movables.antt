@@ -25,7 +25,7 @@ use Rattle.tl_coherence.specs.statement.System.{System, terms_at}
 use Rattle.tl_world.specs.declared.network.Network.{Network}
 use Rattle.tl_world.specs.declared.rings.Rings.{Rings}
 use Rattle.tl_coherence.proofs.queues.QuiescentQueues.{empty-still}
-use Rattle.tl_world.proofs.Stepping.{member, first-is, none-left}
+use Rattle.tl_world.proofs.Holding.{member, first-is, none-left}
 
 -- ---- of several links
 

@@ -1,13 +1,12 @@
 -- What the parts of a world hold after an event.
-use Rattle.std.proofs.Common.{◌≡◌, ◌<◌, ◌≤◌, ℕ, true, false, List, [], ◌∷◌, Option, Some, None, refl, ap, sym, subst}
+use Rattle.std.proofs.Common.{◌≡◌, ◌<◌, ◌≤◌, ℕ, true, false, List, ◌∷◌, Option, Some, None, refl, ap, sym, subst}
 use Rattle.std.proofs.Common.{◌∙◌, inl, inr, length, drop, arith}
 use Rattle.std.proofs.lemmas.Bool.{cases_eq, ne_eqb, eq-eqb}
 use Rattle.std.proofs.lemmas.Option.{slice_get_past}
-use Rattle.std.specs.Prelude.{not, ◌≢◌, Result, Ok, Err, slice_get, slice_index_or}
+use Rattle.std.specs.Prelude.{Result, Ok, Err, slice_get, slice_index_or}
 use Rattle.tl_beat.specs.declared.beat.Beat.{Beat}
 use Rattle.tl_beat.specs.declared.beat.Link.{Link}
 use Rattle.tl_beat.specs.declared.channel.Channel.{Channel}
-use Rattle.tl_burst.specs.statement.Part.{is_empty}
 use Rattle.tl_burst.specs.declared.message.Message.{Message}
 use Rattle.tl_params.specs.declared.config.Config.{Config}
 use Rattle.tl_params.specs.declared.perm.Perm.{Perm}
@@ -18,7 +17,6 @@ use Rattle.tl_client.specs.declared.verdict.Verdict.{Verdict}
 use Rattle.tl_client.specs.statement.Ask.{asked}
 use Rattle.tl_client.specs.statement.Endpoint.{EndConfig, Endpoint}
 use Rattle.tl_client.specs.statement.Offer.{offered}
-use Rattle.tl_manager.specs.code.Bit.{bit_if}
 use Rattle.tl_manager.specs.statement.Handing.{Handed}
 use Rattle.tl_manager.specs.code.Knows.{Knows}
 use Rattle.tl_manager.specs.statement.End as manager_end
@@ -26,12 +24,11 @@ use Rattle.tl_manager.specs.statement.Offer as manager
 use Rattle.tl_world.specs.code.Called.{IsAsked, IsOffered}
 use Rattle.tl_world.specs.code.Carrying.{place, Carries, Fit, AreKept, Deepen, AreMoved}
 use Rattle.tl_world.specs.code.Holds.{clients_of, Holds, HasRoom, IsStepped, is_stay}
-use Rattle.tl_coherence.specs.statement.Step.{Step, stepped, only, handing, handed_by, judged, outcome_of, manager_took}
+use Rattle.tl_coherence.specs.statement.Step.{stepped, only, handing, handed_by, judged, outcome_of, manager_took}
 use Rattle.tl_coherence.specs.statement.Step.{is_to_client, client_of}
 use Rattle.tl_coherence.specs.statement.System.{System, with_client, with_manager, with_channel, with_messages}
 use Rattle.tl_coherence.specs.declared.event.Event.{Event}
 use Rattle.tl_coherence.specs.declared.event.Event.TheVariants.{Ask, Deliver}
-use Rattle.tl_coherence.specs.declared.event.Outcome.{Outcome}
 use Rattle.tl_coherence.specs.declared.event.Outcome.TheVariants as outcome
 use Rattle.tl_world.specs.declared.network.Network.{Network}
 use Rattle.tl_world.specs.declared.rings.Rings.{Rings}
@@ -41,96 +38,12 @@ use Rattle.tl_coherence.proofs.queues.Steps.{clients-with_messages, manager-with
 use Rattle.tl_coherence.proofs.queues.Steps.{stepped-to-client, stepped-to-manager}
 use Rattle.tl_world.proofs.Unmoved.{stayed-client, stayed-manager, judged-refused, judged-stayed, judged-taken}
 use Rattle.tl_world.proofs.Unmoved.{took-refused, took-stalled, took-sent}
-
--- one of several
-pub member : {X : Type 0} (xs : List X) (i : ℕ) → i < length xs → X
-member [] i lt = absurd (omega (arith, lt))
-member (x ∷ xs) i lt = x
-
--- a list with no first member
-pub none-left : {X : Type 0} (xs : List X) → None ≡ slice_get xs 0 → xs ≡ []
-none-left [] e = refl
-none-left (x ∷ xs) e = absurd cc
-
--- one with a first member
-pub first-is : {X : Type 0} (xs : List X) (x : X) → Some x ≡ slice_get xs 0 → xs ≡ x ∷ drop 1 xs
-first-is [] x e = absurd cc
-first-is {X} (y ∷ xs) x e = let same : y ≡ x = some_is e in rw same refl
-  where
-    some_is : {a b : X} → Some a ≡ Some b → b ≡ a
-    some_is e = cc
-
--- other ends leave the channels
-carries-same : {w : ℕ} (n : ℕ) (rings : Rings w) (s s' : System w)
-    → ((k : ℕ) (ch : Channel) → s'.channels k ch ≡ s.channels k ch) → Carries n rings s → Carries n rings s'
-carries-same {w = w} n rings s s' same carried = record {
-  five_each = carried.five_each;
-  beats = λ k ch d lt. carried.beats k ch d lt ∙ sym (same k ch);
-  non_empty = λ k ch lt. carried.non_empty k ch lt ∙ ap (λ (xs : List (Beat w)). bit_if (not (is_empty xs)))
-      (sym (same k ch));
-}
+use Rattle.tl_world.proofs.Holding.{member, none-left, first-is, carries-same}
+use Rattle.tl_world.proofs.Holding.{room-after, fits-in, stepped-by, client-holds}
+use Rattle.tl_world.proofs.Holding.{made-for}
 
 module _ {w : ℕ} {A M : Type 0} (knows : A → Endpoint w → Type 0) (terms : A → EndConfig) (perm_of : M → ℕ → ℕ → Perm)
     (config : Config) where
-  fits-in : (old : Network w A M) (now : Rings w) (s s' : System w) → Holds knows terms perm_of config old s
-      → AreKept old.rings now → HasRoom config s' → Fit (clients_of config) now s'
-  fits-in old now s s' h kept room k ch d lt =
-      let a = room k ch in
-      let b = h.room k ch d lt in
-      let c = kept.same_capacity (place k ch) d in
-      omega (arith, a, b, c)
-
-  room-after : (event : Event w) (s : System w) (step : Step w) → stepped config event s ≡ step
-      → HasRoom config (stepped config event s).after → HasRoom config step.after
-  room-after event s step is room = subst (λ (x : Step w). HasRoom config x.after) is room
-
-  -- a step that is known
-  stepped-by : (old new : Network w A M) (event : Event w) (s : System w) (step : Step w) (o : Outcome w)
-      → stepped config event s ≡ step → o ≡ step.outcome
-      → Holds knows terms perm_of config new step.after
-      → Deepen (clients_of config) old.rings new.rings → IsStepped knows terms perm_of config old new event o s
-  stepped-by old new event s step o is same h deepen = record {
-    outcome_is = same ∙ sym (ap (λ (x : Step w). x.outcome) is);
-    holds = subst (λ (x : Step w). Holds knows terms perm_of config new x.after) (sym is) h;
-    deepen = deepen;
-  }
-
-  -- one client changes, and channels
-  client-holds : (old new : Network w A M) (s s' : System w) (i : ℕ) (e : Endpoint w)
-      → Holds knows terms perm_of config old s → ((d : A) → knows (slice_index_or new.clients.items i d) e)
-      → ((d : A) → terms (slice_index_or new.clients.items i d) ≡ terms (slice_index_or old.clients.items i d))
-      → ((k : ℕ) (d : A) → k ≢ i → slice_index_or new.clients.items k d ≡ slice_index_or old.clients.items k d)
-      → length new.clients.items ≡ length old.clients.items → ((k : ℕ) → s'.clients k ≡ (with_client i e s).clients k)
-      → s'.manager ≡ s.manager → new.manager ≡ old.manager
-      → AreKept old.rings new.rings → Carries (clients_of config) new.rings s' → Holds knows terms perm_of config new s'
-  client-holds old new s s' i e h known same_terms others same_number clients_are manager_is same_manager kept carried =
-      record {
-        one_client_each = same_number ∙ h.one_client_each;
-        clients = λ k d lt.
-            subst (λ (f : Endpoint w). knows (slice_index_or new.clients.items k d) f) (sym (clients_are k))
-            (elim (cases_eq k i) [
-              | inl same ↦ rw (same, eq-eqb i i refl) (known d)
-              | inr other ↦ rw (ne_eqb k i other, others k d other) (h.clients k d lt)
-            ]);
-        terms_are = λ k d lt.
-            elim (cases_eq k i) [
-              | inl same ↦ rw (same, same_terms d) (rw same at (h.terms_are k d lt))
-              | inr other ↦ rw (others k d other) (h.terms_are k d lt)
-            ];
-        manager = rw (manager_is, same_manager) h.manager;
-        channels = carried;
-        room = λ k ch d lt. kept.same_capacity (place k ch) d ∙ h.room k ch d lt;
-      }
-
-  -- all of one client are made for the same
-  made-for : (old : Network w A M) (s : System w) (i : ℕ) (d f : A) → Holds knows terms perm_of config old s
-      → i < clients_of config
-      → terms (slice_index_or old.clients.items i d) ≡ terms (slice_index_or old.clients.items i f)
-  made-for old s i d f h below = some_is (sym (h.terms_are i d below) ∙ h.terms_are i f below)
-    where
-      some_is : {x y : EndConfig} → Some x ≡ Some y → x ≡ y
-      some_is e = cc
-
   -- ---- the first beat of a channel
 
   pub first-brought : (network : Network w A M) (s : System w) (link : Link) (ch : Channel) (x : Beat w)
@@ -152,9 +65,11 @@ module _ {w : ℕ} {A M : Type 0} (knows : A → Endpoint w → Type 0) (terms :
       → HasRoom config (stepped config (Ask i op) s).after
       → IsStepped knows terms perm_of config old new (Ask i op) (outcome.Replied answer.0) s
   steps-asked old new s i op answer h inside is same_manager kept sends room =
-      stepped-by old new (Ask i op) s (handing (outcome.Replied answer.0) handed now) (outcome.Replied answer.0) step
+      stepped-by knows terms perm_of config old new (Ask i op) s (handing (outcome.Replied answer.0) handed now)
+      (outcome.Replied answer.0) step
       refl
-      (client-holds old new s (with_messages handed now) i end h known is.same_terms is.others is.same_number
+      (client-holds knows terms perm_of config old new s (with_messages handed now) i end h known is.same_terms
+      is.others is.same_number
       (λ k. ap (λ (f : ℕ → Endpoint w). f k) (clients-with_messages handed now)) (manager-with_messages handed now)
       same_manager kept moved.carries)
       moved.deepen
@@ -188,7 +103,7 @@ module _ {w : ℕ} {A M : Type 0} (knows : A → Endpoint w → Type 0) (terms :
 
       known : (d : A) → knows (slice_index_or new.clients.items i d) end
       known d = subst (λ (u : EndConfig). knows (slice_index_or new.clients.items i d) (asked u op (s.clients i)).after)
-          (made-for old s i d one h below) (is.after (s.clients i) d (h.clients i d below))
+          (made-for knows terms perm_of config old s i d one h below) (is.after (s.clients i) d (h.clients i d below))
 
       kept-still : AreKept old.rings old.rings
       kept-still = record { same_number = refl; same_capacity = λ k d. refl }
@@ -196,8 +111,8 @@ module _ {w : ℕ} {A M : Type 0} (knows : A → Endpoint w → Type 0) (terms :
       moved : AreMoved (clients_of config) old.rings new.rings (with_messages handed now)
       moved =
           sends (clients_of config) now (carries-same (clients_of config) old.rings s now (λ k ch. refl) h.channels)
-          (fits-in old old.rings s (with_messages handed now) h kept-still
-          (room-after (Ask i op) s (handing (outcome.Replied answer.0) handed now) step room))
+          (fits-in knows terms perm_of config old old.rings s (with_messages handed now) h kept-still
+          (room-after config (Ask i op) s (handing (outcome.Replied answer.0) handed now) step room))
 
   -- ---- a beat is brought to a client
 
@@ -225,7 +140,8 @@ module _ {w : ℕ} {A M : Type 0} (knows : A → Endpoint w → Type 0) (terms :
     known : (d : A) → knows (slice_index_or new.clients.items link.0 d) end
     known d = subst (λ (u : EndConfig). knows (slice_index_or new.clients.items link.0 d)
         (offered u ch x (s.clients link.0)).after)
-        (made-for old s link.0 d one h below) (is.after (s.clients link.0) d (h.clients link.0 d below))
+        (made-for knows terms perm_of config old s link.0 d one h below)
+        (is.after (s.clients link.0) d (h.clients link.0 d below))
 
     taken-up : stepped config (Deliver link ch) s ≡ judged (offered t ch x (s.clients link.0)).answer link.0 ch x rest
         end s
@@ -248,9 +164,11 @@ module _ {w : ℕ} {A M : Type 0} (knows : A → Endpoint w → Type 0) (terms :
     pub steps-refused : (rule : Rule) → answer ≡ Err rule → new.rings ≡ old.rings
         → IsStepped knows terms perm_of config old new (Deliver link ch) outcome.Stalled s
     steps-refused rule refused same =
-        stepped-by old new (Deliver link ch) s (only outcome.Stalled (with_client link.0 end s)) outcome.Stalled
+        stepped-by knows terms perm_of config old new (Deliver link ch) s
+        (only outcome.Stalled (with_client link.0 end s)) outcome.Stalled
         (taken-up ∙ judged-refused _ rule link.0 ch x rest end s (sym refused ∙ answer_is)) refl
-        (client-holds old new s (with_client link.0 end s) link.0 end h known is.same_terms is.others is.same_number
+        (client-holds knows terms perm_of config old new s (with_client link.0 end s) link.0 end h known is.same_terms
+        is.others is.same_number
         (λ k. refl) refl same_manager
         (kept same) (carried (with_client link.0 end s) (λ k c. refl) same))
         (still same)
@@ -268,9 +186,9 @@ module _ {w : ℕ} {A M : Type 0} (knows : A → Endpoint w → Type 0) (terms :
     steps-stayed v m stayed stays same =
         let again : end ≡ s.clients link.0 = stayed-client t ch x (s.clients link.0) v m (sym stayed ∙ answer_is) stays
         in
-        stepped-by old new (Deliver link ch) s (only outcome.Stalled s) outcome.Stalled
+        stepped-by knows terms perm_of config old new (Deliver link ch) s (only outcome.Stalled s) outcome.Stalled
         (taken-up ∙ judged-stayed _ v m link.0 ch x rest end s (sym stayed ∙ answer_is) stays) refl
-        (client-holds old new s s link.0 (s.clients link.0) h
+        (client-holds knows terms perm_of config old new s s link.0 (s.clients link.0) h
         (λ d. subst (λ (e : Endpoint w). knows (slice_index_or new.clients.items link.0 d) e) again (known d))
         is.same_terms is.others is.same_number
         unmoved refl same_manager (kept same) (carried s (λ k c. refl) same))
@@ -286,8 +204,10 @@ module _ {w : ℕ} {A M : Type 0} (knows : A → Endpoint w → Type 0) (terms :
         → HasRoom config (stepped config (Deliver link ch) s).after
         → IsStepped knows terms perm_of config old new (Deliver link ch) (outcome_of x v) s
     steps-taken mid v m taken moves first_kept then_kept drops sends room =
-        stepped-by old new (Deliver link ch) s (handing (outcome_of x v) handed now) (outcome_of x v) step refl
-        (client-holds old new s (with_messages handed now) link.0 end h known is.same_terms is.others is.same_number
+        stepped-by knows terms perm_of config old new (Deliver link ch) s (handing (outcome_of x v) handed now)
+        (outcome_of x v) step refl
+        (client-holds knows terms perm_of config old new s (with_messages handed now) link.0 end h known is.same_terms
+        is.others is.same_number
         (λ k. ap (λ (f : ℕ → Endpoint w). f k) (clients-with_messages handed now)) (manager-with_messages handed now)
         same_manager both_kept sent.carries)
         (moved-then (clients_of config) old.rings mid new.rings base (with_messages handed now) dropped sent
@@ -317,8 +237,8 @@ module _ {w : ℕ} {A M : Type 0} (knows : A → Endpoint w → Type 0) (terms :
         sent : AreMoved (clients_of config) mid new.rings (with_messages handed now)
         sent =
             sends (clients_of config) now (carries-same (clients_of config) mid base now (λ k c. refl) dropped.carries)
-            (fits-in old mid s (with_messages handed now) h first_kept
-            (room-after (Deliver link ch) s (handing (outcome_of x v) handed now) step room))
+            (fits-in knows terms perm_of config old mid s (with_messages handed now) h first_kept
+            (room-after config (Deliver link ch) s (handing (outcome_of x v) handed now) step room))
 
   -- ---- a beat is brought to the manager
 
@@ -374,7 +294,8 @@ module _ {w : ℕ} {A M : Type 0} (knows : A → Endpoint w → Type 0) (terms :
     pub manager-refused : (rule : Rule) → answer ≡ manager.Refused rule → new.rings ≡ old.rings
         → IsStepped knows terms perm_of config old new (Deliver link ch) outcome.Stalled s
     manager-refused rule refused same =
-        stepped-by old new (Deliver link ch) s (only outcome.Stalled (with_manager taken.1 s)) outcome.Stalled
+        stepped-by knows terms perm_of config old new (Deliver link ch) s
+        (only outcome.Stalled (with_manager taken.1 s)) outcome.Stalled
         (taken-in ∙ took-refused taken rule link.0 ch x rest s (sym answered ∙ refused)) refl
         (manager-holds old new s (with_manager taken.1 s) h same_clients (λ k. refl)
         (knowing config s.manager h.manager) (as_made same) (carrying (with_manager taken.1 s) (λ k c. refl) same))
@@ -384,7 +305,7 @@ module _ {w : ℕ} {A M : Type 0} (knows : A → Endpoint w → Type 0) (terms :
         → IsStepped knows terms perm_of config old new (Deliver link ch) outcome.Stalled s
     manager-stayed stalled same =
         let again : taken.1 ≡ s.manager = stayed-manager config link ch x s.manager (sym answered ∙ stalled) in
-        stepped-by old new (Deliver link ch) s (only outcome.Stalled s) outcome.Stalled
+        stepped-by knows terms perm_of config old new (Deliver link ch) s (only outcome.Stalled s) outcome.Stalled
         (taken-in ∙ took-stalled taken link.0 ch x rest s (sym answered ∙ stalled)) refl
         (manager-holds old new s s h same_clients (λ k. refl)
         (subst (λ (e : manager_end.End w). Knows perm_of new.manager config e) again
@@ -402,7 +323,8 @@ module _ {w : ℕ} {A M : Type 0} (knows : A → Endpoint w → Type 0) (terms :
         → HasRoom config (stepped config (Deliver link ch) s).after
         → IsStepped knows terms perm_of config old new (Deliver link ch) (outcome.Moved x) s
     manager-sent mid handed sent first_kept then_kept drops sends room =
-        stepped-by old new (Deliver link ch) s (handing (outcome.Moved x) handed now) (outcome.Moved x) step refl
+        stepped-by knows terms perm_of config old new (Deliver link ch) s (handing (outcome.Moved x) handed now)
+        (outcome.Moved x) step refl
         (manager-holds old new s (with_messages handed now) h same_clients
         (λ k. ap (λ (f : ℕ → Endpoint w). f k) (clients-with_messages handed now))
         (rw (manager-with_messages handed now) (knowing config s.manager h.manager)) both_kept moved.carries)
@@ -430,8 +352,8 @@ module _ {w : ℕ} {A M : Type 0} (knows : A → Endpoint w → Type 0) (terms :
         moved : AreMoved (clients_of config) mid new.rings (with_messages handed now)
         moved =
             sends (clients_of config) now (carries-same (clients_of config) mid base now (λ k c. refl) dropped.carries)
-            (fits-in old mid s (with_messages handed now) h first_kept
-            (room-after (Deliver link ch) s (handing (outcome.Moved x) handed now) step room))
+            (fits-in knows terms perm_of config old mid s (with_messages handed now) h first_kept
+            (room-after config (Deliver link ch) s (handing (outcome.Moved x) handed now) step room))
 
   -- ---- nothing changes
 
@@ -439,7 +361,7 @@ module _ {w : ℕ} {A M : Type 0} (knows : A → Endpoint w → Type 0) (terms :
       → Holds knows terms perm_of config network s → length network.clients.items ≤ client_of event
       → IsStepped knows terms perm_of config network network event outcome.NoSuchClient s
   steps-nobody network s event h past =
-      stepped-by network network event s (only outcome.NoSuchClient s) outcome.NoSuchClient
+      stepped-by knows terms perm_of config network network event s (only outcome.NoSuchClient s) outcome.NoSuchClient
       (stepped-nobody config event s
       (rw (slice_get_past config.clients.items (client_of event) (omega (arith, past, h.one_client_each))) refl))
       refl h
@@ -452,7 +374,7 @@ module _ {w : ℕ} {A M : Type 0} (knows : A → Endpoint w → Type 0) (terms :
   steps-empty network s link ch h inside first =
       let under : link.0 < clients_of config = omega (arith, inside, h.one_client_each) in
       let some = member network.clients.items link.0 inside in
-      stepped-by network network (Deliver link ch) s (only outcome.Empty s) outcome.Empty
+      stepped-by knows terms perm_of config network network (Deliver link ch) s (only outcome.Empty s) outcome.Empty
       (stepped-empty config link ch s (terms (slice_index_or network.clients.items link.0 some))
       (h.terms_are link.0 some under)
       (none-left (s.channels link.0 ch) (first (clients_of config) s h.channels under))) refl h

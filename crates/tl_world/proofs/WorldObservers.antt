@@ -18,7 +18,7 @@ use Rattle.tl_world.specs.code.Holds.{clients_of}
 use Rattle.tl_coherence.specs.statement.Log.{Log, system_after}
 use Rattle.tl_world.specs.statement.World.{IsReached, held_by, copy_by, deepest, deepest_by}
 use Rattle.tl_world.proofs.Queues.{number-below}
-use Rattle.tl_world.proofs.Stepping.{member}
+use Rattle.tl_world.proofs.Holding.{member}
 
 module _ {w : ℕ} {A M : Type 0} (knows : A → Endpoint w → Type 0) (terms : A → EndConfig) (perm_of : M → ℕ → ℕ → Perm)
     (config : Config) (state : WorldState w A M)

@@ -4,7 +4,8 @@ use Rattle.tl_client.proofs.Imports.{Perm, Prune, block_at, pending, request_of,
 use Rattle.tl_client.proofs.Imports.{B3, B4, B5, Caching, Op, Load, Store, Acquire, AcquireWhole, Release, Access}
 use Rattle.tl_client.proofs.Imports.{Reply, asked, busy, breaks_b1, op_block, done, only, least_free, free_request}
 use Rattle.tl_client.proofs.Imports.{free_release, source_or_0, whole_grow, load, store, EndConfig, Endpoint, copy_at}
-use Rattle.tl_client.proofs.Imports.{held_at, zeros, holds, KnowsCaching, terms_of, open_beat, open_release, fields_of}
+use Rattle.tl_client.proofs.Imports.{held_at, zeros, holds, KnowsCaching}
+use Rattle.tl_client.proofs.Imports.{caching_terms, open_beat, open_release, fields_of}
 use Rattle.tl_client.proofs.Imports.{release_fields, start_with, access, acquisition, release, held_in}
 use Rattle.std.proofs.Common.{◌≡◌, ℕ, zero, suc, ◌+◌, Bool, true, false, cond, List, Option, Some, None, refl, sym, ◌∙◌}
 use Rattle.std.proofs.Common.{ap}
@@ -33,21 +34,21 @@ four false false false true rest = refl
 four false false false false rest = refl
 
 pub busy-known : {w : ℕ} (c : Caching w) (op : Op w) (e : Endpoint w) → KnowsCaching c e
-    → busy (terms_of c) op e ≡ busy_or (busy_by c op) (first_if (breaks_b1 (terms_of c) op e.past) B1 None)
+    → busy (caching_terms c) op e ≡ busy_or (busy_by c op) (first_if (breaks_b1 (caching_terms c) op e.past) B1 None)
 unfolding busy
 busy-known c op e knows =
     rw (← acquiring c e (op_block op) knows, ← releasing c e (op_block op) knows, ← knows.held_is (op_block op))
-    (four _ _ _ _ (first_if (breaks_b1 (terms_of c) op e.past) B1 None))
+    (four _ _ _ _ (first_if (breaks_b1 (caching_terms c) op e.past) B1 None))
 
 pub asked-busy : {w : ℕ} (c : Caching w) (op : Op w) (e : Endpoint w) (b : Busy) → KnowsCaching c e
-    → Some b ≡ busy_by c op → asked (terms_of c) op e ≡ only (reply.Busy b) e
+    → Some b ≡ busy_by c op → asked (caching_terms c) op e ≡ only (reply.Busy b) e
 unfolding asked
 asked-busy c op e b knows is =
-    let because : busy (terms_of c) op e ≡ Some b = rw (busy-known c op e knows, ← is) refl in
+    let because : busy (caching_terms c) op e ≡ Some b = rw (busy-known c op e knows, ← is) refl in
     rw because refl
 
 busy-free : {w : ℕ} (c : Caching w) (op : Op w) (e : Endpoint w) → KnowsCaching c e → busy_by c op ≡ None
-    → busy (terms_of c) op e ≡ first_if (breaks_b1 (terms_of c) op e.past) B1 None
+    → busy (caching_terms c) op e ≡ first_if (breaks_b1 (caching_terms c) op e.past) B1 None
 busy-free c op e knows is = rw (busy-known c op e knows, is) refl
 
 -- ---- the source that is free
@@ -77,12 +78,12 @@ is_some-release {w} s t = go (pending (ReleaseSource s) t) (release_of s t) (rel
     go true (Some x) some = refl
 
 free_request-known : {w : ℕ} (c : Caching w) (e : Endpoint w) → KnowsCaching c e
-    → free_request (terms_of c) e.past ≡ free_in c.requests c.config.sources
+    → free_request (caching_terms c) e.past ≡ free_in c.requests c.config.sources
 free_request-known c e knows =
     least_free-same _ _ 0 c.config.sources (λ s. sym (ap is_some (knows.requests_are s) ∙ is_some-request s e.past))
 
 free_release-known : {w : ℕ} (c : Caching w) (e : Endpoint w) → KnowsCaching c e
-    → free_release (terms_of c) e.past ≡ free_in c.releases c.config.sources
+    → free_release (caching_terms c) e.past ≡ free_in c.releases c.config.sources
 free_release-known c e knows =
     least_free-same _ _ 0 c.config.sources (λ s. sym (ap is_some (knows.releases_are s) ∙ is_some-release s e.past))
 
@@ -144,37 +145,37 @@ pub copy-known : {w : ℕ} (c : Caching w) (e : Endpoint w) (k : ℕ) → KnowsC
 copy-known c e k knows = ap (λ o. unwrap_or o zeros) (sym (knows.copies_are k))
 
 pub answered : {w : ℕ} (c : Caching w) (op : Op w) (e : Endpoint w) → KnowsCaching c e → busy_by c op ≡ None
-    → IsAnswered (terms_of c) op e (answer_by c op)
+    → IsAnswered (caching_terms c) op e (answer_by c op)
 answered c (Load address size) e knows free =
     let replies = load_answer address size (held_at e (block_at address)) e (bytes_in c (block_at address))
     (copy-known c e (block_at address) knows) in
-    rw (knows.held_is (block_at address)) (answered_done (terms_of c) (Load address size) e _
+    rw (knows.held_is (block_at address)) (answered_done (caching_terms c) (Load address size) e _
     (busy-free c (Load address size) e knows free) replies.2 replies.0 replies.1)
 answered c (Store address size value) e knows free =
     let replies = store_answer address size value (held_at e (block_at address)) e in
-    rw (knows.held_is (block_at address)) (answered_done (terms_of c) (Store address size value) e _
+    rw (knows.held_is (block_at address)) (answered_done (caching_terms c) (Store address size value) e _
     (busy-free c (Store address size value) e knows free) replies.2 replies.0 replies.1)
 answered c (Acquire block grow) e knows free =
     let source = free_request-known c e knows in
-    answered_request (terms_of c) (Acquire block grow) e (acquisition a.AcquireBlock grow 0 block)
+    answered_request (caching_terms c) (Acquire block grow) e (acquisition a.AcquireBlock grow 0 block)
     (free_in c.requests c.config.sources)
     (rw source at (busy-free c (Acquire block grow) e knows free)) (rw source refl) (rw source refl)
 answered c (AcquireWhole block bytes) e knows free =
     let source = free_request-known c e knows in
-    answered_request (terms_of c) (AcquireWhole block bytes) e
+    answered_request (caching_terms c) (AcquireWhole block bytes) e
     (acquisition a.AcquirePerm (whole_grow (held_in c.table block)) 0 block)
     (free_in c.requests c.config.sources) (rw source at (busy-free c (AcquireWhole block bytes) e knows free))
     (rw source refl)
     (rw (source, knows.held_is block) refl)
 answered c (Release block prune) e knows free =
     let source = free_release-known c e knows in
-    answered_release (terms_of c) (Release block prune) e prune block (bytes_in c block)
+    answered_release (caching_terms c) (Release block prune) e prune block (bytes_in c block)
     (free_in c.releases c.config.sources)
     (rw source at (busy-free c (Release block prune) e knows free)) (rw source refl)
     (rw (source, copy-known c e block knows) refl)
 answered c (Access (message.A m)) e knows free =
     let source = free_request-known c e knows in
-    answered_request (terms_of c) (Access (message.A m)) e m (free_in c.requests c.config.sources)
+    answered_request (caching_terms c) (Access (message.A m)) e m (free_in c.requests c.config.sources)
     (rw source at (busy-free c (Access (message.A m)) e knows free)) (rw source refl) (rw source refl)
 answered c (Access (message.B m)) e knows free = absurd cc
 answered c (Access (message.C m)) e knows free = absurd cc

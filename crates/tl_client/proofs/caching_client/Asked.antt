@@ -1,7 +1,7 @@
 -- What a caching client knows after an operation.
 use Rattle.tl_client.proofs.Imports.{BeatA, BeatC, Message, a_beat_of, History, GrantAckOf, comes_in_grant}
 use Rattle.tl_client.proofs.Imports.{request_if_any, release_if_any, is_release, pending, Caching, Op, Reply, asked}
-use Rattle.tl_client.proofs.Imports.{Endpoint, IsInside, KnowsCaching, terms_of, is_granting, has_sink, open_beat}
+use Rattle.tl_client.proofs.Imports.{Endpoint, IsInside, KnowsCaching, caching_terms, is_granting, has_sink, open_beat}
 use Rattle.tl_client.proofs.Imports.{open_release, fields_of, release_fields}
 use Rattle.std.proofs.Common.{◌≡◌, ℕ, Bool, true, false, cond, ◌&&◌, Option, Some, None, refl, sym, ◌∙◌, ap, subst}
 use Rattle.std.specs.Prelude.{◌==◌}
@@ -70,45 +70,45 @@ ack_unsaid k (reply.Busy b) (Some (message.E m)) t started = absurd started
 
 pub knows-asked : {w : ℕ} (c d : Caching w) (op : Op w) (e : Endpoint w) (r : Reply × Option (Message w))
     → KnowsCaching c e → busy_by c op ≡ None → Does c d op r
-    → KnowsCaching d (asked (terms_of c) op e).after
+    → KnowsCaching d (asked (caching_terms c) op e).after
 knows-asked {w} c d op e r knows free does =
-    let said : IsAnswered (terms_of c) op e r = rw (does.answer) (answered c op e knows free) in
-    let after = (asked (terms_of c) op e).after in
-    let kept = kept-asked (terms_of c) op e c.width knows.kept in
-    let accounted = accounted-asked (terms_of c) op e c.width knows.kept knows.accounted in
-    let burst = unfinished-asked (terms_of c) op e channel.D c.width knows.kept in
+    let said : IsAnswered (caching_terms c) op e r = rw (does.answer) (answered c op e knows free) in
+    let after = (asked (caching_terms c) op e).after in
+    let kept = kept-asked (caching_terms c) op e c.width knows.kept in
+    let accounted = accounted-asked (caching_terms c) op e c.width knows.kept knows.accounted in
+    let burst = unfinished-asked (caching_terms c) op e channel.D c.width knows.kept in
     record {
-      closed_is = does.closed ∙ knows.closed_is ∙ sym (closed-asked (terms_of c) op e);
+      closed_is = does.closed ∙ knows.closed_is ∙ sym (closed-asked (caching_terms c) op e);
       held_is = λ k. does.holdings k ∙ rw (← said.busy_is, knows.held_is k)
-          (sym (held-asked (terms_of c) op e k c.width knows.kept.c_whole));
+          (sym (held-asked (caching_terms c) op e k c.width knows.kept.c_whole));
       copies_are = λ k. does.copies k ∙ rw (← said.busy_is, knows.held_is k, knows.copies_are k)
-          (sym (copies-asked (terms_of c) op e k));
+          (sym (copies-asked (caching_terms c) op e k));
       waiting_are = λ k. does.waiting k ∙ rw (← said.busy_is, knows.waiting_are k)
-          (sym (waiting-asked (terms_of c) op e k));
+          (sym (waiting-asked (caching_terms c) op e k));
       requests_are =
           λ s. does.requests s ∙ rw (← said.message_is, knows.requests_are s)
-          (opened-fields s (asked (terms_of c) op e).message (open_beat s e.past))
-          ∙ sym (ap fields_of (open-asked (terms_of c) op e s c.width knows.kept));
+          (opened-fields s (asked (caching_terms c) op e).message (open_beat s e.past))
+          ∙ sym (ap fields_of (open-asked (caching_terms c) op e s c.width knows.kept));
       releases_are =
           λ s. does.releases s ∙ rw (← said.message_is, knows.releases_are s)
-          (released-fields s (asked (terms_of c) op e).message (open_release s e.past))
-          ∙ sym (ap release_fields (open_release-asked (terms_of c) op e s c.width knows.kept));
+          (released-fields s (asked (caching_terms c) op e).message (open_release s e.past))
+          ∙ sym (ap release_fields (open_release-asked (caching_terms c) op e s c.width knows.kept));
       response_is = does.response ∙ knows.response_is ∙ sym burst;
       granting_is = λ k. ap (is_granting k) does.granting ∙ knows.granting_is k ∙ sym (knows.accounted.acked.acks k)
-          ∙ sym (pending-asked (terms_of c) op e (GrantAckOf k) c.width knows.kept
-          ∙ ack_unsaid k (asked (terms_of c) op e).reply (asked (terms_of c) op e).message e.past
-          (started-asked (terms_of c) op e))
+          ∙ sym (pending-asked (caching_terms c) op e (GrantAckOf k) c.width knows.kept
+          ∙ ack_unsaid k (asked (caching_terms c) op e).reply (asked (caching_terms c) op e).message e.past
+          (started-asked (caching_terms c) op e))
           ∙ accounted.acked.acks k;
       sink_is = λ s. ap (has_sink s) does.granting ∙ knows.sink_is s ∙ ap (comes_in_grant s) (sym burst);
       kept = kept;
       accounted = accounted;
       inside = subst (λ terms. IsInside terms after.past) (sym does.terms)
-          (inside-asked (terms_of c) op e c.width knows.kept knows.inside);
+          (inside-asked (caching_terms c) op e c.width knows.kept knows.inside);
     }
 
 pub answers-asked : {w : ℕ} (c d : Caching w) (op : Op w) (e : Endpoint w) (r : Reply × Option (Message w))
     → KnowsCaching c e → busy_by c op ≡ None → Does c d op r
-    → (r.0 ≡ (asked (terms_of c) op e).reply) × (r.1 ≡ (asked (terms_of c) op e).message)
+    → (r.0 ≡ (asked (caching_terms c) op e).reply) × (r.1 ≡ (asked (caching_terms c) op e).message)
 answers-asked c d op e r knows free does =
-    let said : IsAnswered (terms_of c) op e r = rw (does.answer) (answered c op e knows free) in
+    let said : IsAnswered (caching_terms c) op e r = rw (does.answer) (answered c op e knows free) in
     (sym said.reply_is, sym said.message_is)

@@ -1,7 +1,8 @@
 -- What a caching client judges of a beat is what its end of the link says.
 use Rattle.tl_client.proofs.Imports.{Beat, Channel, first_if, Message, completes, Rule, A3, L1, ok_unless}
 use Rattle.tl_client.proofs.Imports.{broken_in_order, ends, illegal, both_none, Caching, Verdict, Stalled, EndConfig}
-use Rattle.tl_client.proofs.Imports.{Endpoint, KnowsCaching, terms_of, offered, refused, silent, is_sent_on, stalls}
+use Rattle.tl_client.proofs.Imports.{Endpoint, KnowsCaching, caching_terms}
+use Rattle.tl_client.proofs.Imports.{offered, refused, silent, is_sent_on, stalls}
 use Rattle.tl_client.proofs.Imports.{waits, broken_before, broken_later}
 use Rattle.std.proofs.Common.{◌≡◌, ℕ, Bool, true, false, Option, Some, None, refl, sym, ◌∙◌, ap, subst}
 use Rattle.std.specs.Prelude.{Result, Ok, Err, ◌&&◌, is_none, is_ok}
@@ -15,50 +16,52 @@ use Rattle.tl_client.proofs.endpoint.Cases.{takes}
 use Rattle.tl_client.proofs.endpoint.HeldAfter.{incoming}
 
 before-known : {w : ℕ} (c : Caching w) (ch : Channel) (x : Beat w) (e : Endpoint w) → KnowsCaching c e
-    → broken_before (terms_of c) ch x e ≡ first_if c.closed A3
+    → broken_before (caching_terms c) ch x e ≡ first_if c.closed A3
     (first_if (is_sent_on ch) L1 (illegal c.config.level ch x))
 before-known c ch x e knows = rw (knows.closed_is) refl
 
 pub passes_alone : {w : ℕ} (c : Caching w) (ch : Channel) (x : Beat w) (e : Endpoint w) → KnowsCaching c e
     → Ok tt ≡ ok_unless (first_if c.closed A3 (first_if (is_sent_on ch) L1 (illegal c.config.level ch x)))
-    → broken_before (terms_of c) ch x e ≡ None
+    → broken_before (caching_terms c) ch x e ≡ None
 passes_alone c ch x e knows ok = before-known c ch x e knows ∙ none_broken _ ok
 
 pub refused_alone : {w : ℕ} (c : Caching w) (ch : Channel) (x : Beat w) (e : Endpoint w) (rule : Rule)
     → KnowsCaching c e
     → Err rule ≡ ok_unless (first_if c.closed A3 (first_if (is_sent_on ch) L1 (illegal c.config.level ch x)))
-    → offered (terms_of c) ch x e ≡ refused rule e
+    → offered (caching_terms c) ch x e ≡ refused rule e
 unfolding offered
 refused_alone c ch x e rule knows broken =
-    let before : broken_before (terms_of c) ch x e ≡ Some rule = before-known c ch x e knows ∙ some_broken _ rule broken
+    let before : broken_before (caching_terms c) ch x e ≡ Some rule =
+    before-known c ch x e knows ∙ some_broken _ rule broken
     in
     rw before refl
 
 pub stalled : {w : ℕ} (c : Caching w) (ch : Channel) (x : Beat w) (e : Endpoint w)
-    → broken_before (terms_of c) ch x e ≡ None → waits x e.past ≡ true → offered (terms_of c) ch x e ≡ silent Stalled e
+    → broken_before (caching_terms c) ch x e ≡ None → waits x e.past ≡ true
+    → offered (caching_terms c) ch x e ≡ silent Stalled e
 unfolding offered
 stalled c ch x e before waiting = rw (before, waiting) refl
 
 pub refused_order : {w : ℕ} (c : Caching w) (ch : Channel) (x : Beat w) (e : Endpoint w) (rule : Rule)
-    → broken_before (terms_of c) ch x e ≡ None → waits x e.past ≡ false
-    → Err rule ≡ ok_unless (broken_later (terms_of c) x e) → offered (terms_of c) ch x e ≡ refused rule e
+    → broken_before (caching_terms c) ch x e ≡ None → waits x e.past ≡ false
+    → Err rule ≡ ok_unless (broken_later (caching_terms c) x e) → offered (caching_terms c) ch x e ≡ refused rule e
 unfolding offered
 refused_order c ch x e rule before moves broken =
-    let later : broken_later (terms_of c) x e ≡ Some rule = some_broken _ rule broken in
+    let later : broken_later (caching_terms c) x e ≡ Some rule = some_broken _ rule broken in
     rw (before, moves, later) refl
 
 -- what is answered to a beat that was taken, and what is known afterwards
 pub knows-took : {w : ℕ} (c d : Caching w) (ch : Channel) (x : Beat w) (e : Endpoint w)
-    (r : Verdict × Option (Message w)) → KnowsCaching c e → IsJudged (terms_of c) ch x e (Ok false) → Takes c d x r
-    → ((offered (terms_of c) ch x e).answer ≡ Ok r) × KnowsCaching d (offered (terms_of c) ch x e).after
-knows-took c d ch (beat.A x) e r knows judged took = absurd (incoming (terms_of c) ch (beat.A x) e judged.0)
-knows-took c d ch (beat.C x) e r knows judged took = absurd (incoming (terms_of c) ch (beat.C x) e judged.0)
-knows-took c d ch (beat.E x) e r knows judged took = absurd (incoming (terms_of c) ch (beat.E x) e judged.0)
+    (r : Verdict × Option (Message w)) → KnowsCaching c e → IsJudged (caching_terms c) ch x e (Ok false) → Takes c d x r
+    → ((offered (caching_terms c) ch x e).answer ≡ Ok r) × KnowsCaching d (offered (caching_terms c) ch x e).after
+knows-took c d ch (beat.A x) e r knows judged took = absurd (incoming (caching_terms c) ch (beat.A x) e judged.0)
+knows-took c d ch (beat.C x) e r knows judged took = absurd (incoming (caching_terms c) ch (beat.C x) e judged.0)
+knows-took c d ch (beat.E x) e r knows judged took = absurd (incoming (caching_terms c) ch (beat.E x) e judged.0)
 knows-took c d ch (beat.B x) e r knows judged took =
-    let is = takes (terms_of c) ch (beat.B x) e judged.0 judged.1 judged.2 in
+    let is = takes (caching_terms c) ch (beat.B x) e judged.0 judged.1 judged.2 in
     (ap (λ o. o.answer) is ∙ answer-probed c d x e r knows took, knows-probed c d ch x e r knows took is)
 knows-took {w} c d ch (beat.D x) e r knows judged took =
-    let is = takes (terms_of c) ch (beat.D x) e judged.0 judged.1 judged.2 in
+    let is = takes (caching_terms c) ch (beat.D x) e judged.0 judged.1 judged.2 in
     let order = (both_none (broken_in_order c.profile (beat.D x) e.past) _ judged.2).0 in
     let fits = fit c.profile x e.past knows.accounted.acked order in
     let same : completes (beat.D x) c.responses ≡ ends (beat.D x) e.past =
@@ -68,12 +71,12 @@ knows-took {w} c d ch (beat.D x) e r knows judged took =
     (λ last. knows-ends c d ch x e r knows fits last (took.1 (same ∙ last) (grants_inside c x e knows order)) is)
   where
     go : (b : Bool) → ends (beat.D x) e.past ≡ b
-        → (ends (beat.D x) e.past ≡ false → ((offered (terms_of c) ch (beat.D x) e).answer ≡ Ok r)
-        × KnowsCaching d (offered (terms_of c) ch (beat.D x) e).after)
-        → (ends (beat.D x) e.past ≡ true → ((offered (terms_of c) ch (beat.D x) e).answer ≡ Ok r)
-        × KnowsCaching d (offered (terms_of c) ch (beat.D x) e).after)
-        → ((offered (terms_of c) ch (beat.D x) e).answer ≡ Ok r)
-        × KnowsCaching d (offered (terms_of c) ch (beat.D x) e).after
+        → (ends (beat.D x) e.past ≡ false → ((offered (caching_terms c) ch (beat.D x) e).answer ≡ Ok r)
+        × KnowsCaching d (offered (caching_terms c) ch (beat.D x) e).after)
+        → (ends (beat.D x) e.past ≡ true → ((offered (caching_terms c) ch (beat.D x) e).answer ≡ Ok r)
+        × KnowsCaching d (offered (caching_terms c) ch (beat.D x) e).after)
+        → ((offered (caching_terms c) ch (beat.D x) e).answer ≡ Ok r)
+        × KnowsCaching d (offered (caching_terms c) ch (beat.D x) e).after
     go true is part last = last is
     go false is part last = part is
 
@@ -89,13 +92,13 @@ never_if (Some rule) b moves = refl
 pub stalls-waiting : {w : ℕ} (c : Caching w) (ch : Channel) (x : Beat w) (e : Endpoint w) (b : Bool) → KnowsCaching c e
     → waits x e.past ≡ true
     → b ≡ is_ok (ok_unless (first_if c.closed A3 (first_if (is_sent_on ch) L1 (illegal c.config.level ch x))))
-    → b ≡ stalls (terms_of c) ch x e
+    → b ≡ stalls (caching_terms c) ch x e
 unfolding stalls
 stalls-waiting c ch x e b knows waiting ok =
     ok ∙ stalls_if _ _ waiting ∙ sym (ap (λ o. is_none o && waits x e.past) (before-known c ch x e knows))
 
 pub stalls-moving : {w : ℕ} (c : Caching w) (ch : Channel) (x : Beat w) (e : Endpoint w) (b : Bool) → b ≡ waits x e.past
-    → b ≡ false → b ≡ stalls (terms_of c) ch x e
+    → b ≡ false → b ≡ stalls (caching_terms c) ch x e
 unfolding stalls
 stalls-moving c ch x e b is moving = moving ∙ sym (never_if _ _ (sym is ∙ moving))
 

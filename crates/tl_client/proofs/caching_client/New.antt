@@ -1,5 +1,5 @@
 -- What a new caching client knows.
-use Rattle.tl_client.proofs.Imports.{held, pending, unfinished, Caching, fresh, KnowsCaching, terms_of, open_beat}
+use Rattle.tl_client.proofs.Imports.{held, pending, unfinished, Caching, fresh, KnowsCaching, caching_terms, open_beat}
 use Rattle.tl_client.proofs.Imports.{open_release, fields_of, release_fields, open_at, held_in, copy_in, waiting_in}
 use Rattle.std.proofs.Common.{◌≡◌, ℕ, false, [], None, refl, ◌∙◌, sym}
 use Rattle.tl_params.specs.declared.perm.Perm.TheVariants as perm
@@ -32,5 +32,5 @@ knows-new {w} c closed responses granting holds copies waiting requests releases
   sink_is = λ s. rw granting refl;
   kept = kept-fresh w;
   accounted = accounted-fresh w;
-  inside = inside-fresh w (terms_of c);
+  inside = inside-fresh w (caching_terms c);
 }

@@ -1,6 +1,7 @@
 -- What a caching client answers to a Probe, and what it knows afterwards.
 use Rattle.tl_client.proofs.Imports.{BeatB, Channel, Message, comes_in_grant, block_at, Caching, Verdict}
-use Rattle.tl_client.proofs.Imports.{comes_granting, Endpoint, copy_at, held_at, KnowsCaching, terms_of, is_granting}
+use Rattle.tl_client.proofs.Imports.{comes_granting, Endpoint, copy_at, held_at}
+use Rattle.tl_client.proofs.Imports.{KnowsCaching, caching_terms, is_granting}
 use Rattle.tl_client.proofs.Imports.{has_sink, offered, taken, report_for, probe_ack, open_at}
 use Rattle.std.proofs.Common.{◌≡◌, ℕ, Option, Some, refl, sym, ◌∙◌, ap}
 use Rattle.std.specs.Prelude.{Ok}
@@ -33,8 +34,8 @@ follows-probed c d x e r knows probes = record {
 
 pub knows-probed : {w : ℕ} (c d : Caching w) (ch : Channel) (x : BeatB w) (e : Endpoint w)
     (r : Verdict × Option (Message w)) → KnowsCaching c e → Probes c d x r
-    → offered (terms_of c) ch (beat.B x) e ≡ taken (beat.B x) e
-    → KnowsCaching d (offered (terms_of c) ch (beat.B x) e).after
+    → offered (caching_terms c) ch (beat.B x) e ≡ taken (beat.B x) e
+    → KnowsCaching d (offered (caching_terms c) ch (beat.B x) e).after
 knows-probed c d ch x e r knows probes is =
     knows-after c d ch (beat.B x) e _ knows (ap (λ o. o.answer) is)
     (taking (Some (probe_ack x.opcode (held_at e (block_at x.address)) (report_for x (held_at e (block_at x.address)))

@@ -3,7 +3,8 @@ use Rattle.tl_client.proofs.Imports.{BeatA, BeatC, BeatD, Channel, OpD, Message,
 use Rattle.tl_client.proofs.Imports.{payload_of, admits, broken_in_order, comes_in_grant, block_at, asks_for, ends}
 use Rattle.tl_client.proofs.Imports.{grants, is_grant, is_release_ack, pending, request_of, Caching, Finish, Verdict}
 use Rattle.tl_client.proofs.Imports.{Taken, Done, comes_granting, copy_granted, waiting_granted, Endpoint, acquires}
-use Rattle.tl_client.proofs.Imports.{is_acquire_beat, KnowsCaching, terms_of, is_granting, has_sink, offered, taken}
+use Rattle.tl_client.proofs.Imports.{is_acquire_beat, KnowsCaching, caching_terms}
+use Rattle.tl_client.proofs.Imports.{is_granting, has_sink, offered, taken}
 use Rattle.tl_client.proofs.Imports.{ended, open_beat, open_release, fields_of, release_fields, open_at, held_in}
 use Rattle.tl_client.proofs.Imports.{copy_in, waiting_in, not_release_ack}
 use Rattle.std.proofs.Common.{◌≡◌, ℕ, ◌<◌, Bool, true, false, not, cond, ◌&&◌, List, [], ◌∷◌, Option, Some, None, refl}
@@ -239,9 +240,9 @@ grants_inside {w} c x e knows order =
 
 pub knows-goes : {w : ℕ} (c d : Caching w) (ch : Channel) (x : BeatD w) (e : Endpoint w)
     (r : Verdict × Option (Message w)) → KnowsCaching c e → IsFit x e.past → ends (beat.D x) e.past ≡ false
-    → Goes c d x r → offered (terms_of c) ch (beat.D x) e ≡ taken (beat.D x) e
-    → ((offered (terms_of c) ch (beat.D x) e).answer ≡ Ok r)
-    × KnowsCaching d (offered (terms_of c) ch (beat.D x) e).after
+    → Goes c d x r → offered (caching_terms c) ch (beat.D x) e ≡ taken (beat.D x) e
+    → ((offered (caching_terms c) ch (beat.D x) e).answer ≡ Ok r)
+    × KnowsCaching d (offered (caching_terms c) ch (beat.D x) e).after
 knows-goes c d ch x e r knows fits more goes is =
     let answer = ap (λ o. o.answer) is ∙ answer-goes x e more in (
       answer ∙ rw (goes.answer) refl,
@@ -251,9 +252,9 @@ knows-goes c d ch x e r knows fits more goes is =
 
 pub knows-ends : {w : ℕ} (c d : Caching w) (ch : Channel) (x : BeatD w) (e : Endpoint w)
     (r : Verdict × Option (Message w)) → KnowsCaching c e → IsFit x e.past → ends (beat.D x) e.past ≡ true
-    → Ends c d x r → offered (terms_of c) ch (beat.D x) e ≡ taken (beat.D x) e
-    → ((offered (terms_of c) ch (beat.D x) e).answer ≡ Ok r)
-    × KnowsCaching d (offered (terms_of c) ch (beat.D x) e).after
+    → Ends c d x r → offered (caching_terms c) ch (beat.D x) e ≡ taken (beat.D x) e
+    → ((offered (caching_terms c) ch (beat.D x) e).answer ≡ Ok r)
+    × KnowsCaching d (offered (caching_terms c) ch (beat.D x) e).after
 knows-ends c d ch x e r knows fits last done is =
     let answer = ap (λ o. o.answer) is ∙ answer-ends c x e knows fits last in (
       answer ∙ rw (done.finishes.answer) refl,

@@ -1,5 +1,5 @@
 -- What a Store leaves.
-use Rattle.tl_client.proofs.Imports.{same_perm, block_at, Caching, Store, low_bytes, copy_stored, terms_of, zeros}
+use Rattle.tl_client.proofs.Imports.{same_perm, block_at, Caching, Store, low_bytes, copy_stored, caching_terms, zeros}
 use Rattle.tl_client.proofs.Imports.{open_at, held_in, copy_in, waiting_in}
 use Rattle.std.proofs.Common.{◌≡◌, ℕ, zero, suc, ◌+◌, ◌≤◌, ◌%◌, ◌^◌, Bool, true, false, cond, ◌&&◌, List, ◌∷◌, ◌++◌}
 use Rattle.std.proofs.Common.{take, drop, Some, None, refl, sym, ◌∙◌, ap, arith}
@@ -50,7 +50,7 @@ pub does-stored : {w : ℕ} (c d : Caching w) (address size value : ℕ) (bytes 
     → ((k : ℕ) → copy_in d.table k ≡ cond (k == block_at address) (Some bytes) (copy_in c.table k))
     → ((k : ℕ) → waiting_in d.table k ≡ waiting_in c.table k)
     → d.requests ≡ c.requests → d.releases ≡ c.releases → d.responses ≡ c.responses → d.granting ≡ c.granting
-    → d.closed ≡ c.closed → terms_of d ≡ terms_of c
+    → d.closed ≡ c.closed → caching_terms d ≡ caching_terms c
     → Does c d (Store address size value) (reply.Stored, None)
 does-stored c d address size value bytes trunk is holds copies waiting requests releases responses granting closed
     terms = record {

@@ -1,7 +1,7 @@
 -- What a caching client knows after a beat that it takes.
 use Rattle.tl_client.proofs.Imports.{Beat, Channel, Message, History, unfinished, Rule, comes_in_grant, asks_for}
 use Rattle.tl_client.proofs.Imports.{is_grant, request_of, Caching, Finish, Verdict, Taken, Done, comes_granting, heard}
-use Rattle.tl_client.proofs.Imports.{is_refused, Endpoint, IsInside, KnowsCaching, terms_of, is_granting, has_sink}
+use Rattle.tl_client.proofs.Imports.{is_refused, Endpoint, IsInside, KnowsCaching, caching_terms, is_granting, has_sink}
 use Rattle.tl_client.proofs.Imports.{offered, fields_of, release_fields, open_at, held_in, copy_in, waiting_in}
 use Rattle.std.proofs.Common.{◌≡◌, ℕ, Bool, true, false, ◌&&◌, ◌||◌, List, [], ◌∷◌, Option, refl, sym, ◌∙◌, ap, subst}
 use Rattle.std.specs.Prelude.{Result, Ok}
@@ -68,7 +68,7 @@ unrefused false refused is = is
 -- what is kept is what the beat leaves
 pub record Follows {w : ℕ} (c d : Caching w) (x : Beat w) (e : Endpoint w) : Type 0 where
   pub closed : d.closed ≡ c.closed
-  pub terms : terms_of d ≡ terms_of c
+  pub terms : caching_terms d ≡ caching_terms c
   pub holdings : (k : ℕ) → held_in d.table k ≡ held_with x e.past k
   pub copies : (k : ℕ) → copy_in d.table k ≡ copy_with x k e
   pub waiting : (k : ℕ) → waiting_in d.table k ≡ waiting_with x k e
@@ -80,31 +80,34 @@ pub record Follows {w : ℕ} (c d : Caching w) (x : Beat w) (e : Endpoint w) : T
 
 pub knows-after : {w : ℕ} (c d : Caching w) (ch : Channel) (x : Beat w) (e : Endpoint w)
     (a : Result (Verdict × Option (Message w)) Rule) → KnowsCaching c e
-    → (offered (terms_of c) ch x e).answer ≡ a → IsTaking a x → Follows c d x e
-    → KnowsCaching d (offered (terms_of c) ch x e).after
+    → (offered (caching_terms c) ch x e).answer ≡ a → IsTaking a x → Follows c d x e
+    → KnowsCaching d (offered (caching_terms c) ch x e).after
 knows-after {w} c d ch x e a knows is takes follows =
-    let after = (offered (terms_of c) ch x e).after in
+    let after = (offered (caching_terms c) ch x e).after in
     let burst : unfinished channel.D after.past ≡ unfinished channel.D (x ∷ e.past) =
-    unfinished-offered (terms_of c) ch x e channel.D c.width knows.kept ∙ rw is
+    unfinished-offered (caching_terms c) ch x e channel.D c.width knows.kept ∙ rw is
     (ap (λ t. unfinished channel.D t) (takes.hears e.past)) in
     record {
       closed_is = follows.closed ∙ knows.closed_is ∙ sym
-          (closed-offered (terms_of c) ch x e ∙ rw is (unrefused e.closed (is_refused a) takes.accepts));
-      held_is = λ k. follows.holdings k ∙ sym (held-offered (terms_of c) ch x e k c.width knows.kept.c_whole ∙ rw is
+          (closed-offered (caching_terms c) ch x e ∙ rw is (unrefused e.closed (is_refused a) takes.accepts));
+      held_is = λ k. follows.holdings k ∙ sym (held-offered (caching_terms c) ch x e k c.width knows.kept.c_whole ∙ rw
+          is
           (takes.holdings e.past k));
-      copies_are = λ k. follows.copies k ∙ sym (copies-offered (terms_of c) ch x e k ∙ rw is (takes.copies k e));
-      waiting_are = λ k. follows.waiting k ∙ sym (waiting-offered (terms_of c) ch x e k ∙ rw is (takes.waiting k e));
+      copies_are = λ k. follows.copies k ∙ sym (copies-offered (caching_terms c) ch x e k ∙ rw is (takes.copies k e));
+      waiting_are = λ k. follows.waiting k ∙ sym (waiting-offered (caching_terms c) ch x e k ∙ rw is
+          (takes.waiting k e));
       requests_are = λ s. follows.requests s ∙ ap fields_of
-          (sym (open-offered (terms_of c) ch x e s c.width knows.kept ∙ rw is (takes.opens s e.past)));
+          (sym (open-offered (caching_terms c) ch x e s c.width knows.kept ∙ rw is (takes.opens s e.past)));
       releases_are = λ s. follows.releases s ∙ ap release_fields
-          (sym (open_release-offered (terms_of c) ch x e s c.width knows.kept ∙ rw is (takes.opens_release s e.past)));
+          (sym (open_release-offered (caching_terms c) ch x e s c.width knows.kept ∙ rw is
+          (takes.opens_release s e.past)));
       response_is = follows.response ∙ sym burst;
       granting_is = λ k. follows.granting k ∙ sym (ap (λ b. comes_granting k b after.past) burst
           ∙ same_granting k (unfinished channel.D (x ∷ e.past)) after.past e.past
-          (λ s. request-offered (terms_of c) ch x e s c.width knows.kept));
+          (λ s. request-offered (caching_terms c) ch x e s c.width knows.kept));
       sink_is = λ s. follows.sink s ∙ ap (comes_in_grant s) (sym burst);
-      kept = kept-offered (terms_of c) ch x e c.width knows.kept;
-      accounted = accounted-offered (terms_of c) ch x e c.width knows.kept knows.accounted;
+      kept = kept-offered (caching_terms c) ch x e c.width knows.kept;
+      accounted = accounted-offered (caching_terms c) ch x e c.width knows.kept knows.accounted;
       inside = subst (λ terms. IsInside terms after.past) (sym follows.terms)
-          (inside-offered (terms_of c) ch x e c.width knows.kept knows.inside);
+          (inside-offered (caching_terms c) ch x e c.width knows.kept knows.inside);
     }

@@ -1,6 +1,6 @@
 -- The response that is complete with a beat.
 use Rattle.tl_client.proofs.Imports.{IsWidth, Beat, BeatD, Message, beats_of, grown, completes, payload_of, Caching}
-use Rattle.tl_client.proofs.Imports.{Verdict, EndConfig, terms_of}
+use Rattle.tl_client.proofs.Imports.{Verdict, EndConfig, caching_terms}
 use Rattle.std.proofs.Common.{◌≡◌, ℕ, true, List, [], ◌∷◌, length, Option, Some, None, refl, sym, ◌∙◌, ap, subst}
 use Rattle.std.specs.Prelude.{IfSome}
 use Rattle.tl_beat.specs.declared.beat.Beat.TheVariants as beat
@@ -92,7 +92,7 @@ nothing_left x b burst new grows own last = grows ∙ ap (λ y. grown y burst) o
 
 pub ends-from : {w : ℕ} (c c1 d : Caching w) (n : Response) (x : BeatD w) (r : Verdict × Option (Message w))
     → n ≡ in_beats x c.responses → c1.table ≡ c.table → c1.requests ≡ c.requests
-    → c1.releases ≡ c.releases → c1.closed ≡ c.closed → terms_of c1 ≡ terms_of c
+    → c1.releases ≡ c.releases → c1.closed ≡ c.closed → caching_terms c1 ≡ caching_terms c
     → (GrantsInside c1 n → Finishes c1 d n r) → d.responses ≡ [] → d.granting ≡ None
     → GrantsInside c (in_beats x c.responses) → Ends c d x r
 ends-from {w} c c1 d n x r same table requests releases closed terms finishes response granting fits =

@@ -15,7 +15,7 @@ use Rattle.tl_beat.specs.declared.channel.Channel.TheVariants as channel
 use Rattle.tl_burst.specs.declared.message.Message.TheVariants as message
 use Rattle.tl_client.specs.declared.reply.Reply.TheVariants as reply
 use Rattle.tl_client.specs.statement.Ask.{Asked, is_formed, started}
-use Rattle.tl_client.specs.code.KnowsPlain.{terms_of, answers_pending, is_request}
+use Rattle.tl_client.specs.code.KnowsPlain.{plain_terms, answers_pending, is_request}
 use Rattle.tl_client.specs.code.Plain.{access_in}
 use Rattle.tl_client.specs.statement.Requests.{opened_by, fields_in}
 use Rattle.tl_client.proofs.pending.KeptAsked.{no_acquire}
@@ -195,13 +195,13 @@ access_of (AcquireWhole block bytes) m is = absurd cc
 access_of (Release block prune) m is = absurd cc
 
 pub asked-started : {w : ℕ} (p : Plain w) (e : Endpoint w) (op : Op w) (m : MessageA w) → KnowsPlain p e
-    → None ≡ busy_alone (terms_of p) op → Some m ≡ access_in op
-    → asked (terms_of p) op e ≡ begun (least_free (λ s. is_some (open_at p.requests s)) 0 p.config.sources) m e
+    → None ≡ busy_alone (plain_terms p) op → Some m ≡ access_in op
+    → asked (plain_terms p) op e ≡ begun (least_free (λ s. is_some (open_at p.requests s)) 0 p.config.sources) m e
 asked-started p e op m k alone is =
     let own : op ≡ Access (message.A m) = access_of op m is in
-    let passes : busy_alone (terms_of p) op ≡ None = sym alone in
+    let passes : busy_alone (plain_terms p) op ≡ None = sym alone in
     rw (own, free_found (open_at p.requests) e.past 0 p.config.sources k.requests_are)
-    (asked-access (terms_of p) m e (rw own at passes))
+    (asked-access (plain_terms p) m e (rw own at passes))
 
 allowed : (b c : Bool) → None ≡ first_if (not b) B4 (first_if c B5 None) → b ≡ true
 allowed true c is = refl

@@ -17,7 +17,7 @@ use Rattle.tl_beat.specs.declared.opcode.OpD.TheVariants as d
 use Rattle.tl_beat.specs.statement.Opcode.{d_code}
 use Rattle.tl_params.proofs.Refusals.{some_broken, none_broken}
 use Rattle.tl_rules.specs.statement.History.{closes, says_held}
-use Rattle.tl_client.specs.code.KnowsPlain.{terms_of, answers_pending}
+use Rattle.tl_client.specs.code.KnowsPlain.{plain_terms, answers_pending}
 use Rattle.tl_client.specs.statement.Offer.{finish_of, address_asked}
 use Rattle.tl_client.specs.code.Plain.{order_rule, plain_rule, address_in, plain_verdict, ends_request}
 use Rattle.tl_client.proofs.plain_client.Rules.{IsAccessAnswer, legal_answer, judged}
@@ -185,20 +185,21 @@ abbrev pub rule_at : {w : ℕ} → Plain w → Channel → Beat w → Option Rul
 rule_at p ch x = plain_rule p.config.level (open_at p.requests) p.responses p.closed ch x
 
 offered-plain : {w : ℕ} (p : Plain w) (e : Endpoint w) (ch : Channel) (x : Beat w) → KnowsPlain p e
-    → offered (terms_of p) ch x e ≡ judged_later (rule_at p ch x) x e
+    → offered (plain_terms p) ch x e ≡ judged_later (rule_at p ch x) x e
 offered-plain p e ch x k =
-    rw k.closed_is (judged (terms_of p) ch x e (open_at p.requests) p.responses p.accesses k.sent_whole k.requests_are
+    rw k.closed_is (judged (plain_terms p) ch x e (open_at p.requests) p.responses p.accesses k.sent_whole
+    k.requests_are
     k.response_is)
 
 -- a beat that breaks a rule
 pub offered-refused : {w : ℕ} (p : Plain w) (e : Endpoint w) (ch : Channel) (x : Beat w) (r : Rule) → KnowsPlain p e
-    → Err r ≡ ok_unless (rule_at p ch x) → offered (terms_of p) ch x e ≡ refused r e
+    → Err r ≡ ok_unless (rule_at p ch x) → offered (plain_terms p) ch x e ≡ refused r e
 offered-refused p e ch x r k broken = offered-plain p e ch x k ∙ rw (some_broken (rule_at p ch x) r broken) refl
 
 pub knows-refused : {w : ℕ} (p q : Plain w) (e : Endpoint w) (ch : Channel) (x : Beat w) (r : Rule) → KnowsPlain p e
     → Err r ≡ ok_unless (rule_at p ch x) → q.closed ≡ true
     → q.requests ≡ p.requests → q.responses ≡ p.responses
-    → KnowsPlain q (offered (terms_of p) ch x e).after
+    → KnowsPlain q (offered (plain_terms p) ch x e).after
 knows-refused p q e ch x r k broken closed requests responses = rw (offered-refused p e ch x r k broken) (record {
   closed_is = closed;
   requests_are = λ s. rw requests (k.requests_are s);
@@ -223,7 +224,8 @@ good_answer p x good = legal_answer p.config.level x p.accesses good.is_legal
 
 pub offered-taken : {w : ℕ} (p : Plain w) (e : Endpoint w) (ch : Channel) (x : Beat w) → KnowsPlain p e
     → Ok tt ≡ ok_unless (rule_at p ch x)
-    → offered (terms_of p) ch x e ≡ silent (plain_verdict (open_at p.requests) p.responses x) (with_past (x ∷ e.past) e)
+    → offered (plain_terms p) ch x e ≡ silent (plain_verdict (open_at p.requests) p.responses x)
+    (with_past (x ∷ e.past) e)
 offered-taken {w} p e ch x k none =
     offered-plain p e ch x k ∙ rw (none_broken (rule_at p ch x) none)
     (go (good_response p.config.level (open_at p.requests) p.responses p.closed ch x
@@ -237,7 +239,7 @@ offered-taken {w} p e ch x k none =
 pub knows-taken : {w : ℕ} (p q : Plain w) (e : Endpoint w) (ch : Channel) (x : Beat w) → KnowsPlain p e
     → Ok tt ≡ ok_unless (rule_at p ch x) → q.closed ≡ p.closed → q.responses ≡ grown x p.responses
     → ((s : ℕ) → open_at q.requests s ≡ cond (ends_request p.responses x s) None (open_at p.requests s))
-    → KnowsPlain q (offered (terms_of p) ch x e).after
+    → KnowsPlain q (offered (plain_terms p) ch x e).after
 knows-taken {w} p q e ch x k none closed responses requests =
     rw (offered-taken p e ch x k none)
     (go (good_response p.config.level (open_at p.requests) p.responses p.closed ch x

@@ -12,12 +12,12 @@ use Rattle.tl_burst.specs.statement.Messages.{channel_of}
 use Rattle.tl_burst.specs.statement.Part.{is_empty, part_of}
 use Rattle.tl_params.specs.declared.rule.Rule.TheVariants.{A2}
 use Rattle.tl_rules.specs.statement.Admission.{is_spoiled}
-use Rattle.tl_client.specs.code.KnowsPlain.{KnowsPast}
+use Rattle.tl_client.specs.code.KnowsPlain.{KnowsPlainPast}
 use Rattle.tl_client.specs.code.Plain.{order_rule}
 use Rattle.tl_client.proofs.plain_client.Asks.{is_some-open}
 use Rattle.tl_client.proofs.plain_client.Rules.{legal_answer, order_agrees}
 
-pub request_pending : {w : ℕ} (p : Plain w) (t : History w) (key : Key) (s : ℕ) (b : Bool) → KnowsPast p t
+pub request_pending : {w : ℕ} (p : Plain w) (t : History w) (key : Key) (s : ℕ) (b : Bool) → KnowsPlainPast p t
     → key ≡ RequestSource s → b ≡ is_some (open_at p.requests s) → b ≡ pending key t
 request_pending p t key s b knows of is = is ∙ ap is_some (knows.1.requests_are s) ∙ is_some-open s knows.0.past ∙ rw
     (of, knows.2) refl
@@ -29,7 +29,7 @@ in_order p y = cond (is_empty p.responses) (response_rule y (open_at p.requests 
 
 -- a judge that is right for each history that the client knows
 abbrev pub JudgesOrder : {w : ℕ} → Plain w → Beat w → Result Part Broken → Option Rule → Type 0
-JudgesOrder {w} p x part o = (t : History w) → KnowsPast p t → part ≡ part_of x (unfinished (channel_of x) t)
+JudgesOrder {w} p x part o = (t : History w) → KnowsPlainPast p t → part ≡ part_of x (unfinished (channel_of x) t)
     → o ≡ broken_in_order p.profile x t
 
 agreed : {w : ℕ} (p : Plain w) (e : Endpoint w) (x : Beat w) (y : BeatD w) (part : Result Part Broken) (o : Option Rule)

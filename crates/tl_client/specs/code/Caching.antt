@@ -24,7 +24,7 @@ use Rattle.tl_client.specs.statement.Ask.{whole_grow}
 use Rattle.tl_client.specs.statement.Endpoint.{zeros}
 use Rattle.tl_client.specs.laws.Held.{left_by}
 use Rattle.tl_client.specs.statement.EndpointInvariant.{holds}
-use Rattle.tl_client.specs.code.KnowsCaching.{terms_of}
+use Rattle.tl_client.specs.code.KnowsCaching.{caching_terms}
 use Rattle.tl_client.specs.statement.Requests.{acquires_block, releases_block, opened_by, released_by, start_with}
 use Rattle.tl_client.specs.statement.Send.{acquisition, release}
 use Rattle.tl_client.specs.code.Sources.{open_at}
@@ -90,7 +90,7 @@ pub record Sends {w : ℕ} (c d : Caching w) (m : Option (Message w)) : Type 0 w
   pub response : d.responses ≡ c.responses
   pub granting : d.granting ≡ c.granting
   pub closed : d.closed ≡ c.closed
-  pub terms : terms_of d ≡ terms_of c
+  pub terms : caching_terms d ≡ caching_terms c
 
 -- the operation was answered, and the client is what it leaves
 pub record Does {w : ℕ} (c d : Caching w) (op : Op w) (r : Reply × Option (Message w)) : Type 0 where
@@ -103,4 +103,4 @@ pub record Does {w : ℕ} (c d : Caching w) (op : Op w) (r : Reply × Option (Me
   pub response : d.responses ≡ c.responses
   pub granting : d.granting ≡ c.granting
   pub closed : d.closed ≡ c.closed
-  pub terms : terms_of d ≡ terms_of c
+  pub terms : caching_terms d ≡ caching_terms c

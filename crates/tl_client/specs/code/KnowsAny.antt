@@ -9,21 +9,21 @@ use Rattle.tl_params.specs.statement.Config.{client_fault}
 use Rattle.tl_client.specs.declared.any.AnyClient.{AnyClient}
 use Rattle.tl_client.specs.declared.any.AnyClient.TheVariants as any
 use Rattle.tl_client.specs.statement.Endpoint.{EndConfig, Endpoint, fresh}
-use Rattle.tl_client.specs.code.KnowsCaching as caching
-use Rattle.tl_client.specs.code.KnowsPlain as plain
+use Rattle.tl_client.specs.code.KnowsCaching.{KnowsCaching, IsFault, caching_terms}
+use Rattle.tl_client.specs.code.KnowsPlain.{KnowsPlain, plain_terms}
 
 abbrev pub any_terms : {w : ℕ} → AnyClient w → EndConfig
-any_terms (any.Caching c) = caching.terms_of c
-any_terms (any.Plain p) = plain.terms_of p
+any_terms (any.Caching c) = caching_terms c
+any_terms (any.Plain p) = plain_terms p
 
 abbrev pub KnowsAny : {w : ℕ} → AnyClient w → Endpoint w → Type 0
-KnowsAny (any.Caching c) e = caching.KnowsCaching c e
-KnowsAny (any.Plain p) e = plain.KnowsPlain p e
+KnowsAny (any.Caching c) e = KnowsCaching c e
+KnowsAny (any.Plain p) e = KnowsPlain p e
 
 -- why there is no client of this level: the first limit that is broken, and at level C that or want of memory, for a
 -- plain client takes none
 abbrev pub IsFaultAt : Level → Option NewFault → NewFault → Type 0
-IsFaultAt level.C first fault = caching.IsFault first fault
+IsFaultAt level.C first fault = IsFault first fault
 IsFaultAt _ first fault = first ≡ Some fault
 
 -- what a new client is, or why there is none

@@ -20,8 +20,8 @@ use Rattle.tl_client.specs.code.Sources.{open_at}
 use Rattle.tl_client.specs.code.Table.{held_in, copy_in, waiting_in}
 
 -- what a caching client was made for
-abbrev pub terms_of : {w : ℕ} → Caching w → EndConfig
-terms_of c = record { level = c.config.level; profile = c.profile; sources = c.config.sources; blocks = c.blocks }
+abbrev pub caching_terms : {w : ℕ} → Caching w → EndConfig
+caching_terms c = record { level = c.config.level; profile = c.profile; sources = c.config.sources; blocks = c.blocks }
 
 -- the Grant that is unfinished is one of the block, or has this sink
 abbrev pub is_granting : ℕ → Option Granting → Bool
@@ -47,7 +47,7 @@ pub record KnowsCaching {w : ℕ} (c : Caching w) (e : Endpoint w) : Type 0 wher
   -- what its calls keep
   pub kept : IsEndpointInvariant e
   pub accounted : IsAccounted e.past
-  pub inside : IsInside (terms_of c) e.past
+  pub inside : IsInside (caching_terms c) e.past
 
 -- the first limit that is broken, or that there is no memory
 abbrev pub IsFault : Option NewFault → NewFault → Type 0
@@ -59,9 +59,9 @@ abbrev pub IsNewCaching : {w : ℕ} → ClientConfig → ℕ → Profile → Res
 IsNewCaching config blocks profile (Ok c) =
     (client_fault config blocks ≡ None)
     × KnowsCaching c fresh
-    × (terms_of c ≡ record { level = config.level; profile = profile; sources = config.sources; blocks = blocks })
+    × (caching_terms c ≡ record { level = config.level; profile = profile; sources = config.sources; blocks = blocks })
 IsNewCaching config blocks profile (Err f) = IsFault (client_fault config blocks) f
 
 -- it knows an end with this history
-abbrev pub KnowsPast : {w : ℕ} → Caching w → History w → Type 0
-KnowsPast {w} c t = (e : Endpoint w) × KnowsCaching c e × (e.past ≡ t)
+abbrev pub KnowsCachingPast : {w : ℕ} → Caching w → History w → Type 0
+KnowsCachingPast {w} c t = (e : Endpoint w) × KnowsCaching c e × (e.past ≡ t)

@@ -18,8 +18,8 @@ use Rattle.tl_client.specs.code.Sources.{open_at}
 use Rattle.tl_client.specs.statement.Requests.{open_request}
 
 -- what a plain client was made for
-abbrev pub terms_of : {w : ℕ} → Plain w → EndConfig
-terms_of p = record { level = p.config.level; profile = p.profile; sources = p.config.sources; blocks = p.blocks }
+abbrev pub plain_terms : {w : ℕ} → Plain w → EndConfig
+plain_terms p = record { level = p.config.level; profile = p.profile; sources = p.config.sources; blocks = p.blocks }
 
 -- the request that an unfinished response answers is pending
 abbrev pub answers_pending : {w : ℕ} → List (Beat w) → History w → Bool
@@ -48,9 +48,9 @@ abbrev pub IsNewPlain : {w : ℕ} → ClientConfig → ℕ → Profile → Resul
 IsNewPlain config blocks profile (Ok p) =
     (client_fault config blocks ≡ None)
     × KnowsPlain p fresh
-    × (terms_of p ≡ record { level = config.level; profile = profile; sources = config.sources; blocks = blocks })
+    × (plain_terms p ≡ record { level = config.level; profile = profile; sources = config.sources; blocks = blocks })
 IsNewPlain config blocks profile (Err fault) = client_fault config blocks ≡ Some fault
 
 -- it knows an end with this history
-abbrev pub KnowsPast : {w : ℕ} → Plain w → History w → Type 0
-KnowsPast {w} p t = (e : Endpoint w) × KnowsPlain p e × (e.past ≡ t)
+abbrev pub KnowsPlainPast : {w : ℕ} → Plain w → History w → Type 0
+KnowsPlainPast {w} p t = (e : Endpoint w) × KnowsPlain p e × (e.past ≡ t)

@@ -22,7 +22,7 @@ use Rattle.tl_client.specs.declared.verdict.Verdict.TheVariants.{Stalled, Taken}
 use Rattle.tl_client.specs.code.Caching.{bytes_in}
 use Rattle.tl_client.specs.statement.Endpoint.{EndConfig, Endpoint}
 use Rattle.tl_client.specs.statement.EndpointInvariant.{holds, is_acquire_perm}
-use Rattle.tl_client.specs.code.KnowsCaching.{terms_of}
+use Rattle.tl_client.specs.code.KnowsCaching.{caching_terms}
 use Rattle.tl_client.specs.statement.Offer.{report_for, offered, refused, silent, waits, broken_before, broken_later}
 use Rattle.tl_client.specs.statement.Send.{probe_ack, grant_ack}
 use Rattle.tl_client.specs.code.Response.{Response, in_beats, done_with}
@@ -52,7 +52,7 @@ pub record Probes {w : ℕ} (c d : Caching w) (x : BeatB w) (r : Verdict × Opti
   pub response : d.responses ≡ c.responses
   pub granting : d.granting ≡ c.granting
   pub closed : d.closed ≡ c.closed
-  pub terms : terms_of d ≡ terms_of c
+  pub terms : caching_terms d ≡ caching_terms c
 
 -- ---- complete responses
 
@@ -90,7 +90,7 @@ pub record Grants {w : ℕ} (c d : Caching w) (m : Response) (r : Request) : Typ
   pub response : d.responses ≡ c.responses
   pub granting : d.granting ≡ c.granting
   pub closed : d.closed ≡ c.closed
-  pub terms : terms_of d ≡ terms_of c
+  pub terms : caching_terms d ≡ caching_terms c
 
 -- where the response is a Grant, its request is for a block of the map
 abbrev pub GrantsInside : {w : ℕ} → Caching w → Response → Type 0
@@ -110,7 +110,7 @@ pub record Finishes {w : ℕ} (c d : Caching w) (m : Response) (r : Verdict × O
   pub releases : (s : ℕ) → open_at d.releases s ≡ (if is_release_ack m.opcode && (m.source == s) then None else open_at
       c.releases s)
   pub closed : d.closed ≡ c.closed
-  pub terms : terms_of d ≡ terms_of c
+  pub terms : caching_terms d ≡ caching_terms c
 
 -- ---- beats of a response
 
@@ -131,7 +131,7 @@ pub record Goes {w : ℕ} (c d : Caching w) (x : BeatD w) (r : Verdict × Option
   pub response : d.responses ≡ beat.D x ∷ c.responses
   pub granting : d.granting ≡ granting_by c x
   pub closed : d.closed ≡ c.closed
-  pub terms : terms_of d ≡ terms_of c
+  pub terms : caching_terms d ≡ caching_terms c
 
 -- a beat that completes its response
 pub record Ends {w : ℕ} (c d : Caching w) (x : BeatD w) (r : Verdict × Option (Message w)) : Type 0 where

@@ -6,7 +6,7 @@ ghost use Rattle.tl_beat.specs.declared.beat.BeatD.{BeatD};
 ghost use Rattle.tl_burst.specs.statement.Messages.{breaks_burst};
 ghost use Rattle.tl_burst.specs.statement.Part.{IsTakeable};
 ghost use Rattle.tl_client.specs.statement.Endpoint.{Endpoint};
-ghost use Rattle.tl_client.specs.code.KnowsCaching.{KnowsCaching, terms_of};
+ghost use Rattle.tl_client.specs.code.KnowsCaching.{KnowsCaching, caching_terms};
 ghost use Rattle.tl_client.specs.statement.Offer;
 ghost use Rattle.tl_client.specs.code.Takes.{IsJudged, Takes};
 ghost use Rattle.tl_rules.specs.statement.Admission;
@@ -56,7 +56,7 @@ impl<const W: usize> Caching<W> {
     pub(super) fn check_order(&self, beat: &Beat<W>) -> Result<(), Rule>
         requires { IsTakeable beat.now }
         ensures rule { (e : Endpoint W) → KnowsCaching self.now e →
-            result ≡ ok_unless (Offer.broken_later (terms_of self.now) beat.now e) }
+            result ≡ ok_unless (Offer.broken_later (caching_terms self.now) beat.now e) }
         ensures inside { OnOk result (Admission.is_outside self.now.blocks beat.now ≡ false) }
         ensures continues { (x : BeatD W) → beat.now ≡ Beat.D x →
             OnOk result (breaks_burst beat.now self.now.responses ≡ false) }
@@ -76,7 +76,7 @@ impl<const W: usize> Caching<W> {
     /// The rule that a beat breaks, or whether it has to wait.
     pub(super) fn judge(&self, channel: Channel, beat: &Beat<W>) -> Result<bool, Rule>
         ensures judged { (e : Endpoint W) → KnowsCaching self.now e →
-            IsJudged (terms_of self.now) channel beat.now e result }
+            IsJudged (caching_terms self.now) channel beat.now e result }
         ensures takeable { result ≡ Ok false → IsTakeable beat.now }
         ensures inside { result ≡ Ok false → Admission.is_outside self.now.blocks beat.now ≡ false }
         ensures continues { result ≡ Ok false → (x : BeatD W) → beat.now ≡ Beat.D x →
@@ -96,7 +96,7 @@ impl<const W: usize> Caching<W> {
         requires inside { Admission.is_outside self.old.blocks beat.now ≡ false }
         requires continues { (x : BeatD W) → beat.now ≡ Beat.D x → breaks_burst beat.now self.old.responses ≡ false }
         ensures taken { Takes self.old self.new beat.now result }
-        ensures terms { terms_of self.new ≡ terms_of self.old }
+        ensures terms { caching_terms self.new ≡ caching_terms self.old }
     {
         match beat {
             Beat::B(probe) => self.probe(probe),

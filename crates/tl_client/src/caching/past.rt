@@ -8,9 +8,9 @@ use tl_rules::past::{Past, Probe, Request};
 use tl_rules::perm::Perm;
 
 impl<const W: usize> Past<W> for Caching<W> {
-    ghost use Rattle.tl_client.specs.code.KnowsCaching.{KnowsPast};
+    ghost use Rattle.tl_client.specs.code.KnowsCaching.{KnowsCachingPast};
 
-    ghost knows = { λ c t. KnowsPast c t };
+    ghost knows = { λ c t. KnowsCachingPast c t };
 
     fn is_pending(&self, key: Key) -> bool {
         match key {

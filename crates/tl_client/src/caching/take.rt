@@ -4,7 +4,7 @@ ghost use Rattle.std.specs.Prelude.{◌≡◌, ◌<◌, ◌/◌, true, false};
 ghost use Rattle.tl_burst.specs.declared.message.Message.TheVariants as message;
 ghost use Rattle.tl_burst.specs.statement.Messages.{breaks_burst};
 ghost use Rattle.tl_burst.specs.statement.Part.{IsTakeable, completes};
-ghost use Rattle.tl_client.specs.code.KnowsCaching.{terms_of};
+ghost use Rattle.tl_client.specs.code.KnowsCaching.{caching_terms};
 ghost use Rattle.tl_client.specs.statement.Offer;
 ghost use Rattle.tl_client.specs.code.Takes.{Probes, Grants, Finishes, GrantsInside};
 ghost use Rattle.tl_client.specs.code.Takes.{Goes, Ends, ack_after, granting_by};
@@ -81,7 +81,7 @@ impl<const W: usize> Caching<W> {
     fn finish(&mut self, response: &MessageD<W>) -> (Verdict, Option<Message<W>>)
         ensures finished { GrantsInside self.old (in_message response.now) →
             Finishes self.old self.new (in_message response.now) result }
-        ensures terms { terms_of self.new ≡ terms_of self.old }
+        ensures terms { caching_terms self.new ≡ caching_terms self.old }
         ensures responses { self.new.responses ≡ self.old.responses }
         ensures granting { self.new.granting ≡ self.old.granting }
     {
@@ -127,7 +127,7 @@ impl<const W: usize> Caching<W> {
         ensures ends { completes (Beat.D response.now) self.old.responses ≡ true →
             GrantsInside self.old (in_beats response.now self.old.responses) →
             Ends self.old self.new response.now result }
-        ensures terms { terms_of self.new ≡ terms_of self.old }
+        ensures terms { caching_terms self.new ≡ caching_terms self.old }
     {
         match complete(&mut self.responses, beat) {
             None => {

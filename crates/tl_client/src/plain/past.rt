@@ -6,9 +6,9 @@ use tl_rules::past::{Past, Probe, Request};
 use tl_rules::perm::Perm;
 
 impl<const W: usize> Past<W> for Plain<W> {
-    ghost use Rattle.tl_client.specs.code.KnowsPlain.{KnowsPast};
+    ghost use Rattle.tl_client.specs.code.KnowsPlain.{KnowsPlainPast};
 
-    ghost knows = { λ p t. KnowsPast p t };
+    ghost knows = { λ p t. KnowsPlainPast p t };
 
     fn is_pending(&self, key: Key) -> bool {
         match key {

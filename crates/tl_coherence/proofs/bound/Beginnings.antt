@@ -14,7 +14,8 @@ use Rattle.tl_coherence.specs.protocol.Invariant.{is_asked, is_replied}
 use Rattle.tl_coherence.specs.protocol.Phase.{View, Idle, Other, Acknowledging, GrantedOther, ReleasePhase}
 use Rattle.tl_coherence.specs.bound.Rank.{let_weight}
 use Rattle.tl_coherence.specs.protocol.Protocol.{is_granting, is_releasing, shown}
-use Rattle.tl_coherence.proofs.protocol.Capacities.{shown_there, shows_it, request_named, answer_named, acquire_named}
+use Rattle.tl_coherence.proofs.protocol.Capacities.{request_named, answer_named, acquire_named}
+use Rattle.tl_coherence.proofs.protocol.TokenNames.{shown_there, shows_it}
 use Rattle.tl_coherence.proofs.protocol.Capacities.{grant_named, release_named}
 use Rattle.tl_coherence.proofs.queues.Distinct.{first-there}
 use Rattle.tl_coherence.proofs.rank.RankDecreases.{IsNoMore, owed_use, owed_use', use-falls, let-falls, use-no-more}

@@ -17,7 +17,7 @@ use Rattle.tl_coherence.proofs.protocol.FollowKept.{IsReady}
 use Rattle.tl_coherence.proofs.queues.FirstToken.{IsFirst, first-token}
 use Rattle.tl_coherence.proofs.bound.PartialMessages.{grown-moved, grown-received, grown-begun}
 use Rattle.tl_coherence.proofs.deliveries.DeliverDAfter.{followed-moving, followed-still}
-use Rattle.tl_coherence.proofs.deliveries.DeliverDWhole.{IsUnmoved, unmoved}
+use Rattle.tl_coherence.proofs.deliveries.DeliverDUnmoved.{IsUnmoved, unmoved}
 use Rattle.tl_coherence.proofs.deliveries.InvariantKept.{ready-delivered}
 use Rattle.tl_coherence.proofs.protocol.BeatsRemaining.{beats_left, taken_of, is_front}
 use Rattle.tl_coherence.proofs.deliveries.Matching.{matched-event}
@@ -30,7 +30,7 @@ use Rattle.tl_coherence.proofs.bound.RankOfReports.{report-owed}
 use Rattle.tl_coherence.proofs.bound.RankOfRequests.{request-owed}
 use Rattle.tl_coherence.proofs.simulation.Popped.{unfinished_at, IsReceived, kind_channel}
 use Rattle.tl_coherence.proofs.rank.BeatsRemainingSums.{answer_to}
-use Rattle.tl_coherence.proofs.manager.RequestsTaken.{next_tracker}
+use Rattle.tl_coherence.proofs.manager.UnwaitedRequests.{next_tracker}
 use Rattle.tl_coherence.proofs.queues.QuiescentQueues.{client_below}
 
 module _ {w : ℕ} (config : Config) (log : Log w) (h : AbstractState w) (width : IsWidth w)

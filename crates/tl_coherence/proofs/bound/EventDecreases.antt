@@ -27,7 +27,8 @@ use Rattle.tl_coherence.specs.protocol.Protocol.{release_ack_taken, freed_block,
 use Rattle.tl_coherence.specs.refinement.PacketMessages.{message_of}
 use Rattle.tl_coherence.specs.protocol.Packet.{set_at}
 use Rattle.tl_coherence.proofs.client.Aside.{set_at-other, set_at-else}
-use Rattle.tl_coherence.proofs.protocol.Capacities.{shown_there, shows_it, request_named, answer_named, acquire_named}
+use Rattle.tl_coherence.proofs.protocol.Capacities.{request_named, answer_named, acquire_named}
+use Rattle.tl_coherence.proofs.protocol.TokenNames.{shown_there, shows_it}
 use Rattle.tl_coherence.proofs.protocol.Capacities.{grant_named, release_named, release_ack_named}
 use Rattle.tl_coherence.proofs.queues.Distinct.{first-there}
 use Rattle.tl_coherence.proofs.protocol.BeatsRemaining.{IsPopped, beats_left, taken_of, is_front}

@@ -21,10 +21,12 @@ use Rattle.tl_coherence.specs.statement.System.{channel_of_message}
 use Rattle.tl_coherence.specs.protocol.Packet.{set_at}
 use Rattle.tl_coherence.specs.refinement.SimulationRelation.{IsSourced, IsAnswered}
 use Rattle.tl_coherence.proofs.simulation.CarriedEvents.{probe_taken-shown, report_taken-shown, access_answered-shown}
-use Rattle.tl_coherence.proofs.simulation.CarriedEvents.{acquire_granted-shown, release_taken-shown, answer_taken-shown}
-use Rattle.tl_coherence.proofs.simulation.CarriedEvents.{release_ack_taken-shown, grant_taken-shown}
-use Rattle.tl_coherence.proofs.simulation.CarriedEvents.{grant_ack_taken-shown}
-use Rattle.tl_coherence.proofs.simulation.CarriedProbes.{served-shown, report_answers-shown, report_grants-shown}
+use Rattle.tl_coherence.proofs.simulation.CarriedEvents.{acquire_granted-shown, release_taken-shown}
+use Rattle.tl_coherence.proofs.simulation.CarriedResponses.{answer_taken-shown}
+use Rattle.tl_coherence.proofs.simulation.CarriedResponses.{release_ack_taken-shown, grant_taken-shown}
+use Rattle.tl_coherence.proofs.simulation.CarriedResponses.{grant_ack_taken-shown}
+use Rattle.tl_coherence.proofs.simulation.CarriedProbes.{served-shown}
+use Rattle.tl_coherence.proofs.simulation.CarriedLastReports.{report_answers-shown, report_grants-shown}
 use Rattle.tl_coherence.proofs.simulation.CarriedProbes.{probe_pushes}
 use Rattle.tl_coherence.proofs.queues.Channels.{pushes_at}
 use Rattle.tl_coherence.proofs.bound.EventDecreases.{probe_taken-falls, report_taken-falls, report_answers-falls}

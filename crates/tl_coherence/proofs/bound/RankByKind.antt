@@ -19,7 +19,7 @@ use Rattle.tl_coherence.proofs.bound.RankAfter.{IsKeptAfter, grant_taken-owed, a
 use Rattle.tl_coherence.proofs.bound.RankAfter.{acquire_granted-owed, probe_taken-owed, release_taken-owed}
 use Rattle.tl_coherence.proofs.bound.RankAfter.{answer_taken-owed, release_ack_taken-owed, grant_ack_taken-owed}
 use Rattle.tl_coherence.proofs.protocol.HeadOfD.{IsGrantDue, grant-due}
-use Rattle.tl_coherence.proofs.deliveries.DeliverDWhole.{bare}
+use Rattle.tl_coherence.proofs.deliveries.DeliverDUnmoved.{bare}
 use Rattle.tl_coherence.proofs.queues.Phases.{and_left}
 use Rattle.tl_coherence.proofs.simulation.Popped.{IsReceived}
 use Rattle.tl_coherence.proofs.protocol.BothParts.{sent-is, acknowledging-is}

@@ -1,7 +1,7 @@
 -- What is owed in a world falls as the last beat of a report is taken.
 use Rattle.tl_coherence.proofs.bound.Imports.{IsWidth, Message, MessageA, Config, Report, AbstractState, kind_taken}
 use Rattle.tl_coherence.proofs.bound.Imports.{IsInvariant, Log, system_after, ProbeAnswered, Service, Free, Waits}
-use Rattle.tl_coherence.proofs.bound.Imports.{GrantSent, GrantTaken, Block, State, packet, view, ended_block}
+use Rattle.tl_coherence.proofs.bound.Imports.{GrantSent, GrantTaken, Block, packet, view, ended_block}
 use Rattle.tl_coherence.proofs.bound.Imports.{report_taken, System, ProbeAck, Packet, SimulationRelation, is_caching}
 use Rattle.std.proofs.Common.{◌≡◌, ℕ, ◌+◌, ◌<◌, ◌≤◌, Bool, true, false, List, ◌∷◌, refl, subst}
 use Rattle.std.specs.Prelude.{◌==◌, if◌then◌else◌, length}
@@ -14,14 +14,14 @@ use Rattle.tl_coherence.specs.protocol.PhaseSteps.{is_granted_data}
 use Rattle.tl_coherence.specs.protocol.Protocol as protocol
 use Rattle.tl_coherence.specs.refinement.PacketMessages.{report_told}
 use Rattle.tl_coherence.specs.refinement.SourceRelation.{IsFor}
-use Rattle.tl_coherence.proofs.deliveries.CarriedReports.{ended-bytes}
+use Rattle.tl_coherence.proofs.deliveries.LandedReports.{ended-bytes}
 use Rattle.tl_coherence.proofs.deliveries.CarriedRequests.{answer_on_d}
 use Rattle.tl_coherence.proofs.manager.Choices.{plain-past}
 use Rattle.tl_coherence.proofs.bound.EventDecreases.{shown-first}
 use Rattle.tl_coherence.proofs.queues.Facts.{answered_other, is_other, own_wants}
-use Rattle.tl_coherence.proofs.protocol.FollowKept.{settled_all}
+use Rattle.tl_coherence.proofs.protocol.RequestsKept.{settled_all}
 use Rattle.tl_coherence.proofs.manager.ManagerAfter.{others_probed}
-use Rattle.tl_coherence.proofs.deliveries.ManagerDelivered.{seen_apart}
+use Rattle.tl_coherence.proofs.deliveries.LastReportDelivered.{seen_apart}
 use Rattle.tl_coherence.proofs.manager.ManagerSettles.{gift_after}
 use Rattle.tl_coherence.proofs.bound.RankOfLog.{owed}
 use Rattle.tl_coherence.proofs.bound.RankAfter.{IsKeptAfter, report_taken-owed, report_answers-owed, report_grants-owed}

@@ -27,7 +27,7 @@ use Rattle.tl_coherence.specs.protocol.PhaseSteps.{after_grant}
 use Rattle.tl_coherence.specs.protocol.Protocol.{answer_taken, granted_copy, release_ack_taken}
 use Rattle.tl_coherence.specs.protocol.Invariant.{acquires_of, AreNamed}
 use Rattle.tl_coherence.proofs.client.Aside.{set_at-else}
-use Rattle.tl_coherence.proofs.client.ClientAsked.{chosen, passed}
+use Rattle.tl_coherence.proofs.client.ClientRequests.{chosen, passed}
 use Rattle.tl_coherence.proofs.client.ClientEnd.{IsWellKept, IsEnd, asks-same, asks-closed, asks-acquire, open-is}
 use Rattle.tl_coherence.proofs.client.ClientEnd.{column}
 use Rattle.tl_coherence.proofs.client.ClientDeliverD.{IsHeard, IsEcho, echo-none, echo-e, known-heard, opened-heard}

@@ -14,11 +14,11 @@ use Rattle.tl_client.specs.statement.Endpoint as client
 use Rattle.tl_manager.proofs.calls.Events.{reaction-ack}
 use Rattle.tl_coherence.specs.protocol.Protocol.{freed_block, grant_ack_taken}
 use Rattle.tl_coherence.proofs.memory.BesideKinds.{beside_block}
-use Rattle.tl_coherence.proofs.simulation.CarriedEvents.{grant_ack_taken-carried}
-use Rattle.tl_coherence.proofs.deliveries.DeliverDWhole.{IsDelivered}
+use Rattle.tl_coherence.proofs.simulation.CarriedResponses.{grant_ack_taken-carried}
+use Rattle.tl_coherence.proofs.deliveries.DeliverDUnmoved.{IsDelivered}
 use Rattle.tl_coherence.proofs.deliveries.ManagersAfter.{IsAtManager, at-manager, after_taken, delivered-last}
 use Rattle.tl_coherence.proofs.deliveries.ManagersAfter.{delivered-part}
-use Rattle.tl_coherence.proofs.manager.RequestsTaken.{next_tracker, invariant-taken}
+use Rattle.tl_coherence.proofs.manager.UnwaitedRequests.{next_tracker, invariant-taken}
 use Rattle.tl_coherence.proofs.queues.Tokens.{holds-first}
 use Rattle.tl_coherence.proofs.protocol.BothParts.{acknowledging-is}
 

@@ -27,13 +27,14 @@ use Rattle.tl_coherence.specs.statement.Headline.{Continues}
 use Rattle.tl_coherence.specs.statement.Machine.{Performs, after_reply}
 use Rattle.tl_coherence.specs.protocol.PhaseSteps.{after_acquire, after_release}
 use Rattle.tl_coherence.specs.protocol.Protocol.{acquiring_block, releasing_block}
-use Rattle.tl_coherence.proofs.deliveries.AskedWell.{IsHandedOut, asked-well}
+use Rattle.tl_coherence.proofs.deliveries.AskedWell.{asked-well}
+use Rattle.tl_coherence.proofs.deliveries.BusyWell.{IsHandedOut}
 use Rattle.tl_coherence.proofs.memory.BesideAsked.{IsReply, beside-asked}
-use Rattle.tl_coherence.proofs.simulation.CarriedEvents.{access_asked-carried, acquire_asked-carried}
-use Rattle.tl_coherence.proofs.simulation.CarriedEvents.{release_asked-carried, nothing_asked-carried}
-use Rattle.tl_coherence.proofs.simulation.CarriedEvents.{block_stored-carried}
+use Rattle.tl_coherence.proofs.simulation.CarriedAsks.{access_asked-carried, acquire_asked-carried}
+use Rattle.tl_coherence.proofs.simulation.CarriedAsks.{release_asked-carried, nothing_asked-carried}
+use Rattle.tl_coherence.proofs.simulation.CarriedAsks.{block_stored-carried}
 use Rattle.tl_coherence.proofs.queues.Channels.{IsHanded, pushes_at}
-use Rattle.tl_coherence.proofs.queues.Facts.{trunk_held}
+use Rattle.tl_coherence.proofs.queues.PhaseFacts.{trunk_held}
 use Rattle.tl_coherence.proofs.protocol.FollowKept.{IsAskable, asked-kept}
 use Rattle.tl_coherence.proofs.queues.Phases.{and_left}
 use Rattle.tl_coherence.proofs.protocol.Heads.{rendered-acquire}

@@ -40,14 +40,16 @@ use Rattle.tl_coherence.proofs.manager.AtRequests.{end_after, reaction-probing}
 use Rattle.tl_coherence.proofs.simulation.CarriedEvents.{access_answered-carried, acquire_granted-carried}
 use Rattle.tl_coherence.proofs.simulation.CarriedProbes.{probe_pushes, channels-probes, access_served-carried}
 use Rattle.tl_coherence.proofs.simulation.CarriedProbes.{acquire_served-carried}
-use Rattle.tl_coherence.proofs.protocol.FollowKept.{some-none, leaves-bytes, IsReady}
+use Rattle.tl_coherence.proofs.protocol.FollowKept.{IsReady}
+use Rattle.tl_coherence.proofs.protocol.RequestsKept.{some-none, leaves-bytes}
 use Rattle.tl_coherence.proofs.queues.Showing.{carries, none-carried}
 use Rattle.tl_coherence.proofs.protocol.Heads.{IsAsked, IsWanted}
 use Rattle.tl_coherence.proofs.manager.ManagedServed.{same_above}
 use Rattle.tl_coherence.proofs.manager.Requests.{recorded-beat}
 use Rattle.tl_coherence.proofs.manager.RequestsHanded.{handed-answered, handed-granted}
-use Rattle.tl_coherence.proofs.manager.RequestsTaken.{next_tracker, free-last, invariant-taken, probed-some}
-use Rattle.tl_coherence.proofs.manager.RequestsTaken.{somebody-probed, beyond-none, caps_asked, acquire_wanted}
+use Rattle.tl_coherence.proofs.manager.UnwaitedRequests.{next_tracker, free-last, invariant-taken, probed-some}
+use Rattle.tl_coherence.proofs.manager.RequestsTaken.{caps_asked, acquire_wanted}
+use Rattle.tl_coherence.proofs.manager.UnwaitedRequests.{somebody-probed, beyond-none}
 use Rattle.tl_coherence.proofs.manager.RequestsTaken.{ready-request, ready-acquire}
 use Rattle.tl_coherence.proofs.queues.Tokens.{set-same}
 use Rattle.tl_coherence.proofs.queues.Channels.{behind, IsTaken, pushes_at}

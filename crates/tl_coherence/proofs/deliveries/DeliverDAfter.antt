@@ -24,14 +24,14 @@ use Rattle.tl_coherence.specs.refinement.AbstractStep.{is_last, taken_by_client}
 use Rattle.tl_coherence.specs.statement.Machine.{Pool, Releases, pool_of, after_end}
 use Rattle.tl_coherence.specs.protocol.Phase.{is_unreleased, is_whole}
 use Rattle.tl_coherence.specs.protocol.Protocol.{is_wanting, answer_taken, grant_taken, release_ack_taken, taken_block}
-use Rattle.tl_coherence.proofs.memory.BesideKinds.{beside-answer, beside-grant, beside-release_ack}
-use Rattle.tl_coherence.proofs.simulation.CarriedEvents.{answer_taken-carried, grant_taken-carried}
-use Rattle.tl_coherence.proofs.simulation.CarriedEvents.{release_ack_taken-carried}
+use Rattle.tl_coherence.proofs.memory.BesideResponses.{beside-answer, beside-grant, beside-release_ack}
+use Rattle.tl_coherence.proofs.simulation.CarriedResponses.{answer_taken-carried, grant_taken-carried}
+use Rattle.tl_coherence.proofs.simulation.CarriedResponses.{release_ack_taken-carried}
 use Rattle.tl_coherence.proofs.queues.Channels.{IsTaken, pushes_at}
 use Rattle.tl_coherence.proofs.protocol.HeadOfD.{IsAnswerDue, IsGrantDue, grant_message, ack_message}
 use Rattle.tl_coherence.proofs.client.DeliverD.{finish_at, acked, finish-pool}
 use Rattle.tl_coherence.proofs.queues.Landed.{pushes_of, IsOn, HasHeard, landed-client, taken-landed}
-use Rattle.tl_coherence.proofs.manager.RequestsTaken.{next_tracker, invariant-taken}
+use Rattle.tl_coherence.proofs.manager.UnwaitedRequests.{next_tracker, invariant-taken}
 use Rattle.tl_coherence.proofs.queues.Showing.{carries}
 use Rattle.tl_coherence.proofs.queues.Codes.{grants-so, access_kind}
 use Rattle.tl_manager.proofs.pending.Answered.{no_ack_grant}

@@ -17,8 +17,8 @@ use Rattle.tl_coherence.proofs.client.ClientDelivered.{shadow_of}
 use Rattle.tl_coherence.proofs.simulation.FollowCases.{IsDelivery, taken_of, followed-cases, on-first}
 use Rattle.tl_coherence.proofs.protocol.FollowKept.{IsReady}
 use Rattle.tl_coherence.proofs.simulation.InvariantAtClients.{invariant-asked, ready-client, nobody_moves}
-use Rattle.tl_coherence.proofs.deliveries.RequestsDelivered.{IsArrival, arrival-first, coming-arrival, request-stalled}
-use Rattle.tl_coherence.proofs.manager.RequestsTaken.{next_tracker, invariant-taken}
+use Rattle.tl_coherence.proofs.deliveries.FirstRequest.{IsArrival, arrival-first, coming-arrival, request-stalled}
+use Rattle.tl_coherence.proofs.manager.UnwaitedRequests.{next_tracker, invariant-taken}
 use Rattle.tl_coherence.proofs.queues.Steps.{stepped-to-manager}
 
 -- ---- channel A

@@ -1,24 +1,21 @@
 -- The manager's end after any beat that is delivered on channel C or E: it takes the beat, and all that is kept of it
 -- is kept as the protocol follows.
-use Rattle.tl_coherence.proofs.deliveries.Imports.{is_granted_data, reaction-part, Reaction, Handed, IsWidth, Beat}
-use Rattle.tl_coherence.proofs.deliveries.Imports.{Channel, Message, MessageA, beats_of, unfinished, completes, Config}
-use Rattle.tl_coherence.proofs.deliveries.Imports.{Cap, Grow, Prune, Report, prune_left, report_left, on_link}
+use Rattle.tl_coherence.proofs.deliveries.Imports.{reaction-part, Reaction, Handed, IsWidth, Beat}
+use Rattle.tl_coherence.proofs.deliveries.Imports.{Channel, Message, beats_of, unfinished, completes, Config}
+use Rattle.tl_coherence.proofs.deliveries.Imports.{Prune, Report, prune_left, report_left, on_link}
 use Rattle.tl_coherence.proofs.deliveries.Imports.{same_perm, IsFor, reaction, End, AbstractState, ack_taken}
-use Rattle.tl_coherence.proofs.deliveries.Imports.{last_taken, some_below, packet_taken, with_state, answers}
-use Rattle.tl_coherence.proofs.deliveries.Imports.{IsInvariant, IsWell, Log, ProbeAnswered, AcquirePhase, NoAcquire}
-use Rattle.tl_coherence.proofs.deliveries.Imports.{AcquireOpen, Service, Free, Waits, GrantSent, GrantTaken, Block}
-use Rattle.tl_coherence.proofs.deliveries.Imports.{SourceState, report_taken, release_taken, shown, packet, view}
+use Rattle.tl_coherence.proofs.deliveries.Imports.{packet_taken, with_state}
+use Rattle.tl_coherence.proofs.deliveries.Imports.{Log, ProbeAnswered}
+use Rattle.tl_coherence.proofs.deliveries.Imports.{GrantTaken, Block}
+use Rattle.tl_coherence.proofs.deliveries.Imports.{release_taken, shown, packet}
 use Rattle.tl_coherence.proofs.deliveries.Imports.{let_block, message_of, prune_told, block_message, report_told}
-use Rattle.tl_coherence.proofs.deliveries.Imports.{System, Kind, ProbeAck, Release, GrantAck, Acquire, Packet, Grant}
+use Rattle.tl_coherence.proofs.deliveries.Imports.{System, Kind, ProbeAck, Release, GrantAck, Packet}
 use Rattle.tl_coherence.proofs.deliveries.Imports.{ReleaseAck, SimulationRelation, is_caching}
 use Rattle.tl_coherence.proofs.queues.FirstToken.{first-token}
-use Rattle.tl_coherence.specs.protocol.Protocol as protocol
-use Rattle.tl_coherence.proofs.manager.RequestsTaken.{invariant-taken}
 use Rattle.tl_coherence.proofs.manager.ManagersEnd.{at_manager-matched}
-use Rattle.tl_coherence.proofs.manager.ManagerHanded.{grant-rendered}
 use Rattle.tl_manager.proofs.calls.Events.{reaction-ack}
 use Rattle.tl_manager.specs.statement.Handing.{release_ack}
-use Rattle.std.proofs.Common.{[], ◌≡◌, ℕ, ◌+◌, Bool, true, false, ◌&&◌, List, ◌∷◌, None, length, refl, sym, ◌∙◌, ap}
+use Rattle.std.proofs.Common.{[], ◌≡◌, ℕ, ◌+◌, Bool, true, false, List, ◌∷◌, None, length, refl, sym, ◌∙◌, ap}
 use Rattle.std.proofs.Common.{subst}
 use Rattle.std.specs.Prelude.{◌==◌, if◌then◌else◌, map}
 use Rattle.std.proofs.lemmas.Bool.{eqb-true}
@@ -29,218 +26,26 @@ use Rattle.tl_burst.specs.declared.message.Message.TheVariants as message
 use Rattle.tl_burst.specs.declared.message.MessageC.{MessageC}
 use Rattle.tl_burst.specs.statement.Burst.{begun, c_beat_of}
 use Rattle.tl_params.specs.declared.perm.Perm.TheVariants as perm
-use Rattle.tl_params.specs.statement.Param.{grow_code, prune_code, report_code}
+use Rattle.tl_params.specs.statement.Param.{prune_code, report_code}
 use Rattle.tl_rules.specs.statement.Conformance.{broken_in_order}
 use Rattle.tl_rules.specs.statement.History.{pending}
 use Rattle.tl_params.specs.declared.key.Key.TheVariants.{GrantSink}
 use Rattle.tl_manager.proofs.pending.LinkHistories.{whole-e}
 use Rattle.tl_manager.specs.code.Kept as manager
-use Rattle.tl_coherence.specs.refinement.AbstractStep.{acquire_opcode, granted_after}
-use Rattle.tl_coherence.specs.protocol.Invariant.{IsOwnSource}
-use Rattle.tl_coherence.specs.protocol.Phase.{View, Own, Other, Granting, Acknowledging, GrantedOther, ReleaseSent}
-use Rattle.tl_coherence.specs.protocol.Protocol.{Acquires, is_wanting, grant_ack_taken, granted_block}
-use Rattle.tl_coherence.specs.protocol.Packet.{set}
-use Rattle.tl_coherence.specs.refinement.SimulationRelation.{IsAcquireOf}
+use Rattle.tl_coherence.specs.protocol.Phase.{ReleaseSent}
+use Rattle.tl_coherence.specs.protocol.Protocol.{grant_ack_taken}
 use Rattle.tl_coherence.proofs.queues.Carried.{IsNext}
-use Rattle.tl_coherence.proofs.queues.Facts.{answered_other, is_other, own_wants}
 use Rattle.tl_coherence.proofs.manager.ManagedAcks.{IsAcked}
-use Rattle.tl_coherence.proofs.manager.ManagerAfter.{IsManagerOf, left, IsEnd, others_probed, report_part-left}
-use Rattle.tl_coherence.proofs.manager.ManagerAfter.{reported-left, released-left, acked-left, reaction-reported}
+use Rattle.tl_coherence.proofs.manager.ManagerAfter.{IsManagerOf, left, IsEnd, report_part-left}
+use Rattle.tl_coherence.proofs.manager.ManagerAfter.{released-left, acked-left}
 use Rattle.tl_coherence.proofs.manager.ManagerAfter.{reaction-released}
-use Rattle.tl_coherence.proofs.manager.ManagerSettles.{IsWanted, IsSettling, ended-left, conceded-left, reaction-ended}
-use Rattle.tl_coherence.proofs.manager.ManagerSettles.{reaction-conceded, gift_after}
 use Rattle.tl_coherence.proofs.manager.ManagerTakes.{IsTakenUp, ack-order, by-first_c, by-first_e, release-order}
 use Rattle.tl_coherence.proofs.manager.ManagerTakes.{report-order, takes}
 use Rattle.tl_coherence.proofs.manager.Reporting.{IsAbout, report-about, release-about}
-use Rattle.tl_coherence.proofs.queues.Tokens.{holds-first, same_number, set-same, set_at-same}
-use Rattle.tl_coherence.proofs.protocol.BothParts.{acquires_of-is, answered-is, releasing-is, acknowledging-is}
-use Rattle.tl_coherence.proofs.protocol.BothParts.{not-calm}
+use Rattle.tl_coherence.proofs.queues.Tokens.{holds-first, set-same}
+use Rattle.tl_coherence.proofs.protocol.BothParts.{answered-is, releasing-is, acknowledging-is}
 use Rattle.tl_coherence.proofs.manager.Admitted.{head_all}
-use Rattle.tl_coherence.proofs.memory.BesideTaken.{same_message}
-
--- ---- the Acquire that is granted
-
-wanted_fields : {w : ℕ} (q n : ℕ) (whole : Bool) (g : Grow) (b : Block (List ℕ)) (v : MessageA w)
-    → (b.pair q).acquiring ≡ AcquireOpen whole g
-    → block_message Acquire q n b ≡ message.A v → (v.opcode ≡ acquire_opcode whole) × (v.param ≡ grow_code g)
-unfolding block_message
-wanted_fields {w} q n true g b v wants e =
-    let same = same_message _ v (rw wants at e) in
-    (ap (λ (m : MessageA w). m.opcode) (sym same), ap (λ (m : MessageA w). m.param) (sym same))
-wanted_fields {w} q n false g b v wants e =
-    let same = same_message _ v (rw wants at e) in
-    (ap (λ (m : MessageA w). m.opcode) (sym same), ap (λ (m : MessageA w). m.param) (sym same))
-
--- what a client sees that has answered a Probe
-pub seen_apart : (q source : ℕ) (k : Cap) (c : ℕ) → is_other (view (Waits q true source k) c) ≡ true → c ≡ q → ⊥
-seen_apart q source k c e same = go (c == q) (rw (same, same_number q) refl) e
-  where
-    go : (b : Bool) → b ≡ true → is_other (if true && b then Own else Other k) ≡ true → ⊥
-    go true f g = cc
-    go false f g = cc
-
--- ---- what is handed out
-
--- where nobody else's ProbeAck is missing: `h'` is the protocol then
-abbrev pub pushed_last : {w : ℕ} → ℕ → Service → AbstractState w → Handed w
-pushed_last n (Waits q true source k) h' = (record { 0 = q }, block_message Grant q n (h'.state.block n)) ∷ []
-pushed_last n (Waits q false source k) h' = (record { 0 = q }, h'.mail.answer q source) ∷ []
-pushed_last n _ h' = []
-
--- at the last beat of the message of client c and block n, before which the protocol was `h`
-abbrev pub pushed : {w : ℕ} → Config → ℕ → Kind → ℕ → AbstractState w → AbstractState w → Handed w
-pushed config c ProbeAck n h h' = if some_below (length config.clients.items) (others_probed c (h.state.block n).pair)
-    then [] else pushed_last n (h.state.block n).service h'
-pushed config c Release n h h' = (record { 0 = c }, block_message ReleaseAck c n (h'.state.block n)) ∷ []
-pushed config c _ n h h' = []
-
--- what is kept of the manager's end after this beat, and what it hands out
-abbrev pub Does : {w : ℕ} → Config → ℕ → AbstractState w → AbstractState w → Kind → ℕ → End w → Beat w → Type 0
-Does config c h h' kind n e x =
-    IsManagerOf config h' (left c x (reaction config (record { 0 = c }) x e) e)
-    × ((reaction config (record { 0 = c }) x e).handed ≡ pushed config c kind n h h')
-
--- ---- a ProbeAck
-
--- where its last beat is taken
-reported-last : {w : ℕ} (config : Config) (log : Log w) (h : AbstractState w) (sys : System w) (c n k : ℕ)
-    (rest : List Packet) (m : MessageC w) → SimulationRelation config log h.mail h.request h.state sys
-    → (h.state.link c).c ≡ packet ProbeAck n ∷ rest → ((h.state.block n).pair c).probing ≡ ProbeAnswered
-    (report_told ((h.state.block n).pair c).probing)
-    → IsTakenUp config c channel.C (beat.C (c_beat_of m k)) sys.manager
-    → IsEnd true c n (report_code (report_told ((h.state.block n).pair c).probing))
-    (same_perm (report_left (report_told ((h.state.block n).pair c).probing)) perm.Trunk) (h.state.block n).truth k m
-    sys.manager
-    → Does config c h (ack_taken (length config.clients.items) config.profile c n
-    (report_told ((h.state.block n).pair c).probing) rest h) ProbeAck n sys.manager (beat.C (c_beat_of m k))
-reported-last {w} config log h sys c n k rest m is tokens answered up end =
-    others (some_below (length config.clients.items) (others_probed c b.pair)) refl
-    (invariant-taken config log h sys c ProbeAck n rest is tokens tt)
-  where
-    b : Block (List ℕ)
-    b = h.state.block n
-
-    r : Report
-    r = report_told (b.pair c).probing
-
-    e : End w
-    e = sys.manager
-
-    x : Beat w
-    x = beat.C (c_beat_of m k)
-
-    -- what is kept, and what is handed out
-    Result : AbstractState w → Handed w → Type 0
-    Result h' pushes = IsManagerOf config h' (left c x (reaction config (record { 0 = c }) x e) e)
-        × ((reaction config (record { 0 = c }) x e).handed ≡ pushes)
-
-    seen : is_other (view b.service c) ≡ true
-    seen = answered_other r (b.pair c) (view b.service c) ((is.invariant.blocks n).phases c) answered
-
-    unseen : (x : Bool) (u v : View) → is_other u ≡ false → is_other v ≡ false → is_other (if x then u else v) ≡ true
-        → ⊥
-    unseen true u v f g i = cc
-    unseen false u v f g i = cc
-
-    last : some_below (length config.clients.items) (others_probed c b.pair) ≡ false → (service : Service)
-        → b.service ≡ service
-        → IsInvariant (is_caching config) (last_taken (length config.clients.items) config.profile c n r service rest
-        h).state
-        → Result (last_taken (length config.clients.items) config.profile c n r service rest h)
-        (pushed_last n service (last_taken (length config.clients.items) config.profile c n r service rest h))
-    last alone Free f inv = absurd (let other : false ≡ true = rw f at seen in cc)
-    last alone (GrantSent q d low) f inv =
-        absurd (unseen (c == q) (Granting d low) GrantedOther refl refl (rw f at seen))
-    last alone (GrantTaken q) f inv = absurd (unseen (c == q) Acknowledging GrantedOther refl refl (rw f at seen))
-    last alone (Waits q false source low) f inv =
-        let at : IsSettling config c q n source k false low r m h e =
-        record {
-          up = up;
-          end = end;
-          alone = alone;
-          waits = f;
-          named = is.invariant.named;
-          is =
-              at_manager-matched config log h.mail h.request h.state sys is;
-        } in (
-          ended-left config c q n source k low r rest m h e at,
-          ap (λ (d : Reaction w). d.handed) (reaction-ended config c q n source k low r m h e at)
-              ∙ rw (set_at-same q source (answers (h.request n) (protocol.written r b.truth b.memory)) h.mail.answer)
-              refl,
-        )
-    last alone (Waits q true source low) f inv = go (b.pair q).acquiring refl inv
-      where
-        own_source : source ≡ b.source q
-        own_source = let here : IsOwnSource (Waits q true source low) b.source =
-            rw f at ((is.invariant.blocks n).own_source) in here
-
-        wants : is_wanting (b.pair q).acquiring ≡ true
-        wants = not-calm (b.pair q).acquiring
-            (own_wants (b.pair q) (view b.service q) ((is.invariant.blocks n).phases q) (rw (f, same_number q) refl))
-
-        used : h.state.uses q source ≡ Acquires n
-        used = acquires_of-is n (h.state.uses q source)
-            (is.invariant.named.acquires q source n ∙ rw (wants, ← own_source, same_number source) refl)
-
-        acquired : block_message Acquire q n b ≡ message.A (h.request n)
-        acquired = subst (λ (v : Service). IsAcquireOf n b v (h.request n)) f (is.acquired n)
-
-        go : (y : AcquirePhase) → (b.pair q).acquiring ≡ y
-            → IsInvariant (is_caching config) (granted_after (length config.clients.items) config.profile c q n r y rest
-            h).state
-            → Result (granted_after (length config.clients.items) config.profile c q n r y rest h)
-            ((
-              record { 0 = q },
-              block_message Grant q n
-                  ((granted_after (length config.clients.items) config.profile c q n r y rest h).state.block n),
-            ) ∷ [])
-        go NoAcquire g after = absurd (let none : false ≡ true = rw g at wants in cc)
-        go (AcquireOpen whole grow) g after =
-            let fields = wanted_fields q n whole grow b (h.request n) g acquired in
-            let at : IsSettling config c q n source k true low r m h e =
-            record {
-              up = up;
-              end = end;
-              alone = alone;
-              waits = f;
-              named = is.invariant.named;
-              is =
-                  at_manager-matched config log h.mail h.request h.state sys is;
-            } in
-            let wanted : IsWanted c q n source whole grow h =
-            record {
-              apart = seen_apart q source low c (rw f at seen);
-              used = used;
-              opcode_is = fields.0;
-              param_is =
-                  fields.1;
-            } in
-            let new : Block (List ℕ) = granted_block c q r (is_granted_data whole grow (b.pair q).recorded)
-            (gift_after config c n r whole grow h) b in
-            let here : set n new h.state.block n ≡ new = set-same n new h.state.block in (
-              conceded-left config c q n source k low r whole grow rest m h e at wanted,
-              ap (λ (d : Reaction w). d.handed) (reaction-conceded config c q n source k low r whole grow m h e at
-                  wanted)
-                  ∙ ap (λ (i : Message w). (record { 0 = q }, i) ∷ [])
-                  (grant-rendered config (is_caching config) c q n source r whole grow h own_source
-                  (subst (IsWell (is_caching config)) here (after.blocks n)) ∙ ap (block_message Grant q n) (sym here)),
-            )
-
-    others : (y : Bool) → some_below (length config.clients.items) (others_probed c b.pair) ≡ y
-        → IsInvariant (is_caching config) (if y then with_state (report_taken c n r rest h.state) h else last_taken
-        (length config.clients.items) config.profile c n r b.service rest h).state
-        → Result (if y then with_state (report_taken c n r rest h.state) h else last_taken (length config.clients.items)
-        config.profile c n r b.service rest h)
-        (if some_below (length config.clients.items) (others_probed c b.pair) then [] else pushed_last n b.service
-        (if y then with_state (report_taken c n r rest h.state) h else last_taken (length config.clients.items)
-        config.profile c n r b.service rest h))
-    others true f inv = (
-      reported-left config c n k r rest m h e up end f (at_manager-matched config log h.mail h.request h.state sys is),
-      ap (λ (d : Reaction w). d.handed) (reaction-reported config c n k r m h e end f is.managed) ∙ rw f refl,
-    )
-    others false f inv =
-        let done = last f b.service refl inv in
-        (done.0, done.1 ∙ rw f refl)
+use Rattle.tl_coherence.proofs.deliveries.LastReportDelivered.{pushed, Does, reported-last}
 
 -- ---- any beat of a message of channel C
 

@@ -32,11 +32,12 @@ use Rattle.tl_coherence.specs.refinement.SimulationRelation.{IsSourced}
 use Rattle.tl_coherence.proofs.queues.Channels.{behind, IsTaken}
 use Rattle.tl_coherence.proofs.queues.FirstToken.{IsFirst, first-token}
 use Rattle.tl_coherence.proofs.deliveries.DeliverDAfter.{followed-moving}
-use Rattle.tl_coherence.proofs.deliveries.DeliverDWhole.{IsDelivered, delivered_as, remembered_after}
+use Rattle.tl_coherence.proofs.deliveries.DeliverDWhole.{remembered_after}
+use Rattle.tl_coherence.proofs.deliveries.DeliverDUnmoved.{IsDelivered, delivered_as}
 use Rattle.tl_coherence.proofs.queues.Landed.{IsOn, HasTaken, landed-manager, taken-landed}
 use Rattle.tl_coherence.proofs.simulation.Moved.{manager-moves, manager-heard, carried-part}
-use Rattle.tl_coherence.proofs.manager.RequestsTaken.{next_tracker}
-use Rattle.tl_coherence.proofs.simulation.SizedAfter.{first-asked}
+use Rattle.tl_coherence.proofs.manager.UnwaitedRequests.{next_tracker}
+use Rattle.tl_coherence.proofs.simulation.SourcedAfter.{first-asked}
 
 -- ---- the channel of a message, and of its beats
 

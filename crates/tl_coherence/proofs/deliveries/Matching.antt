@@ -22,7 +22,8 @@ use Rattle.tl_coherence.proofs.client.ClientStep.{clients-kept}
 use Rattle.tl_coherence.proofs.simulation.FollowCases.{followed-cases, asked-cases, delivered-cases, answered-followed}
 use Rattle.tl_coherence.proofs.simulation.FollowCases.{given-followed, on-first}
 use Rattle.tl_coherence.proofs.simulation.Fresh.{fresh-matched}
-use Rattle.tl_coherence.proofs.deliveries.DeliverDWhole.{IsDelivered, delivered-unmoved, delivered-d}
+use Rattle.tl_coherence.proofs.deliveries.DeliverDWhole.{delivered-d}
+use Rattle.tl_coherence.proofs.deliveries.DeliverDUnmoved.{IsDelivered, delivered-unmoved}
 use Rattle.tl_coherence.proofs.deliveries.InvariantKept.{invariant-followed}
 use Rattle.tl_coherence.proofs.manager.ManagerAfter.{IsManagerOf}
 use Rattle.tl_coherence.proofs.deliveries.ManagerFollowed.{client-of}
@@ -30,10 +31,11 @@ use Rattle.tl_coherence.proofs.deliveries.ManagerKept.{IsAllowed, manager-kept}
 use Rattle.tl_coherence.proofs.deliveries.ProbesAfter.{delivered-b}
 use Rattle.tl_coherence.proofs.deliveries.ReportsAfter.{delivered-c}
 use Rattle.tl_coherence.proofs.deliveries.RequestsDelivered.{delivery-a, carried-delivered_a, beside-delivered_a}
-use Rattle.tl_coherence.proofs.manager.RequestsTaken.{next_tracker}
+use Rattle.tl_coherence.proofs.manager.UnwaitedRequests.{next_tracker}
 use Rattle.tl_coherence.proofs.simulation.Sized.{AreStrange, strangers-asked, strangers-kind_taken}
-use Rattle.tl_coherence.proofs.simulation.SizedAfter.{AllSized, AreSourced, sized-asked, sized-kind_taken}
-use Rattle.tl_coherence.proofs.simulation.SizedAfter.{sourced-asked, sourced-kind_taken}
+use Rattle.tl_coherence.proofs.simulation.SizedAfter.{AllSized, sized-asked, sized-kind_taken}
+use Rattle.tl_coherence.proofs.simulation.SourcedAfter.{AreSourced}
+use Rattle.tl_coherence.proofs.simulation.SourcedAfter.{sourced-asked, sourced-kind_taken}
 use Rattle.tl_coherence.proofs.simulation.SoundAfter.{sound-after, typed-after}
 use Rattle.tl_coherence.proofs.queues.Steps.{stepped-asked, stepped-empty}
 use Rattle.tl_coherence.proofs.client.Waiting.{AreAcquired, asked-acquired, kind_taken-acquired}

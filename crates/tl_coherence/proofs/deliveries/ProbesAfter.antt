@@ -39,11 +39,12 @@ use Rattle.tl_coherence.proofs.queues.Channels.{IsTaken, pushes_at}
 use Rattle.tl_coherence.proofs.queues.FirstToken.{IsFirst, first-token}
 use Rattle.tl_coherence.proofs.client.DeliverD.{same_answers}
 use Rattle.tl_coherence.proofs.deliveries.DeliverDAfter.{followed-moving}
-use Rattle.tl_coherence.proofs.deliveries.DeliverDWhole.{IsDelivered, delivered_as, remembered_after}
+use Rattle.tl_coherence.proofs.deliveries.DeliverDWhole.{remembered_after}
+use Rattle.tl_coherence.proofs.deliveries.DeliverDUnmoved.{IsDelivered, delivered_as}
 use Rattle.tl_coherence.proofs.queues.Landed.{pushes_of, IsOn, landed-client, taken-landed}
 use Rattle.tl_coherence.proofs.simulation.Moved.{IsTakenByClient, client-moves, client-heard}
 use Rattle.tl_coherence.proofs.client.ProbeDelivered.{IsProbed, probe-delivered}
-use Rattle.tl_coherence.proofs.manager.RequestsTaken.{next_tracker, invariant-taken}
+use Rattle.tl_coherence.proofs.manager.UnwaitedRequests.{next_tracker, invariant-taken}
 use Rattle.tl_coherence.proofs.queues.Tokens.{set-same, holds-first}
 use Rattle.tl_coherence.proofs.protocol.BothParts.{kept-is, sent-is}
 use Rattle.tl_coherence.proofs.client.KnownProbed.{report_is}

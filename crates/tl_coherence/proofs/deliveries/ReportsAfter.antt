@@ -4,7 +4,7 @@ use Rattle.tl_coherence.proofs.deliveries.Imports.{Report, on_link, Handed, reac
 use Rattle.tl_coherence.proofs.deliveries.Imports.{AbstractState, ack_taken, answers, kind_taken, last_taken}
 use Rattle.tl_coherence.proofs.deliveries.Imports.{some_below, packet_taken, with_state, Log, system_after, Machine}
 use Rattle.tl_coherence.proofs.deliveries.Imports.{Requests, ProbeAnswered, Service, Free, Waits, GrantSent, GrantTaken}
-use Rattle.tl_coherence.proofs.deliveries.Imports.{Block, State, SourceState, packet, let_block, release_taken}
+use Rattle.tl_coherence.proofs.deliveries.Imports.{Block, SourceState, packet, let_block, release_taken}
 use Rattle.tl_coherence.proofs.deliveries.Imports.{report_taken, shown, one_memory_after, performing, accesses_answered}
 use Rattle.tl_coherence.proofs.deliveries.Imports.{message_of, prune_told, block_message, report_told, stepped, IsFor}
 use Rattle.tl_coherence.proofs.deliveries.Imports.{System, ProbeAck, Release, ReleaseAck, Grant, Packet}
@@ -25,15 +25,17 @@ use Rattle.tl_coherence.proofs.memory.BesideRequests.{IsOnce, accesses-answer}
 use Rattle.tl_coherence.proofs.deliveries.CarriedReports.{carried-followed_c}
 use Rattle.tl_coherence.proofs.manager.Choices.{plain-past}
 use Rattle.tl_coherence.proofs.queues.FirstToken.{first-token}
-use Rattle.tl_coherence.proofs.protocol.FollowKept.{settled_all}
-use Rattle.tl_coherence.proofs.deliveries.DeliverDWhole.{IsDelivered, remembered_after}
+use Rattle.tl_coherence.proofs.protocol.RequestsKept.{settled_all}
+use Rattle.tl_coherence.proofs.deliveries.DeliverDWhole.{remembered_after}
+use Rattle.tl_coherence.proofs.deliveries.DeliverDUnmoved.{IsDelivered}
 use Rattle.tl_coherence.proofs.manager.ManagerAfter.{others_probed}
-use Rattle.tl_coherence.proofs.deliveries.ManagerDelivered.{channel_c-delivered, pushed, pushed_last}
+use Rattle.tl_coherence.proofs.deliveries.ManagerDelivered.{channel_c-delivered}
+use Rattle.tl_coherence.proofs.deliveries.LastReportDelivered.{pushed, pushed_last}
 use Rattle.tl_coherence.proofs.deliveries.ManagerDelivered.{releases-delivered, reports-delivered}
 use Rattle.tl_coherence.proofs.deliveries.ManagerFollowed.{client-of, followed-taken, step-taken}
 use Rattle.tl_coherence.proofs.manager.ManagerTakes.{by-first_c}
-use Rattle.tl_coherence.proofs.manager.RequestsTaken.{next_tracker}
-use Rattle.tl_coherence.proofs.simulation.SizedAfter.{served-request}
+use Rattle.tl_coherence.proofs.manager.UnwaitedRequests.{next_tracker}
+use Rattle.tl_coherence.proofs.simulation.SourcedAfter.{served-request}
 use Rattle.tl_coherence.proofs.queues.Tokens.{holds-first, set_at-same}
 use Rattle.tl_coherence.proofs.protocol.BothParts.{answered-is}
 use Rattle.tl_coherence.proofs.rank.RankParts.{serving-use}

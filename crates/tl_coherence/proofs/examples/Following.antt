@@ -2,281 +2,36 @@
 -- the manager and the flow have are those of the protocol, and its phases are well. By tests with numbers, of which
 -- those
 -- that fail are listed.
-use Rattle.tl_coherence.proofs.examples.Imports.{Beat, Link, Channel, unfinished, Config, bytes_carried, on_link}
+use Rattle.tl_coherence.proofs.examples.Imports.{unfinished, bytes_carried, on_link}
 use Rattle.tl_coherence.proofs.examples.Imports.{broken_order, bytes_from, number_from, effect, held, pending}
 use Rattle.tl_coherence.proofs.examples.Imports.{request_of, release_of, probe_of, grant_sink, illegal, first_illegal}
 use Rattle.tl_coherence.proofs.examples.Imports.{beats_from, each_below, with_handed, clients_from, masks_carried}
-use Rattle.tl_coherence.proofs.examples.Imports.{corrupt_carried, request_carried, Event, Deliver, flow, is_movable}
-use Rattle.tl_coherence.proofs.examples.Imports.{first_movable, next_delivery, Step, stepped, System, with_messages}
+use Rattle.tl_coherence.proofs.examples.Imports.{corrupt_carried, request_carried, flow, is_movable}
+use Rattle.tl_coherence.proofs.examples.Imports.{first_movable, next_delivery, stepped, with_messages}
 use Rattle.tl_coherence.proofs.examples.Imports.{started, requests, releases, accesses_answered, performing}
-use Rattle.std.proofs.Common.{◌≡◌, refl, lit≤}
-use Rattle.std.specs.Prelude.{ℕ, zero, suc, Bool, true, false, not, List, [], ◌∷◌, ◌++◌, ◌==◌, ◌&&◌, ◌||◌, ◌*◌}
-use Rattle.std.specs.Prelude.{replicate, reverse, Option, Some, None, is_some, option_map, length, if◌then◌else◌}
-use Rattle.std.specs.Bool.{beq}
-use Rattle.tl_beat.specs.declared.beat.Beat.TheVariants as beat
-use Rattle.tl_beat.specs.declared.beat.BeatA.{BeatA}
-use Rattle.tl_beat.specs.declared.beat.BeatB.{BeatB}
+use Rattle.std.proofs.Common.{refl, lit≤}
+use Rattle.std.specs.Prelude.{[], ◌∷◌, ◌++◌}
+use Rattle.std.specs.Prelude.{replicate}
 use Rattle.tl_beat.specs.declared.channel.Channel.TheVariants as channel
 use Rattle.tl_beat.specs.declared.opcode.OpA.TheVariants as a
-use Rattle.tl_burst.specs.declared.message.MessageA.{MessageA}
-use Rattle.tl_burst.specs.statement.Burst.{a_beat_of}
-use Rattle.tl_burst.specs.statement.Messages.{same_control}
-use Rattle.tl_params.specs.declared.key.Key.TheVariants.{RequestSource, ReleaseSource, AcquireOf, ReleaseOf, GrantSink}
-use Rattle.tl_params.specs.declared.key.Key.TheVariants.{GrantAckOf, ProbeOf}
 use Rattle.tl_params.specs.declared.level.Level.TheVariants as level
-use Rattle.tl_params.specs.declared.param.Cap.{Cap}
 use Rattle.tl_params.specs.declared.param.Grow.TheVariants as grow
 use Rattle.tl_params.specs.declared.param.Prune.TheVariants as prune
-use Rattle.tl_params.specs.declared.perm.Perm.TheVariants as perm
 use Rattle.tl_params.specs.declared.profile.Profile.TheVariants as profile
-use Rattle.tl_rules.specs.statement.Conformance.{Trace, comes_in_release, comes_in_request, comes_in_grant, same_perm}
-use Rattle.tl_rules.specs.statement.History.{block_at, is_acquire}
 use Rattle.tl_client.specs.statement.Ask as ask
-use Rattle.tl_client.specs.statement.Ask.{same_bytes}
 use Rattle.tl_client.specs.statement.Offer as offer
-use Rattle.tl_client.specs.statement.Requests.{open_beat}
-use Rattle.tl_manager.specs.statement.Holders.{recorded, cap_probed}
-use Rattle.tl_manager.specs.code.Releases.{comes_of}
 use Rattle.tl_manager.specs.statement.Service as service
-use Rattle.tl_manager.specs.statement.Service.{services, service_of_block}
+use Rattle.tl_manager.specs.statement.Service.{services}
 use Rattle.tl_manager.specs.statement.Reaction as manager_reaction
 use Rattle.tl_manager.specs.statement.Offer as manager_offer
 use Rattle.tl_coherence.specs.refinement.Carried.{spelled}
-use Rattle.tl_coherence.specs.refinement.MonitorRelation.{is_requested, is_release_pending, is_let_by, is_sunk}
-use Rattle.tl_coherence.specs.refinement.AbstractStep.{AbstractState, first_abstract_state, abstract_step, some_below}
-use Rattle.tl_coherence.specs.protocol.Invariant.{is_of, acquires_of, serves_of, acquires_with, serves_with}
-use Rattle.tl_coherence.specs.protocol.Invariant.{releases_with, tracks_with}
-use Rattle.tl_coherence.specs.refinement.ClientRelation.{comes_granting}
-use Rattle.tl_coherence.specs.refinement.ManagerRelation.{is_own, client_in}
-use Rattle.tl_coherence.specs.statement.Delivery.{receiver}
-use Rattle.tl_coherence.specs.protocol.Phase.{ok, same_cap, is_unprobed, is_unreleased, is_whole}
-use Rattle.tl_coherence.specs.protocol.Protocol.{Service, Free, Waits, GrantSent, GrantTaken, State, view, is_wanting}
-use Rattle.tl_coherence.specs.protocol.Protocol.{is_granting, is_acknowledging, is_unserved, is_answered}
-use Rattle.tl_coherence.specs.refinement.PacketMessages.{AccessMessages, block_message, messages_on, probe_beat}
-use Rattle.tl_coherence.specs.refinement.SourceRelation.{is_served, is_granted, cap_waited}
-use Rattle.tl_coherence.specs.refinement.SimulationRelation.{asked_by}
-use Rattle.tl_coherence.proofs.examples.Checks.{Past, begun, next, all_below, failed, same_beats, performs}
-use Rattle.tl_coherence.proofs.examples.Play.{Line, Does, Drains, world, deliver, load, store, acquire, whole, release}
+use Rattle.tl_coherence.specs.refinement.AbstractStep.{some_below}
+use Rattle.tl_coherence.specs.protocol.Phase.{ok}
+use Rattle.tl_coherence.specs.refinement.PacketMessages.{block_message}
+use Rattle.tl_coherence.proofs.examples.Checks.{all_below, performs}
+use Rattle.tl_coherence.proofs.examples.Play.{Drains, world, deliver, load, store, acquire, whole, release}
 use Rattle.tl_coherence.proofs.examples.Play.{access}
-use Rattle.tl_coherence.proofs.queues.Phases.{implies}
-
--- ---- tests of values
-
-abbrev pub same_a : {w : ℕ} → Option (BeatA w) → Option (BeatA w) → Bool
-same_a (Some x) (Some y) = same_control (beat.A x) (beat.A y)
-same_a None None = true
-same_a _ _ = false
-
-abbrev pub same_b : {w : ℕ} → Option (BeatB w) → Option (BeatB w) → Bool
-same_b (Some x) (Some y) = same_control (beat.B x) (beat.B y)
-same_b None None = true
-same_b _ _ = false
-
-abbrev pub is_number : ℕ → Option ℕ → Bool
-is_number n (Some m) = m == n
-is_number n None = false
-
--- ---- a client's end
-
-abbrev pub known : {w : ℕ} → ℕ → ℕ → AccessMessages w → State (List ℕ) → System w → ℕ → Bool
-known blocks sources mail s sys c =
-    all_below blocks (λ n.
-    same_perm (held n (sys.clients c).past) ((s.block n).pair c).held
-    && (beq (pending (AcquireOf n) (sys.clients c).past) (is_wanting ((s.block n).pair c).acquiring)
-    && (beq (pending (ReleaseOf n) (sys.clients c).past) (not (is_unreleased ((s.block n).pair c).letting))
-    && (not (pending (ProbeOf n) (sys.clients c).past)
-    && beq (pending (GrantAckOf n) (sys.clients c).past)
-    (comes_granting n (asked_by mail s c) (unfinished channel.D (sys.clients c).past))))))
-    && all_below sources (λ i.
-    same_a (open_beat i (sys.clients c).past) (asked_by mail s c i)
-    && beq (pending (GrantSink i) (sys.clients c).past) (comes_in_grant i (unfinished channel.D (sys.clients c).past)))
-
-abbrev pub opened : {w : ℕ} → ℕ → AccessMessages w → State (List ℕ) → System w → ℕ → Bool
-opened sources mail s sys c =
-    all_below sources (λ i.
-    beq (pending (RequestSource i) (sys.clients c).past) (is_some (asked_by mail s c i))
-    && (beq (pending (ReleaseSource i) (sys.clients c).past) (is_some (s.lets c i))
-    && released (s.lets c i) (option_map (λ x. block_at x.address) (release_of i (sys.clients c).past))))
-  where
-    released : Option ℕ → Option ℕ → Bool
-    released None x = true
-    released (Some n) x = is_number n x
-
-abbrev pub copied : Option (List ℕ) → List ℕ → Bool
-copied None bytes = false
-copied (Some copy) bytes = same_bytes copy bytes
-
-abbrev pub kept : {w : ℕ} → ℕ → State (List ℕ) → System w → ℕ → Bool
-kept blocks s sys c =
-    all_below blocks (λ n.
-    implies (not (same_perm ((s.block n).pair c).held perm.None))
-    (copied ((sys.clients c).copies n) ((s.block n).copy c))
-    && implies (is_whole ((s.block n).pair c).acquiring) (copied ((sys.clients c).waiting n) ((s.block n).waiting c)))
-
--- ---- the manager's end
-
-abbrev pub managed : {w : ℕ} → ℕ → State (List ℕ) → Trace w → ℕ → Bool
-managed blocks s t c =
-    all_below blocks (λ n.
-    same_perm (recorded c n t) ((s.block n).pair c).recorded
-    && (beq (pending (ProbeOf n) (on_link c t)) (not (is_unprobed ((s.block n).pair c).probing))
-    && (beq (pending (AcquireOf n) (on_link c t)) (is_own (view (s.block n).service c))
-    && beq (pending (GrantAckOf n) (on_link c t)) (is_granting (view (s.block n).service c) || is_acknowledging
-    (view (s.block n).service c)))))
-
-abbrev pub same_service : {w : ℕ} → Option (service.Service w) → Option ℕ → ℕ → MessageA w → Bool
-same_service None None tracker m = true
-same_service (Some x) (Some r) tracker m =
-    (x.tracker == tracker) && ((x.link.0 == r) && same_control (beat.A (a_beat_of x.request 0))
-    (beat.A (a_beat_of m 0)))
-same_service _ _ tracker m = false
-
-abbrev pub same_option_cap : Option Cap → Cap → Bool
-same_option_cap None k = false
-same_option_cap (Some j) k = same_cap j k
-
-abbrev pub is_for : {w : ℕ} → Service → ℕ → MessageA w → Trace w → Bool
-is_for Free n m t = true
-is_for (Waits r own source k) n m t =
-    beq (is_acquire m.opcode) own
-    && ((m.source == source) && ((block_at m.address == n) && (same_option_cap (cap_probed m.opcode m.param) k && same_a
-    (request_of source (on_link r t)) (Some (a_beat_of m 0)))))
-is_for (GrantSent q d k) n m t = is_acquire m.opcode && (block_at m.address == n)
-is_for (GrantTaken q) n m t = is_acquire m.opcode && (block_at m.address == n)
-
-abbrev pub in_service : {w : ℕ} → ℕ → AbstractState w → Trace w → Bool
-in_service blocks h t =
-    all_below blocks (λ n.
-    same_service (service_of_block n (services t)) (client_in (h.state.block n).service) (h.state.block n).tracker
-    (h.request n)
-    && is_for (h.state.block n).service n (h.request n) t)
-
-abbrev pub served : {w : ℕ} → ℕ → ℕ → ℕ → State (List ℕ) → Trace w → ℕ → Bool
-served blocks sources trackers s t c =
-    all_below sources (λ i.
-    beq (pending (RequestSource i) (on_link c t))
-    (is_served c (s.uses c i) s || comes_in_request i (unfinished channel.A (on_link c t)))
-    && beq (pending (ReleaseSource i) (on_link c t)) (comes_in_release i (unfinished channel.C (on_link c t))))
-    && (all_below trackers (λ i. beq (pending (GrantSink i) (on_link c t)) (is_granted c (s.tracked i) s))
-    && all_below blocks (λ n.
-    beq (pending (ReleaseOf n) (on_link c t)) (comes_of n (unfinished channel.C (on_link c t)))
-    && implies (not (is_unprobed ((s.block n).pair c).probing))
-    (same_b (probe_of n (on_link c t)) (Some (probe_beat n (cap_waited (s.block n).service))))))
-
--- ---- the flow
-
-abbrev pub flowed : {w : ℕ} → ℕ → ℕ → ℕ → AccessMessages w → State (List ℕ) → System w → List (Beat w) → ℕ → Bool
-flowed {w} blocks sources trackers mail s sys t c =
-    all_below blocks (λ n.
-    same_perm (held n t) (if is_granting (view (s.block n).service c) then ((s.block n).pair c).held else
-    ((s.block n).pair c).recorded)
-    && (beq (pending (AcquireOf n) t)
-    (is_wanting ((s.block n).pair c).acquiring && not (is_unserved (view (s.block n).service c)))
-    && (beq (pending (ReleaseOf n) t) (is_release_pending ((s.block n).release_source c) (rest channel.C)
-    ((s.block n).pair c).letting)
-    && (beq (pending (GrantAckOf n) t) (is_acknowledging (view (s.block n).service c) || comes_granting n
-    (asked_by mail s c) (rest channel.D))
-    && (beq (pending (ProbeOf n) t) (is_answered ((s.block n).pair c).probing)
-    && (implies (is_answered ((s.block n).pair c).probing)
-    (same_b (probe_of n t) (Some (probe_beat n (cap_waited (s.block n).service))))
-    && implies (pending (GrantAckOf n) t) (is_of (s.block n).tracker (grant_sink n t))))))))
-    && (all_below sources (λ i.
-    beq (pending (RequestSource i) t) (is_requested c i (rest channel.A) (s.uses c i) s)
-    && (implies (pending (RequestSource i) t) (same_a (request_of i t) (asked_by mail s c i))
-    && (beq (pending (ReleaseSource i) t) (is_let_by c i (rest channel.C) (s.lets c i) s)
-    && implies (pending (ReleaseSource i) t) (is_of 6 (option_map (λ x. x.size) (release_of i t))))))
-    && (all_below trackers (λ i. beq (pending (GrantSink i) t) (is_sunk c i (rest channel.D) (s.tracked i) s))
-    && (still channel.A && (still channel.B && (still channel.C && (still channel.D && still channel.E))))))
-  where
-    rest : Channel → List (Beat w)
-    rest ch = unfinished ch (receiver ch c sys)
-
-    still : Channel → Bool
-    still ch = same_beats (unfinished ch t) (rest ch)
-
--- ---- channels, the memory and the protocol by itself
-
-abbrev pub carries : {w : ℕ} → AccessMessages w → State (List ℕ) → System w → ℕ → Channel → Bool
-carries mail s sys c ch = same_beats (reverse (unfinished ch (receiver ch c sys)) ++ sys.channels c ch)
-    (spelled (messages_on ch mail s c))
-
-abbrev pub all_carry : {w : ℕ} → AccessMessages w → State (List ℕ) → System w → ℕ → Bool
-all_carry mail s sys c =
-    carries mail s sys c channel.A
-    && (carries mail s sys c
-    channel.B && (carries mail s sys c channel.C && (carries mail s sys c channel.D && carries mail s sys c
-    channel.E)))
-
-abbrev pub named : ℕ → ℕ → ℕ → State (List ℕ) → ℕ → Bool
-named blocks sources trackers s c =
-    all_below blocks (λ n.
-    ok ((s.block n).pair c) (view (s.block n).service c)
-    && (all_below sources (λ i.
-    beq (acquires_of n (s.uses c i)) (acquires_with c i (s.block n))
-    && (beq (serves_of n (s.uses c i)) (serves_with c i (s.block n)) && beq (is_of n (s.lets c i))
-    (releases_with c i (s.block n))))
-    && all_below trackers (λ i. beq (is_of n (s.tracked i)) (tracks_with i (s.block n)))))
-
-abbrev pub remembers : {w : ℕ} → ℕ → State (List ℕ) → Past w → Bool
-remembers blocks s p =
-    all_below blocks (λ n. same_bytes (bytes_from p.system.manager.memory (64 * n) 64) (s.block n).memory && same_bytes
-    (bytes_from p.machine.memory (64 * n) 64) (s.block n).truth)
-
--- ---- playing
-
--- a whole with its past, and the protocol beside it
-pub record Followed (w : ℕ) : Type 0 where
-  pub past : Past w
-  pub shadow : AbstractState w
-
-abbrev pub beginning : {w : ℕ} → Followed w
-beginning = record { past = begun; shadow = first_abstract_state }
-
-abbrev pub faults_at : {w : ℕ} → ℕ → ℕ → Config → Followed w → List ℕ → List ℕ
-faults_at clients sources config f more =
-    failed 1 (all_below clients (known config.blocks sources f.shadow.mail f.shadow.state f.past.system))
-    (failed 2 (all_below clients (opened sources f.shadow.mail f.shadow.state f.past.system))
-    (failed 3 (all_below clients (kept config.blocks f.shadow.state f.past.system))
-    (failed 4 (all_below clients (managed config.blocks f.shadow.state f.past.system.manager.trace))
-    (failed 5 (in_service config.blocks f.shadow f.past.system.manager.trace)
-    (failed 6 (all_below clients (served config.blocks sources config.trackers f.shadow.state
-    f.past.system.manager.trace))
-    (failed 7 (all_below clients (λ c. flowed config.blocks sources config.trackers f.shadow.mail f.shadow.state
-    f.past.system (flow c f.past.log) c))
-    (failed 8 (all_below clients (all_carry f.shadow.mail f.shadow.state f.past.system))
-    (failed 9 (all_below clients (named config.blocks sources config.trackers f.shadow.state))
-    (failed 10 (remembers config.blocks f.shadow.state f.past) more)))))))))
-
-abbrev pub after_event : {w : ℕ} → Config → Event w → Step w → Followed w → Followed w
-after_event config event step f =
-    record { past = next event step f.past; shadow = abstract_step config event f.past.system f.shadow }
-
-abbrev pub checked : {w : ℕ} → ℕ → ℕ → Config → Event w → Followed w → (Followed w → List ℕ) → List ℕ
-checked {w} clients sources config event f later =
-    let g : Followed w = after_event config event (stepped config event f.past.system) f in
-    faults_at clients sources config g (later g)
-
-abbrev pub on_delivery : {w : ℕ} → ℕ → ℕ → Config → Option (Link × Channel) → Followed w → (Followed w → List ℕ)
-    → (Followed w → List ℕ) → List ℕ
-on_delivery clients sources config None f on stop = stop f
-on_delivery clients sources config (Some d) f on stop = checked clients sources config (Deliver d.0 d.1) f on
-
-unfoldable pub faults_draining : {w : ℕ} → ℕ → ℕ → Config → ℕ → Followed w → (Followed w → List ℕ) → List ℕ
-faults_draining clients sources config zero f stop = stop f
-faults_draining clients sources config (suc n) f stop =
-    on_delivery clients sources config (next_delivery config f.past.system) f
-    (λ g. faults_draining clients sources config n g stop) stop
-
-unfoldable pub faults : {w : ℕ} → ℕ → ℕ → Config → List (Line w) → Followed w → List ℕ
-faults clients sources config [] f = []
-faults clients sources config (Does e ∷ lines) f =
-    checked clients sources config e f (faults clients sources config lines)
-faults clients sources config (Drains n ∷ lines) f =
-    faults_draining clients sources config n f (faults clients sources config lines)
-
--- the protocol follows the world at these lines; sources are tried up to this number
-abbrev pub Follows : {w : ℕ} → ℕ → Config → List (Line w) → Type 0
-Follows {w} sources config lines = faults {w = w} (length config.clients.items) sources config lines beginning ≡ []
+use Rattle.tl_coherence.proofs.examples.FollowChecks.{faults_draining, faults, Follows}
 
 -- ---- lists that are known from elsewhere
 

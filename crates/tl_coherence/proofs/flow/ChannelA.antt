@@ -20,7 +20,7 @@ use Rattle.tl_coherence.proofs.manager.Admitted.{first_three}
 use Rattle.tl_coherence.proofs.queues.Carried.{IsNext}
 use Rattle.tl_coherence.proofs.client.ClientEnd.{is_access, asks-access, asks-acquire}
 use Rattle.tl_coherence.proofs.protocol.HeadOfD.{IsGrantDue}
-use Rattle.tl_coherence.proofs.queues.Facts.{asked_alone}
+use Rattle.tl_coherence.proofs.queues.PhaseFacts.{asked_alone}
 use Rattle.tl_coherence.proofs.flow.FlowAccess.{IsAccess, flowed-access}
 use Rattle.tl_coherence.proofs.flow.FlowAcquired.{flowed-acquire}
 use Rattle.tl_coherence.proofs.flow.FlowAlone.{AreRests}

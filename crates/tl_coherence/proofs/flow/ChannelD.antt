@@ -10,13 +10,14 @@ use Rattle.tl_coherence.proofs.flow.Imports.{ReleaseAck, Packet, SimulationRelat
 use Rattle.std.proofs.Common.{◌≡◌, subst, ℕ, Bool, true, false, not, ◌&&◌, List, [], ◌∷◌, Option, None, refl, sym, ◌∙◌}
 use Rattle.std.proofs.Common.{ap, inl}
 use Rattle.std.specs.Prelude.{◌==◌, if◌then◌else◌}
-use Rattle.std.proofs.lemmas.Bool.{ne_eqb, eqb-true, and_right as with_false}
+use Rattle.std.proofs.lemmas.Bool.{eqb-false, eqb-true, and_right as with_false}
 use Rattle.tl_beat.specs.declared.beat.Beat.TheVariants as beat
 use Rattle.tl_beat.specs.declared.channel.Channel.TheVariants as channel
 use Rattle.tl_burst.specs.declared.message.Message.TheVariants as message
 use Rattle.tl_burst.specs.statement.Burst.{d_beat_of}
 use Rattle.tl_params.specs.statement.Param.{cap_right}
 use Rattle.tl_manager.proofs.blocks.Recording.{cap-gives}
+use Rattle.tl_manager.proofs.services.Serving.{not_swapped}
 use Rattle.tl_coherence.specs.protocol.PhaseSteps.{after_grant}
 use Rattle.tl_coherence.specs.protocol.Protocol.{answer_taken, grant_taken}
 use Rattle.tl_coherence.proofs.client.Aside.{set_at-else}
@@ -39,15 +40,6 @@ use Rattle.tl_coherence.proofs.protocol.BothParts.{acked-is}
 use Rattle.tl_coherence.proofs.queues.Codes.{access_kind, grants-so}
 use Rattle.tl_manager.proofs.pending.Answered.{no_ack_grant}
 use Rattle.tl_coherence.proofs.simulation.Popped.{unfinished_at}
-
--- ---- numbers and opcodes
-
-apart_numbers : (i j : ℕ) → (j == i) ≡ false → i ≡ j → ⊥
-apart_numbers i j e same = let no : (j == j) ≡ false = rw same at e in let yes : true ≡ false =
-    sym (same_number j) ∙ no in cc
-
-swapped : (i j : ℕ) → (j == i) ≡ false → (i == j) ≡ false
-swapped i j e = ne_eqb i j (apart_numbers i j e)
 
 module _ {w : ℕ} (config : Config) (log : Log w) (h : AbstractState w) (sys : System w) (c : ℕ)
     (is : SimulationRelation config log h.mail h.request h.state sys)
@@ -137,7 +129,7 @@ module _ {w : ℕ} (config : Config) (log : Log w) (h : AbstractState w) (sys : 
   answer_asks : (source : ℕ) (b : Bool) (i j : ℕ) → j ≡ source → (b && (j == i)) ≡ false
       → asked_by h.mail (answered_if source b) c i ≡ before i
   answer_asks source true i j e f = asks-same c i h.mail h.mail s (answer_taken c source toks s) refl
-      (inl (set_at-else c source i SourceFree s.uses (apart_numbers i source (sym (ap (λ (k : ℕ). k == i) e) ∙ f)) c))
+      (inl (set_at-else c source i SourceFree s.uses (λ same. eqb-false source i (sym (ap (λ (k : ℕ). k == i) e) ∙ f) (sym same)) c))
       (λ n used. refl) (λ n used. refl)
   answer_asks source false i j e f = refl
 
@@ -251,7 +243,7 @@ module _ {w : ℕ} (config : Config) (log : Log w) (h : AbstractState w) (sys : 
   grant_asks n whole d k false i e = refl
   grant_asks n whole d k true i e =
       asks-same c i h.mail h.mail s (grant_taken c n whole d k toks s) refl
-      (inl (set_at-else c ((s.block n).source c) i SourceFree s.uses (apart_numbers i ((s.block n).source c) e) c))
+      (inl (set_at-else c ((s.block n).source c) i SourceFree s.uses (λ same. eqb-false ((s.block n).source c) i e (sym same)) c))
       (λ j used. ap (λ (z : Block (List ℕ)). (z.pair c).acquiring) (set-other n j (taken_block c whole d k (s.block n))
       s.block (apart j used)))
       (λ j used. ap (λ (z : Block (List ℕ)). z.source c) (set-other n j (taken_block c whole d k (s.block n)) s.block
@@ -289,7 +281,7 @@ module _ {w : ℕ} (config : Config) (log : Log w) (h : AbstractState w) (sys : 
         tracks = λ i e. ap s.tracked (sym (eqb-true (s.block n).tracker i e)) ∙ grant_tracked (is_caching config) c n s
             is.invariant due;
         tracks_not = λ i e. is.invariant.named.trackers i n ∙ with_false (is_busy (s.block n).service)
-            (i == (s.block n).tracker) (swapped i (s.block n).tracker e);
+            (i == (s.block n).tracker) (not_swapped (s.block n).tracker i e);
         asks = asks;
         came = λ i. came m x ms queue here rests b last i ∙ ap
             (λ (z : Bool). not (is_empty (unfinished_at sys c channel.D)) && (z && ((s.block n).tracker == i)))

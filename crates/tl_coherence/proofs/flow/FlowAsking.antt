@@ -22,7 +22,7 @@ use Rattle.tl_coherence.proofs.client.Aside.{set_at-else}
 use Rattle.tl_coherence.proofs.client.AsideAll.{Leaves, leaves-asked}
 use Rattle.tl_coherence.proofs.deliveries.AskedAfter.{reply-cases, IsPlain}
 use Rattle.tl_coherence.proofs.memory.BesideAsked.{IsReply}
-use Rattle.tl_coherence.proofs.client.ClientAsked.{asks_acquire}
+use Rattle.tl_coherence.proofs.client.ClientRequests.{asks_acquire}
 use Rattle.tl_coherence.proofs.client.ClientEnd.{asks-same}
 use Rattle.tl_coherence.proofs.queues.Facts.{unserved_calm}
 use Rattle.tl_coherence.proofs.flow.FlowApart.{left-access_asked, left-acquire_asked, left-release_asked}
@@ -30,7 +30,7 @@ use Rattle.tl_coherence.proofs.flow.FlowApart.{left-block_stored}
 use Rattle.tl_coherence.proofs.flow.FlowAside.{IsComing, IsAside, flowed-aside}
 use Rattle.tl_coherence.proofs.flow.FlowAsked.{untouched-access_asked, untouched-acquire_asked, untouched-release_asked}
 use Rattle.tl_coherence.proofs.flow.FlowComing.{coming-granting, coming-asked, coming-free}
-use Rattle.tl_coherence.proofs.flow.FlowResponses.{waits_on_a, not-coming_a}
+use Rattle.tl_coherence.proofs.flow.ComingRequests.{waits_on_a, not-coming_a}
 use Rattle.tl_coherence.proofs.flow.FlowSame.{flowed-untouched}
 use Rattle.tl_coherence.proofs.protocol.FollowKept.{IsAskable}
 use Rattle.tl_coherence.proofs.queues.Tokens.{set-same, set-part}

@@ -27,7 +27,8 @@ use Rattle.tl_coherence.specs.protocol.Protocol.{on, is_probed, report_grants}
 use Rattle.tl_coherence.proofs.client.AsideAll.{Leaves, is_for_manager, leaves-at_manager, leaves-at_client}
 use Rattle.tl_coherence.proofs.manager.Choices.{plain-past}
 use Rattle.tl_coherence.proofs.protocol.HeadOfD.{IsGrantDue, grant-due}
-use Rattle.tl_coherence.proofs.queues.Facts.{quiet_at_rest, own_alone, own_wants, answered_other, is_other}
+use Rattle.tl_coherence.proofs.queues.Facts.{own_wants, answered_other, is_other}
+use Rattle.tl_coherence.proofs.queues.PhaseFacts.{quiet_at_rest, own_alone}
 use Rattle.tl_coherence.proofs.flow.FlowApart.{replied, left-replied, left-served, left-acquire_granted}
 use Rattle.tl_coherence.proofs.flow.FlowApart.{left-probe_taken, left-report_taken, left-release_taken}
 use Rattle.tl_coherence.proofs.flow.FlowApart.{left-answer_taken, left-grant_taken, left-release_ack_taken}
@@ -37,7 +38,8 @@ use Rattle.tl_coherence.proofs.flow.FlowAside.{is_heard, IsComing, flowed-aside,
 use Rattle.tl_coherence.proofs.flow.FlowAsking.{asks-left}
 use Rattle.tl_coherence.proofs.flow.FlowBeats.{same_perms}
 use Rattle.tl_coherence.proofs.flow.FlowComing.{coming-granting, coming-sink}
-use Rattle.tl_coherence.proofs.protocol.FollowKept.{IsReady, settled_all}
+use Rattle.tl_coherence.proofs.protocol.FollowKept.{IsReady}
+use Rattle.tl_coherence.proofs.protocol.RequestsKept.{settled_all}
 use Rattle.tl_coherence.proofs.manager.ManagedEndings.{tracker-of}
 use Rattle.tl_coherence.proofs.queues.Phases.{and_right}
 use Rattle.tl_coherence.proofs.queues.Tokens.{same_number, holds-first}

@@ -25,8 +25,10 @@ use Rattle.tl_coherence.specs.protocol.Phase.{ProbePhase, NoProbe, same_report}
 use Rattle.tl_coherence.specs.protocol.Protocol.{is_sent}
 use Rattle.tl_coherence.proofs.queues.Carried.{IsNext}
 use Rattle.tl_coherence.proofs.client.ClientTakes.{sound-beat}
-use Rattle.tl_coherence.proofs.queues.Facts.{acknowledging_quiet, answered_other, granting_alone, is_other}
-use Rattle.tl_coherence.proofs.queues.Facts.{release_alone, release_begins, report_first, report_fits}
+use Rattle.tl_coherence.proofs.queues.Facts.{answered_other, granting_alone, is_other}
+use Rattle.tl_coherence.proofs.queues.PhaseFacts.{acknowledging_quiet}
+use Rattle.tl_coherence.proofs.queues.Facts.{release_begins}
+use Rattle.tl_coherence.proofs.queues.PhaseFacts.{release_alone, report_first, report_fits}
 use Rattle.tl_coherence.proofs.queues.FirstToken.{IsFirst, first-token}
 use Rattle.tl_coherence.proofs.flow.FlowOrders.{beat-flows, probe-flows, report-flows, release-flows}
 use Rattle.tl_coherence.proofs.manager.ManagerTakes.{by-first_c, same_report-is, seen_cap, unanswered}

@@ -19,13 +19,14 @@ use Rattle.tl_manager.specs.statement.Service.{services, is_in_service}
 use Rattle.tl_manager.specs.statement.Offer.{must_wait}
 use Rattle.tl_coherence.proofs.manager.Admitted.{first_three, grows, unserved-free}
 use Rattle.tl_coherence.proofs.queues.Carried.{IsNext}
-use Rattle.tl_coherence.proofs.queues.Facts.{acquire_fits, asked_alone}
+use Rattle.tl_coherence.proofs.queues.Facts.{acquire_fits}
+use Rattle.tl_coherence.proofs.queues.PhaseFacts.{asked_alone}
 use Rattle.tl_coherence.proofs.queues.FirstToken.{IsFirst, first-token}
 use Rattle.tl_coherence.proofs.flow.FlowLawful.{lawful-beat, next-flows}
 use Rattle.tl_coherence.proofs.flow.FlowOrders.{acquire-flows, request-flows}
 use Rattle.tl_coherence.proofs.protocol.Heads.{IsAsked, asked-first, IsWanted, wanted-first, acquisition_beats}
 use Rattle.tl_coherence.proofs.queues.Phases.{and_left, and_right}
-use Rattle.tl_coherence.proofs.deliveries.RequestsDelivered.{ends-burst}
+use Rattle.tl_coherence.proofs.deliveries.FirstRequest.{ends-burst}
 use Rattle.tl_coherence.proofs.manager.RequestsTaken.{acquire_wanted}
 use Rattle.tl_coherence.proofs.protocol.BothParts.{kept-is}
 use Rattle.tl_coherence.proofs.queues.Codes.{acquires-so}

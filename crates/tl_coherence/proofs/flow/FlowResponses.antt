@@ -3,14 +3,14 @@ use Rattle.tl_coherence.proofs.flow.Imports.{IsWidth, Beat, BeatA, Message, Mess
 use Rattle.tl_coherence.proofs.flow.Imports.{beat_of, begun, unfinished, History, channel_of, Config, Level, Profile}
 use Rattle.tl_coherence.proofs.flow.Imports.{illegal, level_of, RequestSource, ReleaseSource, Prune, Report, Perm}
 use Rattle.tl_coherence.proofs.flow.Imports.{prune_code, report_code, report_left, on_link, comes_in_request}
-use Rattle.tl_coherence.proofs.flow.Imports.{comes_in_release, comes_in_grant, broken_in_order, same_perm, broken_after}
+use Rattle.tl_coherence.proofs.flow.Imports.{comes_in_release, broken_in_order, same_perm, broken_after}
 use Rattle.tl_coherence.proofs.flow.Imports.{is_release, held, pending, request_of, same_block, IsCarried, flow}
 use Rattle.tl_coherence.proofs.flow.Imports.{is_requested, is_sunk, is_release_pending}
 use Rattle.tl_coherence.proofs.flow.Imports.{is_let_by, is_busy, Log, View, ReleasePhase}
 use Rattle.tl_coherence.proofs.flow.Imports.{NoRelease, ReleaseSent, ReleaseAcked, AcquirePhase, AcquireOpen}
 use Rattle.tl_coherence.proofs.flow.Imports.{is_unreleased, Service, GrantSent, is_answered, is_acked, is_granting}
-use Rattle.tl_coherence.proofs.flow.Imports.{is_acknowledging, State, SourceState, Asked, Acquires, view, packet, shown}
-use Rattle.tl_coherence.proofs.flow.Imports.{is_on, is_unserved, is_wanting, AccessMessages, report_told, prune_told}
+use Rattle.tl_coherence.proofs.flow.Imports.{is_acknowledging, State, SourceState, view, packet, shown}
+use Rattle.tl_coherence.proofs.flow.Imports.{is_on, is_unserved, AccessMessages, report_told, prune_told}
 use Rattle.tl_coherence.proofs.flow.Imports.{block_message, message_of, message_of_kind, System, Kind, Request, Acquire}
 use Rattle.tl_coherence.proofs.flow.Imports.{Probe, ProbeAck, Release, Answer, Grant, ReleaseAck, GrantAck, Packet}
 use Rattle.tl_coherence.proofs.flow.Imports.{SimulationRelation, MonitorRelations, is_caching, asked_by}
@@ -39,113 +39,17 @@ use Rattle.tl_coherence.proofs.client.ClientDelivered.{ack_next}
 use Rattle.tl_coherence.proofs.client.ClientEnd.{is_access, asks-access, asks-acquire}
 use Rattle.tl_coherence.proofs.client.ClientTakes.{answers_acquire, fits_asked, fitting, has_data, next-legal}
 use Rattle.tl_coherence.proofs.protocol.HeadOfD.{IsAnswerDue, answer-due, IsGrantDue, grant-due, grant-rendered}
-use Rattle.tl_coherence.proofs.protocol.HeadOfD.{ack-due, acquire-used, grant_message, ack_message, own_view}
+use Rattle.tl_coherence.proofs.protocol.HeadOfD.{ack-due, grant_message, ack_message, own_view}
 use Rattle.tl_coherence.proofs.queues.Facts.{granting_alone}
 use Rattle.tl_coherence.proofs.queues.FirstToken.{IsFirst, first-token, own_kind}
-use Rattle.tl_coherence.proofs.protocol.Heads.{asked-first, rendered-acquire}
 use Rattle.tl_coherence.proofs.flow.FlowLawful.{lawful-beat}
-use Rattle.tl_coherence.proofs.queues.Phases.{and_left, and_right}
+use Rattle.tl_coherence.proofs.queues.Phases.{and_left}
 use Rattle.tl_coherence.proofs.client.ResponseOrder.{answer-legal, grant-legal, ack-legal}
 use Rattle.tl_coherence.proofs.queues.Tokens.{same_number, holds-first}
-use Rattle.tl_coherence.proofs.protocol.BothParts.{is_of-is, wanting-is, quiet_unanswered}
+use Rattle.tl_coherence.proofs.protocol.BothParts.{is_of-is, quiet_unanswered}
 use Rattle.tl_coherence.proofs.queues.Codes.{access_kind}
 use Rattle.tl_manager.proofs.pending.Answered.{no_ack_grant}
-
--- ---- what is half taken on channel A
-
--- a request with a source of this use is on channel A
-abbrev pub waits_on_a : ℕ → SourceState → State (List ℕ) → Bool
-waits_on_a c Asked s = true
-waits_on_a c (Acquires n) s = is_unserved (view (s.block n).service c)
-waits_on_a c _ s = false
-
--- the message is a request whose source waits there
-IsWaiting : {w : ℕ} → ℕ → State (List ℕ) → Message w → Type 0
-IsWaiting {w} c s m = (r : MessageA w) × (m ≡ message.A r) × (waits_on_a c (s.uses c r.source) s ≡ true)
-
-waiting_request : {w : ℕ} (config : Config) (log : Log w) (mail : AccessMessages w) (request : ℕ → MessageA w)
-    (s : State (List ℕ)) (sys : System w) (c i : ℕ)
-    (rest : List Packet) → SimulationRelation config log mail request s sys
-    → (s.link c).a ≡ packet Request i ∷ rest → IsWaiting c s (mail.request c i)
-unfolding IsWaiting
-waiting_request config log mail request s sys c i rest h first =
-    let asked = asked-first config log mail request s sys c i rest h first in (
-      asked.request,
-      asked.is_it,
-      ap (λ (j : ℕ). waits_on_a c (s.uses c j) s) asked.source_is ∙ ap
-          (λ (u : SourceState). waits_on_a c u s) asked.used,
-    )
-
-waiting_acquire : {w : ℕ} (config : Config) (log : Log w) (mail : AccessMessages w) (request : ℕ → MessageA w)
-    (s : State (List ℕ)) (sys : System w) (c n : ℕ)
-    (rest : List Packet) → SimulationRelation config log mail request s sys
-    → (s.link c).a ≡ packet Acquire n ∷ rest → IsWaiting {w = w} c s (block_message Acquire c n (s.block n))
-unfolding IsWaiting
-waiting_acquire {w} config log mail request s sys c n rest h first =
-    let shows : (is_wanting ((s.block n).pair c).acquiring && is_unserved (view (s.block n).service c)) ≡ true =
-    holds-first Acquire (s.link c).a rest (packet Acquire n) (λ i. shown Acquire c (s.block i)) first refl
-    (h.invariant.transfers c Acquire refl) in
-    let wants = and_left (is_wanting ((s.block n).pair c).acquiring) (is_unserved (view (s.block n).service c)) shows in
-    let asks = wanting-is ((s.block n).pair c).acquiring wants in (
-      acquisition (acquire_opcode asks.0) asks.1 ((s.block n).source c) n,
-      rendered-acquire c n (s.block n) asks.0 asks.1 asks.2,
-      ap (λ (u : SourceState). waits_on_a c u s) (acquire-used (is_caching config) c n s h.invariant wants)
-          ∙ and_right (is_wanting ((s.block n).pair c).acquiring) (is_unserved (view (s.block n).service c)) shows,
-    )
-
-comes_not : {w : ℕ} (c source : ℕ) (s : State (List ℕ)) (m : Message w) (k : ℕ) (rest : List (Beat w))
-    → rest ≡ begun m k → IsWaiting c s m
-    → waits_on_a c (s.uses c source) s ≡ false → comes_in_request source rest ≡ false
-unfolding IsWaiting
-comes_not {w} c source s m k rest e is none =
-    ap (comes_in_request source) e ∙ ap (λ (y : Message w). comes_in_request source (begun y k)) is.1 ∙ go k
-  where
-    differ : (b : Bool) → (is.0.source == source) ≡ b → b ≡ false
-    differ false f = refl
-    differ true f = absurd (let no : true ≡ false = sym is.2 ∙ ap (λ (j : ℕ). waits_on_a c (s.uses c j) s)
-        (eqb-true is.0.source source f) ∙ none in cc)
-
-    go : (i : ℕ) → comes_in_request source (begun (message.A is.0) i) ≡ false
-    go zero = refl
-    go (suc i) = differ (is.0.source == source) refl
-
--- no request is half taken whose source waits for an answer
-pub not-coming_a : {w : ℕ} (config : Config) (log : Log w) (mail : AccessMessages w) (request : ℕ → MessageA w)
-    (s : State (List ℕ)) (sys : System w) (c source : ℕ)
-    → SimulationRelation config log mail request s sys → waits_on_a c (s.uses c source) s ≡ false
-    → comes_in_request source (unfinished channel.A (on_link c sys.manager.trace)) ≡ false
-not-coming_a {w} config log mail request s sys c source h none = go (s.link c).a refl (h.carried c channel.A)
-  where
-    rest_now : List (Beat w)
-    rest_now = unfinished channel.A (on_link c sys.manager.trace)
-
-    each : (k : Kind) (i : ℕ) (rest : List Packet) → (s.link c).a ≡ packet k i ∷ rest → is_on channel.A k ≡ true
-        → IsWaiting c s (message_of_kind k mail s c i)
-    each Request i rest first own = waiting_request config log mail request s sys c i rest h first
-    each Acquire i rest first own = waiting_acquire config log mail request s sys c i rest h first
-    each Probe i rest first own = absurd cc
-    each ProbeAck i rest first own = absurd cc
-    each Release i rest first own = absurd cc
-    each Answer i rest first own = absurd cc
-    each Grant i rest first own = absurd cc
-    each ReleaseAck i rest first own = absurd cc
-    each GrantAck i rest first own = absurd cc
-
-    go : (xs : List Packet) → (s.link c).a ≡ xs → IsCarried rest_now (map (message_of mail s c) (s.link c).a)
-        (sys.channels c channel.A) → comes_in_request source rest_now ≡ false
-    go [] first carried =
-        let nothing : IsCarried rest_now [] (sys.channels c channel.A) =
-        subst (λ (ms : List (Message w)). IsCarried rest_now ms (sys.channels c channel.A))
-        (ap (map (message_of mail s c)) first) carried in
-        ap (comes_in_request source) nothing.0
-    go (x ∷ xs) first carried =
-        let some : IsCarried rest_now (message_of mail s c x ∷ map (message_of mail s c) xs)
-        (sys.channels c channel.A) =
-        subst (λ (ms : List (Message w)). IsCarried rest_now ms (sys.channels c channel.A))
-        (ap (map (message_of mail s c)) first) carried in
-        comes_not c source s (message_of mail s c x) some.0 rest_now some.2
-        (each x.kind x.number xs first (own_kind (is_caching config) s c channel.A x.kind x.number xs h.invariant
-        first)) none
+use Rattle.tl_coherence.proofs.flow.ComingRequests.{waits_on_a, not-coming_a}
 
 -- ---- an answer
 

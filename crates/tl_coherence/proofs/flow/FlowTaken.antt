@@ -18,7 +18,7 @@ use Rattle.tl_coherence.specs.statement.Step.{stepped, is_to_client}
 use Rattle.tl_coherence.specs.statement.System.{terms_at}
 use Rattle.tl_coherence.proofs.bound.Settling.{given-before}
 use Rattle.tl_coherence.proofs.deliveries.Matching.{shadow}
-use Rattle.tl_coherence.proofs.flow.Flows.{IsMovedOn, moved-on}
+use Rattle.tl_coherence.proofs.flow.FlowReceived.{IsMovedOn, moved-on}
 use Rattle.tl_coherence.proofs.links.FromInvariant.{matched-given}
 use Rattle.tl_coherence.proofs.links.HeadsOfLinks.{first-of}
 use Rattle.tl_coherence.proofs.outstanding.Outstanding.{first-moved}

@@ -49,7 +49,8 @@ use Rattle.tl_coherence.proofs.manager.Choices.{plain-past}
 use Rattle.tl_coherence.proofs.memory.BesideTaken.{intent-reply, memory-reported, memory-unprobed}
 use Rattle.tl_coherence.proofs.queues.Codes.{low_cap}
 use Rattle.tl_coherence.proofs.protocol.BothParts.{answered-is, quiet-is}
-use Rattle.tl_coherence.proofs.protocol.FollowKept.{IsReady, unprobed, settled_all}
+use Rattle.tl_coherence.proofs.protocol.FollowKept.{IsReady}
+use Rattle.tl_coherence.proofs.protocol.RequestsKept.{unprobed, settled_all}
 use Rattle.tl_coherence.proofs.queues.Facts.{reported_within, spared_within}
 use Rattle.tl_coherence.proofs.queues.Tokens.{set-same, set-other, set_at-same, holds-first}
 

@@ -54,7 +54,7 @@ use Rattle.tl_coherence.specs.protocol.Packet.{Acquire}
 use Rattle.tl_coherence.proofs.deliveries.DeliverDAfter.{followed-still}
 use Rattle.tl_coherence.proofs.deliveries.InvariantKept.{ready-delivered}
 use Rattle.tl_coherence.proofs.deliveries.Matching.{shadow, matched, stepped-nobody}
-use Rattle.tl_coherence.proofs.flow.FlowResponses.{not-coming_a, waits_on_a}
+use Rattle.tl_coherence.proofs.flow.ComingRequests.{not-coming_a, waits_on_a}
 use Rattle.tl_coherence.proofs.flow.FlowStep.{held_by}
 use Rattle.tl_coherence.proofs.flow.Flows.{flowed}
 use Rattle.tl_coherence.proofs.flow.Renewed.{AreRenewed, AreKept, IsSettledFor, kept-same, kept-asked, renewed-same}
@@ -64,7 +64,7 @@ use Rattle.tl_coherence.proofs.flow.FlowTraces.{trace-flows}
 use Rattle.tl_coherence.proofs.flow.GivenAlone.{free-where, held_by_most}
 use Rattle.tl_coherence.proofs.flow.NextOnD.{next-on_d}
 use Rattle.tl_coherence.proofs.links.FromInvariant.{matched-given}
-use Rattle.tl_coherence.proofs.manager.RequestsTaken.{next_tracker}
+use Rattle.tl_coherence.proofs.manager.UnwaitedRequests.{next_tracker}
 use Rattle.tl_coherence.proofs.queues.Facts.{held_at_most}
 use Rattle.tl_coherence.proofs.queues.Perms.{nothing_below}
 use Rattle.tl_coherence.proofs.queues.Steps.{stepped-asked}

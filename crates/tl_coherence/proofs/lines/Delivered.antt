@@ -28,7 +28,8 @@ use Rattle.tl_coherence.proofs.client.ClientTakes.{sound-beat}
 use Rattle.tl_coherence.proofs.links.FifoOfChannels.{flow_still}
 use Rattle.tl_coherence.proofs.queues.FirstToken.{IsFirst, first-token}
 use Rattle.tl_coherence.proofs.flow.FlowLawful.{lawful-beat}
-use Rattle.tl_coherence.proofs.flow.Flows.{asked-still, moved-on}
+use Rattle.tl_coherence.proofs.flow.Flows.{asked-still}
+use Rattle.tl_coherence.proofs.flow.FlowReceived.{moved-on}
 use Rattle.tl_coherence.proofs.links.FromInvariant.{matched-given}
 use Rattle.tl_coherence.proofs.simulation.BeatsInFlight.{level-terms}
 use Rattle.tl_coherence.proofs.deliveries.Matching.{shadow}

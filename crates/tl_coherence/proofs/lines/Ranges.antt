@@ -46,9 +46,10 @@ use Rattle.tl_manager.specs.laws.Pending.{one_if}
 use Rattle.tl_coherence.specs.protocol.Packet.{ReleaseAck, GrantAck, Packet, count, is}
 use Rattle.tl_coherence.specs.refinement.SimulationRelation.{AreLanes, SimulationRelation, is_caching}
 use Rattle.tl_coherence.proofs.memory.Bytes.{IsRangedMachine, IsRangedOpen, IsRangedReply}
-use Rattle.tl_coherence.proofs.protocol.Capacities.{AreBounded, acquire_named, answer_named, grant_ack_named}
+use Rattle.tl_coherence.proofs.protocol.Capacities.{acquire_named, answer_named, grant_ack_named}
+use Rattle.tl_coherence.proofs.protocol.TokenNames.{AreBounded}
 use Rattle.tl_coherence.proofs.protocol.Capacities.{grant_named, release_ack_named, release_named, request_named}
-use Rattle.tl_coherence.proofs.protocol.Capacities.{shown_there, shows_it, tracker_of_service}
+use Rattle.tl_coherence.proofs.protocol.TokenNames.{shown_there, shows_it, tracker_of_service}
 use Rattle.tl_coherence.proofs.queues.Rendered.{same_kind_again}
 use Rattle.tl_coherence.proofs.queues.Tokens.{same_number}
 use Rattle.tl_coherence.proofs.queues.Limits.{limits-fit}

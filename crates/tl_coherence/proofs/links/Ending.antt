@@ -28,7 +28,7 @@ use Rattle.tl_coherence.proofs.deliveries.DeliverDAfter.{followed-moving}
 use Rattle.tl_coherence.proofs.deliveries.Matching.{not_moving, stepped-nobody}
 use Rattle.tl_coherence.proofs.simulation.Moved.{IsTakenByClient, client-moves, manager-moves}
 use Rattle.tl_coherence.proofs.client.ProbeDelivered.{delivered-b}
-use Rattle.tl_coherence.proofs.manager.RequestsTaken.{next_tracker}
+use Rattle.tl_coherence.proofs.manager.UnwaitedRequests.{next_tracker}
 use Rattle.tl_coherence.proofs.queues.Steps.{stepped-empty}
 
 -- the operation with this source ends so

@@ -43,7 +43,7 @@ use Rattle.tl_coherence.specs.statement.System.{fresh, with_client, with_manager
 use Rattle.tl_coherence.specs.statement.System.{with_messages}
 use Rattle.tl_coherence.proofs.links.HeadsOfLinks.{first-of}
 use Rattle.tl_coherence.proofs.simulation.BeatsInFlight.{IsOfClient, IsFitIfAny, IsFitAnswer, fit-asked, fit-taken}
-use Rattle.tl_coherence.proofs.deliveries.DeliverDWhole.{unmoved}
+use Rattle.tl_coherence.proofs.deliveries.DeliverDUnmoved.{unmoved}
 use Rattle.tl_coherence.proofs.queues.Landed.{IsOn}
 use Rattle.tl_coherence.proofs.deliveries.Matching.{shadow, matched, not_moving, stepped-nobody}
 use Rattle.tl_coherence.proofs.simulation.Moved.{IsTakenByClient, IsTakenByManager, client-moves, manager-moves}

@@ -39,7 +39,7 @@ use Rattle.tl_coherence.proofs.protocol.HeadOfD.{grant_message}
 use Rattle.tl_coherence.proofs.links.Ending.{IsEnding, ending}
 use Rattle.tl_coherence.proofs.client.DeliverD.{finish_at}
 use Rattle.tl_coherence.proofs.deliveries.Matching.{matched-event}
-use Rattle.tl_coherence.proofs.manager.RequestsTaken.{next_tracker}
+use Rattle.tl_coherence.proofs.manager.UnwaitedRequests.{next_tracker}
 use Rattle.tl_coherence.proofs.queues.Tokens.{set-same}
 
 -- ---- how a response ends its operation

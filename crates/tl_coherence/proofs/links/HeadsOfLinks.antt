@@ -30,8 +30,8 @@ use Rattle.tl_coherence.proofs.deliveries.ManagerDelivered.{channel_c-delivered,
 use Rattle.tl_coherence.proofs.manager.ManagerTakes.{by-first_c, by-first_e}
 use Rattle.tl_coherence.proofs.client.ProbeDelivered.{IsProbed, delivered-b}
 use Rattle.tl_coherence.proofs.manager.Reporting.{report-about, release-about}
-use Rattle.tl_coherence.proofs.deliveries.RequestsDelivered.{IsArrival, arrival-first, request-taken, request-stalled}
-use Rattle.tl_coherence.proofs.manager.RequestsTaken.{next_tracker}
+use Rattle.tl_coherence.proofs.deliveries.FirstRequest.{IsArrival, arrival-first, request-taken, request-stalled}
+use Rattle.tl_coherence.proofs.manager.UnwaitedRequests.{next_tracker}
 use Rattle.tl_coherence.proofs.memory.Runs.{IsTakenUp, IsTakenIn}
 use Rattle.tl_coherence.proofs.links.Stalling.{IsFirst}
 

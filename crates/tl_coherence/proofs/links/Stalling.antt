@@ -39,7 +39,7 @@ use Rattle.tl_coherence.specs.protocol.Phase.{is_unreleased}
 use Rattle.tl_coherence.specs.protocol.Protocol.{State}
 use Rattle.tl_coherence.specs.refinement.PacketMessages.{AccessMessages}
 use Rattle.tl_coherence.specs.statement.Step.{delivered, judged, manager_took, stepped_at}
-use Rattle.tl_coherence.proofs.protocol.Capacities.{source_of_release}
+use Rattle.tl_coherence.proofs.protocol.TokenNames.{source_of_release}
 use Rattle.tl_coherence.proofs.memory.Runs.{IsTaken, IsTakenUp, IsTakenIn, stall-delivered}
 use Rattle.tl_coherence.proofs.queues.Tokens.{same_number}
 use Rattle.tl_coherence.proofs.queues.Phases.{and_left}

@@ -49,7 +49,8 @@ use Rattle.tl_manager.specs.laws.Pending.{one_if}
 use Rattle.tl_coherence.specs.protocol.Packet.{count, is}
 use Rattle.tl_coherence.specs.refinement.SimulationRelation.{AreLanes}
 use Rattle.tl_coherence.proofs.manager.Arrivals.{link_of}
-use Rattle.tl_coherence.proofs.queues.Facts.{asked_alone, acquire_fits}
+use Rattle.tl_coherence.proofs.queues.Facts.{acquire_fits}
+use Rattle.tl_coherence.proofs.queues.PhaseFacts.{asked_alone}
 use Rattle.tl_coherence.proofs.protocol.Heads.{IsWanted}
 use Rattle.tl_coherence.proofs.manager.Orders.{acquire-legal}
 use Rattle.tl_coherence.proofs.queues.Phases.{and_left, and_right}

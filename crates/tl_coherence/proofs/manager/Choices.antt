@@ -12,7 +12,7 @@ use Rattle.tl_manager.specs.statement.Holders.{clients_where}
 use Rattle.tl_manager.proofs.words_of_clients.Clients.{among-where, nobody-is, nobody-where, where-same}
 use Rattle.tl_coherence.specs.protocol.Invariant.{IsOwnSource}
 use Rattle.tl_coherence.proofs.queues.Facts.{own_wants}
-use Rattle.tl_coherence.proofs.protocol.FollowKept.{some-none}
+use Rattle.tl_coherence.proofs.protocol.RequestsKept.{some-none}
 use Rattle.tl_coherence.proofs.queues.Tokens.{same_number}
 use Rattle.tl_coherence.proofs.protocol.BothParts.{acquires_of-is, serves_of-is, not-calm}
 

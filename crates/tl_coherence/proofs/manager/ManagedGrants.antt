@@ -1,9 +1,9 @@
 -- What the manager knows after the last ProbeAck that an Acquire waited for, whose Grant is handed out.
-use Rattle.tl_coherence.proofs.manager.Imports.{IsWidth, BeatC, D, MessageA, MessageD, a_beat_of, unfinished}
-use Rattle.tl_coherence.proofs.manager.Imports.{beats-positive, Cap, Report, cap_right, report_right, Trace, on_link}
-use Rattle.tl_coherence.proofs.manager.Imports.{comes_in_request, block_at, capped, held, is_grant, is_probe_ack}
-use Rattle.tl_coherence.proofs.manager.Imports.{pending, probe_of, request_of, held-sent_d, swapped, recorded}
-use Rattle.tl_coherence.proofs.manager.Imports.{IsAccounted, service_of_block, after_sent, own_link, other_link}
+use Rattle.tl_coherence.proofs.manager.Imports.{BeatC, D, MessageA, MessageD, a_beat_of, unfinished}
+use Rattle.tl_coherence.proofs.manager.Imports.{Cap, Report, cap_right, report_right, Trace, on_link}
+use Rattle.tl_coherence.proofs.manager.Imports.{comes_in_request, block_at, capped, is_probe_ack}
+use Rattle.tl_coherence.proofs.manager.Imports.{pending, probe_of, request_of, swapped, recorded}
+use Rattle.tl_coherence.proofs.manager.Imports.{IsAccounted, service_of_block, after_sent}
 use Rattle.tl_coherence.proofs.manager.Imports.{reply-quiet, burst-reply, request-reply, probe-reply, AreNamed}
 use Rattle.tl_coherence.proofs.manager.Imports.{ManagerRelation, is_own, ClientBlock, Own, Other, Granting}
 use Rattle.tl_coherence.proofs.manager.Imports.{GrantedOther, is_unprobed, after_report, after_grant_sent, Waits}
@@ -11,118 +11,22 @@ use Rattle.tl_coherence.proofs.manager.Imports.{GrantSent, Block, State, SourceS
 use Rattle.tl_coherence.proofs.manager.Imports.{Replied, Acquires, view, is_granting, is_acknowledging, is_wanting}
 use Rattle.tl_coherence.proofs.manager.Imports.{report_grants, granted_block, reported_block, ServedSourceRelation}
 use Rattle.tl_coherence.proofs.manager.Imports.{is_served, is_granted, cap_waited, probe_beat, Packet, set}
-use Rattle.std.proofs.Common.{◌≡◌, ℕ, ◌==◌, Bool, true, false, not, ◌&&◌, ◌||◌, List, [], Option, Some, None, refl, sym}
-use Rattle.std.proofs.Common.{◌∙◌, ap, ◌⊎◌, inl, inr, subst}
-use Rattle.std.specs.Prelude.{if◌then◌else◌, unwrap_or}
+use Rattle.std.proofs.Common.{◌≡◌, ℕ, ◌==◌, Bool, true, false, not, ◌&&◌, ◌||◌, List, Option, Some, None, refl, sym}
+use Rattle.std.proofs.Common.{◌∙◌, ap, ◌⊎◌, inl, inr}
+use Rattle.std.specs.Prelude.{if◌then◌else◌}
 use Rattle.std.proofs.lemmas.Bool.{cases_eq, eqb-true, ne_eqb, and_parts}
 use Rattle.tl_beat.specs.declared.channel.Channel.TheVariants as channel
 use Rattle.tl_params.specs.declared.key.Key.TheVariants as key
 use Rattle.tl_rules.specs.statement.History.{asks_for}
-use Rattle.tl_rules.proofs.Handed.{after_whole}
 use Rattle.tl_manager.proofs.pending.Granted.{IsGrant, services-grant, accounted-grant}
 use Rattle.tl_manager.proofs.pending.Replied.{source-reply}
-use Rattle.tl_manager.proofs.pending.Replies.{pending-reply}
 use Rattle.tl_coherence.proofs.manager.QuiescentManager.{quiet-c, IsLastOf}
 use Rattle.tl_coherence.proofs.manager.ManagedEndings.{tracker-of, tracker-alone, taken, service_for, no-burst}
 use Rattle.tl_coherence.proofs.manager.ManagedReports.{reported-records, reported-missing}
 use Rattle.tl_coherence.proofs.queues.Phases.{and_right}
 use Rattle.tl_coherence.proofs.queues.Tokens.{same_number, set-same, set-other}
-
--- ---- a Grant of block n to client q, whose request asks for that block
-
-pub record IsGiven {w : ℕ} (q n tracker : ℕ) (m : MessageD w) (u : Trace w) : Type 0 where
-  pub width : IsWidth w
-  pub whole : unfinished channel.D (on_link q u) ≡ []
-  pub grants : is_grant m.opcode ≡ true
-  pub sink : m.sink ≡ tracker
-  pub asks : (i : ℕ) → asks_for i (request_of m.source (on_link q u)) ≡ (n == i)
-
-grants_it : {w : ℕ} (q n tracker : ℕ) (m : MessageD w) (u : Trace w) → IsGiven q n tracker m u → (d i : ℕ)
-    → (q == d) ≡ true
-    → (is_grant m.opcode && asks_for i (request_of m.source (on_link d u))) ≡ (n == i)
-grants_it q n tracker m u is d i e = rw (← eqb-true q d e, is.grants) (is.asks i)
-
-pub given-acquires : {w : ℕ} (q n tracker : ℕ) (m : MessageD w) (u : Trace w) → IsGiven q n tracker m u → (d i : ℕ)
-    → pending (key.AcquireOf i) (on_link d (after_sent (record { 0 = q }) (D m) u))
-    ≡ (if (q == d) && (n == i) then false else pending (key.AcquireOf i) (on_link d u))
-given-acquires {w} q n tracker m u is d i = pending-reply (key.AcquireOf i) (record { 0 = q }) m u d is.width
-    is.whole ∙ go (q == d) refl
-  where
-    go : (b : Bool) → (q == d) ≡ b
-        → (if b then after_whole false (is_grant m.opcode && asks_for i (request_of m.source (on_link d u)))
-        (pending (key.AcquireOf i) (on_link d u)) else pending (key.AcquireOf i) (on_link d u))
-        ≡ (if b && (n == i) then false else pending (key.AcquireOf i) (on_link d u))
-    go true e = ap (λ z. after_whole false z (pending (key.AcquireOf i) (on_link d u)))
-        (grants_it q n tracker m u is d i e)
-    go false e = refl
-
-pub given-acks : {w : ℕ} (q n tracker : ℕ) (m : MessageD w) (u : Trace w) → IsGiven q n tracker m u → (d i : ℕ)
-    → pending (key.GrantAckOf i) (on_link d (after_sent (record { 0 = q }) (D m) u))
-    ≡ (if (q == d) && (n == i) then true else pending (key.GrantAckOf i) (on_link d u))
-given-acks {w} q n tracker m u is d i = pending-reply (key.GrantAckOf i) (record { 0 = q }) m u d is.width is.whole ∙ go
-    (q == d) refl
-  where
-    go : (b : Bool) → (q == d) ≡ b
-        → (if b then after_whole (is_grant m.opcode && asks_for i (request_of m.source (on_link d u))) false
-        (pending (key.GrantAckOf i) (on_link d u)) else pending (key.GrantAckOf i) (on_link d u))
-        ≡ (if b && (n == i) then true else pending (key.GrantAckOf i) (on_link d u))
-    go true e = ap (λ z. after_whole z false (pending (key.GrantAckOf i) (on_link d u)))
-        (grants_it q n tracker m u is d i e)
-    go false e = refl
-
-pub given-sinks : {w : ℕ} (q n tracker : ℕ) (m : MessageD w) (u : Trace w) → IsGiven q n tracker m u → (d i : ℕ)
-    → pending (key.GrantSink i) (on_link d (after_sent (record { 0 = q }) (D m) u))
-    ≡ (if (q == d) && (tracker == i) then true else pending (key.GrantSink i) (on_link d u))
-given-sinks {w} q n tracker m u is d i = pending-reply (key.GrantSink i) (record { 0 = q }) m u d is.width is.whole ∙ rw
-    (is.grants, is.sink) (go (q == d))
-  where
-    go : (b : Bool)
-        → (if b then after_whole (tracker == i) false (pending (key.GrantSink i) (on_link d u)) else pending
-        (key.GrantSink i) (on_link d u))
-        ≡ (if b && (tracker == i) then true else pending (key.GrantSink i) (on_link d u))
-    go true = refl
-    go false = refl
-
-pub given-records : {w : ℕ} (q n tracker : ℕ) (m : MessageD w) (u : Trace w) → IsGiven q n tracker m u → (d i : ℕ)
-    → recorded d i (after_sent (record { 0 = q }) (D m) u) ≡ (if (q == d) && (n == i) then capped m.param else recorded
-    d i u)
-given-records {w} q n tracker m u is d i = go (q == d) refl
-  where
-    said : (b : Bool) → unwrap_or (if b then Some (capped m.param) else None) (recorded d i u)
-        ≡ (if b then capped m.param else recorded d i u)
-    said true = refl
-    said false = refl
-
-    go : (b : Bool) → (q == d) ≡ b
-        → recorded d i (after_sent (record { 0 = q }) (D m) u) ≡ (if b && (n == i) then capped m.param else recorded d i
-        u)
-    go true e =
-        ap (held i) (own_link d (record { 0 = q }) (D m) u e)
-        ∙ held-sent_d i m (on_link d u) (subst (λ (j : ℕ). unfinished channel.D (on_link j u) ≡ []) (eqb-true q d e)
-        is.whole)
-        (beats-positive (D m) is.width)
-        ∙ ap (λ z. unwrap_or (if z then Some (capped m.param) else None) (recorded d i u))
-        (grants_it q n tracker m u is d i e) ∙ said (n == i)
-    go false e = ap (held i) (other_link d (record { 0 = q }) (D m) u e)
-
--- ---- one client of one block has another pair than it had in the block's place
-
-pub pair-over : {X A : Type 0} (part : ClientBlock → A) (q n : ℕ) (p : ClientBlock) (new mid : Block X) (block : ℕ
-    → Block X) → ((d : ℕ) → new.pair d ≡ set q p mid.pair d) → (d i : ℕ)
-    → part ((set n new block i).pair d) ≡ (if (q == d) && (n == i) then part p else part ((set n mid block i).pair d))
-pair-over {X} {A} part q n p new mid block is d i = elim (cases_eq i n) [
-  | inl same ↦ rw (same, set-same n new block, set-same n mid block, same_number n, is d) (elim (cases_eq d q) [
-    | inl mine ↦ rw (mine, set-same q p mid.pair, same_number q) refl
-    | inr apart ↦ let differ : q ≡ d → ⊥ = λ e. apart (sym e) in rw (set-other q d p mid.pair apart, ne_eqb q d differ)
-        refl
-  ])
-  | inr other ↦ let differ : n ≡ i → ⊥ = λ e. other (sym e) in
-      rw (set-other n i new block other, set-other n i mid block other, ne_eqb n i differ) (never (q == d))
-]
-  where
-    never : (b : Bool) → part ((block i).pair d) ≡ (if b && false then part p else part ((block i).pair d))
-    never true = refl
-    never false = refl
+use Rattle.tl_coherence.proofs.manager.GivenGrants.{IsGiven, given-acquires, given-acks, given-sinks, given-records}
+use Rattle.tl_coherence.proofs.manager.GivenGrants.{pair-over}
 
 -- ---- the Grant of a service that waited
 

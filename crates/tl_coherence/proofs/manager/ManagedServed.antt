@@ -1,5 +1,5 @@
 -- Who is above a cap for the manager is so for the protocol.
-use Rattle.tl_coherence.proofs.manager.Imports.{Cap, Perm, recorded, cap_probed, is_spared, probed, is_above}
+use Rattle.tl_coherence.proofs.manager.Imports.{Cap, Perm, is_above}
 use Rattle.std.proofs.Common.{◌≡◌, refl}
 use Rattle.tl_params.specs.declared.param.Cap.TheVariants as cap
 use Rattle.tl_params.specs.declared.perm.Perm.TheVariants as perm

@@ -1,8 +1,8 @@
 -- What the manager hands out at a beat of channel C or E: the messages of the tokens that the protocol pushes.
 use Rattle.tl_coherence.proofs.manager.Imports.{Config, Cap, Grow, Report, cap_right, same_perm, AbstractState}
-use Rattle.tl_coherence.proofs.manager.Imports.{ClientBlock, after_report, after_grant_sent, is_granted_data, GrantSent}
-use Rattle.tl_coherence.proofs.manager.Imports.{Block, State, granted_block, is_granting, let_block, report_grants}
-use Rattle.tl_coherence.proofs.manager.Imports.{view, block_message, Grant, set}
+use Rattle.tl_coherence.proofs.manager.Imports.{ClientBlock, after_report, after_grant_sent, is_granted_data}
+use Rattle.tl_coherence.proofs.manager.Imports.{Block, granted_block}
+use Rattle.tl_coherence.proofs.manager.Imports.{block_message, Grant, set}
 use Rattle.std.proofs.Common.{◌≡◌, ℕ, Bool, false, List, refl, ap}
 use Rattle.tl_params.specs.declared.perm.Perm.TheVariants as perm
 use Rattle.tl_coherence.specs.protocol.Invariant.{IsWell}

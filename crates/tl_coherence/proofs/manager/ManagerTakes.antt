@@ -36,7 +36,8 @@ use Rattle.tl_coherence.specs.refinement.PacketMessages.{message_of, message_of_
 use Rattle.tl_manager.specs.laws.Pending.{one_if}
 use Rattle.tl_coherence.specs.protocol.Packet.{is, count}
 use Rattle.tl_coherence.proofs.queues.Carried.{IsNext}
-use Rattle.tl_coherence.proofs.queues.Facts.{is_other, report_fits, own_alone, release_begins}
+use Rattle.tl_coherence.proofs.queues.Facts.{is_other, release_begins}
+use Rattle.tl_coherence.proofs.queues.PhaseFacts.{report_fits, own_alone}
 use Rattle.tl_coherence.proofs.manager.Orders.{report-legal}
 use Rattle.tl_coherence.proofs.queues.Phases.{and_left, and_right}
 use Rattle.tl_coherence.proofs.queues.PhaseSteps.{on_other}

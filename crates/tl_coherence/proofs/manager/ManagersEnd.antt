@@ -4,7 +4,8 @@ use Rattle.tl_coherence.proofs.manager.Imports.{ManagerRelation, Service, Free, 
 use Rattle.tl_coherence.proofs.manager.Imports.{AccessMessages, ServedSourceRelation, System, SimulationRelation}
 use Rattle.tl_coherence.proofs.manager.Imports.{IsServedWith}
 use Rattle.std.proofs.Common.{◌≡◌, ℕ, ◌*◌, Bool, List, [], sym, ◌∙◌}
-use Rattle.tl_coherence.proofs.manager.Accounts.{IsTraced, managed-traced, are_served-traced, traced-known}
+use Rattle.tl_coherence.proofs.manager.Accounts.{are_served-traced, traced-known}
+use Rattle.tl_coherence.proofs.manager.BlockAccounts.{IsTraced, managed-traced}
 use Rattle.tl_coherence.proofs.manager.Traces.{IsSameToManager, SameService, traced-same}
 
 -- all that is kept of the manager's end

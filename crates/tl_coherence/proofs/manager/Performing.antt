@@ -26,7 +26,7 @@ use Rattle.tl_manager.proofs.pending.LinkHistories.{sent-keeps}
 use Rattle.tl_manager.proofs.pending.Performed.{performed-serving}
 use Rattle.tl_manager.proofs.blocks.Recording.{cap-gives}
 use Rattle.tl_coherence.specs.protocol.Protocol.{performed_block}
-use Rattle.tl_coherence.proofs.manager.Accounts.{IsTraced}
+use Rattle.tl_coherence.proofs.manager.BlockAccounts.{IsTraced}
 use Rattle.tl_coherence.proofs.manager.Traces.{traced-at}
 use Rattle.tl_coherence.proofs.manager.Arrivals.{link_of, with_beat, IsComing, service_for, ready-last}
 use Rattle.tl_coherence.proofs.manager.Requests.{recorded-beat, missing-beat, request-beat, request-own, IsUnwaited}

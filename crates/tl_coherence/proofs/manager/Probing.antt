@@ -1,7 +1,7 @@
 -- What the manager knows after a request for which others are probed: an Acquire, or an access.
 use Rattle.tl_coherence.proofs.manager.Imports.{A, MessageA, a_beat_of, beats_of, unfinished, Config, ProbeOf, Cap}
 use Rattle.tl_coherence.proofs.manager.Imports.{Trace, on_link, pending, held, block_at, request_of, held_unsaid}
-use Rattle.tl_coherence.proofs.manager.Imports.{swapped, with_handed, probes, recorded, cap_probed, is_spared, probed}
+use Rattle.tl_coherence.proofs.manager.Imports.{swapped, with_handed, probes, recorded, is_spared, probed}
 use Rattle.tl_coherence.proofs.manager.Imports.{services, service_of_block, least_untaken, trackers_of, End}
 use Rattle.tl_coherence.proofs.manager.Imports.{whole-taken, ClientBlock, is_unprobed, is_above, set, Free, Waits}
 use Rattle.tl_coherence.proofs.manager.Imports.{Block, State, client_in, service_with, IsFor}
@@ -23,7 +23,7 @@ use Rattle.tl_manager.proofs.pending.Probing.{missing-own_b, missing-else_b, req
 use Rattle.tl_coherence.specs.protocol.Phase.{ProbeSent}
 use Rattle.tl_coherence.specs.protocol.PhaseSteps.{after_served}
 use Rattle.tl_coherence.specs.protocol.Protocol.{served_pair, served_block}
-use Rattle.tl_coherence.proofs.manager.Accounts.{IsTraced}
+use Rattle.tl_coherence.proofs.manager.BlockAccounts.{IsTraced}
 use Rattle.tl_coherence.proofs.manager.Traces.{traced-at}
 use Rattle.tl_coherence.proofs.manager.Arrivals.{link_of, with_beat, IsComing, service_for}
 use Rattle.tl_coherence.proofs.manager.ManagedServed.{same_above}

@@ -9,7 +9,7 @@ use Rattle.tl_beat.specs.declared.beat.Beat.TheVariants as beat
 use Rattle.tl_rules.proofs.Sent.{not_last}
 use Rattle.tl_manager.proofs.services.Ended.{services-part}
 use Rattle.tl_manager.proofs.calls.Events.{services-request}
-use Rattle.tl_coherence.proofs.manager.Accounts.{IsTraced}
+use Rattle.tl_coherence.proofs.manager.BlockAccounts.{IsTraced}
 use Rattle.tl_coherence.proofs.manager.Arrivals.{link_of, with_beat, IsComing, ends-coming, service_for, served-last}
 use Rattle.tl_coherence.proofs.manager.Arrivals.{request-taken, request-else}
 use Rattle.tl_coherence.proofs.queues.Tokens.{same_number}

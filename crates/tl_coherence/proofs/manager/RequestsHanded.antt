@@ -1,7 +1,7 @@
 -- What the manager hands out at the last beat of a request: the messages of the tokens that the protocol pushes.
 use Rattle.tl_coherence.proofs.manager.Imports.{Message, MessageA, a_beat_of, beats_of, Config, Cap, cap_right, Memory}
-use Rattle.tl_coherence.proofs.manager.Imports.{bytes_from, effect, answer_of, block_at, Reaction, probes, performed}
-use Rattle.tl_coherence.proofs.manager.Imports.{access_answer, cap_granted, recorded, probed, cap_probed, Trace}
+use Rattle.tl_coherence.proofs.manager.Imports.{bytes_from, answer_of, block_at, Reaction}
+use Rattle.tl_coherence.proofs.manager.Imports.{access_answer, cap_granted, recorded, cap_probed, Trace}
 use Rattle.tl_coherence.proofs.manager.Imports.{same_perm, same_block, reaction, End, level_of, performed-access}
 use Rattle.tl_coherence.proofs.manager.Imports.{performed-acquire, answers, gift, is_unheld, Log, ClientBlock}
 use Rattle.tl_coherence.proofs.manager.Imports.{after_grant_sent, is_granted_data, GrantSent, Block, State, view}
@@ -27,7 +27,8 @@ use Rattle.tl_coherence.proofs.manager.Arrivals.{link_of, with_beat, IsComing, s
 use Rattle.tl_coherence.proofs.protocol.Heads.{IsAsked, IsWanted}
 use Rattle.tl_coherence.proofs.manager.Memories.{performed-reply}
 use Rattle.tl_coherence.proofs.manager.Requests.{recorded-beat}
-use Rattle.tl_coherence.proofs.manager.RequestsTaken.{next_tracker, reaction-performed, acquire_wanted, unheld-same}
+use Rattle.tl_coherence.proofs.manager.RequestsTaken.{acquire_wanted}
+use Rattle.tl_coherence.proofs.manager.UnwaitedRequests.{next_tracker, reaction-performed, unheld-same}
 use Rattle.tl_coherence.proofs.queues.Tokens.{same_number, set-same}
 use Rattle.tl_coherence.proofs.queues.Codes.{acquires-so, gives-some, data-same}
 

@@ -5,7 +5,7 @@ use Rattle.tl_coherence.proofs.manager.Imports.{Waits, GrantSent, GrantTaken, Bl
 use Rattle.tl_coherence.proofs.manager.Imports.{IsFor}
 use Rattle.std.proofs.Common.{◌≡◌, ℕ, Bool, not, Option, Some, sym, ◌∙◌, ap, ap₂, inl, inr}
 use Rattle.std.proofs.lemmas.Bool.{cases_eq}
-use Rattle.tl_coherence.proofs.manager.Accounts.{IsTraced}
+use Rattle.tl_coherence.proofs.manager.BlockAccounts.{IsTraced}
 
 -- ---- one block changes
 

@@ -1,7 +1,7 @@
 -- Steps of the whole that the manager doesn't see: an event of a client that there isn't, a client that is asked, and a
 -- delivery to a client.
 use Rattle.tl_coherence.proofs.manager.Imports.{Beat, Link, Channel, Message, unfinished, Config, AbstractState}
-use Rattle.tl_coherence.proofs.manager.Imports.{kind_taken, IsInvariant, Log, packet, is_on, on, System, Kind, Request}
+use Rattle.tl_coherence.proofs.manager.Imports.{IsInvariant, Log, packet, is_on, on, System, Kind, Request}
 use Rattle.tl_coherence.proofs.manager.Imports.{Acquire, Probe, ProbeAck, Release, Answer, Grant, ReleaseAck, GrantAck}
 use Rattle.tl_coherence.proofs.manager.Imports.{Packet, SimulationRelation, is_caching}
 use Rattle.std.proofs.Common.{◌≡◌, subst, ℕ, Bool, true, false, ◌&&◌, List, [], ◌∷◌, Option, Some, None, refl, sym, ◌∙◌}
@@ -31,7 +31,7 @@ use Rattle.tl_coherence.specs.statement.System.{terms_at, with_client, with_chan
 use Rattle.tl_coherence.proofs.manager.Admitted.{first_counts}
 use Rattle.tl_coherence.proofs.protocol.FollowKept.{IsAskable}
 use Rattle.tl_coherence.proofs.manager.ManagersEnd.{at_manager-matched}
-use Rattle.tl_coherence.proofs.manager.RequestsTaken.{next_tracker}
+use Rattle.tl_coherence.proofs.manager.UnwaitedRequests.{next_tracker}
 use Rattle.tl_coherence.proofs.queues.Steps.{manager-with_messages, stepped-asked, stepped-to-client, stepped-empty}
 use Rattle.tl_coherence.proofs.manager.Unseen.{at_manager-asked, is_to_clients, at_manager-client_taken}
 use Rattle.tl_coherence.proofs.manager.ManagerAfter.{IsManagerOf}

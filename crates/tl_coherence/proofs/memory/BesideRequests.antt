@@ -35,7 +35,8 @@ use Rattle.tl_coherence.proofs.memory.BesideTaken.{IsPerformed}
 use Rattle.tl_coherence.proofs.manager.Choices.{plain-past}
 use Rattle.tl_coherence.proofs.protocol.Heads.{IsAsked, IsWanted}
 use Rattle.tl_coherence.proofs.manager.RequestsHanded.{handed-answered}
-use Rattle.tl_coherence.proofs.manager.RequestsTaken.{next_tracker, probed-some, reaction-performed, caps_asked}
+use Rattle.tl_coherence.proofs.manager.RequestsTaken.{caps_asked}
+use Rattle.tl_coherence.proofs.manager.UnwaitedRequests.{next_tracker, probed-some, reaction-performed}
 use Rattle.tl_coherence.proofs.manager.RequestsTaken.{acquire_wanted}
 use Rattle.tl_coherence.proofs.queues.Codes.{acquires-so}
 

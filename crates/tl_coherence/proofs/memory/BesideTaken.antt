@@ -37,7 +37,7 @@ use Rattle.tl_coherence.specs.refinement.SimulationRelation.{IsRequest}
 use Rattle.tl_coherence.proofs.memory.Beside.{IsSameAcquire, done_at, set_at-there, open-here, open-there}
 use Rattle.tl_coherence.proofs.memory.Beside.{open-releases, performing-one, beside-used}
 use Rattle.tl_coherence.proofs.queues.Facts.{is_other}
-use Rattle.tl_coherence.proofs.protocol.FollowKept.{some-none}
+use Rattle.tl_coherence.proofs.protocol.RequestsKept.{some-none}
 use Rattle.tl_coherence.proofs.memory.OneMemory.{blocks-performed, reply-performed, effect-sourced}
 use Rattle.tl_coherence.proofs.queues.Phases.{each_phase, of_phase, implies, implies_is}
 use Rattle.tl_coherence.proofs.queues.Perms.{nothing-above, not_out}

@@ -15,7 +15,7 @@ use Rattle.tl_coherence.specs.protocol.Protocol.{InService, Replied}
 use Rattle.tl_coherence.specs.statement.OneMemory.{one_memory_after}
 use Rattle.tl_coherence.specs.refinement.PacketMessages.{AccessMessages}
 use Rattle.tl_coherence.proofs.simulation.Bounded.{matched-bounded}
-use Rattle.tl_coherence.proofs.protocol.Capacities.{AreBounded}
+use Rattle.tl_coherence.proofs.protocol.TokenNames.{AreBounded}
 use Rattle.tl_coherence.proofs.outstanding.Counted.{AreCounted, outstanding-open}
 use Rattle.tl_coherence.proofs.outstanding.Moving.{bare-when-standing, closed-when-standing, standing-when-closed}
 use Rattle.tl_coherence.proofs.protocol.OpenCounts.{clients_in, sources_in}

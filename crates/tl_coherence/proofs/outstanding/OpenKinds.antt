@@ -31,7 +31,7 @@ use Rattle.tl_coherence.specs.protocol.Protocol.{report_grants, release_taken, a
 use Rattle.tl_coherence.specs.protocol.Protocol.{release_ack_taken, grant_ack_taken}
 use Rattle.tl_coherence.specs.refinement.PacketMessages.{report_told}
 use Rattle.tl_coherence.specs.protocol.Packet.{Kind, Probe, ProbeAck, Answer, Grant, GrantAck, set}
-use Rattle.tl_coherence.proofs.protocol.Capacities.{AreBounded}
+use Rattle.tl_coherence.proofs.protocol.TokenNames.{AreBounded}
 use Rattle.tl_coherence.proofs.protocol.HeadOfD.{answer-due, grant-due, ack-due}
 use Rattle.tl_coherence.proofs.protocol.Heads.{asked-first}
 use Rattle.tl_coherence.proofs.protocol.OpenCounts.{marked-set, set_at-part, acks-set, acks-same, clients_in}

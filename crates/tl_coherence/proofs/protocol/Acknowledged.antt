@@ -16,7 +16,8 @@ use Rattle.tl_beat.specs.declared.channel.Channel.TheVariants as channel
 use Rattle.tl_coherence.specs.protocol.PhaseSteps.{after_release_ack}
 use Rattle.tl_coherence.specs.protocol.Protocol.{let_go_block, release_ack_taken, freed_block, grant_ack_taken}
 use Rattle.tl_coherence.proofs.queues.Moves.{moves_at, event-at, bare-at, names-block, names-set, names-set_at}
-use Rattle.tl_coherence.proofs.queues.Moves.{invariant-moved, same_again}
+use Rattle.tl_coherence.proofs.queues.Moves.{invariant-moved}
+use Rattle.tl_coherence.proofs.queues.KindMoves.{same_again}
 use Rattle.tl_coherence.proofs.queues.Tokens.{same_number, set-same, set-other, set-part}
 use Rattle.tl_coherence.proofs.queues.PhaseSteps.{release_ack-ok, ack_taken-ok, ack_taken_other-ok}
 use Rattle.tl_coherence.proofs.protocol.Blocks.{gentle-same, awaited-same, asked_cap-same, alone-set, owned-set}

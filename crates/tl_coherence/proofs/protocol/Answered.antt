@@ -10,7 +10,8 @@ use Rattle.std.specs.Prelude.{ℕ, Bool, true, false, List, ◌∷◌}
 use Rattle.tl_beat.specs.declared.channel.Channel.TheVariants as channel
 use Rattle.tl_params.specs.declared.perm.Perm.TheVariants as perm
 use Rattle.tl_coherence.specs.protocol.Protocol.{performed_block, answered_link, access_answered, answer_taken}
-use Rattle.tl_coherence.proofs.queues.Moves.{moves_at, event-at, bare-elsewhere, spares, spared-agrees}
+use Rattle.tl_coherence.proofs.queues.Moves.{moves_at, event-at, bare-elsewhere}
+use Rattle.tl_coherence.proofs.queues.KindMoves.{spares, spared-agrees}
 use Rattle.tl_coherence.proofs.queues.Moves.{invariant-moved_access, names-block, names-set_at, invariant-moved_use}
 use Rattle.tl_coherence.proofs.queues.Tokens.{same_number}
 use Rattle.tl_coherence.proofs.queues.Facts.{held_at_most}

@@ -23,9 +23,11 @@ use Rattle.tl_coherence.proofs.queues.PhaseSteps.{acquire-ok, release-ok}
 use Rattle.tl_coherence.proofs.queues.Facts.{own_wants, held_at_most, held_out, unserved_calm}
 use Rattle.tl_coherence.proofs.protocol.Blocks.{awaited-same, asked_cap-same, asked_cap-other, own_source-other}
 use Rattle.tl_coherence.proofs.protocol.Blocks.{gentle-same, alone-set, owned-set, outside-set}
-use Rattle.tl_coherence.proofs.queues.Moves.{moves_at, event-at, bare-at, bare-elsewhere, spares}
+use Rattle.tl_coherence.proofs.queues.Moves.{moves_at, event-at, bare-at, bare-elsewhere}
+use Rattle.tl_coherence.proofs.queues.KindMoves.{spares}
 use Rattle.tl_coherence.proofs.queues.Moves.{invariant-moved_access, names-kept, names-block, names-set_at}
-use Rattle.tl_coherence.proofs.queues.Moves.{invariant-moved, invariant-moved_use, same_again}
+use Rattle.tl_coherence.proofs.queues.Moves.{invariant-moved, invariant-moved_use}
+use Rattle.tl_coherence.proofs.queues.KindMoves.{same_again}
 use Rattle.tl_coherence.proofs.queues.Tokens.{same_number, set-same, set-other, set-part}
 use Rattle.tl_coherence.proofs.queues.Perms.{nothing_below}
 

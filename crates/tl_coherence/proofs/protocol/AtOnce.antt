@@ -18,10 +18,11 @@ use Rattle.tl_params.specs.declared.param.Grow.TheVariants as grow
 use Rattle.tl_params.specs.declared.perm.Perm.TheVariants as perm
 use Rattle.tl_coherence.specs.protocol.Protocol.{granted_at_once, answered_link, acquire_granted}
 use Rattle.tl_coherence.proofs.queues.Moves.{moves_at, event-at, bare-at, names-block, names-set, invariant-moved}
-use Rattle.tl_coherence.proofs.queues.Moves.{same_again}
+use Rattle.tl_coherence.proofs.queues.KindMoves.{same_again}
 use Rattle.tl_coherence.proofs.queues.Tokens.{same_number, set-same, set-other, set-part}
 use Rattle.tl_coherence.proofs.queues.PhaseSteps.{grant_at_once-ok, granted_other-ok}
-use Rattle.tl_coherence.proofs.queues.Facts.{quiet_at_rest, asked_low}
+use Rattle.tl_coherence.proofs.queues.Facts.{asked_low}
+use Rattle.tl_coherence.proofs.queues.PhaseFacts.{quiet_at_rest}
 use Rattle.tl_coherence.proofs.protocol.Granted.{gives, none_or_trunk, grows_to_trunk}
 use Rattle.tl_coherence.proofs.protocol.Blocks.{busy-inside, outside-set}
 use Rattle.tl_coherence.proofs.queues.Perms.{not_out}

@@ -11,7 +11,7 @@ use Rattle.tl_beat.specs.declared.channel.Channel.TheVariants as channel
 use Rattle.tl_coherence.specs.bound.Rank.{Left}
 use Rattle.tl_coherence.specs.refinement.PacketMessages.{message_of_kind}
 use Rattle.tl_coherence.specs.protocol.Packet.{is}
-use Rattle.tl_coherence.proofs.protocol.Capacities.{once, shown_there, shows_it}
+use Rattle.tl_coherence.proofs.protocol.TokenNames.{once, shown_there, shows_it}
 use Rattle.tl_coherence.proofs.queues.Channels.{IsShowing}
 
 -- the token is the first of its channel

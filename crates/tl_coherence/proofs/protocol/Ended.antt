@@ -15,7 +15,8 @@ use Rattle.tl_beat.specs.declared.channel.Channel.TheVariants as channel
 use Rattle.tl_params.specs.declared.param.Cap.TheVariants as cap
 use Rattle.tl_params.specs.declared.perm.Perm.TheVariants as perm
 use Rattle.tl_coherence.specs.protocol.Protocol.{written, with_d, popped_link, ended_block, ended_link, report_answers}
-use Rattle.tl_coherence.proofs.queues.Moves.{names-block, names-set, names-set_at, invariant-moved_use, same_again}
+use Rattle.tl_coherence.proofs.queues.Moves.{names-block, names-set, names-set_at, invariant-moved_use}
+use Rattle.tl_coherence.proofs.queues.KindMoves.{same_again}
 use Rattle.tl_coherence.proofs.queues.Tokens.{same_number, set-same, set-other, set-part}
 use Rattle.tl_coherence.proofs.queues.PhaseSteps.{report-ok, ended-ok}
 use Rattle.tl_coherence.proofs.queues.Facts.{held_at_most, spared_within, reported_within, cap_is_low, report_begins}

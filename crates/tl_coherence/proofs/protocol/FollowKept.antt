@@ -1,29 +1,25 @@
 -- The protocol keeps its invariant as it follows the world: at each message that is taken, the first token and the
 -- invariant give what its event asks for.
 use Rattle.tl_coherence.proofs.protocol.Imports.{MessageA, Config, Cap, Grow, Report, Perm, prune_left, same_perm}
-use Rattle.tl_coherence.proofs.protocol.Imports.{cap_asked, is_asked, is_replied, IsInvariant, ClientBlock, View, Own}
+use Rattle.tl_coherence.proofs.protocol.Imports.{is_replied, IsInvariant, ClientBlock, View, Own}
 use Rattle.tl_coherence.proofs.protocol.Imports.{Other, Granting, Acknowledging, GrantedOther, ProbeAnswered, NoRelease}
-use Rattle.tl_coherence.proofs.protocol.Imports.{AcquirePhase, NoAcquire, AcquireOpen, same_cap, is_unprobed, cap_fits}
-use Rattle.tl_coherence.proofs.protocol.Imports.{is_above, is_granted_data, after_report, Service, Free, Waits}
-use Rattle.tl_coherence.proofs.protocol.Imports.{GrantSent, GrantTaken, Block, SourceFree, Asked, view, packet, shown}
-use Rattle.tl_coherence.proofs.protocol.Imports.{is_wanting, is_unserved, is_granting, is_answered, on, Kind, Request}
+use Rattle.tl_coherence.proofs.protocol.Imports.{AcquirePhase, NoAcquire, AcquireOpen, is_unprobed}
+use Rattle.tl_coherence.proofs.protocol.Imports.{after_report, Service, Free, Waits}
+use Rattle.tl_coherence.proofs.protocol.Imports.{GrantSent, GrantTaken, Block, SourceFree, view, packet, shown}
+use Rattle.tl_coherence.proofs.protocol.Imports.{is_wanting, is_granting, is_answered, on, Kind, Request}
 use Rattle.tl_coherence.proofs.protocol.Imports.{Acquire, Probe, ProbeAck, Release, Answer, Grant, ReleaseAck, GrantAck}
 use Rattle.tl_coherence.proofs.protocol.Imports.{Packet, set}
-use Rattle.std.proofs.Common.{◌≡◌, subst, ℕ, zero, suc, ◌*◌, ◌<◌, ◌≤◌, Bool, true, false, not, ◌&&◌, ◌||◌, List, ◌∷◌}
-use Rattle.std.proofs.Common.{Option, Some, None, length, refl, sym, ◌∙◌, ap, ◌⊎◌, inl, inr, arith}
-use Rattle.std.specs.Prelude.{◌==◌, if◌then◌else◌, slice_index, ⊤}
-use Rattle.std.proofs.lemmas.Bool.{cases_lt, ne_eqb, eqb-true, not-true, not-false}
+use Rattle.std.proofs.Common.{◌≡◌, subst, ℕ, ◌≤◌, Bool, true, false, not, ◌&&◌, List, ◌∷◌}
+use Rattle.std.proofs.Common.{Some, None, length, refl, sym, ◌∙◌, ap, inl, inr}
+use Rattle.std.specs.Prelude.{◌==◌, if◌then◌else◌, ⊤}
+use Rattle.std.proofs.lemmas.Bool.{eqb-true, not-true}
 use Rattle.std.proofs.lemmas.Option.{same_Some}
-use Rattle.tl_beat.specs.declared.opcode.OpA.{OpA}
-use Rattle.tl_beat.specs.declared.opcode.OpA.TheVariants as a
 use Rattle.tl_burst.specs.declared.message.Message.TheVariants as message
 use Rattle.tl_params.specs.declared.param.Cap.TheVariants as cap
 use Rattle.tl_params.specs.declared.param.Grow.TheVariants as grow
 use Rattle.tl_params.specs.declared.perm.Perm.TheVariants as perm
 use Rattle.tl_params.specs.declared.profile.Profile.{Profile}
-use Rattle.tl_params.specs.declared.profile.Profile.TheVariants as profile
 use Rattle.tl_params.specs.statement.Param.{grow_left}
-use Rattle.tl_rules.specs.statement.Effect.{Memory, bytes_from, effect}
 use Rattle.tl_rules.specs.statement.History.{block_at, is_acquire}
 use Rattle.tl_client.specs.declared.operation.Op.{Op}
 use Rattle.tl_client.specs.declared.operation.Op.TheVariants as op
@@ -31,266 +27,32 @@ use Rattle.tl_client.specs.declared.reply.Reply.{Reply}
 use Rattle.tl_client.specs.declared.reply.Reply.TheVariants as reply
 use Rattle.tl_client.specs.statement.Ask.{copy_stored, whole_grow}
 use Rattle.tl_manager.specs.statement.Holders.{cap_probed}
-use Rattle.tl_manager.proofs.blocks.Written.{bytes_are}
-use Rattle.tl_coherence.specs.refinement.AbstractStep.{AbstractState, with_state, asked, some_below, bytes_at, performs}
-use Rattle.tl_coherence.specs.refinement.AbstractStep.{probes_some, access_taken, request_taken, is_unheld, gift}
-use Rattle.tl_coherence.specs.refinement.AbstractStep.{acquire_taken, granted_after, last_taken, ack_taken}
+use Rattle.tl_coherence.specs.refinement.AbstractStep.{AbstractState, with_state, asked, some_below, performs}
+use Rattle.tl_coherence.specs.refinement.AbstractStep.{is_unheld, gift}
+use Rattle.tl_coherence.specs.refinement.AbstractStep.{granted_after, last_taken, ack_taken}
 use Rattle.tl_coherence.specs.refinement.AbstractStep.{taken_by_client, kind_taken}
-use Rattle.tl_coherence.specs.protocol.Invariant.{AreOutside}
 use Rattle.tl_coherence.specs.protocol.Phase.{grow_fits, is_whole}
-use Rattle.tl_coherence.specs.protocol.Protocol.{is_probed, acquire_served, acquire_granted, report_taken, grant_taken}
+use Rattle.tl_coherence.specs.protocol.Protocol.{report_taken, grant_taken}
 use Rattle.tl_coherence.specs.refinement.PacketMessages.{cap_sent, report_told, prune_told}
-use Rattle.tl_coherence.proofs.queues.Phases.{and_left, and_right}
+use Rattle.tl_coherence.proofs.queues.Phases.{and_right}
 use Rattle.tl_coherence.proofs.queues.Facts.{acquire_fits, answered_other, own_wants, granting_asks, is_other}
 use Rattle.tl_coherence.proofs.queues.Tokens.{same_number, holds-first}
 use Rattle.tl_coherence.proofs.protocol.Asked.{access_asked-kept, acquire_asked-kept, release_asked-kept}
 use Rattle.tl_coherence.proofs.protocol.Asked.{block_stored-kept}
 use Rattle.tl_coherence.proofs.protocol.Blocks.{outside-set, busy-inside}
 use Rattle.tl_coherence.proofs.protocol.Probed.{probe_taken-kept}
-use Rattle.tl_coherence.proofs.protocol.Served.{access_served-kept, acquire_served-kept}
-use Rattle.tl_coherence.proofs.protocol.Answered.{Spares, access_answered-kept, answer_taken-kept}
-use Rattle.tl_coherence.proofs.protocol.AtOnce.{low-unprobed, none-unprobed, acquire_granted-kept}
-use Rattle.tl_coherence.proofs.protocol.Granted.{grows_to_trunk, room-trunk}
+use Rattle.tl_coherence.proofs.protocol.Answered.{answer_taken-kept}
+use Rattle.tl_coherence.proofs.protocol.Granted.{room-trunk}
 use Rattle.tl_coherence.proofs.protocol.GrantedAll.{report_grants-kept}
 use Rattle.tl_coherence.proofs.protocol.Ended.{report_answers-kept}
 use Rattle.tl_coherence.proofs.protocol.Reported.{report_taken-kept, release_taken-kept}
 use Rattle.tl_coherence.proofs.protocol.TakenAll.{grant_taken-kept}
 use Rattle.tl_coherence.proofs.protocol.Acknowledged.{release_ack_taken-kept, grant_ack_taken-kept}
-use Rattle.tl_coherence.proofs.protocol.BothParts.{is_asked-is, is_replied-is, wanting-is, sent-is, answered-is}
+use Rattle.tl_coherence.proofs.protocol.BothParts.{is_replied-is, wanting-is, sent-is, answered-is}
 use Rattle.tl_coherence.proofs.protocol.BothParts.{releasing-is, acked-is, acknowledging-is, not-other, not-calm}
 use Rattle.tl_coherence.proofs.protocol.BothParts.{granting-own}
-use Rattle.tl_coherence.proofs.queues.Codes.{low_cap}
-use Rattle.tl_coherence.proofs.queues.Perms.{none-above, nothing-above}
-
--- ---- clients that pass a test
-
-pub some-none : (n : ℕ) (test : ℕ → Bool) → some_below n test ≡ false → (i : ℕ) → i < n → test i ≡ false
-unfolding some_below
-some-none zero test e i lt = absurd (omega (arith, lt))
-some-none (suc n) test e i lt = go (test n) refl e (λ f. some-none n test f i)
-  where
-    go : (b : Bool) → test n ≡ b → (b || some_below n test) ≡ false
-        → (some_below n test ≡ false → i < n → test i ≡ false) → test i ≡ false
-    go true f g h = absurd cc
-    go false f g h = elim (cases_lt i n) [
-      | inl less ↦ h g less
-      | inr more ↦ let same : i ≡ n = omega (arith, lt, more) in rw same f
-    ]
-
-pub some-one : (n : ℕ) (test : ℕ → Bool) → some_below n test ≡ true → (i : ℕ) × (test i ≡ true)
-unfolding some_below
-some-one zero test e = absurd cc
-some-one (suc n) test e = go (test n) refl e (λ f. some-one n test f)
-  where
-    go : (b : Bool) → test n ≡ b → (b || some_below n test) ≡ true
-        → (some_below n test ≡ true → (i : ℕ) × (test i ≡ true)) → (i : ℕ) × (test i ≡ true)
-    go true f g h = (n, f)
-    go false f g h = h g
-
--- who isn't a client has nothing, and isn't probed
-pub unprobed : (clients : ℕ) (caching : ℕ → Bool) (c : ℕ) (own : Bool) (k : Cap) (pair : ℕ → ClientBlock)
-    → ((d : ℕ) → clients ≤ d → caching d ≡ false) → AreOutside caching pair
-    → some_below clients (λ d. is_probed c own k (pair d).recorded d) ≡ false → (d : ℕ) → (own && (d == c)) ≡ false
-    → is_above k (pair d).recorded ≡ false
-unprobed clients caching c own k pair plain outside none d spared = elim (cases_lt d clients) [
-  | inl lt ↦ let e : (not (own && (d == c)) && is_above k (pair d).recorded) ≡ false =
-      some-none clients (λ i. is_probed c own k (pair i).recorded i) none d lt in rw spared at e
-  | inr le ↦ rw (outside d (plain d le)) (nothing-above k)
-]
-
-pub settled_all : (clients : ℕ) (caching : ℕ → Bool) (c : ℕ) (pair : ℕ → ClientBlock)
-    → ((d : ℕ) → clients ≤ d → caching d ≡ false) → AreOutside caching pair
-    → some_below clients (λ d. not (d == c) && not (is_unprobed (pair d).probing)) ≡ false → (d : ℕ) → (d ≡ c → ⊥)
-    → is_unprobed (pair d).probing ≡ true
-settled_all clients caching c pair plain outside none d ne = elim (cases_lt d clients) [
-  | inl lt ↦ let e : (not (d == c) && not (is_unprobed (pair d).probing)) ≡ false =
-      some-none clients (λ i. not (i == c) && not (is_unprobed (pair i).probing)) none d lt in
-      not-false (is_unprobed (pair d).probing)
-      (rw (ne_eqb d c ne) at e)
-  | inr le ↦ rw (outside d (plain d le)) refl
-]
-
--- ---- what accesses do to the bytes of a block
-
-block_again : (n : ℕ) (bytes : List ℕ) → length bytes ≡ 64 → bytes_from (bytes_at n bytes) (64 * n) 64 ≡ bytes
-block_again n bytes e = rw e at
-    (bytes_are (bytes_at n bytes) (64 * n) bytes (λ i lt. ap (slice_index bytes) (omega arith)))
-
--- an access that doesn't probe all leaves the memory
-leaves_memory : {w : ℕ} (m : MessageA w) (memory : Memory) → is_acquire m.opcode ≡ false
-    → (cap_probed m.opcode m.param ≡ Some cap.ToN) ⊎ ((effect (message.A m) memory).0 ≡ memory)
-unfolding effect
-leaves_memory m memory e = go m.opcode refl
-  where
-    go : (o : OpA) → m.opcode ≡ o → (cap_probed m.opcode m.param ≡ Some cap.ToN)
-        ⊎ ((effect (message.A m) memory).0 ≡ memory)
-    go a.PutFullData f = inl (rw f refl)
-    go a.PutPartialData f = inl (rw f refl)
-    go a.ArithmeticData f = inl (rw f refl)
-    go a.LogicalData f = inl (rw f refl)
-    go a.Get f = inr (rw f refl)
-    go a.Intent f = inr (rw f refl)
-    go a.AcquireBlock f = inr (rw f refl)
-    go a.AcquirePerm f = inr (rw f refl)
-
-pub leaves-bytes : {w : ℕ} (m : MessageA w) (bytes : List ℕ) → is_acquire m.opcode ≡ false → length bytes ≡ 64
-    → (performs m bytes ≡ bytes) ⊎ (cap_probed m.opcode m.param ≡ Some cap.ToN)
-leaves-bytes m bytes e long = elim (leaves_memory m (bytes_at (block_at m.address) bytes) e) [
-  | inl all ↦ inr all
-  | inr same ↦ inl (ap (λ (f : Memory). bytes_from f (64 * block_at m.address) 64) same ∙ block_again
-      (block_at m.address) bytes long)
-]
-
--- ---- requests
-
-pub request_taken-kept : {w : ℕ} (caching : ℕ → Bool) (clients c source tracker : ℕ) (m : MessageA w)
-    (rest : List Packet) (h : AbstractState w) → IsInvariant caching h.state
-    → ((d : ℕ) → clients ≤ d → caching d ≡ false)
-    → (h.state.link c).a ≡ packet Request source ∷ rest → is_acquire m.opcode ≡ false
-    → length (h.state.block (block_at m.address)).truth ≡ 64
-    → (h.state.block (block_at m.address)).service ≡ Free → h.state.tracked tracker ≡ None
-    → IsInvariant caching (request_taken clients c source (message.A m) tracker rest h).state
-request_taken-kept {w} caching clients c source tracker m rest h inv plain first access long free unused =
-    go (probes_some clients c false (cap_probed m.opcode m.param) b.pair) (cap_probed m.opcode m.param) refl refl
-  where
-    n : ℕ
-    n = block_at m.address
-
-    b : Block (List ℕ)
-    b = h.state.block n
-
-    asked : h.state.uses c source ≡ Asked
-    asked = is_asked-is (h.state.uses c source) (holds-first Request (h.state.link c).a rest (packet Request source)
-        (λ i. is_asked (h.state.uses c i)) first refl (inv.requests c))
-
-    spares : (o : Option Cap) → cap_probed m.opcode m.param ≡ o → probes_some clients c false o b.pair ≡ false
-        → Spares (performs m) b
-    spares o e none = elim (leaves-bytes m b.truth access long) [
-      | inl same ↦ inl same
-      | inr all ↦ inr (λ d. none-above (b.pair d).recorded (unprobed clients caching c false cap.ToN b.pair plain
-          (inv.blocks n).outside (asked_all o e all none) d refl))
-    ]
-      where
-        asked_all : (o : Option Cap) → cap_probed m.opcode m.param ≡ o → cap_probed m.opcode m.param ≡ Some cap.ToN
-            → probes_some clients c false o b.pair ≡ false
-            → some_below clients (λ d. is_probed c false cap.ToN (b.pair d).recorded d) ≡ false
-        asked_all o e f none = let same : o ≡ Some cap.ToN = sym e ∙ f in rw same at none
-
-    go : (p : Bool) (o : Option Cap) → probes_some clients c false (cap_probed m.opcode m.param) b.pair ≡ p
-        → cap_probed m.opcode m.param ≡ o
-        → IsInvariant caching (access_taken c source m tracker p o rest h).state
-    go true (Some k) e f =
-        let some : some_below clients (λ d. is_probed c false k (b.pair d).recorded d) ≡ true = rw f at e in
-        let one = some-one clients (λ d. is_probed c false k (b.pair d).recorded d) some in
-        access_served-kept caching c n source tracker k rest h.state inv first free asked (low_cap m.opcode m.param k f)
-        unused one.0 one.1
-    go true None e f = absurd (let no : false ≡ true = rw f at e in cc)
-    go false None e f = access_answered-kept caching c n source (performs m) rest h.state inv first asked
-        (spares None f refl)
-    go false (Some k) e f = access_answered-kept caching c n source (performs m) rest h.state inv first asked
-        (spares (Some k) f (rw f at e))
-
--- ---- Acquires
-
--- what is granted fits what was asked for
-gift_fits : (p : Profile) (whole : Bool) (g : Grow) (held : Perm) (unheld : Bool)
-    → grow_fits held (AcquireOpen whole g) ≡ true → cap_fits whole g (gift p whole g unheld) ≡ true
-gift_fits p true grow.NtoB held unheld e = absurd cc
-gift_fits profile.One true grow.NtoT held unheld e = refl
-gift_fits profile.Two true grow.NtoT held unheld e = refl
-gift_fits profile.One true grow.BtoT held unheld e = refl
-gift_fits profile.Two true grow.BtoT held unheld e = refl
-gift_fits profile.One false grow.NtoB held unheld e = refl
-gift_fits profile.Two false grow.NtoB held true e = refl
-gift_fits profile.Two false grow.NtoB held false e = refl
-gift_fits profile.One false grow.NtoT held unheld e = refl
-gift_fits profile.Two false grow.NtoT held true e = refl
-gift_fits profile.Two false grow.NtoT held false e = refl
-gift_fits profile.One false grow.BtoT held unheld e = refl
-gift_fits profile.Two false grow.BtoT held true e = refl
-gift_fits profile.Two false grow.BtoT held false e = refl
-
--- Trunk is granted to who asked for it, or where nobody has a copy
-gift_trunk : (p : Profile) (whole : Bool) (g : Grow) (held : Perm) (unheld : Bool)
-    → grow_fits held (AcquireOpen whole g) ≡ true → same_cap (gift p whole g unheld) cap.ToT ≡ true
-    → (grows_to_trunk g ≡ true) ⊎ (unheld ≡ true)
-gift_trunk p whole grow.NtoT held unheld e f = inl refl
-gift_trunk p whole grow.BtoT held unheld e f = inl refl
-gift_trunk p true grow.NtoB held unheld e f = absurd cc
-gift_trunk profile.One false grow.NtoB held unheld e f = absurd cc
-gift_trunk profile.Two false grow.NtoB held true e f = inr refl
-gift_trunk profile.Two false grow.NtoB held false e f = absurd cc
-
--- nobody is recorded
-unheld_none : (clients : ℕ) (caching : ℕ → Bool) (pair : ℕ → ClientBlock) → ((d : ℕ) → clients ≤ d → caching d ≡ false)
-    → AreOutside caching pair → is_unheld clients pair ≡ true → (d : ℕ)
-    → same_perm (pair d).recorded perm.None ≡ true
-unheld_none clients caching pair plain outside e d = elim (cases_lt d clients) [
-  | inl lt ↦ not-false (same_perm (pair d).recorded perm.None)
-      (some-none clients (λ i. not (same_perm (pair i).recorded perm.None))
-      (not-true (some_below clients (λ i. not (same_perm (pair i).recorded perm.None))) e) d lt)
-  | inr le ↦ rw (outside d (plain d le)) refl
-]
-
-pub acquire_taken-kept : {w : ℕ} (caching : ℕ → Bool) (clients : ℕ) (p : Profile) (c n tracker : ℕ) (rest : List Packet)
-    (h : AbstractState w) → IsInvariant caching h.state
-    → ((d : ℕ) → clients ≤ d → caching d ≡ false)
-    → (h.state.link c).a ≡ packet Acquire n ∷ rest → (h.state.block n).service ≡ Free → h.state.tracked tracker ≡ None
-    → IsInvariant caching (acquire_taken clients p c n ((h.state.block n).pair c).acquiring tracker rest h).state
-acquire_taken-kept {w} caching clients p c n tracker rest h inv plain first free unused = go wants.0 wants.1 wants.2
-  where
-    b : Block (List ℕ)
-    b = h.state.block n
-
-    wants : (whole : Bool) × (g : Grow) × ((b.pair c).acquiring ≡ AcquireOpen whole g)
-    wants = wanting-is (b.pair c).acquiring (and_left (is_wanting (b.pair c).acquiring) (is_unserved (view b.service c))
-        (holds-first Acquire (h.state.link c).a rest (packet Acquire n) (λ i. shown Acquire c (h.state.block i)) first
-        refl (inv.transfers c Acquire refl)))
-
-    go : (whole : Bool) (g : Grow) → (b.pair c).acquiring ≡ AcquireOpen whole g
-        → IsInvariant caching (acquire_taken clients p c n (b.pair c).acquiring tracker rest h).state
-    go whole g e = rw e (served
-        (some_below clients (λ d. is_probed c true (cap_asked (AcquireOpen whole g)) (b.pair d).recorded d)) refl)
-      where
-        fits : grow_fits (b.pair c).held (AcquireOpen whole g) ≡ true
-        fits = acquire_fits whole g (b.pair c) (view b.service c) ((inv.blocks n).phases c) e
-
-        given : Cap
-        given = gift p whole g (is_unheld clients b.pair)
-
-        low_cap : same_cap (cap_asked (AcquireOpen whole g)) (cap_asked (AcquireOpen whole g)) ≡ true
-        low_cap = same_again (cap_asked (AcquireOpen whole g))
-          where
-            same_again : (k : Cap) → same_cap k k ≡ true
-            same_again cap.ToT = refl
-            same_again cap.ToB = refl
-            same_again cap.ToN = refl
-
-        served : (x : Bool) → some_below clients (λ d. is_probed c true (cap_asked (AcquireOpen whole g))
-            (b.pair d).recorded d) ≡ x
-            → IsInvariant caching (if x then acquire_served c n (b.source c) tracker (cap_asked (AcquireOpen whole g))
-            rest h.state else acquire_granted c n tracker
-            (is_granted_data whole g (b.pair c).recorded) given rest h.state)
-        served true f =
-            let one = some-one clients (λ d. is_probed c true (cap_asked (AcquireOpen whole g)) (b.pair d).recorded d) f
-            in
-            acquire_served-kept caching c n (b.source c) tracker whole g (cap_asked (AcquireOpen whole g)) rest h.state
-            inv first free e low_cap unused refl one.0 one.1
-        served false f =
-            let spared : (d : ℕ) → (d ≡ c → ⊥) → is_above (cap_asked (AcquireOpen whole g)) (b.pair d).recorded
-            ≡ false =
-            λ d ne. unprobed clients caching c true (cap_asked (AcquireOpen whole g)) b.pair plain
-            (inv.blocks n).outside f d (ne_eqb d c ne) in
-            acquire_granted-kept caching c n tracker whole g given rest h.state inv first (record {
-              free = free;
-              wants = e;
-              fits = gift_fits p whole g (b.pair c).held (is_unheld clients b.pair) fits;
-              low = λ d ne. low-unprobed whole g (b.pair d).recorded (spared d ne);
-              room = λ top d ne. elim (gift_trunk p whole g (b.pair c).held (is_unheld clients b.pair) fits top) [
-                | inl grows ↦ none-unprobed whole g (b.pair d).recorded grows (spared d ne)
-                | inr unheld ↦ unheld_none clients caching b.pair plain (inv.blocks n).outside unheld d
-              ];
-            }) unused
+use Rattle.tl_coherence.proofs.protocol.RequestsKept.{some-one, settled_all, leaves-bytes, request_taken-kept}
+use Rattle.tl_coherence.proofs.protocol.RequestsKept.{gift_fits, gift_trunk, unheld_none, acquire_taken-kept}
 
 -- ---- Probes, ProbeAcks and Releases
 

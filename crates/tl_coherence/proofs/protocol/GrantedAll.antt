@@ -16,7 +16,8 @@ use Rattle.tl_beat.specs.declared.channel.Channel.TheVariants as channel
 use Rattle.tl_coherence.specs.protocol.Protocol.{granted_link, report_grants}
 use Rattle.tl_coherence.proofs.queues.Facts.{own_quiet}
 use Rattle.tl_coherence.proofs.protocol.Granted.{IsLast, granted-block}
-use Rattle.tl_coherence.proofs.queues.Moves.{spares, same_again, names-kept, invariant-moved, moved_as}
+use Rattle.tl_coherence.proofs.queues.Moves.{names-kept, invariant-moved, moved_as}
+use Rattle.tl_coherence.proofs.queues.KindMoves.{spares, same_again}
 use Rattle.tl_coherence.proofs.queues.Tokens.{same_number, set-same, set-other, set-part}
 
 -- c's ProbeAck goes, and q's Grant comes

@@ -13,8 +13,10 @@ use Rattle.std.proofs.Common.{◌≡◌, ℕ, ◌<◌, Bool, true, false, List, 
 use Rattle.std.specs.Prelude.{not, ◌==◌, ◌||◌, Option, Some, None}
 use Rattle.tl_beat.specs.declared.channel.Channel.TheVariants as channel
 use Rattle.tl_coherence.specs.refinement.ManagerRelation.{is_own}
-use Rattle.tl_coherence.proofs.protocol.Capacities.{shown_there, kind_there, acquire_named, grant_named, release_named}
-use Rattle.tl_coherence.proofs.protocol.Capacities.{release_ack_named, source_of_acquire}
+use Rattle.tl_coherence.proofs.protocol.Capacities.{acquire_named, grant_named, release_named}
+use Rattle.tl_coherence.proofs.protocol.TokenNames.{shown_there, kind_there}
+use Rattle.tl_coherence.proofs.protocol.Capacities.{release_ack_named}
+use Rattle.tl_coherence.proofs.protocol.TokenNames.{source_of_acquire}
 use Rattle.tl_rules.proofs.Takeable.{part_bit}
 use Rattle.tl_coherence.proofs.queues.Distinct.{IsThere, first-there}
 use Rattle.tl_coherence.proofs.queues.Phases.{each_phase, of_phase, and_left}

@@ -19,7 +19,8 @@ use Rattle.tl_params.specs.statement.Param.{prune_right}
 use Rattle.tl_coherence.specs.protocol.PhaseSteps.{after_release_taken}
 use Rattle.tl_coherence.specs.protocol.Protocol.{written_from, reported_block, report_taken, let_block, let_link}
 use Rattle.tl_coherence.specs.protocol.Protocol.{release_taken}
-use Rattle.tl_coherence.proofs.queues.Moves.{moves_at, event-at, bare-at, names-kept, invariant-moved, same_again}
+use Rattle.tl_coherence.proofs.queues.Moves.{moves_at, event-at, bare-at, names-kept, invariant-moved}
+use Rattle.tl_coherence.proofs.queues.KindMoves.{same_again}
 use Rattle.tl_coherence.proofs.queues.Tokens.{same_number, set-same, set-other, set-part, ordered-first}
 use Rattle.tl_coherence.proofs.queues.PhaseSteps.{report-ok, release_taken-ok}
 use Rattle.tl_coherence.proofs.queues.Facts.{report_begins, release_begins}

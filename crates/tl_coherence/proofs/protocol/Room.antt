@@ -16,8 +16,10 @@ use Rattle.tl_coherence.specs.statement.Delivery.{capacity}
 use Rattle.tl_coherence.specs.refinement.PacketMessages.{message_of, message_of_kind, messages_on}
 use Rattle.tl_coherence.specs.protocol.Packet.{same_kind}
 use Rattle.tl_coherence.proofs.queues.Beats.{length-beats_from}
-use Rattle.tl_coherence.proofs.protocol.Capacities.{AreBounded, few_on_a, few_on_b, few_on_c, few_on_e, few_acks_on_d}
-use Rattle.tl_coherence.proofs.protocol.Capacities.{few_responses_on_d, kind_there}
+use Rattle.tl_coherence.proofs.protocol.Capacities.{few_on_a, few_on_b, few_on_c, few_on_e, few_acks_on_d}
+use Rattle.tl_coherence.proofs.protocol.TokenNames.{AreBounded}
+use Rattle.tl_coherence.proofs.protocol.Capacities.{few_responses_on_d}
+use Rattle.tl_coherence.proofs.protocol.TokenNames.{kind_there}
 use Rattle.tl_coherence.proofs.queues.Distinct.{passing, all-pass, IsThere, first-there, later-there}
 
 pub positive : (w : ℕ) → IsWidth w → 0 < w

@@ -22,8 +22,9 @@ use Rattle.tl_coherence.specs.protocol.Protocol.{acquire_served, access_served}
 use Rattle.tl_coherence.specs.protocol.Invariant.{IsOwnSource}
 use Rattle.tl_coherence.proofs.queues.Phases.{and_left, and_right}
 use Rattle.tl_coherence.proofs.queues.PhaseSteps.{serve-ok, served-ok}
-use Rattle.tl_coherence.proofs.queues.Facts.{quiet_at_rest}
-use Rattle.tl_coherence.proofs.queues.Moves.{IsEvent, same_again, spares, spared-agrees, names-block, names-set}
+use Rattle.tl_coherence.proofs.queues.PhaseFacts.{quiet_at_rest}
+use Rattle.tl_coherence.proofs.queues.Moves.{IsEvent, names-block, names-set}
+use Rattle.tl_coherence.proofs.queues.KindMoves.{same_again, spares, spared-agrees}
 use Rattle.tl_coherence.proofs.queues.Moves.{names-set_at, invariant-moved, invariant-moved_use}
 use Rattle.tl_coherence.proofs.queues.Tokens.{same_number}
 use Rattle.tl_coherence.proofs.protocol.BothParts.{quiet_unanswered}

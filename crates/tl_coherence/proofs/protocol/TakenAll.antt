@@ -14,7 +14,8 @@ use Rattle.std.proofs.Math.Bool.{and-false}
 use Rattle.tl_beat.specs.declared.channel.Channel.TheVariants as channel
 use Rattle.tl_coherence.specs.protocol.Protocol.{taken_link, grant_taken}
 use Rattle.tl_coherence.proofs.queues.Moves.{moves_at, event-at, bare-elsewhere, names-block, names-set_at}
-use Rattle.tl_coherence.proofs.queues.Moves.{invariant-moved_use, same_again}
+use Rattle.tl_coherence.proofs.queues.Moves.{invariant-moved_use}
+use Rattle.tl_coherence.proofs.queues.KindMoves.{same_again}
 use Rattle.tl_coherence.proofs.queues.Tokens.{same_number, set-same, set-other, set-part}
 use Rattle.tl_coherence.proofs.protocol.Taken.{taken-block}
 use Rattle.tl_coherence.proofs.protocol.BothParts.{acquires_of-is}

@@ -34,7 +34,7 @@ use Rattle.tl_manager.specs.statement.Offer.{level_of}
 use Rattle.tl_coherence.specs.protocol.Phase.{ClientBlock, AcquirePhase, NoAcquire, AcquireOpen, ok}
 use Rattle.tl_coherence.specs.refinement.PacketMessages.{acquire_of, report_told, block_message, message_of_kind}
 use Rattle.tl_coherence.specs.refinement.SimulationRelation.{IsRequest, IsSourced, IsAnswer, IsAnswered}
-use Rattle.tl_coherence.proofs.queues.Facts.{data_carried}
+use Rattle.tl_coherence.proofs.queues.PhaseFacts.{data_carried}
 use Rattle.tl_coherence.proofs.protocol.BeatsRemaining.{beats_left, left-few}
 use Rattle.tl_coherence.proofs.queues.Phases.{and_left}
 use Rattle.tl_coherence.proofs.protocol.Room.{beats-few}

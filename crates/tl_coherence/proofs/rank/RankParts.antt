@@ -11,7 +11,7 @@ use Rattle.tl_coherence.specs.protocol.Invariant.{serves_of, serves_with}
 use Rattle.tl_coherence.specs.refinement.Move.{Move}
 use Rattle.tl_coherence.specs.protocol.Phase.{is_unprobed}
 use Rattle.tl_coherence.specs.protocol.Protocol.{Service, Free, Waits, GrantSent, GrantTaken}
-use Rattle.tl_coherence.proofs.protocol.Capacities.{source_of_acquire}
+use Rattle.tl_coherence.proofs.protocol.TokenNames.{source_of_acquire}
 use Rattle.tl_coherence.proofs.queues.Channels.{IsShowing}
 use Rattle.tl_coherence.proofs.rank.RankDecreases.{IsNoMore, owed_use, owed_use', owed_let, owed_let', clients}
 use Rattle.tl_coherence.proofs.rank.RankDecreases.{use-falls, let-falls, ack-falls, grant-falls, total-falls}

@@ -18,7 +18,7 @@ use Rattle.tl_coherence.specs.bound.Rank.{total, probing_weight, use_weight, cli
 use Rattle.tl_coherence.specs.bound.Rank.{open_requests, open_releases}
 use Rattle.tl_manager.specs.laws.Pending.{one_if}
 use Rattle.tl_coherence.specs.protocol.Packet.{Kind}
-use Rattle.tl_coherence.proofs.protocol.FollowKept.{some-none, some-one}
+use Rattle.tl_coherence.proofs.protocol.RequestsKept.{some-none, some-one}
 use Rattle.tl_coherence.proofs.queues.Sums.{total-le, total-const, probes-light, one-at-most}
 use Rattle.tl_coherence.proofs.queues.Tokens.{same_number}
 

@@ -19,7 +19,7 @@ use Rattle.tl_coherence.specs.statement.OneMemory.{one_memory_after}
 use Rattle.tl_coherence.specs.statement.Machine.{Requests}
 use Rattle.tl_coherence.specs.refinement.MemoryRelation.{IsOpened}
 use Rattle.tl_coherence.specs.refinement.SimulationRelation.{asked_by, first_of, request_source, IsSourced}
-use Rattle.tl_coherence.proofs.protocol.Capacities.{AreBounded}
+use Rattle.tl_coherence.proofs.protocol.TokenNames.{AreBounded}
 use Rattle.tl_coherence.proofs.queues.Tokens.{same_number}
 use Rattle.tl_coherence.proofs.client.Askable.{acquires_something}
 

@@ -18,9 +18,9 @@ use Rattle.tl_coherence.specs.refinement.AbstractStep.{packet_taken}
 use Rattle.tl_coherence.proofs.client.Askable.{askable}
 use Rattle.tl_coherence.proofs.client.AnswersKept.{AreAnswered, answered-asked, answered-kind_taken}
 use Rattle.tl_coherence.proofs.client.ClientDelivered.{shadow_of}
-use Rattle.tl_coherence.proofs.client.ClientStep.{on_same}
+use Rattle.tl_coherence.proofs.client.ManagerStep.{on_same}
 use Rattle.tl_coherence.proofs.queues.FirstToken.{IsFirst, first-token}
-use Rattle.tl_coherence.proofs.manager.RequestsTaken.{next_tracker}
+use Rattle.tl_coherence.proofs.manager.UnwaitedRequests.{next_tracker}
 use Rattle.tl_coherence.proofs.client.GrantMatchesAcquire.{AreGiven, given-asked, given-kind_taken}
 
 -- a delivery that completes a message: the beat is moved, and is the last of the message of the first token

@@ -17,7 +17,7 @@ use Rattle.tl_coherence.proofs.queues.Carried.{IsNext}
 use Rattle.tl_coherence.proofs.client.ClientDelivered.{shadow_of}
 use Rattle.tl_coherence.proofs.protocol.FollowKept.{IsReady, asked-kept}
 use Rattle.tl_coherence.proofs.client.ProbeDelivered.{probe-delivered}
-use Rattle.tl_coherence.proofs.manager.RequestsTaken.{next_tracker}
+use Rattle.tl_coherence.proofs.manager.UnwaitedRequests.{next_tracker}
 use Rattle.tl_coherence.proofs.queues.Steps.{stepped-to-client}
 use Rattle.tl_coherence.proofs.protocol.BothParts.{kept-letting}
 

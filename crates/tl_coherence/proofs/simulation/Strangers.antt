@@ -19,7 +19,8 @@ use Rattle.tl_coherence.specs.refinement.ManagerRelation.{client_in, service_wit
 use Rattle.tl_coherence.specs.protocol.Phase.{Own, Other, Granting, Acknowledging, GrantedOther}
 use Rattle.tl_coherence.specs.protocol.Protocol.{view, is_acknowledging}
 use Rattle.tl_coherence.specs.protocol.Packet.{count}
-use Rattle.tl_coherence.proofs.protocol.Capacities.{shown_there, kind_there, acquire_named, grant_named, release_named}
+use Rattle.tl_coherence.proofs.protocol.Capacities.{acquire_named, grant_named, release_named}
+use Rattle.tl_coherence.proofs.protocol.TokenNames.{shown_there, kind_there}
 use Rattle.tl_coherence.proofs.protocol.Capacities.{release_ack_named, request_named, answer_named}
 use Rattle.tl_coherence.proofs.queues.Distinct.{IsThere, first-there}
 use Rattle.tl_coherence.proofs.simulation.Owned.{sources-own}

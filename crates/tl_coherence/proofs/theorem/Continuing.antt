@@ -25,7 +25,7 @@ use Rattle.tl_coherence.specs.statement.System.{terms_at}
 use Rattle.tl_coherence.proofs.memory.BesideRequests.{IsOnce, once-performs}
 use Rattle.tl_coherence.proofs.links.HeadsOfLinks.{first-of}
 use Rattle.tl_coherence.proofs.simulation.BeatsInFlight.{IsOfClient, IsFitAnswer, fit-taken}
-use Rattle.tl_coherence.proofs.deliveries.DeliverDWhole.{unmoved}
+use Rattle.tl_coherence.proofs.deliveries.DeliverDUnmoved.{unmoved}
 use Rattle.tl_coherence.proofs.deliveries.Matching.{not_moving, stepped-nobody}
 use Rattle.tl_coherence.proofs.simulation.Moved.{client-moves, manager-moves}
 use Rattle.tl_coherence.proofs.deliveries.ReportsAfter.{once-followed_c}

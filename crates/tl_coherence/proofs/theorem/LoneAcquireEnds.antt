@@ -32,7 +32,7 @@ use Rattle.tl_coherence.proofs.theorem.LoneAcquireSteps.{Brings, IsLone, grown, 
 use Rattle.tl_coherence.proofs.deliveries.Matching.{shadow}
 use Rattle.tl_coherence.proofs.outstanding.Movement.{closed-when-counted}
 use Rattle.tl_coherence.proofs.outstanding.Progress.{counted}
-use Rattle.tl_coherence.proofs.manager.RequestsTaken.{next_tracker}
+use Rattle.tl_coherence.proofs.manager.UnwaitedRequests.{next_tracker}
 use Rattle.tl_coherence.proofs.bound.Settling.{given-before, given-delivering}
 use Rattle.tl_coherence.proofs.protocol.QuiescentProtocol.{IsClosed}
 use Rattle.tl_coherence.proofs.queues.Tokens.{set-same, set_at-same}

@@ -31,7 +31,7 @@ use Rattle.tl_coherence.specs.refinement.PacketMessages.{report_told}
 use Rattle.tl_coherence.specs.protocol.Packet.{Packet, set, set_at}
 use Rattle.tl_coherence.specs.refinement.SimulationRelation.{IsGivenAsked, gives_asked}
 use Rattle.tl_coherence.proofs.memory.Beside.{IsElsewhere, place-cases}
-use Rattle.tl_coherence.proofs.protocol.Capacities.{source_of_acquire}
+use Rattle.tl_coherence.proofs.protocol.TokenNames.{source_of_acquire}
 use Rattle.tl_coherence.proofs.client.ClientEnd.{is_access}
 use Rattle.tl_coherence.proofs.protocol.HeadOfD.{IsGrantDue, grant-due}
 use Rattle.tl_coherence.proofs.client.GrantMatchesAcquire.{AreGiven}
@@ -39,7 +39,7 @@ use Rattle.tl_coherence.proofs.links.Granting.{held_granted}
 use Rattle.tl_coherence.proofs.manager.ManagerAfter.{others_probed}
 use Rattle.tl_coherence.proofs.queues.Phases.{and_left, and_right}
 use Rattle.tl_coherence.proofs.simulation.Sized.{each-set_at}
-use Rattle.tl_coherence.proofs.simulation.SizedAfter.{first-asked}
+use Rattle.tl_coherence.proofs.simulation.SourcedAfter.{first-asked}
 use Rattle.tl_coherence.proofs.protocol.QuiescentProtocol.{owns_ask, serves_another}
 use Rattle.tl_coherence.proofs.queues.Tokens.{same_number, set-each, set-other, set-same, holds-first, set_at-same}
 use Rattle.tl_coherence.proofs.protocol.BothParts.{is_replied-is, not-sent, taken-unseen, granted-unseen}

@@ -28,7 +28,7 @@ use Rattle.tl_manager.specs.code.Kept as manager
 use Rattle.tl_manager.specs.code.Kept.{illegal_message_at}
 use Rattle.tl_manager.specs.statement.Service.{is_access_answer}
 use Rattle.tl_manager.specs.statement.Offer.{level_of}
-use Rattle.tl_coherence.specs.protocol.Phase.{ClientBlock, AcquirePhase, NoAcquire, AcquireOpen, is_whole}
+use Rattle.tl_coherence.specs.protocol.Phase.{ClientBlock, AcquirePhase, AcquireOpen, is_whole}
 use Rattle.tl_coherence.specs.protocol.Packet.{Acquire}
 use Rattle.tl_coherence.specs.protocol.Protocol.{Service, Waits, GrantSent, Block, State, SourceState, SourceFree}
 use Rattle.tl_coherence.specs.protocol.Protocol.{Asked, InService, Replied, Acquires}

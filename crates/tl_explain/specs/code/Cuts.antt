@@ -2,6 +2,8 @@
 -- a fixed place.
 use Rattle.std.specs.Prelude.{⊤, ℕ, ◌+◌, ◌-◌, List, [], ◌∷◌, ◌++◌, length, take, codes}
 use Rattle.std.specs.Prelude.{unwrap_or, slice_index, slice_range, ◌≤◌, Option, None, Some}
+use Rattle.tl_explain.specs.declared.columns.TheConstants.{FIRST_FIELD, PARAM, SIZE, SOURCE, ADDRESS, BEHIND_ADDRESS}
+use Rattle.tl_explain.specs.declared.columns.TheConstants.{SINK, DENIED, BEHIND_DENIED, CORRUPT, DATA_END}
 
 -- at most 13 bytes, where there are some
 abbrev pub IsShort : Option (List ℕ) → Type 0
@@ -10,40 +12,45 @@ IsShort (Some name) = length name ≤ 13
 
 -- the link and the letter, a name and a param
 unfoldable pub head_text : List ℕ → List ℕ → Option (List ℕ) → List ℕ
-head_text line name param = take 5 line ++ name ++ 32 ∷ [] ++ unwrap_or param (slice_range line 7 8)
+head_text line name param = take FIRST_FIELD line ++ name ++ 32 ∷ [] ++ unwrap_or param
+    (slice_range line PARAM (PARAM + 1))
 
 -- size and source, and what stands before the next field
 unfoldable pub size_and_source : List ℕ → List ℕ → List ℕ
 size_and_source line next =
-    codes " size=" ++ slice_index line 9 ∷ (codes " source=" ++ slice_index line 11 ∷ slice_index line 12 ∷ next)
+    codes " size=" ++ slice_index line SIZE
+    ∷ (codes " source=" ++ slice_index line SOURCE ∷ slice_index line (SOURCE + 1) ∷ next)
 
--- the eight digits from the fifteenth byte on
+-- the eight digits of the address
 unfoldable pub address_text : List ℕ → List ℕ → List ℕ
 address_text line next =
-    codes " address=" ++ slice_index line 14 ∷ slice_index line 15 ∷ slice_index line 16 ∷ slice_index line 17
-    ∷ slice_index line 18 ∷ slice_index line 19 ∷ slice_index line 20 ∷ slice_index line 21 ∷ next
+    codes " address=" ++ slice_index line ADDRESS ∷ slice_index line (ADDRESS + 1) ∷ slice_index line (ADDRESS + 2)
+    ∷ slice_index line (ADDRESS + 3) ∷ slice_index line (ADDRESS + 4) ∷ slice_index line (ADDRESS + 5)
+    ∷ slice_index line (ADDRESS + 6) ∷ slice_index line (ADDRESS + 7) ∷ next
 
 -- data and corrupt, which end a line
 unfoldable pub tail_text : List ℕ → List ℕ
-tail_text tail = codes " data=" ++ take (length tail - 3)
-    tail ++ (codes " corrupt=" ++ slice_index tail (length tail - 2) ∷ 10 ∷ [])
+tail_text tail = codes " data=" ++ take (length tail - DATA_END)
+    tail ++ (codes " corrupt=" ++ slice_index tail (length tail - CORRUPT) ∷ 10 ∷ [])
 
 unfoldable pub request_text : ℕ → List ℕ → List ℕ → Option (List ℕ) → List ℕ
 request_text mask line name param =
     head_text line name param ++ size_and_source line (address_text line []) ++ codes " mask="
-    ++ slice_range line 23 (23 + mask) ++ tail_text (slice_range line (24 + mask) (length line))
+    ++ slice_range line BEHIND_ADDRESS (BEHIND_ADDRESS + mask)
+    ++ tail_text (slice_range line (BEHIND_ADDRESS + mask + 1) (length line))
 
 unfoldable pub release_text : List ℕ → List ℕ → Option (List ℕ) → List ℕ
 release_text line name param =
     head_text line name param ++ size_and_source line (address_text line []) ++ tail_text
-    (slice_range line 23 (length line))
+    (slice_range line BEHIND_ADDRESS (length line))
 
 unfoldable pub response_text : List ℕ → List ℕ → Option (List ℕ) → List ℕ
 response_text line name param =
     head_text line name param
-    ++ size_and_source line (codes " sink=" ++ slice_index line 14 ∷ slice_index line
-    15 ∷ (codes " denied=" ++ slice_index line 17 ∷ []))
-    ++ tail_text (slice_range line 19 (length line))
+    ++ size_and_source line (codes " sink=" ++ slice_index line SINK ∷ slice_index line (SINK + 1)
+    ∷ (codes " denied=" ++ slice_index line DENIED ∷ []))
+    ++ tail_text (slice_range line BEHIND_DENIED (length line))
 
 unfoldable pub acknowledgement_text : List ℕ → List ℕ
-acknowledgement_text line = take 5 line ++ codes "GrantAck sink=" ++ slice_range line 5 (length line)
+acknowledgement_text line = take FIRST_FIELD line ++ codes "GrantAck sink=" ++ slice_range line FIRST_FIELD
+    (length line)

@@ -65,7 +65,7 @@ looked {w} trackers block tracker t are (inl found) =
 -- an Acquire that isn't granted
 pub acquiring-looked : {w : ℕ} (trackers : Trackers w) (block client : ℕ) (tracker : Tracker w) (t : Trace w)
     → AreLooked trackers t → IsOfBlock trackers block tracker
-    → Tracking.is_acquiring client tracker ≡ pending (AcquireOf block) (on_link client t)
+    → Tracking.awaits_grant client tracker ≡ pending (AcquireOf block) (on_link client t)
 acquiring-looked {w} trackers block client tracker t are of = go tracker (looked trackers block tracker t are of) ∙ sym
     ((are.accounted.blocks block).acquires client)
   where
@@ -79,7 +79,7 @@ acquiring-looked {w} trackers block client tracker t are of = go tracker (looked
     never true false = refl
     never false b = refl
 
-    go : (x : Tracker w) → IsLooked x block t → Tracking.is_acquiring client x ≡ Pending.is_acquiring client t
+    go : (x : Tracker w) → IsLooked x block t → Tracking.awaits_grant client x ≡ Pending.is_acquiring client t
         (service_of_block block (services t))
     go Free e = rw e refl
     go (Probing link request missing) is = rw (is.1, is.2) (always (is_acquire request.opcode) (link.0 == client))
@@ -88,7 +88,7 @@ acquiring-looked {w} trackers block client tracker t are of = go tracker (looked
 -- a GrantAck that is missing
 pub granted-looked : {w : ℕ} (trackers : Trackers w) (block client : ℕ) (tracker : Tracker w) (t : Trace w)
     → AreLooked trackers t → IsOfBlock trackers block tracker
-    → Tracking.is_granted_to client tracker ≡ pending (GrantAckOf block) (on_link client t)
+    → Tracking.awaits_grant_ack client tracker ≡ pending (GrantAckOf block) (on_link client t)
 granted-looked {w} trackers block client tracker t are of = go tracker (looked trackers block tracker t are of) ∙ sym
     ((are.accounted.blocks block).grants client)
   where
@@ -100,7 +100,7 @@ granted-looked {w} trackers block client tracker t are of = go tracker (looked t
     never true = refl
     never false = refl
 
-    go : (x : Tracker w) → IsLooked x block t → Tracking.is_granted_to client x ≡ Pending.is_granted_to client t
+    go : (x : Tracker w) → IsLooked x block t → Tracking.awaits_grant_ack client x ≡ Pending.is_granted_to client t
         (service_of_block block (services t))
     go Free e = rw e refl
     go (Probing link request missing) is = rw (is.1, is.2) (never (link.0 == client))
@@ -109,7 +109,7 @@ granted-looked {w} trackers block client tracker t are of = go tracker (looked t
 -- a ProbeAck that is missing
 pub missing-looked : {w : ℕ} (trackers : Trackers w) (block client : ℕ) (tracker : Tracker w) (t : Trace w)
     → AreLooked trackers t → IsOfBlock trackers block tracker
-    → Tracking.is_missing client tracker ≡ pending (ProbeOf block) (on_link client t)
+    → Tracking.awaits_probe_ack client tracker ≡ pending (ProbeOf block) (on_link client t)
 missing-looked {w} trackers block client tracker t are of = go tracker (looked trackers block tracker t are of)
   where
     calm : (b : Bool) → pending (ProbeOf block) (on_link client t) ≡ b → (IsProbed client block t → ⊥) → false ≡ b
@@ -124,7 +124,7 @@ missing-looked {w} trackers block client tracker t are of = go tracker (looked t
     answered s e granted is = absurd (let same = some_is is.service s (sym is.serves ∙ e) in
         let no : is_granted t s ≡ false = ap (is_granted t) (sym same) ∙ is.unanswered in cc)
 
-    go : (x : Tracker w) → IsLooked x block t → Tracking.is_missing client x ≡ pending (ProbeOf block)
+    go : (x : Tracker w) → IsLooked x block t → Tracking.awaits_probe_ack client x ≡ pending (ProbeOf block)
         (on_link client t)
     go Free e = calm (pending (ProbeOf block) (on_link client t)) refl (unserved e)
     go (Probing link request missing) is = ap (λ b. b == 1) (is.3 client) ∙ set-is (Holders.is_missing client block t)
@@ -134,13 +134,14 @@ missing-looked {w} trackers block client tracker t are of = go tracker (looked t
 -- the Probe that it is for
 pub probe-looked : {w : ℕ} (trackers : Trackers w) (block client : ℕ) (tracker : Tracker w) (t : Trace w)
     → AreLooked trackers t → IsOfBlock trackers block tracker
-    → Tracking.is_missing client tracker ≡ true → probe_in (request_in tracker) ≡ open_probe block (on_link client t)
+    → Tracking.awaits_probe_ack client tracker ≡ true → probe_in (request_in tracker) ≡ open_probe block
+    (on_link client t)
 probe-looked {w} trackers block client tracker t are of e = go tracker (looked trackers block tracker t are of) e
   where
     pends : pending (ProbeOf block) (on_link client t) ≡ true
     pends = sym (missing-looked trackers block client tracker t are of) ∙ e
 
-    go : (x : Tracker w) → IsLooked x block t → Tracking.is_missing client x ≡ true
+    go : (x : Tracker w) → IsLooked x block t → Tracking.awaits_probe_ack client x ≡ true
         → probe_in (request_in x) ≡ open_probe block (on_link client t)
     go Free is f = absurd cc
     go (Granted link k) is f = absurd cc
@@ -205,7 +206,7 @@ one_any {w} f n s ss e each at = go (f s) refl
     go false g = no ss each g ∙ sym g
 
 pub sink-looked : {w : ℕ} (trackers : Trackers w) (sink client : ℕ) (t : Trace w) → AreLooked trackers t
-    → Tracking.is_granted_to client (tracker_at trackers sink) ≡ pending (GrantSink sink) (on_link client t)
+    → Tracking.awaits_grant_ack client (tracker_at trackers sink) ≡ pending (GrantSink sink) (on_link client t)
 sink-looked {w} trackers sink client t are = go (tracker_at trackers sink) (are.tracked sink) ∙ sym
     (sink-pending client sink t are.sinks)
   where
@@ -236,7 +237,7 @@ sink-looked {w} trackers sink client t are = go (tracker_at trackers sink) (are.
         (λ u f. eq-eqb u.tracker sink (tracker_of u f))
 
     go : (x : Tracker w) → IsTracked sink x t
-        → Tracking.is_granted_to client x ≡ is_any (Pending.is_granted_with client sink t) (services t)
+        → Tracking.awaits_grant_ack client x ≡ is_any (Pending.is_granted_with client sink t) (services t)
     go Free is = sym (none_any (Pending.is_granted_with client sink t) sink (services t) tracker_of is)
     go (Probing link request missing) is =
         sym (alone (block_at request.address) link request is.serves ∙ rw (is.unanswered, eq-eqb sink sink refl)
@@ -248,7 +249,7 @@ sink-looked {w} trackers sink client t are = go (tracker_at trackers sink) (are.
 -- ---- sources
 
 unasking : {w : ℕ} (trackers : Trackers w) (client source : ℕ) (t : Trace w) → AreLooked trackers t
-    → ((i : ℕ) → Tracking.is_asking client source (tracker_at trackers i) ≡ false)
+    → ((i : ℕ) → Tracking.serves_source client source (tracker_at trackers i) ≡ false)
     → is_any (Pending.is_asking client source t) (services t) ≡ false
 unasking {w} trackers client source t are none =
     all (services t) (served-each (λ v. Pending.is_asking client source t v ≡ false) (services t) are.blocks_apart each)
@@ -269,7 +270,7 @@ unasking {w} trackers client source t are none =
     drop false b e = refl
 
     go : (k : ℕ) (v : Service w) (x : Tracker w) → service_of_block k (services t) ≡ Some v → IsTracked v.tracker x t
-        → Tracking.is_asking client source x ≡ false → Pending.is_asking client source t v ≡ false
+        → Tracking.serves_source client source x ≡ false → Pending.is_asking client source t v ≡ false
     go k v Free e is f = absurd (let among = tracker_among k (services t) v e in cc)
     go k v (Probing link request missing) e is f =
         let same = one_tracker k (block_at request.address) (services t) v (service_with v.tracker link request)
@@ -288,7 +289,7 @@ unasking {w} trackers client source t are none =
 
 -- the request that has the source, and its fields
 asked-at : {w : ℕ} (n client source : ℕ) (tracker : Tracker w) (request : MessageA w) (t : Trace w)
-    → IsTracked n tracker t → Tracking.is_asking client source tracker ≡ true
+    → IsTracked n tracker t → Tracking.serves_source client source tracker ≡ true
     → request_in tracker ≡ Some request
     → (link : Link) × (service_of_block (block_at request.address) (services t) ≡ Some (service_with n link request))
     × (is_granted t (service_with n link request) ≡ false) × (link.0 ≡ client) × (request.source ≡ source)

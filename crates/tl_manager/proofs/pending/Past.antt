@@ -8,7 +8,7 @@ use Rattle.tl_params.specs.declared.perm.Perm.TheVariants as perm
 use Rattle.tl_rules.specs.code.Open.{open_probe, has_open_grant}
 use Rattle.tl_manager.specs.code.Probed.{probe_in}
 use Rattle.tl_manager.specs.code.Trackers.{IsOfBlock, IsAsked}
-use Rattle.tl_manager.specs.code.Tracking.{is_acquiring, is_granted_to, is_missing, request_in}
+use Rattle.tl_manager.specs.code.Tracking.{awaits_grant, awaits_grant_ack, awaits_probe_ack, request_in}
 use Rattle.tl_manager.specs.code.LinkState.{IsLinkPast}
 use Rattle.tl_manager.proofs.pending.Looking.{AreLooked, source-looked, acquiring-looked, granted-looked}
 use Rattle.tl_manager.proofs.pending.Looking.{missing-looked}
@@ -59,7 +59,7 @@ source-past perm_of link link_state block_state t source o p asked =
 pub acquire-past : {w : ℕ} {M : Type 0} (perm_of : M → ℕ → ℕ → Perm) (link : Link) (link_state : LinkState w)
     (block_state : BlockState w M) (t : History w) (block : ℕ) (tracker : Tracker w)
     → IsLinkPast perm_of link link_state block_state t → IsOfBlock block_state.trackers block tracker
-    → is_acquiring link.0 tracker ≡ pending (AcquireOf block) t
+    → awaits_grant link.0 tracker ≡ pending (AcquireOf block) t
 acquire-past perm_of link link_state block_state t block tracker p of =
     acquiring-looked block_state.trackers block link.0 tracker p.end.trace
     (looked-past perm_of link link_state block_state t p) of ∙ ap (pending (AcquireOf block)) (sym p.past)
@@ -67,7 +67,7 @@ acquire-past perm_of link link_state block_state t block tracker p of =
 pub grant-past : {w : ℕ} {M : Type 0} (perm_of : M → ℕ → ℕ → Perm) (link : Link) (link_state : LinkState w)
     (block_state : BlockState w M) (t : History w) (block : ℕ) (tracker : Tracker w)
     → IsLinkPast perm_of link link_state block_state t → IsOfBlock block_state.trackers block tracker
-    → is_granted_to link.0 tracker ≡ pending (GrantAckOf block) t
+    → awaits_grant_ack link.0 tracker ≡ pending (GrantAckOf block) t
 grant-past perm_of link link_state block_state t block tracker p of =
     granted-looked block_state.trackers block link.0 tracker p.end.trace
     (looked-past perm_of link link_state block_state t p) of ∙ ap (pending (GrantAckOf block)) (sym p.past)
@@ -75,14 +75,14 @@ grant-past perm_of link link_state block_state t block tracker p of =
 pub probe-past : {w : ℕ} {M : Type 0} (perm_of : M → ℕ → ℕ → Perm) (link : Link) (link_state : LinkState w)
     (block_state : BlockState w M) (t : History w) (block : ℕ) (tracker : Tracker w)
     → IsLinkPast perm_of link link_state block_state t → IsOfBlock block_state.trackers block tracker
-    → is_missing link.0 tracker ≡ pending (ProbeOf block) t
+    → awaits_probe_ack link.0 tracker ≡ pending (ProbeOf block) t
 probe-past perm_of link link_state block_state t block tracker p of =
     missing-looked block_state.trackers block link.0 tracker p.end.trace
     (looked-past perm_of link link_state block_state t p) of ∙ ap (pending (ProbeOf block)) (sym p.past)
 
 pub sink-past : {w : ℕ} {M : Type 0} (perm_of : M → ℕ → ℕ → Perm) (link : Link) (link_state : LinkState w)
     (block_state : BlockState w M) (t : History w) (sink : ℕ) → IsLinkPast perm_of link link_state block_state t
-    → is_granted_to link.0 (tracker_at block_state.trackers sink) ≡ pending (GrantSink sink) t
+    → awaits_grant_ack link.0 (tracker_at block_state.trackers sink) ≡ pending (GrantSink sink) t
 sink-past perm_of link link_state block_state t sink p = sink-looked block_state.trackers sink link.0 p.end.trace
     (looked-past perm_of link link_state block_state t p) ∙ ap (pending (GrantSink sink)) (sym p.past)
 
@@ -90,14 +90,14 @@ sink-past perm_of link link_state block_state t sink p = sink-looked block_state
 pub unprobed-past : {w : ℕ} {M : Type 0} (perm_of : M → ℕ → ℕ → Perm) (link : Link) (link_state : LinkState w)
     (block_state : BlockState w M) (t : History w) (block : ℕ) (tracker : Tracker w)
     → IsLinkPast perm_of link link_state block_state t → IsOfBlock block_state.trackers block tracker
-    → is_missing link.0 tracker ≡ false → None ≡ open_probe block t
+    → awaits_probe_ack link.0 tracker ≡ false → None ≡ open_probe block t
 unprobed-past perm_of link link_state block_state t block tracker p of e =
     rw (sym (probe-past perm_of link link_state block_state t block tracker p of), e) refl
 
 pub probed-past : {w : ℕ} {M : Type 0} (perm_of : M → ℕ → ℕ → Perm) (link : Link) (link_state : LinkState w)
     (block_state : BlockState w M) (t : History w) (block : ℕ) (tracker : Tracker w)
     → IsLinkPast perm_of link link_state block_state t → IsOfBlock block_state.trackers block tracker
-    → is_missing link.0 tracker ≡ true → probe_in (request_in tracker) ≡ open_probe block t
+    → awaits_probe_ack link.0 tracker ≡ true → probe_in (request_in tracker) ≡ open_probe block t
 probed-past perm_of link link_state block_state t block tracker p of e =
     probe-looked block_state.trackers block link.0 tracker p.end.trace
     (looked-past perm_of link link_state block_state t p) of e ∙ ap (open_probe block) (sym p.past)

@@ -9,8 +9,8 @@ use Rattle.tl_params.specs.declared.param.Cap.{Cap}
 use Rattle.tl_params.specs.statement.Param.{cap_code}
 use Rattle.tl_manager.specs.statement.Handing.{no_payload}
 
-abbrev pub grant_with : {w : ℕ} → OpD → ℕ → ℕ → Cap → List ℕ → Message w
-grant_with opcode source sink cap payload = message.D (record {
+abbrev pub grant_of_fields : {w : ℕ} → OpD → ℕ → ℕ → Cap → List ℕ → Message w
+grant_of_fields opcode source sink cap payload = message.D (record {
   opcode = opcode;
   param = cap_code cap;
   size = 6;
@@ -24,5 +24,5 @@ grant_with opcode source sink cap payload = message.D (record {
 
 -- with its source and sink, its cap, and the bytes of its block where it carries them
 abbrev pub grant_of : {w : ℕ} → ℕ → ℕ → Cap → Option (List ℕ) → Message w
-grant_of source sink cap None = grant_with d.Grant source sink cap no_payload
-grant_of source sink cap (Some bytes) = grant_with d.GrantData source sink cap bytes
+grant_of source sink cap None = grant_of_fields d.Grant source sink cap no_payload
+grant_of source sink cap (Some bytes) = grant_of_fields d.GrantData source sink cap bytes

@@ -1,7 +1,7 @@
 -- The trackers by their numbers.
 use Rattle.std.specs.Prelude.{ℕ, false, true, Option, Some, None, ◌≡◌, ◌⊎◌, slice_index_or}
 use Rattle.tl_burst.specs.declared.message.MessageA.{MessageA}
-use Rattle.tl_manager.specs.code.Tracking.{is_of, is_asking, request_in}
+use Rattle.tl_manager.specs.code.Tracking.{is_of, serves_source, request_in}
 use Rattle.tl_manager.specs.declared.manager.tracker.Tracker.{Tracker}
 use Rattle.tl_manager.specs.declared.manager.tracker.Tracker.TheVariants.{Free}
 use Rattle.tl_manager.specs.declared.manager.tracker.Trackers.{Trackers}
@@ -19,6 +19,6 @@ IsOfBlock trackers block tracker =
 -- the request that a client asks with this source, or there is none
 abbrev pub IsAsked : {w : ℕ} → Trackers w → ℕ → ℕ → Option (MessageA w) → Type 0
 IsAsked trackers client source (Some request) =
-    (n : ℕ) × (is_asking client source (tracker_at trackers n) ≡ true)
+    (n : ℕ) × (serves_source client source (tracker_at trackers n) ≡ true)
     × (request_in (tracker_at trackers n) ≡ Some request)
-IsAsked trackers client source None = (i : ℕ) → is_asking client source (tracker_at trackers i) ≡ false
+IsAsked trackers client source None = (i : ℕ) → serves_source client source (tracker_at trackers i) ≡ false

@@ -17,25 +17,25 @@ is_of block (Probing link request missing) = block_at request.address == block
 is_of block (Granted link granted) = granted == block
 
 -- its request came from this client with this source, and isn't answered
-abbrev pub is_asking : {w : ℕ} → ℕ → ℕ → Tracker w → Bool
-is_asking client source (Probing link request missing) = (link.0 == client) && (request.source == source)
-is_asking client source _ = false
+abbrev pub serves_source : {w : ℕ} → ℕ → ℕ → Tracker w → Bool
+serves_source client source (Probing link request missing) = (link.0 == client) && (request.source == source)
+serves_source client source _ = false
 
 abbrev pub request_in : {w : ℕ} → Tracker w → Option (MessageA w)
 request_in (Probing link request missing) = Some request
 request_in _ = None
 
 -- it is an Acquire of this client, which isn't granted
-abbrev pub is_acquiring : {w : ℕ} → ℕ → Tracker w → Bool
-is_acquiring client (Probing link request missing) = is_acquire request.opcode && (link.0 == client)
-is_acquiring client _ = false
+abbrev pub awaits_grant : {w : ℕ} → ℕ → Tracker w → Bool
+awaits_grant client (Probing link request missing) = is_acquire request.opcode && (link.0 == client)
+awaits_grant client _ = false
 
 -- it waits for the GrantAck of this client
-abbrev pub is_granted_to : {w : ℕ} → ℕ → Tracker w → Bool
-is_granted_to client (Granted link block) = link.0 == client
-is_granted_to client _ = false
+abbrev pub awaits_grant_ack : {w : ℕ} → ℕ → Tracker w → Bool
+awaits_grant_ack client (Granted link block) = link.0 == client
+awaits_grant_ack client _ = false
 
 -- it waits for the ProbeAck of this client
-abbrev pub is_missing : {w : ℕ} → ℕ → Tracker w → Bool
-is_missing client (Probing link request missing) = bit_at missing client == 1
-is_missing client _ = false
+abbrev pub awaits_probe_ack : {w : ℕ} → ℕ → Tracker w → Bool
+awaits_probe_ack client (Probing link request missing) = bit_at missing client == 1
+awaits_probe_ack client _ = false

@@ -166,19 +166,23 @@ impl<'a, const W: usize, D: Directory> Past<W> for LinkPast<'a, W, D> {
                 .block_state
                 .trackers
                 .of_block(block)
-                .is_acquiring(self.link),
+                .awaits_grant(self.link),
             Key::ReleaseOf(block) => self.link_state.comes_of(block),
-            Key::GrantSink(sink) => self.block_state.trackers.at(sink).is_granted_to(self.link),
+            Key::GrantSink(sink) => self
+                .block_state
+                .trackers
+                .at(sink)
+                .awaits_grant_ack(self.link),
             Key::GrantAckOf(block) => self
                 .block_state
                 .trackers
                 .of_block(block)
-                .is_granted_to(self.link),
+                .awaits_grant_ack(self.link),
             Key::ProbeOf(block) => self
                 .block_state
                 .trackers
                 .of_block(block)
-                .is_missing(self.link),
+                .awaits_probe_ack(self.link),
         }
     }
 
@@ -208,13 +212,16 @@ impl<'a, const W: usize, D: Directory> Past<W> for LinkPast<'a, W, D> {
 
     fn probe(&self, block: u32) -> Option<Probe> {
         let tracker = self.block_state.trackers.of_block(block);
-        if !tracker.is_missing(self.link) {
+        if !tracker.awaits_probe_ack(self.link) {
             return None;
         }
         probe_for(&tracker)
     }
 
     fn has_grant(&self, sink: u8) -> bool {
-        self.block_state.trackers.at(sink).is_granted_to(self.link)
+        self.block_state
+            .trackers
+            .at(sink)
+            .awaits_grant_ack(self.link)
     }
 }

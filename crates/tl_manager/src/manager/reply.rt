@@ -155,14 +155,14 @@ pub fn is_granted_data(opcode: OpA, param: u8, held: Perm) -> bool
 }
 
 /// A Grant of this opcode.
-fn grant_with<const W: usize>(
+fn grant_of_fields<const W: usize>(
     opcode: OpD,
     source: u8,
     sink: u8,
     cap: Cap,
     payload: [u8; 64],
 ) -> Message<W>
-    ensures { result ≡ Granting.grant_with opcode source sink cap payload }
+    ensures { result ≡ Granting.grant_of_fields opcode source sink cap payload }
 {
     Message::D(MessageD {
         opcode,
@@ -181,7 +181,7 @@ pub fn grant<const W: usize>(source: u8, sink: u8, cap: Cap, bytes: Option<[u8; 
     ensures { result ≡ Granting.grant_of source sink cap bytes }
 {
     match bytes {
-        None => grant_with(OpD::Grant, source, sink, cap, [0; 64]),
-        Some(bytes) => grant_with(OpD::GrantData, source, sink, cap, bytes),
+        None => grant_of_fields(OpD::Grant, source, sink, cap, [0; 64]),
+        Some(bytes) => grant_of_fields(OpD::GrantData, source, sink, cap, bytes),
     }
 }

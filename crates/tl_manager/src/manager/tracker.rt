@@ -47,8 +47,8 @@ impl<const W: usize> Tracker<W> {
     }
 
     /// Whether its request came on the link with this source, and isn't answered.
-    pub fn is_asking(&self, link: Link, source: u8) -> bool
-        ensures { result ≡ Tracking.is_asking link.0 source self.now }
+    pub fn serves_source(&self, link: Link, source: u8) -> bool
+        ensures { result ≡ Tracking.serves_source link.0 source self.now }
     {
         match self {
             Tracker::Probing {
@@ -75,8 +75,8 @@ impl<const W: usize> Tracker<W> {
     }
 
     /// Whether its request is an Acquire of this client, which isn't granted.
-    pub fn is_acquiring(&self, client: Link) -> bool
-        ensures { result ≡ Tracking.is_acquiring client.0 self.now }
+    pub fn awaits_grant(&self, client: Link) -> bool
+        ensures { result ≡ Tracking.awaits_grant client.0 self.now }
     {
         match self {
             Tracker::Probing { link, request, .. } => {
@@ -87,8 +87,8 @@ impl<const W: usize> Tracker<W> {
     }
 
     /// Whether it waits for the GrantAck of this client.
-    pub fn is_granted_to(&self, client: Link) -> bool
-        ensures { result ≡ Tracking.is_granted_to client.0 self.now }
+    pub fn awaits_grant_ack(&self, client: Link) -> bool
+        ensures { result ≡ Tracking.awaits_grant_ack client.0 self.now }
     {
         match self {
             Tracker::Granted { link, .. } => link.0 == client.0,
@@ -97,9 +97,9 @@ impl<const W: usize> Tracker<W> {
     }
 
     /// Whether it waits for the ProbeAck of this client.
-    pub fn is_missing(&self, client: Link) -> bool
+    pub fn awaits_probe_ack(&self, client: Link) -> bool
         requires { client.0 < 16 }
-        ensures { result ≡ Tracking.is_missing client.0 self.now }
+        ensures { result ≡ Tracking.awaits_probe_ack client.0 self.now }
     {
         match self {
             Tracker::Probing { missing, .. } => (*missing >> client.0) % 2 == 1,
@@ -173,7 +173,7 @@ impl<const W: usize> Trackers<W> {
     {
         for number in 0..8 {
             let tracker = self.at(number);
-            if tracker.is_asking(link, source) {
+            if tracker.serves_source(link, source) {
                 return tracker.request();
             }
         }

@@ -66,7 +66,7 @@ pub record IsNext {w : ℕ} (old : LinkState) (x : Beat w) (new : LinkState) : T
       (completes x old) x (block_in old.blocks b) else block_in old.blocks b)
 
 -- a beat of a block of which nothing was open or held, and then something is
-pub record IsNew {w : ℕ} (old : LinkState) (x : Beat w) (b : ℕ) : Type 0 where
+pub record OpensBlock {w : ℕ} (old : LinkState) (x : Beat w) (b : ℕ) : Type 0 where
   pub is_number : b < 2 ^ 32
   pub is_touched : touched (is_first x old) (completes x old) x old ≡ Some b
   pub was_empty : block_in old.blocks b ≡ empty_block

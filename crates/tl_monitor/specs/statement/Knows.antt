@@ -1,5 +1,5 @@
 -- What a monitor knows of the trace that it was given.
-use Rattle.std.specs.Prelude.{ℕ, Bool, true, false, List, [], ◌∷◌, ◌≡◌, ◌<◌, if◌then◌else◌, length, nat_lt}
+use Rattle.std.specs.Prelude.{ℕ, Bool, true, false, List, [], ◌∷◌, ◌≡◌, ◌<◌, if◌then◌else◌, length, map, nat_lt}
 use Rattle.std.specs.Prelude.{slice_index_or, Option, Some, None, Result, Ok, Err, ⊤}
 use Rattle.tl_beat.specs.declared.beat.Beat.{Beat}
 use Rattle.tl_beat.specs.declared.beat.Link.{Link}
@@ -14,23 +14,28 @@ use Rattle.tl_rules.specs.statement.History.{begins, held}
 use Rattle.tl_burst.specs.statement.Messages.{History}
 use Rattle.tl_rules.specs.code.Open.{open_request}
 use Rattle.tl_rules.specs.declared.past.Request.{Request}
-use Rattle.tl_monitor.specs.declared.link_state.LinkState.{LinkState}
 use Rattle.tl_monitor.specs.code.LinkState.{is_block, IsEmpty}
 use Rattle.tl_monitor.specs.code.Keeps.{Keeps}
 use Rattle.tl_monitor.specs.declared.monitor.Monitor.{Monitor}
+use Rattle.tl_monitor.specs.declared.monitor.MonitoredLink.{MonitoredLink}
 use Rattle.tl_monitor.specs.declared.fault.MonitorFault.{MonitorFault}
 use Rattle.tl_monitor.specs.declared.fault.MonitorFault.TheVariants as monitor
 use Rattle.tl_monitor.specs.declared.fault.TraceFault.{TraceFault}
 use Rattle.tl_monitor.specs.declared.fault.TraceFault.TheVariants as trace
 
+-- the levels of links, in their order
+abbrev pub levels_of : List MonitoredLink → List Level
+levels_of links = map (λ link. link.level) links
+
 -- The monitor has these levels and this profile, and keeps of each link what was recorded there, the
 -- newest first. It is closed where a beat was refused by a rule.
 pub record Knows {w : ℕ} (m : Monitor w) (levels : List Level) (p : Profile) (t : Trace w) (closed : Bool) : Type 0
   where
-    pub levels_are : m.levels.items ≡ levels
+    pub levels_are : levels_of m.links.items ≡ levels
     pub profile_is : m.profile ≡ p
     pub closed_is : m.closed ≡ closed
-    pub links_are : (n : ℕ) (d : LinkState) → n < length levels → Keeps (slice_index_or m.links.items n d) (on_link n t)
+    pub links_are : (n : ℕ) (d : MonitoredLink) → n < length levels
+        → Keeps (slice_index_or m.links.items n d).state (on_link n t)
 
 -- the request with this source that is pending and complete on a link; none on a link without a level
 abbrev pub request_on : {w : ℕ} → List Level → Link → ℕ → Trace w → Option Request
@@ -48,10 +53,10 @@ begins_on levels link x t = if nat_lt link.0 (length levels) then begins x (on_l
 abbrev pub LeavesOthers : {w : ℕ} → Option ℕ → Beat w → History w → Type 0
 LeavesOthers block x t = (b : ℕ) → is_block b block ≡ false → held b (x ∷ t) ≡ held b t
 
--- this many links of which nothing is kept
-pub record AllEmpty (count : ℕ) (links : List LinkState) : Type 0 where
-  pub so_many : length links ≡ count
-  pub all_empty : (n : ℕ) (d : LinkState) → n < count → IsEmpty (slice_index_or links n d)
+-- links of these levels, of which nothing is kept
+pub record AreEmpty (levels : List Level) (links : List MonitoredLink) : Type 0 where
+  pub levels_are : levels_of links ≡ levels
+  pub all_empty : (n : ℕ) (d : MonitoredLink) → n < length levels → IsEmpty (slice_index_or links n d).state
 
 -- what a new monitor is, or why there is none
 abbrev pub IsNew : {w : ℕ} → List Level → Profile → Result (Monitor w) MonitorFault → Type 0

@@ -1,5 +1,6 @@
-use Rattle.tl_monitor.specs.statement.Knows.{AllEmpty}
+use Rattle.std.proofs.Common.{take}
+use Rattle.tl_monitor.specs.statement.Knows.{AreEmpty}
 use Rattle.tl_monitor.proofs.monitor.Monitor.empty_links.Given as goal
 
-abbrev pub invariant-loop : goal.invariant-loop
-invariant-loop g l = AllEmpty l.counter l.links.items
+abbrev pub invariant-loop-level : goal.invariant-loop-level
+invariant-loop-level g l = AreEmpty (take l.level-index l.levels) l.links.items

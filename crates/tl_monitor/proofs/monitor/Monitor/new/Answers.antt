@@ -7,6 +7,5 @@ pub returns : goal.returns
 returns g c =
     let some = eqb-false (length c.args.levels.now) 0 (sym c.is_empty.ensures ∙ c.if-is_empty.false) in (
       (omega (arith, some), omega arith),
-      knows-new _ c.args.levels.now c.args.profile c.in-Ok-from_slice.ensures.items
-          refl refl c.in-Ok.ensures,
+      knows-new _ c.args.levels.now c.args.profile refl refl c.in-Ok.ensures,
     )

@@ -5,7 +5,7 @@ use Rattle.tl_manager.proofs.pending.Past.{looked-past}
 use Rattle.tl_manager.proofs.manager.link_state.LinkPastPast.has_grant.Goals as goal
 
 pub returns : goal.returns
-returns g c = λ t p. c.is_granted_to.ensures ∙ rw c.at.ensures
+returns g c = λ t p. c.awaits_grant_ack.ensures ∙ rw c.at.ensures
     (sink-looked c.args.self.now.block_state.now.trackers c.args.sink c.args.self.now.link.0 p.end.trace
     (looked-past g.D.Directory.perm_of c.args.self.now.link c.args.self.now.link_state.now
     c.args.self.now.block_state.now t p)

@@ -1,20 +1,35 @@
 -- The blocks of a link, with one more beat.
-use Rattle.std.proofs.Common.{◌≡◌, ℕ, Bool, [], ◌∷◌, refl, ◌∙◌}
-use Rattle.std.specs.Prelude.{Option, None}
+use Rattle.std.proofs.Common.{◌≡◌, ℕ, Bool, true, false, [], ◌∷◌, refl, sym, ◌∙◌}
+use Rattle.std.specs.Prelude.{if◌then◌else◌, Option, None}
 use Rattle.tl_beat.specs.declared.beat.Beat.{Beat}
+use Rattle.tl_beat.specs.declared.beat.BeatD.{BeatD}
+use Rattle.tl_beat.specs.declared.beat.BeatE.{BeatE}
 use Rattle.tl_beat.specs.declared.beat.Beat.TheVariants as beat
 use Rattle.tl_burst.specs.statement.Messages.{History}
 use Rattle.tl_chart.specs.code.Gathered.{KnowsBlocks, granted_next}
 use Rattle.tl_chart.specs.declared.blocks.LinkBlocks.{LinkBlocks}
-use Rattle.tl_chart.specs.statement.Messages.{block_granted}
+use Rattle.tl_chart.specs.statement.Messages.{block_granted, message_block}
 use Rattle.tl_explain.proofs.follows.Links.{blocks_taken}
-use Rattle.tl_explain.specs.code.Recorded.{AreBlocks, asked_next, block_of, released_next}
+use Rattle.tl_explain.specs.code.Recorded.{AreBlocks, asked_next, block_asked, block_of, block_released, released_next}
 use Rattle.tl_monitor.specs.code.Count.{at}
-use Rattle.tl_rules.specs.statement.History.{begins}
+use Rattle.tl_rules.specs.statement.History.{begins, is_release_ack, release_of, request_of}
 
 pub granted_none : (w s : ℕ) → block_granted {w = w} s [] ≡ None
 unfolding block_granted
 granted_none w s = refl
+
+-- an answer to nothing has no block
+pub first_answer : (w : ℕ) (x : BeatD w) → None ≡ message_block {w = w} (beat.D x) []
+unfolding release_of request_of
+first_answer w x = go (is_release_ack x.opcode)
+  where
+    go : (b : Bool) → None ≡ (if b then block_released {w = w} (release_of x.source []) else block_asked
+        {w = w} (request_of x.source []))
+    go true = refl
+    go false = refl
+
+pub first_ack : (w : ℕ) (x : BeatE) → None ≡ message_block {w = w} (beat.E x) []
+first_ack w x = sym (granted_none w x.sink)
 
 granted_step : {w : ℕ} (y : Beat w) (h : History w) (s : ℕ)
     → granted_next (begins y h) y (block_of y h) s (block_granted s h) ≡ block_granted s (y ∷ h)

@@ -3,3 +3,4 @@ pub mod Gathering
 pub mod Granted
 pub mod Linked
 pub mod Texts
+mod Worked

@@ -6,7 +6,7 @@ use Rattle.std.proofs.lemmas.Bool.{cases_eq, ne_eqb}
 use Rattle.std.proofs.lemmas.List.{get_or-set_other, get_or-set_same, length-set}
 use Rattle.tl_beat.specs.declared.beat.Beat.{Beat}
 use Rattle.tl_beat.specs.declared.beat.Link.{Link}
-use Rattle.tl_chart.specs.code.Gathered.{KnowLinks, KnowsBlocks}
+use Rattle.tl_chart.specs.code.Gathered.{CarryAll, KnowLinks, KnowsBlocks}
 use Rattle.tl_chart.specs.declared.blocks.LinkBlocks.{LinkBlocks}
 use Rattle.tl_explain.proofs.follows.Links.{on_own_link}
 use Rattle.tl_burst.specs.statement.Messages.{History}
@@ -64,3 +64,11 @@ pub links_kept : {w : ℕ} (links : List LinkBlocks) (x : Link × Beat w) (t : T
 links_kept links x t beyond know = λ n d lt.
     let elsewhere : x.0.0 ≢ n = λ e. absurd (omega (arith, e, lt, beyond)) in
     rw (on_other n x t elsewhere) (know n d lt)
+
+-- one more beat of one of them
+pub carry_more : {w : ℕ} (links more : List LinkBlocks) (x : Link × Beat w) (t : Trace w) → x.0.0 < length links
+    → length more ≡ length links → CarryAll links t → CarryAll more (x ∷ t)
+carry_more links more x t within same all = λ n le.
+    let elsewhere : x.0.0 ≢ n = λ e. absurd (omega (arith, e, le, within, same)) in
+    let beyond : length links ≤ n = omega (arith, le, same) in
+    rw (on_other n x t elsewhere) (all n beyond)

@@ -10,6 +10,7 @@ ghost use Rattle.tl_rules.specs.statement.History.{begins};
 use tl_beat::beat::Beat;
 use tl_explain::blocks::Blocks;
 use tl_monitor::byte_table::ByteTable;
+use tl_params::key::block_at;
 use tl_rules::kind::is_grant;
 
 /// The blocks of the last request and the last Release with each source, and of the last Grant with each
@@ -49,6 +50,19 @@ impl LinkBlocks {
         let block = self.blocks.of(beat);
         grant(&mut self.granted, beat, first, block);
         self.blocks.take(beat, first);
+    }
+}
+
+/// The block of a beat's message on a link that has carried nothing before it.
+pub fn first_block<const W: usize>(beat: &Beat<W>) -> Option<u32>
+    ensures { result ≡ message_block beat.now [] }
+{
+    match beat {
+        Beat::A(x) => Some(block_at(x.address)),
+        Beat::B(x) => Some(block_at(x.address)),
+        Beat::C(x) => Some(block_at(x.address)),
+        Beat::D(_) => None,
+        Beat::E(_) => None,
     }
 }
 

@@ -1,7 +1,9 @@
 //! A chart of what was gathered of a trace.
 
 ghost use Rattle.std.specs.Prelude.{◌≡◌, ◌++◌, ◌≤◌, OnOk, IfOk, option_to_list};
+ghost use Rattle.tl_chart.specs.code.Gathered.{drawn_of};
 ghost use Rattle.tl_chart.specs.statement.Chart.{IsChart, all_bars_text, fault_line};
+ghost use Rattle.tl_chart.specs.statement.Picture;
 
 use crate::arrow::Arrow;
 use crate::draw::{append_arrows, append_bars, append_escaped_words};
@@ -170,13 +172,33 @@ fn append_lifelines(links: &[u8], bottom: u64, out: &mut Vec<u8>) -> Result<(), 
     Ok(())
 }
 
-/// Appends the verdict, red where a line is at fault.
-fn append_verdict(verdict: &Verdict, y: u64, out: &mut Vec<u8>) -> Result<(), AllocError> {
-    let class = if verdict.broken { "X" } else { "v" };
+#[tactic(auto, unfolding(crate::specs::statement::Picture::said_text))]
+/// Appends a line of text below the messages.
+fn append_said(y: u64, text: &[u8], out: &mut Vec<u8>) -> Result<(), AllocError>
+    ensures { OnOk result (out.new.items ≡ out.old.items ++ Picture.said_text y text.now) }
+{
+    append_with("<text class='v' x='70' y='", y, out)?;
+    out.extend_from_slice(b"'>")?;
+    append_escaped(text, out)?;
+    out.extend_from_slice(b"</text>\n")
+}
+
+/// The class of a verdict, red where a line is at fault.
+fn verdict_class(broken: bool) -> &'static str
+    ensures { result.now ≡ Picture.verdict_class broken }
+{
+    if broken { "X" } else { "v" }
+}
+
+#[tactic(auto, unfolding(crate::specs::statement::Picture::verdict_text))]
+/// Appends the line of a verdict, red where a line is at fault.
+fn append_verdict(broken: bool, text: &[u8], y: u64, out: &mut Vec<u8>) -> Result<(), AllocError>
+    ensures { OnOk result (out.new.items ≡ out.old.items ++ Picture.verdict_text y broken text.now) }
+{
     out.extend_from_slice(b"<g class='")?;
-    out.extend_from_slice(class.as_bytes())?;
+    out.extend_from_slice(verdict_class(broken).as_bytes())?;
     out.extend_from_slice(b"'>\n")?;
-    append_label("v", 70, y, verdict.text, out)?;
+    append_said(y, text, out)?;
     out.extend_from_slice(b"</g>\n")
 }
 
@@ -185,7 +207,7 @@ fn append_note(shown: bool, y: u64, text: &[u8], out: &mut Vec<u8>) -> Result<u6
     if !shown {
         return Ok(y);
     }
-    append_label("v", 70, y, text, out)?;
+    append_said(y, text, out)?;
     Ok(y.saturating_add(18))
 }
 
@@ -268,17 +290,11 @@ fn front_of(
     Ok(front)
 }
 
-/// What stands behind them.
-fn end_of(
-    gatherer: &Gatherer,
-    verdict: &Verdict,
-    bottom: u64,
-    alloc: Global,
-) -> Result<Vec<u8>, AllocError>
+/// What stands behind the verdict.
+fn end_of(gatherer: &Gatherer, bottom: u64, alloc: Global) -> Result<Vec<u8>, AllocError>
     requires { bottom ≤ 1000000 }
 {
     let mut end = Vec::new(alloc);
-    append_verdict(verdict, bottom + 36, &mut end)?;
     append_notes(gatherer, bottom + 56, &mut end)?;
     end.extend_from_slice(b"</svg>\n")?;
     Ok(end)
@@ -290,7 +306,8 @@ pub fn append_chart(
     verdict: &Verdict,
     out: &mut Vec<u8>,
 ) -> Result<(), AllocError>
-    ensures { OnOk result (IsChart gatherer.now verdict.now.fault out.old.items out.new.items) }
+    ensures { OnOk result (IsChart gatherer.now.window (drawn_of gatherer.now) verdict.now.fault verdict.now.text.now
+        verdict.now.broken out.old.items out.new.items) }
 {
     let alloc = *out.allocator();
     let arrows = rows_of(gatherer, verdict)?;
@@ -298,10 +315,11 @@ pub fn append_chart(
     append_links(&arrows, &mut links)?;
     let bottom = row_place(arrows.len());
     let front = front_of(gatherer, &arrows, &links, verdict, alloc)?;
-    let end = end_of(gatherer, verdict, bottom, alloc)?;
+    let end = end_of(gatherer, bottom, alloc)?;
     let first = gatherer.window.first;
     out.extend_from_slice(&front)?;
     append_all_bars(gatherer, &arrows, &links, bottom + 14, out)?;
     append_arrows(&arrows, &links, first, fault_line(verdict), out)?;
+    append_verdict(verdict.broken, verdict.text, bottom + 36, out)?;
     out.extend_from_slice(&end)
 }

@@ -4,15 +4,16 @@ ghost use Rattle.std.specs.Prelude.{ℕ, [], ◌∷◌, ◌≡◌, ◌<◌, not,
 ghost use Rattle.std.specs.Prelude.{◌&&◌, false};
 ghost use Rattle.tl_beat.specs.declared.beat.Beat.{Beat};
 ghost use Rattle.tl_beat.specs.statement.Width.{IsWidth};
-ghost use Rattle.tl_chart.specs.code.Gathered.{Gathers, KnowLinks, drawn_of};
+ghost use Rattle.tl_chart.specs.code.Gathered.{CarryAll, Gathers, KnowLinks, drawn_of};
 ghost use Rattle.tl_chart.specs.code.Moment.{IsMoment};
 ghost use Rattle.tl_chart.specs.statement.Drawn.{closes, drawn_more, fault_drawn, holds, marks_with, open_by};
 ghost use Rattle.tl_chart.specs.statement.Drawn.{shows, skipped, with_beat, within};
-ghost use Rattle.tl_chart.specs.statement.Messages.{beats_in, continued, message_block, message_from};
+ghost use Rattle.tl_chart.specs.statement.Messages.{beats_in, continued, fault_from, message_block, message_from};
+ghost use Rattle.tl_explain.specs.statement.Evidence.{next_line};
 ghost use Rattle.tl_rules.specs.statement.Conformance.{Trace, on_link, same_perm};
 
 use crate::arrow::{Arrow, Moment};
-use crate::blocks::LinkBlocks;
+use crate::blocks::{LinkBlocks, first_block};
 use crate::mark::Mark;
 use crate::window::Window;
 use std::alloc::{AllocError, Global};
@@ -62,6 +63,23 @@ fn arrow_from<const W: usize>(moment: Moment, beat: &Beat<W>, block: Option<u32>
         first: moment.line,
         last: moment.line,
         complete: moment.last,
+    }
+}
+
+/// A beat that is at fault, whose message is of this block.
+fn fault_from<const W: usize>(link: Link, line: u64, beat: &Beat<W>, block: Option<u32>) -> Arrow
+    requires { IsWidth W }
+    ensures { (t : Trace W) → line ≡ next_line t → block ≡ message_block beat.now (on_link link.0 t) →
+        result ≡ fault_from (link, beat.now) t }
+{
+    Arrow {
+        link,
+        control: beat.control(),
+        block,
+        beats: beats_of(beat),
+        first: line,
+        last: line,
+        complete: true,
     }
 }
 
@@ -221,10 +239,13 @@ impl Gatherer {
 
     /// The block of a beat's message.
     fn block_of<const W: usize>(&self, link: Link, beat: &Beat<W>) -> Option<u32>
-        ensures { (t : Trace W) → KnowLinks self.now.links.items t → link.0 < length self.now.links.items →
+        ensures { (t : Trace W) → KnowLinks self.now.links.items t → CarryAll self.now.links.items t →
             result ≡ message_block beat.now (on_link link.0 t) }
     {
-        self.links.get(usize::from(link.0))?.of(beat)
+        match self.links.get(usize::from(link.0)) {
+            Some(blocks) => blocks.of(beat),
+            None => first_block(beat),
+        }
     }
 
     /// Whether a beat of this line is drawn no more; a message that begins with it is one too many.
@@ -303,17 +324,16 @@ impl Gatherer {
         }
     }
 
-    /// The beat of the next line as a message that begins, where it is drawn: it is at fault.
-    pub fn fault_of<const W: usize>(&self, moment: Moment, beat: &Beat<W>) -> Option<Arrow>
+    /// The beat of the next line, which is at fault, where it is drawn.
+    pub fn fault_of<const W: usize>(&self, link: Link, line: u64, beat: &Beat<W>) -> Option<Arrow>
         requires { IsWidth W }
-        ensures { (t : Trace W) → IsMoment moment (moment.link, beat.now) t →
-            moment.link.0 < length self.now.links.items → Gathers self.now t →
-            result ≡ fault_drawn self.now.window (moment.link, beat.now) t }
+        ensures { (t : Trace W) → line ≡ next_line t → Gathers self.now t →
+            result ≡ fault_drawn self.now.window (link, beat.now) t }
     {
-        if self.closes(moment.line, false) || moment.line < self.window.first {
+        if self.closes(line, false) || line < self.window.first {
             return None;
         }
-        let block = self.block_of(moment.link, beat);
-        Some(arrow_from(moment, beat, block))
+        let block = self.block_of(link, beat);
+        Some(fault_from(link, line, beat, block))
     }
 }

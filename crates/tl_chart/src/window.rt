@@ -1,6 +1,6 @@
 //! Which lines of a trace are drawn.
 
-ghost use Rattle.std.specs.Prelude.{◌≡◌};
+ghost use Rattle.std.specs.Prelude.{◌≡◌, true};
 ghost use Rattle.tl_chart.specs.statement.Drawn.{same_block, shows};
 
 /// The lines of a trace that are drawn, and the block that is.
@@ -27,6 +27,17 @@ pub fn is_same_block(one: Option<u32>, other: Option<u32>) -> bool
 }
 
 impl Window {
+    /// Whether this is the other one.
+    pub fn is(&self, other: &Window) -> bool
+        ensures { result ≡ true → self.now ≡ other.now }
+    {
+        let same = match (self.block, other.block) {
+            (None, None) => true,
+            (one, other) => is_same_block(one, other),
+        };
+        same && self.first == other.first && self.last == other.last && self.most == other.most
+    }
+
     /// Whether a message of this block is drawn.
     pub fn shows(&self, block: Option<u32>) -> bool
         ensures { result ≡ shows self.now.block block }

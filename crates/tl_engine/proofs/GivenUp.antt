@@ -36,6 +36,12 @@ pub unwritten_by : (count : ℕ) (fault : ToolFault) → GivesUp count fault →
 unwritten_by count fault (inl memory) is = let no : Memory ≡ Write = sym memory ∙ is in absurd cc
 unwritten_by count fault (inr (read, last)) is = let no : Read ≡ Write = sym read ∙ is in absurd cc
 
+pub unwritten_within : {H : Type 0} (knows : H → List (List ℕ) → List ℕ → Type 0) (state : Lines H) (piece was : List ℕ)
+    (fault : ToolFault) → GivesUpWithin knows state piece was fault → fault ≢ Write
+unwritten_within knows state piece was Memory gives = λ is. absurd cc
+unwritten_within knows state piece was Read gives = λ is. absurd cc
+unwritten_within knows state piece was Write gives = λ is. absurd gives
+
 module _ {H : Type 0} (knows : H → List (List ℕ) → List ℕ → Type 0) (tells : List (List ℕ) → List ℕ → Status → Type 0)
   where
     -- the lines that have ended are those that were judged

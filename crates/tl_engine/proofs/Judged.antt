@@ -161,7 +161,7 @@ module _ {w : ℕ} (n : ℕ) (wrap : BeatJudge w → MonitorLines n)
 -- ---- where a header has been read
 
 -- a line with no LF at its end or of more than 256 bytes is no beat's
-unread : {w : ℕ} (together : Bool) (judge : BeatJudge w) (lines : List (List ℕ))
+pub unread : {w : ℕ} (together : Bool) (judge : BeatJudge w) (lines : List (List ℕ))
     (before said line : List ℕ) (k : KnowsTrace together judge lines (before ++ said)) → IsOpen line
     → (more : List (List ℕ))
     → JudgedSo together (lines ++ line ∷ more) (before ++ (said ++ fault_text (length lines + 1) (Line F1))) Broken

@@ -1,7 +1,9 @@
+pub mod ChartedLines
 pub mod Explaining
 pub mod FirstLine
 pub mod GivenUp
 pub mod InputLines
+pub mod JudgedInput
 pub mod Parts
 pub mod Progress
 pub mod Replaying

@@ -11,9 +11,9 @@ use Rattle.tl_engine.specs.declared.status.Status.{Status}
 use Rattle.tl_engine.specs.declared.status.ToolFault.{ToolFault}
 use Rattle.tl_engine.specs.declared.status.Status.TheVariants.{Clean, Broken}
 use Rattle.tl_engine.specs.statement.Fault.{fault_text}
-use Rattle.tl_engine.specs.code.Judging.{Finishes}
+use Rattle.tl_engine.specs.code.Judging.{Ends, Finishes}
 use Rattle.tl_engine.specs.code.Lines.{lines_of, LacksLf, IsLine, IsOpen}
-use Rattle.tl_engine.specs.code.Progress.{Progress, StopsAt, CountsLine, Feeds, FinishesInput}
+use Rattle.tl_engine.specs.code.Progress.{Progress, StopsAt, CountsLine, EndsWithin, Feeds, FinishesInput, HasAll}
 use Rattle.tl_engine.proofs.InputLines.{lines_of-line, lines_of-begun, lines_of-rest, ends-lacks, open_from}
 use Rattle.tl_engine.proofs.InputLines.{ended_lines-append, ended_lines-lacks, ended_lines-line}
 
@@ -23,6 +23,14 @@ lacks-append xs ys p q = All-append (λ b. (b == 10) ≡ false) xs ys p q
 pub empty_is : (xs : List ℕ) → (length xs == 0) ≡ true → xs ≡ []
 empty_is [] e = refl
 empty_is (x ∷ xs) e = absurd (omega (arith, eqb-true (length (x ∷ xs)) 0 e))
+
+one_rest : (rest : List ℕ) → LacksLf rest → 0 < length rest → lines_of rest ≡ rest ∷ []
+one_rest [] lacks some = absurd (omega arith)
+one_rest (b ∷ rest) lacks some = lines_of-rest b rest lacks
+
+not_empty : (xs : List ℕ) → (length xs == 0) ≡ false → 0 < length xs
+not_empty [] e = absurd cc
+not_empty (x ∷ xs) e = omega arith
 
 lacks-nil : LacksLf []
 lacks-nil = All-nil (λ b. (b == 10) ≡ false)
@@ -210,10 +218,6 @@ module _ {H : Type 0} (knows : H → List (List ℕ) → List ℕ → Type 0) (t
         says = rw (says, p.counted, p.ended) (sym (append_assoc before was (fault_text (length p.lines + 1) fault)));
       },
     )
-      where
-        one_rest : (rest : List ℕ) → LacksLf rest → 0 < length rest → lines_of rest ≡ rest ∷ []
-        one_rest [] lacks some = absurd (omega arith)
-        one_rest (b ∷ rest) lacks some = lines_of-rest b rest lacks
 
     pub finishes_stopped : (r : Result Status ToolFault) (state : Lines H) (was is : List ℕ)
         → (length state.begun.items == 0) ≡ false
@@ -224,10 +228,63 @@ module _ {H : Type 0} (knows : H → List (List ℕ) → List ℕ → Type 0) (t
     finishes_stopped (Err fault) state was is some broken stops says = tt
     finishes_stopped (Ok status) state was is some broken stops says =
         rw broken (finishes_open state was is says.0 (not_empty state.begun.items some) stops says.1)
-      where
-        not_empty : (xs : List ℕ) → (length xs == 0) ≡ false → 0 < length xs
-        not_empty [] e = absurd cc
-        not_empty (x ∷ xs) e = omega arith
+
+-- ---- what a handler has where a line is at fault
+
+module _ {H : Type 0} (knows : H → List (List ℕ) → List ℕ → Type 0) (ends : H → List (List ℕ) → Type 0) where
+  -- what a handler has is of these lines, whatever is said of them
+  abbrev Has : H → List (List ℕ) → List ℕ → Status → Type 0
+  Has handler lines text status = ends handler lines
+
+  -- in the line that ends with this piece
+  pub ends_line : (old : Lines H) (new : H) (line was : List ℕ) → IsLine line
+      → Ends knows ends old.handler new (old.begun.items ++ line) → EndsWithin knows ends old new line was
+  ends_line old new line was is has = λ read before p more.
+      rw (cut_line knows (Has new) old read (before ++ was) line more p is)
+      (has p.lines (before ++ was) p.known (lines_of more))
+
+  pub ends_at_hand : (old : Lines H) (new : H) (line was : List ℕ) → IsLine line
+      → (length old.begun.items == 0) ≡ true → Ends knows ends old.handler new line
+      → EndsWithin knows ends old new line was
+  ends_at_hand old new line was is empty has =
+      let none : old.begun.items ≡ [] = empty_is old.begun.items empty in
+      ends_line old new line was is (rw none has)
+
+  -- in one that is too long
+  pub ends_open : (old : Lines H) (new : H) (piece was front back : List ℕ) → piece ≡ front ++ back → LacksLf front
+      → 256 ≤ length old.begun.items + length front
+      → ((line : List ℕ) → IsOpen line → Ends knows ends old.handler new line)
+      → EndsWithin knows ends old new piece was
+  ends_open old new piece was front back cut lacks long has =
+      feeds_open knows (Has new) old old piece was was front back cut lacks long
+      (λ line is lines before known counted more. has line is lines (before ++ was) known more)
+
+  -- behind other lines of the piece
+  pub ends_until : (tells : List (List ℕ) → List ℕ → Status → Type 0) (a b : Lines H) (c : H)
+      (taken line after rest piece was mid : List ℕ) → taken ++ rest ≡ piece → line ++ after ≡ rest
+      → Feeds knows tells a b taken was mid Clean → EndsWithin knows ends b c line mid
+      → EndsWithin knows ends a c piece was
+  ends_until tells a b c taken line after rest piece was mid cut behind first has =
+      feeds_until knows (Has c) a b b taken line after rest piece was mid mid cut behind first has
+
+  -- at the end of the input
+  pub has_open : (r : Result Status ToolFault) (state : Lines H) → (length state.begun.items == 0) ≡ false
+      → IfOk r (λ _. (line : List ℕ) → IsOpen line → Ends knows ends state.handler state.handler line)
+      → IfOk r (λ _. (read text : List ℕ) → Progress knows state read text
+      → HasAll knows ends state.handler (lines_of read))
+  has_open (Err fault) state some has = tt
+  has_open (Ok status) state some has = λ read text p. inl (
+      rw (
+        all_lines knows (Has state.handler) state read text p,
+        one_rest state.begun.items p.unended
+            (not_empty state.begun.items some),
+      )
+      (has state.begun.items (inl (ends-lacks state.begun.items p.unended)) p.lines text p.known []))
+
+  pub has_ended : (state : Lines H) → state.begun.items ≡ [] → (read text : List ℕ) → Progress knows state read text
+      → HasAll knows ends state.handler (lines_of read)
+  has_ended state none read text p =
+      inr (text, rw (all_ended knows (Has state.handler) state read text p none) p.known)
 
 -- what didn't fit was too long
 pub refused : {A E : Type 0} (r : Result A E) (n : ℕ) → is_err r ≡ true → (n ≤ 256 → IsOk r) → 256 < n

@@ -1,3 +1,4 @@
+pub mod Charting
 pub mod Explaining
 pub mod GivenUp
 pub mod Judging

@@ -1,21 +1,22 @@
 //! Draws a recorded trace, which is read once.
 
-ghost use Rattle.std.specs.Prelude.{◌≡◌, ◌≢◌, [], ℕ, List, IfErr, IfOk};
-ghost use Rattle.std.specs.Io.KnownBytes.{Appends};
-ghost use Rattle.tl_engine.specs.statement.Charted.{GivesUpCharting, IsCharted};
-ghost use Rattle.tl_engine.specs.statement.Unexplained.{Reaches};
+ghost use Rattle.std.specs.Prelude.{◌≡◌, ◌≢◌, ◌++◌, ◌-◌, [], ℕ, List, IfErr, IfOk, codes, length, take};
+ghost use Rattle.std.specs.Io.KnownBytes.{Appends, Consumes};
+ghost use Rattle.tl_engine.specs.code.Charting.{EndsChart};
+ghost use Rattle.tl_engine.specs.code.Lines.{lines_of};
+ghost use Rattle.tl_engine.specs.code.Run.{EndsAs};
+ghost use Rattle.tl_engine.specs.statement.Charted.{Charts, GivesUpCharting, IsCharted, is_broken};
+ghost use Rattle.tl_engine.specs.statement.Judged.{Judged};
 ghost use Rattle.tl_engine.specs.declared.status.ToolFault.{ToolFault};
 
-use crate::charting::{ChartLines, Gathered};
-use crate::engine::handle_input;
-use crate::explain::in_memory;
-use crate::monitor_lines::MonitorLines;
+use crate::charting::ChartLines;
+use crate::engine::judge_input;
+use crate::lines::Lines;
 use crate::output::write_all;
 use crate::status::{Status, ToolFault};
 use std::alloc::{AllocError, Global};
 use std::io::{Read, Write};
 use tl_chart::chart::{Verdict, append_chart};
-use tl_chart::gatherer::Gatherer;
 pub use tl_chart::window::Window;
 use tl_command::chart::Range;
 
@@ -37,48 +38,63 @@ pub fn window_of(range: Range) -> Window {
     }
 }
 
-/// Judges what a reader gives. Answers what was gathered of it, beside its verdict.
+/// Judges what a reader gives. Answers what judged it, and what was gathered, beside its verdict.
 fn gather<R: Read>(
     alloc: Global,
     window: Window,
     reader: &mut R,
     verdict: &mut Vec<u8>,
-) -> Result<(Gathered, Status), ToolFault>
+) -> Result<(ChartLines, Status), ToolFault>
     requires { verdict.old.items ≡ [] }
-    ensures ok { IfOk result (λ both. Reaches (R.remaining reader.old) (R.remaining reader.new) verdict.new.items
-        both.1) }
+    ensures ok { IfOk result (λ both. (read : List ℕ) × Consumes (R.remaining reader.old) (R.remaining reader.new) read
+        × Judged (lines_of read) verdict.new.items both.1
+        × EndsAs Judged (R.remaining reader.new) read verdict.new.items both.1 × EndsChart both.0 (lines_of read)) }
     ensures fault { IfErr result (λ fault. fault ≢ ToolFault.Write) }
 {
-    let mut gathered = Gathered {
-        gatherer: Gatherer::new(alloc, 0, window)?,
-        fault: None,
-        count: 0,
-    };
-    let lines = ChartLines {
-        monitor_lines: MonitorLines::Waiting(alloc),
-        gathered: &mut gathered,
-        alloc,
-    };
-    let status = in_memory(handle_input(alloc, lines, reader, verdict))?;
-    Ok((gathered, status))
+    let mut lines = Lines::new(ChartLines::new(alloc, window)?);
+    let status = judge_input(alloc, &mut lines, reader, verdict)?;
+    Ok((lines.into_handler(), status))
 }
 
-/// The chart of what was gathered.
+/// A verdict without the LF at its end.
+fn line_said(verdict: &[u8]) -> &[u8]
+    ensures { result.now ≡ take (length verdict.now - 1) verdict.now }
+{
+    &verdict[..verdict.len().saturating_sub(1)]
+}
+
+/// Whether a line is at fault.
+fn is_broken(status: Status) -> bool
+    ensures { result ≡ is_broken status }
+{
+    match status {
+        Status::Clean => false,
+        Status::Broken => true,
+    }
+}
+
+/// The chart of what was gathered, which is of this window.
 fn drawn(
     alloc: Global,
-    gathered: &Gathered,
+    window: Window,
+    lines: &ChartLines,
     status: Status,
     verdict: &[u8],
 ) -> Result<Vec<u8>, AllocError>
-    ensures { IfOk result (λ chart. IsCharted chart.items) }
+    ensures { IfOk result (λ chart. (trace : List (List ℕ)) → EndsChart lines.now trace →
+        (said : List ℕ) → verdict.now ≡ said ++ codes "\n" → IsCharted window trace verdict.now status chart.items) }
 {
+    let gatherer = lines.gatherer();
+    if !gatherer.window.is(&window) {
+        return Err(AllocError);
+    }
     let verdict = Verdict {
-        text: verdict.strip_suffix(b"\n").unwrap_or(verdict),
-        fault: gathered.fault,
-        broken: status == Status::Broken,
+        text: line_said(verdict),
+        fault: lines.fault(),
+        broken: is_broken(status),
     };
     let mut chart = Vec::new(alloc);
-    append_chart(&gathered.gatherer, &verdict, &mut chart)?;
+    append_chart(gatherer, &verdict, &mut chart)?;
     Ok(chart)
 }
 
@@ -93,15 +109,15 @@ pub fn chart_input<R: Read, W: Write>(
     reader: &mut R,
     writer: &mut W,
 ) -> Result<Status, ToolFault>
-    ensures ok { IfOk result (λ status. (verdict chart : List ℕ)
-        × Reaches (R.remaining reader.old) (R.remaining reader.new) verdict status
-        × IsCharted chart × Appends (W.contents writer.old) (W.contents writer.new) chart) }
-    ensures fault { IfErr result (GivesUpCharting (R.remaining reader.old) (R.remaining reader.new)
+    ensures ok { IfOk result (λ status. (chart : List ℕ)
+        × Charts window (R.remaining reader.old) (R.remaining reader.new) status chart
+        × Appends (W.contents writer.old) (W.contents writer.new) chart) }
+    ensures fault { IfErr result (GivesUpCharting window (R.remaining reader.old) (R.remaining reader.new)
         (W.contents writer.old) (W.contents writer.new)) }
 {
     let mut verdict = Vec::new(alloc);
-    let (gathered, status) = gather(alloc, window, reader, &mut verdict)?;
-    let chart = drawn(alloc, &gathered, status, &verdict)?;
+    let (lines, status) = gather(alloc, window, reader, &mut verdict)?;
+    let chart = drawn(alloc, window, &lines, status, &verdict)?;
     write_all(writer, &chart)?;
     Ok(status)
 }

@@ -1,177 +1,250 @@
 //! Judges a recorded trace, and gathers what is drawn of it.
 
-ghost use Rattle.std.specs.Prelude.{◌≡◌, IfSome, OnOk};
+ghost use Rattle.std.specs.Prelude.{◌≡◌, ◌<◌, [], ◌∷◌, List, ℕ, IfOk, OnOk, false, length};
+ghost use Rattle.tl_beat.specs.statement.Line.{Spells};
 ghost use Rattle.tl_beat.specs.statement.Width.{IsWidth};
-ghost use Rattle.tl_engine.specs.code.Watching.{KnowsLines};
+ghost use Rattle.tl_chart.specs.code.Gathered.{Gathers};
+ghost use Rattle.tl_chart.specs.statement.Drawn.{fault_drawn, holds};
+ghost use Rattle.tl_engine.specs.code.Charting.{BeginsChart, EndsChart, IsBegun, KnowsChart, ReadsLine};
+ghost use Rattle.tl_engine.specs.code.Charting.{fault_in, gatherer_in};
+ghost use Rattle.tl_engine.specs.declared.fault.Fault.TheVariants.{Rule as Breaks};
 ghost use Rattle.tl_engine.specs.statement.Judged.{Judged};
+ghost use Rattle.tl_explain.specs.statement.Evidence.{next_line};
+ghost use Rattle.tl_monitor.specs.statement.Knows.{Knows};
+ghost use Rattle.tl_params.specs.declared.level.Level.{Level};
+ghost use Rattle.tl_params.specs.declared.profile.Profile.{Profile};
+ghost use Rattle.tl_rules.specs.statement.Conformance.{Trace, on_link};
+ghost use Rattle.tl_rules.specs.statement.History.{begins};
 
-use crate::beat_judge::BeatJudge;
 use crate::fault::Fault;
-use crate::header::read_header;
+use crate::header::{Header, read_header};
 use crate::line_handler::LineHandler;
-use crate::monitor_lines::MonitorLines;
+use crate::monitor_lines::append_end;
 use std::alloc::{AllocError, Global};
 use tl_beat::beat::{Beat, Link};
+use tl_beat::fault::LineFault;
 use tl_beat::read::read_line;
 use tl_chart::arrow::{Arrow, Moment};
 use tl_chart::gatherer::Gatherer;
+use tl_chart::window::Window;
+use tl_monitor::fault::MonitorFault;
 use tl_monitor::monitor::Monitor;
 use tl_params::perm::Perm;
+use tl_params::width::Width;
+use tl_rules::rule::Rule;
 
-/// What was gathered of a trace.
+/// A monitor of the links of a trace, and what was gathered of its beats.
 #[derive(Drop)]
-pub struct Gathered {
-    pub gatherer: Gatherer,
+pub struct Charting<const W: usize> {
+    monitor: Monitor<W>,
+    gatherer: Gatherer,
     /// The beat at fault, where it is drawn.
-    pub fault: Option<Arrow>,
+    fault: Option<Arrow>,
     /// How many lines have been read, without a fault.
-    pub count: u64,
-}
-
-/// A beat, whether it begins a message on its link, and what the link holds before it of the block that is
-/// drawn.
-#[derive(Drop)]
-struct Next<const W: usize> {
-    link: Link,
-    beat: Beat<W>,
-    first: bool,
-    held: Perm,
-}
-
-/// The beat of a line, by the width of beats.
-#[derive(Drop)]
-enum NextLine {
-    Four(Next<4>),
-    Eight(Next<8>),
-    Sixteen(Next<16>),
+    count: u64,
 }
 
 /// What a link holds of the block that is drawn.
-fn held_on<const W: usize>(monitor: &Monitor<W>, link: Link, block: Option<u32>) -> Perm {
+fn held_on<const W: usize>(monitor: &Monitor<W>, link: Link, block: Option<u32>) -> Perm
+    ensures { (levels : List Level) (p : Profile) (t : Trace W) → Knows monitor.now levels p t false →
+        link.0 < length levels → result ≡ holds block link t }
+{
     match block {
         None => Perm::None,
         Some(block) => monitor.held(link, block),
     }
 }
 
-/// The beat that a line spells, before it is judged.
-fn next_of<const W: usize>(judge: &BeatJudge<W>, line: &[u8], block: Option<u32>) -> Option<Next<W>>
-    requires { IsWidth W }
-{
-    let BeatJudge::OfLinks(monitor) = judge else {
-        return None;
-    };
-    let Ok((link, beat)) = read_line::<W>(line) else {
-        return None;
-    };
-    Some(Next {
-        link,
-        first: monitor.begins(link, &beat),
-        held: held_on(monitor, link, block),
-        beat,
-    })
-}
-
-/// The same of each width.
-fn next_line(lines: &MonitorLines<0>, line: &[u8], block: Option<u32>) -> Option<NextLine> {
-    match lines {
-        MonitorLines::Waiting(_) => None,
-        MonitorLines::Four(judge) => Some(NextLine::Four(next_of(judge, line, block)?)),
-        MonitorLines::Eight(judge) => Some(NextLine::Eight(next_of(judge, line, block)?)),
-        MonitorLines::Sixteen(judge) => Some(NextLine::Sixteen(next_of(judge, line, block)?)),
-    }
-}
-
-impl Gathered {
-    /// Begins with the links that a header names.
-    fn begin(&mut self, alloc: Global, line: &[u8]) -> Result<(), AllocError> {
-        if let Some(header) = read_header(line) {
-            self.gatherer = Gatherer::new(alloc, header.levels.len(), self.gatherer.window)?;
-        }
-        self.count = 1;
-        Ok(())
+impl<const W: usize> Charting<W> {
+    /// Begins behind a header.
+    fn new(alloc: Global, header: &Header, window: Window) -> Result<Self, AllocError>
+        requires { IsWidth W }
+        ensures { IfOk result (λ charting. IsBegun charting header.now.levels.items header.now.profile) }
+    {
+        let levels = header.levels.as_slice();
+        let monitor = Monitor::new(alloc, levels, header.profile).map_err(|_| AllocError)?;
+        Ok(Charting {
+            monitor,
+            gatherer: Gatherer::new(alloc, levels.len(), window)?,
+            fault: None,
+            count: 1,
+        })
     }
 
-    /// Takes a beat: it breaks no rule, and the monitor has taken it, or it is at fault. Then no message is drawn
-    /// with it but its own.
-    fn take<const W: usize>(
+    /// Gathers the beat of a line that breaks no rule, which the monitor has taken: whether it begins a
+    /// message, and what its link held before it of the block that is drawn.
+    fn gather(
         &mut self,
-        judge: &BeatJudge<W>,
-        next: &Next<W>,
-        fault: Option<Fault>,
+        link: Link,
+        line: u64,
+        beat: &Beat<W>,
+        first: bool,
+        before: Perm,
     ) -> Result<(), AllocError>
         requires { IsWidth W }
-        ensures { OnOk result (IfSome fault (λ _. self.new.gatherer ≡ self.old.gatherer)) }
+        ensures gathers { OnOk result ((levels : List Level) (p : Profile) (t : Trace W) →
+            Knows self.old.monitor levels p ((link, beat.now) ∷ t) false → link.0 < length levels →
+            length self.old.gatherer.links.items ≡ length levels → line ≡ next_line t →
+            first ≡ begins beat.now (on_link link.0 t) → before ≡ holds self.old.gatherer.window.block link t →
+            Gathers self.old.gatherer t → Gathers self.new.gatherer ((link, beat.now) ∷ t)) }
+        ensures window { OnOk result (self.new.gatherer.window ≡ self.old.gatherer.window) }
+        ensures many { OnOk result (length self.new.gatherer.links.items ≡ length self.old.gatherer.links.items) }
+        ensures count { self.new.count ≡ line }
+        ensures monitor { self.new.monitor ≡ self.old.monitor }
+        ensures fault { self.new.fault ≡ self.old.fault }
     {
-        let BeatJudge::OfLinks(monitor) = judge else {
-            return Ok(());
-        };
-        let line = self.count.saturating_add(1);
+        let held = held_on(&self.monitor, link, self.gatherer.window.block);
         let moment = Moment {
-            link: next.link,
+            link,
             line,
-            first: next.first,
-            last: fault.is_some() || monitor.begins(next.link, &next.beat),
+            first,
+            last: self.monitor.begins(link, beat),
         };
-        if fault.is_some() {
-            self.fault = self.gatherer.fault_of(moment, &next.beat);
-            return Ok(());
-        }
-        let held = held_on(monitor, next.link, self.gatherer.window.block);
         self.count = line;
-        self.gatherer.take(moment, &next.beat, next.held, held)
+        self.gatherer.take(moment, beat, before, held)
     }
 
-    /// Takes a line that has been judged.
-    fn take_line(
-        &mut self,
-        lines: &MonitorLines<0>,
-        next: &NextLine,
-        fault: Option<Fault>,
-    ) -> Result<(), AllocError>
-        ensures { OnOk result (IfSome fault (λ _. self.new.gatherer ≡ self.old.gatherer)) }
+    /// Draws the beat of a line that breaks a rule.
+    fn take_fault(&mut self, link: Link, line: u64, beat: &Beat<W>, rule: Rule) -> Fault
+        requires { IsWidth W }
+        ensures fault { result ≡ Breaks rule }
+        ensures drawn { (t : Trace W) → line ≡ next_line t → Gathers self.old.gatherer t →
+            self.new.fault ≡ fault_drawn self.old.gatherer.window (link, beat.now) t }
+        ensures gatherer { self.new.gatherer ≡ self.old.gatherer }
     {
-        match (lines, next) {
-            (MonitorLines::Four(judge), NextLine::Four(next)) => self.take(judge, next, fault),
-            (MonitorLines::Eight(judge), NextLine::Eight(next)) => self.take(judge, next, fault),
-            (MonitorLines::Sixteen(judge), NextLine::Sixteen(next)) => {
-                self.take(judge, next, fault)
+        self.fault = self.gatherer.fault_of(link, line, beat);
+        Fault::Rule(rule)
+    }
+
+    /// Judges a beat, and gathers it. A beat at fault is drawn as it is.
+    fn take(&mut self, link: Link, beat: &Beat<W>) -> Result<Option<Fault>, AllocError>
+        requires { IsWidth W }
+        ensures { IfOk result (λ fault. (line : List ℕ) → Spells line link beat.now →
+            ReadsLine self.old self.new line fault) }
+    {
+        let line = self.count.checked_add(1).ok_or(AllocError)?;
+        let first = self.monitor.begins(link, beat);
+        let before = held_on(&self.monitor, link, self.gatherer.window.block);
+        match self.monitor.push(link, beat) {
+            Ok(()) => {
+                self.gather(link, line, beat, first, before)?;
+                Ok(None)
             }
-            _ => Ok(()),
+            Err(MonitorFault::Broken(rule)) => Ok(Some(self.take_fault(link, line, beat, rule))),
+            Err(_) => Err(AllocError),
+        }
+    }
+
+    /// Judges the line of the next beat, and gathers it.
+    fn read(&mut self, line: &[u8]) -> Result<Option<Fault>, AllocError>
+        requires { IsWidth W }
+        ensures { IfOk result (ReadsLine self.old self.new line.now) }
+    {
+        match read_line(line) {
+            Ok((link, beat)) => self.take(link, &beat),
+            Err(fault) => Ok(Some(Fault::Line(fault))),
         }
     }
 }
 
 /// Judges the lines of a trace, and gathers what is drawn of it.
 #[derive(Drop)]
-pub struct ChartLines<'a> {
-    pub monitor_lines: MonitorLines<0>,
-    pub gathered: &'a mut Gathered,
-    pub alloc: Global,
+pub enum ChartLines {
+    /// The header hasn't been read, and nothing was gathered.
+    Waiting(Global, Gatherer),
+    Four(Charting<4>),
+    Eight(Charting<8>),
+    Sixteen(Charting<16>),
 }
 
-impl LineHandler for ChartLines<'_> {
-    ghost knows = { λ e lines text. KnowsLines e.monitor_lines lines text };
+/// Begins with the links that a header names. A line of another form names none.
+fn begin(alloc: Global, line: &[u8], window: Window) -> Result<Option<ChartLines>, AllocError>
+    ensures { IfOk result (BeginsChart line.now) }
+{
+    let Some(header) = read_header(line) else {
+        return Ok(None);
+    };
+    let lines = match header.width {
+        Width::Four => ChartLines::Four(Charting::new(alloc, &header, window)?),
+        Width::Eight => ChartLines::Eight(Charting::new(alloc, &header, window)?),
+        Width::Sixteen => ChartLines::Sixteen(Charting::new(alloc, &header, window)?),
+    };
+    Ok(Some(lines))
+}
+
+impl ChartLines {
+    /// No line has been read.
+    pub fn new(alloc: Global, window: Window) -> Result<Self, AllocError>
+        ensures { IfOk result (λ lines. KnowsChart lines [] []) }
+    {
+        Ok(ChartLines::Waiting(alloc, Gatherer::new(alloc, 0, window)?))
+    }
+
+    /// What was gathered.
+    pub fn gatherer(&self) -> &Gatherer
+        ensures { result.now ≡ gatherer_in self.now }
+    {
+        match self {
+            ChartLines::Waiting(_, gatherer) => gatherer,
+            ChartLines::Four(charting) => &charting.gatherer,
+            ChartLines::Eight(charting) => &charting.gatherer,
+            ChartLines::Sixteen(charting) => &charting.gatherer,
+        }
+    }
+
+    /// The beat at fault, where it is drawn.
+    pub fn fault(&self) -> Option<Arrow>
+        ensures { result ≡ fault_in self.now }
+    {
+        match self {
+            ChartLines::Waiting(..) => None,
+            ChartLines::Four(charting) => charting.fault,
+            ChartLines::Eight(charting) => charting.fault,
+            ChartLines::Sixteen(charting) => charting.fault,
+        }
+    }
+}
+
+impl LineHandler for ChartLines {
+    ghost knows = { KnowsChart };
 
     ghost tells = { Judged };
 
-    fn handle_line(&mut self, line: &[u8], out: &mut Vec<u8>) -> Result<Option<Fault>, AllocError> {
-        let block = self.gathered.gatherer.window.block;
-        let next = next_line(&self.monitor_lines, line, block);
-        let fault = self.monitor_lines.handle_line(line, out)?;
-        match next {
-            None if self.gathered.count == 0 => self.gathered.begin(self.alloc, line)?,
-            None => {}
-            Some(next) => self.gathered.take_line(&self.monitor_lines, &next, fault)?,
+    ghost ends = { EndsChart };
+
+    fn handle_line(
+        &mut self,
+        line: &[u8],
+        _out: &mut Vec<u8>,
+    ) -> Result<Option<Fault>, AllocError> {
+        match self {
+            ChartLines::Waiting(alloc, gatherer) => match begin(*alloc, line, gatherer.window)? {
+                None => Ok(Some(Fault::Header)),
+                Some(lines) => {
+                    *self = lines;
+                    Ok(None)
+                }
+            },
+            ChartLines::Four(charting) => charting.read(line),
+            ChartLines::Eight(charting) => charting.read(line),
+            ChartLines::Sixteen(charting) => charting.read(line),
         }
-        Ok(fault)
     }
 
     fn open_fault(&self) -> Fault {
-        self.monitor_lines.open_fault()
+        match self {
+            ChartLines::Waiting(..) => Fault::Header,
+            _ => Fault::Line(LineFault::F1),
+        }
     }
 
-    fn finish(&mut self, count: u64, out: &mut Vec<u8>) -> Result<Option<Fault>, AllocError> {
-        self.monitor_lines.finish(count, out)
+    fn finish(&self, count: u64, out: &mut Vec<u8>) -> Result<Option<Fault>, AllocError> {
+        match self {
+            ChartLines::Waiting(..) => Ok(Some(Fault::Header)),
+            _ => {
+                append_end(false, count.saturating_sub(1), out)?;
+                Ok(None)
+            }
+        }
     }
 }

@@ -1,6 +1,6 @@
 //! Says in words what each beat line spells.
 
-ghost use Rattle.std.specs.Prelude.{IsTrue};
+ghost use Rattle.std.specs.Prelude.{IsTrue, ⊤};
 ghost use Rattle.tl_engine.specs.statement.Decoded.{DecodesBefore, DecodesTo, is_width};
 
 use crate::fault::Fault;
@@ -22,6 +22,8 @@ impl<const W: usize> LineHandler for Decoder<W> {
 
     ghost tells = { DecodesTo W };
 
+    ghost ends = { λ _ _. ⊤ };
+
     fn handle_line(&mut self, line: &[u8], out: &mut Vec<u8>) -> Result<Option<Fault>, AllocError> {
         match read_line::<W>(line) {
             Ok((_, beat)) => {
@@ -36,7 +38,7 @@ impl<const W: usize> LineHandler for Decoder<W> {
         Fault::Line(LineFault::F1)
     }
 
-    fn finish(&mut self, _count: u64, _out: &mut Vec<u8>) -> Result<Option<Fault>, AllocError> {
+    fn finish(&self, _count: u64, _out: &mut Vec<u8>) -> Result<Option<Fault>, AllocError> {
         Ok(None)
     }
 }

@@ -1,15 +1,16 @@
 //! Reads an input to its end, and writes what a handler says of its lines.
 
-ghost use Rattle.std.specs.Prelude.{◌≡◌, ◌⊎◌, ◌+◌, ◌++◌, [], ◌≤◌, ◌<◌, ℕ, List};
+ghost use Rattle.std.specs.Prelude.{◌≡◌, ◌≢◌, ◌⊎◌, ◌+◌, ◌++◌, [], ◌≤◌, ◌<◌, ℕ, List};
 ghost use Rattle.std.specs.Prelude.{IfOk, OnOk, OnErr, IfErr, length, take, vec_len};
 ghost use Rattle.std.specs.Io.KnownBytes.{Appends, Consumes, IsAtEnd, Keeps};
 ghost use Rattle.tl_engine.specs.code.GivenUp.{GivesUpFor, GivesUpPiece, IsKnown};
 ghost use Rattle.tl_engine.specs.code.Judging.{IsTotal};
 ghost use Rattle.tl_engine.specs.code.Lines.{lines_of};
 ghost use Rattle.tl_engine.specs.code.Parts.{AppendsPart};
-ghost use Rattle.tl_engine.specs.code.Progress.{FinishesInput, Progress};
-ghost use Rattle.tl_engine.specs.code.Run.{FailsAfter, FailsAt, Passes, RunsTo};
+ghost use Rattle.tl_engine.specs.code.Progress.{FinishesInput, HasAll, Progress};
+ghost use Rattle.tl_engine.specs.code.Run.{EndsAs, FailsAfter, FailsAt, Passes, RunsTo};
 ghost use Rattle.tl_engine.specs.declared.status.Status.{Status};
+ghost use Rattle.tl_engine.specs.declared.status.ToolFault.{ToolFault};
 
 use crate::line_handler::LineHandler;
 use crate::lines::Lines;
@@ -71,22 +72,53 @@ fn pass<H: LineHandler, W: Write>(
 
 /// Judges the end of the input, and writes what is said of it.
 fn close<H: LineHandler, W: Write>(
-    lines: &mut Lines<H>,
+    lines: &Lines<H>,
     out: &mut Vec<u8>,
     writer: &mut W,
 ) -> Result<Status, ToolFault>
     requires empty { out.old.items ≡ [] }
     requires total { IsTotal H.knows H.tells }
     ensures ok { IfOk result (λ status. (said : List ℕ) × Appends (W.contents writer.old) (W.contents writer.new) said
-        × FinishesInput H.knows H.tells lines.old [] said status) }
-    ensures err { OnErr result (FailsAfter H.knows H.tells lines.old [] (W.contents writer.old)
+        × FinishesInput H.knows H.tells lines.now [] said status) }
+    ensures err { OnErr result (FailsAfter H.knows H.tells lines.now [] (W.contents writer.old)
         (W.contents writer.new)) }
-    ensures fault { IfErr result (GivesUpPiece H.knows H.tells lines.old [] (W.contents writer.old)
+    ensures fault { IfErr result (GivesUpPiece H.knows H.tells lines.now [] (W.contents writer.old)
         (W.contents writer.new)) }
 {
     let status = lines.finish(out)?;
     write_all(writer, out)?;
     Ok(status)
+}
+
+#[tactic(auto, using(crate::proofs::GivenUp::unwritten_by, crate::proofs::GivenUp::unwritten_within))]
+/// Judges the lines of an input in turn, up to the first at fault. What is said of them is kept in memory, and
+/// what judges them has what it has of these lines. Any error of the reader is a `Read` fault.
+pub fn judge_input<H: LineHandler, R: Read>(
+    alloc: Global,
+    lines: &mut Lines<H>,
+    reader: &mut R,
+    out: &mut Vec<u8>,
+) -> Result<Status, ToolFault>
+    requires { Progress H.knows lines.old [] out.old.items }
+    ensures ok { IfOk result (λ status. (read : List ℕ) × Consumes (R.remaining reader.old) (R.remaining reader.new) read
+        × H.tells (lines_of read) out.new.items status × EndsAs H.tells (R.remaining reader.new) read out.new.items status
+        × HasAll H.knows H.ends lines.new.handler (lines_of read)) }
+    ensures fault { IfErr result (λ fault. fault ≢ ToolFault.Write) }
+{
+    let mut chunk = new_chunk(alloc)?;
+    for _ in 0..u64::MAX {
+        let count = next_piece(reader, &mut chunk)?;
+        if count == 0 {
+            return lines.finish(out);
+        }
+        match lines.feed(&chunk[..count], out)? {
+            Status::Clean => {}
+            Status::Broken => {
+                return Ok(Status::Broken);
+            }
+        }
+    }
+    Err(ToolFault::Read)
 }
 
 /// Judges the lines of an input in turn, up to the first at fault, and writes what is said of each
@@ -113,7 +145,7 @@ pub fn handle_input<H: LineHandler, R: Read, W: Write>(
     for _ in 0..u64::MAX {
         let count = next_piece(reader, &mut chunk)?;
         if count == 0 {
-            return close(&mut lines, &mut out, writer);
+            return close(&lines, &mut out, writer);
         }
         match pass(&mut lines, &chunk[..count], &mut out, writer)? {
             Status::Clean => {}

@@ -1,6 +1,6 @@
 //! Judges a recorded trace, and notes what an explanation of its first fault starts from.
 
-ghost use Rattle.std.specs.Prelude.{◌≡◌, IfOk, true};
+ghost use Rattle.std.specs.Prelude.{◌≡◌, IfOk, true, ⊤};
 ghost use Rattle.tl_beat.specs.statement.Width.{IsWidth};
 ghost use Rattle.tl_engine.specs.statement.Judged.{Judged};
 ghost use Rattle.tl_engine.specs.code.Explaining.{IsVerdict, fault_of};
@@ -127,6 +127,8 @@ impl LineHandler for Examiner<'_> {
 
     ghost tells = { Judged };
 
+    ghost ends = { λ _ _. ⊤ };
+
     fn handle_line(&mut self, line: &[u8], out: &mut Vec<u8>) -> Result<Option<Fault>, AllocError> {
         let fault = self.monitor_lines.handle_line(line, out)?;
         match fault {
@@ -140,7 +142,7 @@ impl LineHandler for Examiner<'_> {
         self.monitor_lines.open_fault()
     }
 
-    fn finish(&mut self, count: u64, out: &mut Vec<u8>) -> Result<Option<Fault>, AllocError> {
+    fn finish(&self, count: u64, out: &mut Vec<u8>) -> Result<Option<Fault>, AllocError> {
         self.monitor_lines.finish(count, out)
     }
 }

@@ -1,8 +1,9 @@
 //! What judges the lines of an input.
 
-ghost use Rattle.std.specs.Prelude.{◌≡◌, ◌++◌, ℕ, List, IfOk};
-ghost use Rattle.tl_engine.specs.code.Judging.{Judges, Finishes, Stops};
+ghost use Rattle.std.specs.Prelude.{◌≡◌, ◌++◌, ℕ, List, IfOk, Ok, Some};
+ghost use Rattle.tl_engine.specs.code.Judging.{Ends, Finishes, Judges, Stops};
 ghost use Rattle.tl_engine.specs.code.Lines.{IsOpen};
+ghost use Rattle.tl_engine.specs.declared.fault.Fault.{Fault};
 ghost use Rattle.tl_engine.specs.declared.status.Status.{Status};
 
 use crate::fault::Fault;
@@ -16,16 +17,21 @@ pub trait LineHandler: Drop {
     /// This is the whole text of these lines, with the status at their end.
     ghost tells: { List (List ℕ) → List ℕ → Status → Type 0 };
 
+    /// This is what it has where one of these lines is at fault, the first that is.
+    ghost ends: { Self → List (List ℕ) → Type 0 };
+
     /// Judges a line with its LF: appends its text, or answers its fault.
     fn handle_line(&mut self, line: &[u8], out: &mut Vec<u8>) -> Result<Option<Fault>, AllocError>
-        ensures { IfOk result (Judges knows tells self.old self.new line.now out.old.items out.new.items) };
+        ensures judges { IfOk result (Judges knows tells self.old self.new line.now out.old.items out.new.items) }
+        ensures ends { (fault : Fault) → result ≡ Ok (Some fault) → Ends knows ends self.old self.new line.now };
 
     /// The fault of a line that has no LF or more than 256 bytes, where it comes next.
     fn open_fault(&self) -> Fault
-        ensures { (line said : List ℕ) → IsOpen line → Stops knows tells self.now line said said result };
+        ensures stops { (line said : List ℕ) → IsOpen line → Stops knows tells self.now line said said result }
+        ensures ends { (line : List ℕ) → IsOpen line → Ends knows ends self.now self.now line };
 
     /// Appends what is to be written at the end of an input of this many lines, or answers that a line
     /// is missing there.
-    fn finish(&mut self, count: u64, out: &mut Vec<u8>) -> Result<Option<Fault>, AllocError>
-        ensures { IfOk result (Finishes knows tells self.old count out.old.items out.new.items) };
+    fn finish(&self, count: u64, out: &mut Vec<u8>) -> Result<Option<Fault>, AllocError>
+        ensures { IfOk result (Finishes knows tells self.now count out.old.items out.new.items) };
 }

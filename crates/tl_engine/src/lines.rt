@@ -1,9 +1,10 @@
 //! Cuts an input that comes in pieces into its lines.
 
-ghost use Rattle.std.specs.Prelude.{◌≡◌, ◌+◌, ◌++◌, [], ◌≤◌, ◌<◌, ◌^◌, ◌-◌, ℕ, List, IfOk, IfErr, MatchOption, length};
+ghost use Rattle.std.specs.Prelude.{◌≡◌, ◌+◌, ◌++◌, [], ◌≤◌, ◌<◌, ◌^◌, ◌-◌, ℕ, List, IfOk, IfErr, MatchOption, Ok, length};
 ghost use Rattle.tl_engine.specs.statement.Fault.{fault_text};
-ghost use Rattle.tl_engine.specs.code.Lines.{IsLine, IsOpen, LacksLf};
-ghost use Rattle.tl_engine.specs.code.Progress.{CountsLine, Feeds, FinishesInput, GivesUp};
+ghost use Rattle.tl_engine.specs.code.Judging.{Ends};
+ghost use Rattle.tl_engine.specs.code.Lines.{IsLine, IsOpen, LacksLf, lines_of};
+ghost use Rattle.tl_engine.specs.code.Progress.{CountsLine, EndsWithin, Feeds, FinishesInput, GivesUp, HasAll};
 ghost use Rattle.tl_engine.specs.code.Progress.{GivesUpWithin, Progress, StopsAt, lines_judged};
 
 use crate::fault::{Fault, append_fault};
@@ -58,6 +59,7 @@ fn handle_counted_line<H: LineHandler>(
 ) -> Result<Status, ToolFault>
     ensures counts { IfOk result (CountsLine H.knows H.tells handler.old handler.new count.old count.new line.now
         out.old.items out.new.items) }
+    ensures ends { result ≡ Ok Status.Broken → Ends H.knows H.ends handler.old handler.new line.now }
     ensures fault { IfErr result (GivesUp count.old) }
 {
     let number = number_after(*count)?;
@@ -106,6 +108,8 @@ impl<H: LineHandler> Lines<H> {
             StopsAt H.knows H.tells self.now.handler self.now.count line out.old.items out.new.items) }
         ensures says { IfOk result (λ _. (fault : Fault)
             × (out.new.items ≡ out.old.items ++ fault_text (self.now.count + 1) fault)) }
+        ensures ends { IfOk result (λ _. (line : List ℕ) → IsOpen line →
+            Ends H.knows H.ends self.now.handler self.now.handler line) }
         ensures fault { IfErr result (GivesUp (lines_judged self.now)) }
     {
         let number = number_after(self.count)?;
@@ -117,6 +121,8 @@ impl<H: LineHandler> Lines<H> {
     pub(crate) fn take_line(&mut self, line: &[u8], out: &mut Vec<u8>) -> Result<Status, ToolFault>
         requires { IsLine line.now }
         ensures feeds { IfOk result (Feeds H.knows H.tells self.old self.new line.now out.old.items out.new.items) }
+        ensures ends { result ≡ Ok Status.Broken → EndsWithin H.knows H.ends self.old self.new.handler line.now
+            out.old.items }
         ensures fault { IfErr result (GivesUp (lines_judged self.old)) }
     {
         if self.begun.is_empty() && line.len() <= 256 {
@@ -139,6 +145,8 @@ impl<H: LineHandler> Lines<H> {
     pub(crate) fn keep(&mut self, rest: &[u8], out: &mut Vec<u8>) -> Result<Status, ToolFault>
         requires { LacksLf rest.now }
         ensures feeds { IfOk result (Feeds H.knows H.tells self.old self.new rest.now out.old.items out.new.items) }
+        ensures ends { result ≡ Ok Status.Broken → EndsWithin H.knows H.ends self.old self.new.handler rest.now
+            out.old.items }
         ensures fault { IfErr result (GivesUp (lines_judged self.old)) }
     {
         if self.begun.try_extend_from_slice(rest).is_err() || self.begun.is_full() {
@@ -150,6 +158,8 @@ impl<H: LineHandler> Lines<H> {
     /// Judges the lines that end in a piece of the input, and keeps the beginning of the next.
     pub fn feed(&mut self, piece: &[u8], out: &mut Vec<u8>) -> Result<Status, ToolFault>
         ensures feeds { IfOk result (Feeds H.knows H.tells self.old self.new piece.now out.old.items out.new.items) }
+        ensures ends { result ≡ Ok Status.Broken → EndsWithin H.knows H.ends self.old self.new.handler piece.now
+            out.old.items }
         ensures fault { IfErr result (GivesUpWithin H.knows self.old piece.now out.old.items) }
     {
         let mut rest = piece;
@@ -163,9 +173,11 @@ impl<H: LineHandler> Lines<H> {
     }
 
     /// Judges the end of the input. A rest without LF is a line too.
-    pub fn finish(&mut self, out: &mut Vec<u8>) -> Result<Status, ToolFault>
-        ensures finishes { IfOk result (FinishesInput H.knows H.tells self.old out.old.items out.new.items) }
-        ensures fault { IfErr result (GivesUp (lines_judged self.old)) }
+    pub fn finish(&self, out: &mut Vec<u8>) -> Result<Status, ToolFault>
+        ensures finishes { IfOk result (FinishesInput H.knows H.tells self.now out.old.items out.new.items) }
+        ensures has { IfOk result (λ _. (read text : List ℕ) → Progress H.knows self.now read text →
+            HasAll H.knows H.ends self.now.handler (lines_of read)) }
+        ensures fault { IfErr result (GivesUp (lines_judged self.now)) }
     {
         if !self.begun.is_empty() {
             return self.stop(out);

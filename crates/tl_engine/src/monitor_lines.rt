@@ -1,6 +1,6 @@
 //! Judges a recorded trace.
 
-ghost use Rattle.std.specs.Prelude.{Bool, ◌≡◌, ◌++◌, IfOk, OnOk};
+ghost use Rattle.std.specs.Prelude.{Bool, ◌≡◌, ◌++◌, IfOk, OnOk, ⊤};
 ghost use Rattle.tl_beat.specs.statement.Width.{IsWidth};
 ghost use Rattle.tl_engine.specs.code.Watching.{Begins, JudgedSo, KnowsLines, Watches};
 ghost use Rattle.tl_engine.specs.code.Watching.{end_by, is_together, word_by};
@@ -46,7 +46,7 @@ fn word_by(together: bool) -> &'static str
 
 /// Appends what is said of a trace, where none of so many beats is at fault: `clean N`, or, of all links
 /// together, `coherent N`.
-fn append_end(together: bool, number: u64, out: &mut Vec<u8>) -> Result<(), AllocError>
+pub(crate) fn append_end(together: bool, number: u64, out: &mut Vec<u8>) -> Result<(), AllocError>
     ensures { OnOk result (out.new.items ≡ out.old.items ++ end_by together number) }
 {
     let mut digits = Buffer::new();
@@ -80,6 +80,8 @@ impl<const TOGETHER: usize> LineHandler for MonitorLines<TOGETHER> {
 
     ghost tells = { JudgedSo (is_together TOGETHER) };
 
+    ghost ends = { λ _ _. ⊤ };
+
     fn handle_line(
         &mut self,
         line: &[u8],
@@ -106,7 +108,7 @@ impl<const TOGETHER: usize> LineHandler for MonitorLines<TOGETHER> {
         }
     }
 
-    fn finish(&mut self, count: u64, out: &mut Vec<u8>) -> Result<Option<Fault>, AllocError> {
+    fn finish(&self, count: u64, out: &mut Vec<u8>) -> Result<Option<Fault>, AllocError> {
         match self {
             MonitorLines::Waiting(_) => Ok(Some(Fault::Header)),
             _ => {

@@ -94,6 +94,8 @@ impl<const W: usize> LineHandler for Replay<W> {
 
     ghost tells = { λ _ _ _. ⊤ };
 
+    ghost ends = { λ _ _. ⊤ };
+
     fn handle_line(
         &mut self,
         line: &[u8],
@@ -110,7 +112,7 @@ impl<const W: usize> LineHandler for Replay<W> {
         Fault::Header
     }
 
-    fn finish(&mut self, _count: u64, _out: &mut Vec<u8>) -> Result<Option<Fault>, AllocError> {
+    fn finish(&self, _count: u64, _out: &mut Vec<u8>) -> Result<Option<Fault>, AllocError> {
         Ok(None)
     }
 }

@@ -1,6 +1,6 @@
 //! Judges the lines of a schedule by playing them.
 
-ghost use Rattle.std.specs.Prelude.{◌≡◌, IfOk};
+ghost use Rattle.std.specs.Prelude.{◌≡◌, IfOk, ⊤};
 ghost use Rattle.tl_engine.specs.statement.Played.{Played};
 ghost use Rattle.tl_engine.specs.code.Playing.{KnowsSchedule, Opens, is_trace};
 
@@ -52,6 +52,8 @@ impl<const TRACES: usize> LineHandler for RunLines<TRACES> {
 
     ghost tells = { Played (is_trace TRACES) };
 
+    ghost ends = { λ _ _. ⊤ };
+
     fn handle_line(&mut self, line: &[u8], out: &mut Vec<u8>) -> Result<Option<Fault>, AllocError> {
         match self {
             RunLines::Waiting(alloc) => match open(*alloc, line, out)? {
@@ -74,7 +76,7 @@ impl<const TRACES: usize> LineHandler for RunLines<TRACES> {
         }
     }
 
-    fn finish(&mut self, _count: u64, _out: &mut Vec<u8>) -> Result<Option<Fault>, AllocError> {
+    fn finish(&self, _count: u64, _out: &mut Vec<u8>) -> Result<Option<Fault>, AllocError> {
         match self {
             RunLines::Waiting(_) => Ok(Some(Fault::Header)),
             _ => Ok(None),

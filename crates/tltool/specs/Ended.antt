@@ -1,6 +1,7 @@
 -- How the program ends, by its exit status.
 use Rattle.std.specs.Prelude.{◌≡◌, ◌⊎◌, ◌++◌, ℕ, List, Option, Result, Ok, Err, IfErr, IfOk, OnErr, OnOk}
 use Rattle.std.specs.Io.KnownBytes.{Appends}
+use Rattle.tl_chart.specs.declared.window.Window.{Window}
 use Rattle.tl_command.specs.declared.command.Command.{Command}
 use Rattle.tl_command.specs.declared.random.Options.{Options}
 use Rattle.tl_params.specs.statement.Header.{width_of}
@@ -13,7 +14,7 @@ use Rattle.tl_engine.specs.declared.status.ToolFault.{ToolFault}
 use Rattle.tl_engine.specs.declared.status.ToolFault.TheVariants.{Memory, Write}
 use Rattle.tl_engine.specs.code.GivenUp.{GivesUpFor}
 use Rattle.tl_engine.specs.code.Run.{FailsAt, RunsTo}
-use Rattle.tl_engine.specs.statement.Charted.{GivesUpCharting, IsCharted}
+use Rattle.tl_engine.specs.statement.Charted.{Charts, GivesUpCharting}
 use Rattle.tl_engine.specs.statement.Exit.{exit_status}
 use Rattle.tl_engine.specs.statement.Explained.{Explains}
 use Rattle.tl_engine.specs.statement.Told.{text_so_far, text_told}
@@ -55,13 +56,12 @@ EndsExplained had left had_again left_again held holds status =
     × Explains had_again left_again verdict reasons judged × Appends held holds (verdict ++ reasons))
     × IfErr outcome (GivesUpExplaining had left had_again left_again held holds)
 
--- The status is that of an outcome which a chart has over what was read and written.
-abbrev pub EndsCharted : Option (List ℕ) → Option (List ℕ) → Option (List ℕ) → Option (List ℕ) → ℕ → Type 0
-EndsCharted had left held holds status =
+-- The status is that of an outcome which a chart of a window has over what was read and written.
+abbrev pub EndsCharted : Window → Option (List ℕ) → Option (List ℕ) → Option (List ℕ) → Option (List ℕ) → ℕ → Type 0
+EndsCharted win had left held holds status =
     (outcome : Result Status ToolFault) × (status ≡ exit_status outcome)
-    × IfOk outcome (λ judged. (verdict chart : List ℕ) × Reaches had left verdict judged × IsCharted chart
-    × Appends held holds chart)
-    × IfErr outcome (GivesUpCharting had left held holds)
+    × IfOk outcome (λ judged. (chart : List ℕ) × Charts win had left judged chart × Appends held holds chart)
+    × IfErr outcome (GivesUpCharting win had left held holds)
 
 -- The words give no command: the status is that of the usage, or of a writer that failed, or of want of memory.
 abbrev pub IsRefused : WordsFault → ℕ → Type 0

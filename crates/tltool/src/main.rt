@@ -188,7 +188,7 @@ fn chart_over<R: Read, W: Write>(
     input: &mut R,
     output: &mut W,
 ) -> u8
-    ensures { EndsCharted (R.remaining input.old) (R.remaining input.new) (W.contents output.old)
+    ensures { EndsCharted window (R.remaining input.old) (R.remaining input.new) (W.contents output.old)
         (W.contents output.new) result }
 {
     told(rt, chart_input(rt.alloc(), window, input, output))

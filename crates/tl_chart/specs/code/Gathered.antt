@@ -1,5 +1,5 @@
 -- What a gatherer has of a trace.
-use Rattle.std.specs.Prelude.{ℕ, Bool, List, ◌≡◌, ◌<◌, ◌==◌, ◌&&◌, if◌then◌else◌, length, slice_index_or, Option}
+use Rattle.std.specs.Prelude.{ℕ, Bool, List, [], ◌≡◌, ◌<◌, ◌≤◌, ◌==◌, ◌&&◌, if◌then◌else◌, length, slice_index_or, Option}
 use Rattle.tl_beat.specs.declared.beat.Beat.{Beat}
 use Rattle.tl_beat.specs.declared.beat.Beat.TheVariants as beat
 use Rattle.tl_burst.specs.statement.Messages.{History}
@@ -26,6 +26,10 @@ granted_next first _ block s before = before
 abbrev pub KnowLinks : {w : ℕ} → List LinkBlocks → Trace w → Type 0
 KnowLinks links t = (n : ℕ) (d : LinkBlocks) → n < length links → KnowsBlocks (slice_index_or links n d) (on_link n t)
 
+-- no other link has carried a beat
+abbrev pub CarryAll : {w : ℕ} → List LinkBlocks → Trace w → Type 0
+CarryAll links t = (n : ℕ) → length links ≤ n → on_link n t ≡ []
+
 -- what has been gathered
 abbrev pub drawn_of : Gatherer → Drawn
 drawn_of g = record {
@@ -40,3 +44,4 @@ drawn_of g = record {
 pub record Gathers {w : ℕ} (g : Gatherer) (t : Trace w) : Type 0 where
   pub drawn_is : drawn_of g ≡ drawn g.window t
   pub links_are : KnowLinks g.links.items t
+  pub carry_all : CarryAll g.links.items t

@@ -1,10 +1,11 @@
 -- A whole chart.
-use Rattle.std.specs.Prelude.{ℕ, ◌+◌, ◌≡◌, List, ◌++◌, length, Option, Some, None, option_to_list}
+use Rattle.std.specs.Prelude.{ℕ, ◌+◌, Bool, ◌≡◌, List, ◌++◌, length, Option, Some, None, option_to_list}
 use Rattle.std.specs.List.{flat_map}
 use Rattle.tl_chart.specs.declared.arrow.Arrow.{Arrow}
-use Rattle.tl_chart.specs.declared.gatherer.Gatherer.{Gatherer}
 use Rattle.tl_chart.specs.declared.mark.Mark.{Mark}
-use Rattle.tl_chart.specs.statement.Picture.{arrows_text, bars_text, link_place, row_place}
+use Rattle.tl_chart.specs.declared.window.Window.{Window}
+use Rattle.tl_chart.specs.statement.Drawn.{Drawn}
+use Rattle.tl_chart.specs.statement.Picture.{arrows_text, bars_text, link_place, row_place, verdict_text}
 use Rattle.tl_params.specs.declared.perm.Perm.TheVariants as perm
 
 -- the line of the beat at fault, 0 where none is drawn
@@ -18,15 +19,18 @@ all_bars_text arrows marks links first bottom =
     flat_map (λ link. bars_text arrows first bottom link (link_place links link) perm.None (row_place 0) marks) links
 
 -- the messages that are drawn, and behind them the beat at fault
-abbrev pub rows : Gatherer → Option Arrow → List Arrow
-rows g fault = g.arrows.items ++ option_to_list fault
+abbrev pub rows : Drawn → Option Arrow → List Arrow
+rows d fault = d.arrows ++ option_to_list fault
 
--- The chart of what was gathered: behind a front, with a lifeline for each of these links, stand the bars of what is
--- held and then the arrows, one for each message that was gathered, in order, and the beat at fault; and then an end.
-pub record IsChart (g : Gatherer) (fault : Option Arrow) (old new : List ℕ) : Type 0 where
+-- The chart of what is drawn in a window, with a beat at fault or none, and with this line of a verdict: behind a front,
+-- with a lifeline for each of these links, stand the bars of what is held and then the arrows, one for each message
+-- that is drawn, in order, and the beat at fault; and then the verdict and an end.
+pub record IsChart (win : Window) (d : Drawn) (fault : Option Arrow) (verdict : List ℕ) (broken : Bool)
+    (old new : List ℕ) : Type 0 where
   pub links : List ℕ
   pub front : List ℕ
   pub end : List ℕ
   pub is_chart : new ≡ old ++ (front
-      ++ (all_bars_text (rows g fault) g.marks.items links g.window.first (row_place (length (rows g fault)) + 14)
-      ++ (arrows_text (rows g fault) links g.window.first (fault_line fault) ++ end)))
+      ++ (all_bars_text (rows d fault) d.marks links win.first (row_place (length (rows d fault)) + 14)
+      ++ (arrows_text (rows d fault) links win.first (fault_line fault)
+      ++ (verdict_text (row_place (length (rows d fault)) + 36) broken verdict ++ end))))

@@ -9,7 +9,7 @@ use Rattle.tl_beat.specs.declared.control.Control.TheVariants as control
 use Rattle.tl_chart.specs.declared.arrow.Arrow.{Arrow}
 use Rattle.tl_chart.specs.declared.mark.Mark.{Mark}
 use Rattle.tl_chart.specs.declared.window.Window.{Window}
-use Rattle.tl_chart.specs.statement.Messages.{continued, message_block, message_from}
+use Rattle.tl_chart.specs.statement.Messages.{continued, fault_from, message_block, message_from}
 use Rattle.tl_explain.specs.statement.Evidence.{next_line}
 use Rattle.tl_params.specs.declared.perm.Perm.{Perm}
 use Rattle.tl_params.specs.declared.perm.Perm.TheVariants as perm
@@ -131,8 +131,8 @@ unfoldable pub drawn : {w : ℕ} → Window → Trace w → Drawn
 drawn win [] = record { arrows = []; marks = []; more = 0; end = 1; closed = false }
 drawn win (x ∷ t) = drawn_next win x t (drawn win t)
 
--- the beat x behind t as a message that begins, where its line is in the window and none too many stands before it
+-- the beat x behind t, which is at fault, where its line is in the window and none too many stands before it
 abbrev pub fault_drawn : {w : ℕ} → Window → Link × Beat w → Trace w → Option Arrow
 fault_drawn win x t =
     if closes win (drawn win t) (next_line t) false || nat_lt (next_line t) win.first then None else
-    Some (message_from x t)
+    Some (fault_from x t)

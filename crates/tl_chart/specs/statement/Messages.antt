@@ -1,5 +1,5 @@
 -- The messages of a trace. Traces have the newest beat first, lists of messages the oldest.
-use Rattle.std.specs.Prelude.{ℕ, Bool, not, List, [], ◌∷◌, ◌++◌, ◌==◌, ◌&&◌, if◌then◌else◌, map, Option, None}
+use Rattle.std.specs.Prelude.{ℕ, Bool, true, not, List, [], ◌∷◌, ◌++◌, ◌==◌, ◌&&◌, if◌then◌else◌, map, Option, None}
 use Rattle.tl_beat.specs.declared.beat.Beat.{Beat}
 use Rattle.tl_beat.specs.declared.beat.Beat.TheVariants as beat
 use Rattle.tl_beat.specs.declared.beat.Link.{Link}
@@ -41,6 +41,18 @@ message_from x t = record {
   first = next_line t;
   last = next_line t;
   complete = ends x.1 (on_link x.0.0 t);
+}
+
+-- the beat x behind t by itself, as it is drawn where it is at fault: a message of which nothing is missed
+abbrev pub fault_from : {w : ℕ} → Link × Beat w → Trace w → Arrow
+fault_from x t = record {
+  link = x.0;
+  control = control_of x.1;
+  block = message_block x.1 (on_link x.0.0 t);
+  beats = beats_in x.1;
+  first = next_line t;
+  last = next_line t;
+  complete = true;
 }
 
 -- the beat x is of this message: of its link and channel, where beats of it are missing

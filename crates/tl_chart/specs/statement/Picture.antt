@@ -130,6 +130,22 @@ arrow_text arrows links first fault m =
 abbrev pub arrows_text : List Arrow → List ℕ → ℕ → ℕ → List ℕ
 arrows_text arrows links first fault = flat_map (arrow_text arrows links first fault) arrows
 
+-- ---- the verdict
+
+-- a line of text below the messages
+unfoldable pub said_text : ℕ → List ℕ → List ℕ
+said_text y text =
+    codes "<text class='v' x='70' y='" ++ decimal y ++ codes "'>" ++ escaped text ++ codes "</text>\n"
+
+-- red where a line is at fault
+abbrev pub verdict_class : Bool → List ℕ
+verdict_class true = codes "X"
+verdict_class false = codes "v"
+
+unfoldable pub verdict_text : ℕ → Bool → List ℕ → List ℕ
+verdict_text y broken text =
+    codes "<g class='" ++ verdict_class broken ++ codes "'>\n" ++ said_text y text ++ codes "</g>\n"
+
 -- ---- what is held
 
 -- a bar of a class beside a lifeline, between two places from above

@@ -20,6 +20,13 @@ Stops knows tells handler line was is fault =
     → (more : List (List ℕ)) → tells (lines ++ line ∷ more) (before ++ (is ++ fault_text (length lines + 1) fault))
     Broken
 
+-- what a handler has where this line is at fault, whatever follows it; `ends` is that of its trait
+abbrev pub Ends : {H : Type 0} → (H → List (List ℕ) → List ℕ → Type 0) → (H → List (List ℕ) → Type 0) → H → H → List ℕ
+    → Type 0
+Ends knows ends old new line =
+    (lines : List (List ℕ)) (text : List ℕ) → knows old lines text → (more : List (List ℕ))
+    → ends new (lines ++ line ∷ more)
+
 -- what `handler` answered for a line
 abbrev pub Judges : {H : Type 0} → (H → List (List ℕ) → List ℕ → Type 0) → (List (List ℕ) → List ℕ → Status → Type 0)
     → H → H → List ℕ → List ℕ → List ℕ → Option Fault → Type 0

@@ -96,3 +96,15 @@ GivesUpWithin knows state piece was Memory = ⊤
 GivesUpWithin knows state piece was Read =
     (read before : List ℕ) → Progress knows state read (before ++ was) → RunsOut (read ++ piece)
 GivesUpWithin knows state piece was Write = ⊥
+
+-- what a handler has where a line of the piece is at fault, whatever follows it
+abbrev pub EndsWithin : {H : Type 0} → (H → List (List ℕ) → List ℕ → Type 0) → (H → List (List ℕ) → Type 0) → Lines H
+    → H → List ℕ → List ℕ → Type 0
+EndsWithin knows ends old new piece was =
+    (read before : List ℕ) → Progress knows old read (before ++ was) → (more : List ℕ)
+    → ends new (lines_of ((read ++ piece) ++ more))
+
+-- A handler has been given these lines: it knows them all, or has what it has where one is at fault.
+abbrev pub HasAll : {H : Type 0} → (H → List (List ℕ) → List ℕ → Type 0) → (H → List (List ℕ) → Type 0) → H
+    → List (List ℕ) → Type 0
+HasAll knows ends handler lines = ends handler lines ⊎ ((text : List ℕ) × knows handler lines text)

@@ -1,22 +1,82 @@
 -- What `chart` writes of a trace, and why none is written.
-use Rattle.std.specs.Prelude.{◌≡◌, ℕ, List, [], Option}
+use Rattle.std.specs.Prelude.{◌≡◌, ◌⊎◌, ℕ, Bool, true, false, List, [], ◌∷◌, ◌++◌, codes, Option, None, Some}
+use Rattle.std.specs.Io.KnownBytes.{Consumes}
+use Rattle.tl_beat.specs.declared.beat.Beat.{Beat}
+use Rattle.tl_beat.specs.declared.beat.Link.{Link}
+use Rattle.tl_beat.specs.declared.fault.LineFault.{LineFault}
+use Rattle.tl_beat.specs.statement.Line.{Spells, line_fault}
+use Rattle.tl_params.specs.declared.level.Level.{Level}
+use Rattle.tl_params.specs.declared.profile.Profile.{Profile}
+use Rattle.tl_params.specs.declared.width.Width.{Width}
+use Rattle.tl_rules.specs.statement.Conformance.{Trace}
 use Rattle.tl_chart.specs.declared.arrow.Arrow.{Arrow}
-use Rattle.tl_chart.specs.declared.gatherer.Gatherer.{Gatherer}
+use Rattle.tl_chart.specs.declared.window.Window.{Window}
 use Rattle.tl_chart.specs.statement.Chart.{IsChart}
+use Rattle.tl_chart.specs.statement.Drawn.{Drawn, drawn, fault_drawn}
+use Rattle.tl_engine.specs.code.Lines.{lines_of}
 use Rattle.tl_engine.specs.code.Parts.{AppendsShort}
+use Rattle.tl_engine.specs.code.Run.{EndsAs}
+use Rattle.tl_engine.specs.declared.fault.Fault.{Fault}
 use Rattle.tl_engine.specs.declared.status.Status.{Status}
+use Rattle.tl_engine.specs.declared.status.Status.TheVariants.{Clean, Broken}
 use Rattle.tl_engine.specs.declared.status.ToolFault.{ToolFault}
 use Rattle.tl_engine.specs.declared.status.ToolFault.TheVariants.{Write}
-use Rattle.tl_engine.specs.statement.Unexplained.{Reaches}
+use Rattle.tl_engine.specs.statement.Judged.{Judged, faults_of_links}
+use Rattle.tl_engine.specs.statement.Trace.{SpellsHeader}
+use Rattle.tl_engine.specs.statement.Width.{bytes_of}
 
--- the text is the chart of what a gatherer has, with a beat at fault or none
-abbrev pub IsCharted : List ℕ → Type 0
-IsCharted chart = (g : Gatherer) × (fault : Option Arrow) × IsChart g fault [] chart
+-- The beat of a line at fault behind those of t as it is drawn: of one that spells none nothing is.
+abbrev pub DrawsFault : {w : ℕ} → Window → List Level → Profile → Trace w → List ℕ → Option Arrow → Type 0
+DrawsFault {w} win levels p t line arrow =
+    ((of_line : LineFault) × (line_fault w line ≡ Some of_line) × (arrow ≡ None))
+    ⊎ ((link : Link) × (beat : Beat w) × (fault : Fault) × Spells line link beat
+    × (faults_of_links w levels p (link, beat) t ≡ Some fault) × (arrow ≡ fault_drawn win (link, beat) t))
+
+-- This is drawn of these lines, behind a header and the beats of t, in a window: what is of all beats up to the first
+-- line at fault, and the beat of that line.
+unfoldable pub DrawsAfter : {w : ℕ} → Window → List Level → Profile → Trace w → List (List ℕ) → Drawn → Option Arrow
+    → Type 0
+DrawsAfter win levels p t [] d arrow = (d ≡ drawn win t) × (arrow ≡ None)
+DrawsAfter {w} win levels p t (line ∷ lines) d arrow =
+    ((link : Link) × (beat : Beat w) × Spells line link beat × (faults_of_links w levels p (link, beat) t ≡ None)
+    × DrawsAfter win levels p ((link, beat) ∷ t) lines d arrow)
+    ⊎ ((d ≡ drawn win t) × DrawsFault win levels p t line arrow)
+
+-- nothing is drawn
+abbrev pub DrawsNothing : Window → Drawn → Option Arrow → Type 0
+DrawsNothing win d arrow = (d ≡ drawn {w = 4} win []) × (arrow ≡ None)
+
+-- This is drawn of the lines of a whole trace. Where the first isn't there or spells no header nothing is.
+unfoldable pub Draws : Window → List (List ℕ) → Drawn → Option Arrow → Type 0
+Draws win [] d arrow = DrawsNothing win d arrow
+Draws win (line ∷ lines) d arrow =
+    ((width : Width) × (p : Profile) × (levels : List Level) × SpellsHeader line width p levels
+    × DrawsAfter {w = bytes_of width} win levels p [] lines d arrow)
+    ⊎ (((width : Width) (p : Profile) (levels : List Level) → ¬ SpellsHeader line width p levels)
+    × DrawsNothing win d arrow)
+
+-- a line is at fault
+abbrev pub is_broken : Status → Bool
+is_broken Clean = false
+is_broken Broken = true
+
+-- the text is the chart of these lines in a window, with this verdict below it
+abbrev pub IsCharted : Window → List (List ℕ) → List ℕ → Status → List ℕ → Type 0
+IsCharted win lines verdict status chart =
+    (d : Drawn) × (arrow : Option Arrow) × (said : List ℕ) × Draws win lines d arrow × (verdict ≡ said ++ codes "\n")
+    × IsChart win d arrow said (is_broken status) [] chart
+
+-- What was read, to its end or to a line at fault that no continuation can mend, has this verdict, that of `monitor`, and
+-- this chart with it.
+abbrev pub Charts : Window → Option (List ℕ) → Option (List ℕ) → Status → List ℕ → Type 0
+Charts win had left status chart =
+    (read verdict : List ℕ) × Consumes had left read × Judged (lines_of read) verdict status
+    × EndsAs Judged left read verdict status × IsCharted win (lines_of read) verdict status chart
 
 -- A chart was given up for this. But for `Write` nothing was written. `Write`: the trace was judged, and some of the
 -- chart is left to be written.
-abbrev pub GivesUpCharting : Option (List ℕ) → Option (List ℕ) → Option (List ℕ) → Option (List ℕ) → ToolFault → Type 0
-GivesUpCharting had left held holds Write =
-    (verdict chart : List ℕ) × (status : Status) × Reaches had left verdict status × IsCharted chart
-    × AppendsShort held holds chart
-GivesUpCharting had left held holds fault = holds ≡ held
+abbrev pub GivesUpCharting : Window → Option (List ℕ) → Option (List ℕ) → Option (List ℕ) → Option (List ℕ) → ToolFault
+    → Type 0
+GivesUpCharting win had left held holds Write =
+    (chart : List ℕ) × (status : Status) × Charts win had left status chart × AppendsShort held holds chart
+GivesUpCharting win had left held holds fault = holds ≡ held

@@ -1,5 +1,10 @@
-use Rattle.tl_engine.proofs.Judged.{judged_total}
+use Rattle.tl_engine.proofs.ChartedLines.{drawn_at_end}
 use Rattle.tl_engine.proofs.chart.gather.Goals as goal
 
-pub handle_input-requires-clause-total : goal.handle_input-requires-clause-total
-handle_input-requires-clause-total g c = λ e. judged_total 0 e.monitor_lines
+pub judge_input-requires : goal.judge_input-requires
+judge_input-requires g c = rw c.requires (c.new-lines.ensures c.in_ok-new.ensures)
+
+pub returns-clause-ok : goal.returns-clause-ok
+returns-clause-ok g c =
+    let (read, consumed, judged, ended, has) = c.in_ok-status.ensures.ok in
+    (read, consumed, judged, ended, rw c.into_handler.ensures (drawn_at_end _ _ has))

@@ -3,6 +3,7 @@ use Rattle.std.specs.Prelude.{◌&&◌, ℕ, Option}
 use Rattle.tl_chart.specs.code.Gathered.{drawn_of}
 use Rattle.tl_chart.specs.statement.Drawn.{shows}
 use Rattle.tl_chart.proofs.Gathering.{gathers_drawn, gathers_skipped, on_ok, open_before}
+use Rattle.tl_chart.proofs.Linked.{carry_more}
 use Rattle.tl_chart.proofs.gatherer.Gatherer.take.Goals as goal
 
 pub returns-then-closes-clause-gathers : goal.returns-then-closes-clause-gathers
@@ -11,9 +12,10 @@ returns-then-closes-clause-gathers g c = on_ok c.skip.result (λ so t is lt b h 
     c.note_blocks.new.links.items had
     c.skip.ensures.window is.line_is
     (c.is_start-begins.ensures ∙ ap₂ (λ (f : Bool) (k : Option ℕ). f && shows c.args.self.now.window.block k)
-    is.first_is (c.block_of-block.ensures t had.links_are lt))
+    is.first_is (c.block_of-block.ensures t had.links_are had.carry_all))
     (sym c.closes.ensures ∙ c.if-closes.true) so
-    (search rules) (c.note_blocks.ensures.known t is had.links_are)) c.skip.ensures.skipped
+    (search rules) (c.note_blocks.ensures.known t is had.links_are)
+    (carry_more _ _ _ t lt c.note_blocks.ensures.many had.carry_all)) c.skip.ensures.skipped
 
 pub returns-else-closes-clause-gathers : goal.returns-else-closes-clause-gathers
 returns-else-closes-clause-gathers g c = on_ok c.draw.result (λ so t is lt b h had.
@@ -21,9 +23,10 @@ returns-else-closes-clause-gathers g c = on_ok c.draw.result (λ so t is lt b h 
     c.note_blocks.new.links.items had
     c.draw.ensures.window is.line_is
     (c.is_start-begins.ensures ∙ ap₂ (λ (f : Bool) (k : Option ℕ). f && shows c.args.self.now.window.block k)
-    is.first_is (c.block_of-block.ensures t had.links_are lt))
+    is.first_is (c.block_of-block.ensures t had.links_are had.carry_all))
     (sym c.closes.ensures ∙ c.if-closes.false)
-    (so t is (c.block_of-block.ensures t had.links_are lt) b h
+    (so t is (c.block_of-block.ensures t had.links_are had.carry_all) b h
     (open_before c.args.self.now.window (drawn_of c.args.self.now) c.args.moment.line c.is_start-begins.result
     (sym c.closes.ensures ∙ c.if-closes.false)))
-    (search rules) (c.note_blocks.ensures.known t is had.links_are)) c.draw.ensures.drawn
+    (search rules) (c.note_blocks.ensures.known t is had.links_are)
+    (carry_more _ _ _ t lt c.note_blocks.ensures.many had.carry_all)) c.draw.ensures.drawn

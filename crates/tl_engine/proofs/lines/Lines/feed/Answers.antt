@@ -1,9 +1,9 @@
 use Rattle.std.proofs.Common.{◌≡◌, ◌++◌, [], refl, ◌∙◌, ap, append_assoc}
-use Rattle.std.specs.Prelude.{List, ℕ}
+use Rattle.std.specs.Prelude.{List, ℕ, Ok}
 use Rattle.std.proofs.lemmas.List.{append-nil}
 use Rattle.std.proofs.lemmas.Result.{err_from_is_err_and}
 use Rattle.tl_engine.proofs.GivenUp.{gives_up_last, gives_up_within}
-use Rattle.tl_engine.proofs.Progress.{feeds_then, feeds_until, feeds_last}
+use Rattle.tl_engine.proofs.Progress.{ends_until, feeds_then, feeds_until, feeds_last}
 use Rattle.tl_engine.proofs.lines.Lines.feed.Goals as goal
 
 pub loop-line-init : goal.loop-line-init
@@ -42,3 +42,16 @@ returns-in_err-take_line-clause-fault g c =
 pub returns-clause-fault : goal.returns-clause-fault
 returns-clause-fault g c = gives_up_last g.H.LineHandler.knows g.H.LineHandler.tells _ _ _ c.loop-line.invariant.0
     c.loop-line.rest.now _ _ _ c.loop-line.invariant.1 c.loop-line.invariant.2 c.keep.ensures.fault
+
+pub returns-in-Broken-clause-ends : goal.returns-in-Broken-clause-ends
+returns-in-Broken-clause-ends g c = λ broken.
+    let so_far = c.loop-line.invariant in
+    ends_until g.H.LineHandler.knows g.H.LineHandler.ends g.H.LineHandler.tells _ _ _ so_far.0
+    c.in-Some.line.now c.in-Some.after.now c.loop-line.rest.now _ _ _ so_far.1 c.in-Some.ensures.1 so_far.2
+    (c.in_ok-take_line.ensures.ends (ap Ok c.in-Broken.is))
+
+pub returns-clause-ends : goal.returns-clause-ends
+returns-clause-ends g c = λ broken.
+    let so_far = c.loop-line.invariant in
+    ends_until g.H.LineHandler.knows g.H.LineHandler.ends g.H.LineHandler.tells _ _ _ so_far.0
+    c.loop-line.rest.now [] c.loop-line.rest.now _ _ _ so_far.1 (append-nil _) so_far.2 (c.keep.ensures.ends broken)

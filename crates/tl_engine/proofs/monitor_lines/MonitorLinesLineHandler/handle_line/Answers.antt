@@ -2,19 +2,19 @@ use Rattle.tl_engine.specs.declared.monitor_lines.MonitorLines.TheVariants.{Four
 use Rattle.tl_engine.proofs.Judged.{header_bad, watched}
 use Rattle.tl_engine.proofs.monitor_lines.MonitorLinesLineHandler.handle_line.Goals as goal
 
-pub returns-in-None : goal.returns-in-None
-returns-in-None g c = rw c.in-Waiting.is
+pub returns-in-None-clause-judges : goal.returns-in-None-clause-judges
+returns-in-None-clause-judges g c = rw c.in-Waiting.is
     (header_bad g.row.TOGETHER _ c.args.line.now _ (rw c.in-None.is at c.in_ok-begin-in-Waiting.ensures))
 
-pub returns-in-Four : goal.returns-in-Four
-returns-in-Four g c = rw c.in-Four.is (watched g.row.TOGETHER Four (λ judge lines text k. k) (λ judge lines text k. k)
+pub returns-in-Four-clause-judges : goal.returns-in-Four-clause-judges
+returns-in-Four-clause-judges g c = rw c.in-Four.is (watched g.row.TOGETHER Four (λ judge lines text k. k) (λ judge lines text k. k)
     c.in-Four.judge c.watch.new.judge c.args.line.now _ c.watch.result c.watch.ensures)
 
-pub returns-in-Eight : goal.returns-in-Eight
-returns-in-Eight g c = rw c.in-Eight.is (watched g.row.TOGETHER Eight (λ judge lines text k. k) (λ judge lines text k. k)
+pub returns-in-Eight-clause-judges : goal.returns-in-Eight-clause-judges
+returns-in-Eight-clause-judges g c = rw c.in-Eight.is (watched g.row.TOGETHER Eight (λ judge lines text k. k) (λ judge lines text k. k)
     c.in-Eight.judge c.watch-in-Eight.new.judge c.args.line.now _ c.watch-in-Eight.result c.watch-in-Eight.ensures)
 
-pub returns-in-Sixteen : goal.returns-in-Sixteen
-returns-in-Sixteen g c = rw c.in-Sixteen.is (watched g.row.TOGETHER Sixteen (λ judge lines text k. k) (λ judge lines text k. k)
+pub returns-in-Sixteen-clause-judges : goal.returns-in-Sixteen-clause-judges
+returns-in-Sixteen-clause-judges g c = rw c.in-Sixteen.is (watched g.row.TOGETHER Sixteen (λ judge lines text k. k) (λ judge lines text k. k)
     c.in-Sixteen.judge c.watch-in-Sixteen.new.judge c.args.line.now _ c.watch-in-Sixteen.result
     c.watch-in-Sixteen.ensures)

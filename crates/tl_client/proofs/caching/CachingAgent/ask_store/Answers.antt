@@ -1,7 +1,7 @@
 use Rattle.std.proofs.Common.{refl, sym, None}
 use Rattle.tl_client.proofs.Imports.{Store}
 use Rattle.tl_client.proofs.caching_client.Answered.{asked-busy}
-use Rattle.tl_client.specs.code.KnowsCaching.{terms_of}
+use Rattle.tl_client.specs.code.KnowsCaching.{caching_terms}
 use Rattle.tl_client.proofs.endpoint.Words.{store-silent}
 use Rattle.tl_client.proofs.caching_client.Asked.{answers-asked, knows-asked}
 use Rattle.tl_client.proofs.caching.CachingAgent.ask_store.Goals as goal
@@ -28,8 +28,8 @@ returns-in-None-clause-after g c = λ e k.
 
 pub returns-in-Some-clause-message : goal.returns-in-Some-clause-message
 returns-in-Some-clause-message g c = λ e k.
-    sym (store-silent (terms_of c.args.self.now) c.args.address c.args.size c.args.value e).message
+    sym (store-silent (caching_terms c.args.self.now) c.args.address c.args.size c.args.value e).message
 
 pub returns-in-None-clause-message : goal.returns-in-None-clause-message
 returns-in-None-clause-message g c = λ e k.
-    sym (store-silent (terms_of c.args.self.now) c.args.address c.args.size c.args.value e).message
+    sym (store-silent (caching_terms c.args.self.now) c.args.address c.args.size c.args.value e).message

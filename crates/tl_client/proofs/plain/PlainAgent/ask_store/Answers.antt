@@ -1,20 +1,20 @@
 use Rattle.std.proofs.Common.{refl, sym}
 use Rattle.tl_client.proofs.Imports.{B4, Store}
-use Rattle.tl_client.specs.code.KnowsPlain.{terms_of}
+use Rattle.tl_client.specs.code.KnowsPlain.{plain_terms}
 use Rattle.tl_client.proofs.endpoint.Words.{store-silent}
 use Rattle.tl_client.proofs.plain_client.Asks.{asked-alone}
 use Rattle.tl_client.proofs.plain.PlainAgent.ask_store.Goals as goal
 
 pub returns-clause-reply : goal.returns-clause-reply
 returns-clause-reply g c = λ e k.
-    rw (asked-alone (terms_of c.args.self.now) (Store c.args._address c.args._size c.args._value) e B4
+    rw (asked-alone (plain_terms c.args.self.now) (Store c.args._address c.args._size c.args._value) e B4
     (rw c.args.self.now.accesses refl)) refl
 
 pub returns-clause-after : goal.returns-clause-after
 returns-clause-after g c = λ e k.
-    rw (asked-alone (terms_of c.args.self.now) (Store c.args._address c.args._size c.args._value) e B4
+    rw (asked-alone (plain_terms c.args.self.now) (Store c.args._address c.args._size c.args._value) e B4
     (rw c.args.self.now.accesses refl)) k
 
 pub returns-clause-message : goal.returns-clause-message
 returns-clause-message g c = λ e k.
-    sym (store-silent (terms_of c.args.self.now) c.args._address c.args._size c.args._value e).message
+    sym (store-silent (plain_terms c.args.self.now) c.args._address c.args._size c.args._value e).message

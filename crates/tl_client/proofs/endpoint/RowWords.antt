@@ -1,6 +1,6 @@
 -- The words of rows: what happens to a client, the beats, and what it answers.
 use Rattle.tl_client.proofs.Imports.{Beat, Channel, OpA, OpC, Message, Perm, Rule}
-use Rattle.tl_client.proofs.Imports.{Op, Load, Store, Release, Access, Reply, Verdict}
+use Rattle.tl_client.proofs.Imports.{Op, Load, Store, Access, Reply, Verdict}
 use Rattle.tl_client.proofs.Imports.{Taken, Done, asked, EndConfig, Endpoint}
 use Rattle.tl_client.proofs.Imports.{offered}
 use Rattle.std.proofs.Common.{◌≤◌, refl, lit≤}

@@ -4,7 +4,7 @@ use Rattle.tl_client.proofs.Imports.{broken_order, request_of, release_of, grant
 use Rattle.tl_client.proofs.Imports.{B4, B5, Acquire, AcquireWhole, Release}
 use Rattle.tl_client.proofs.Imports.{Stalled, Taken, Done, asked, busy, least_free, low_bytes}
 use Rattle.tl_client.proofs.Imports.{fresh, offered}
-use Rattle.std.proofs.Common.{◌≡◌, ◌≤◌, refl, lit≤}
+use Rattle.std.proofs.Common.{◌≡◌, refl, lit≤}
 use Rattle.std.specs.Prelude.{ℕ, false, [], ◌∷◌, ◌++◌, Option, Some, None, replicate}
 use Rattle.tl_beat.specs.declared.beat.Beat.TheVariants.{D}
 use Rattle.tl_beat.specs.declared.channel.Channel.TheVariants as channel

@@ -4,6 +4,7 @@ pub mod Cases
 pub mod HeldAfter
 pub mod Inside
 pub mod Outstanding
+pub mod RowWords
 pub mod Rows
 pub mod Stalls
 pub mod Words

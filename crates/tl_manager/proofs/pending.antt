@@ -8,6 +8,7 @@ pub mod Granted
 pub mod Handed
 pub mod LinkHistories
 pub mod Looking
+pub mod LookedSources
 pub mod Past
 pub mod Performed
 pub mod Probed

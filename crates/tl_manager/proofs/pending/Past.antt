@@ -10,7 +10,8 @@ use Rattle.tl_manager.specs.code.Probed.{probe_in}
 use Rattle.tl_manager.specs.code.Trackers.{IsOfBlock, IsAsked}
 use Rattle.tl_manager.specs.code.Tracking.{awaits_grant, awaits_grant_ack, awaits_probe_ack, request_in}
 use Rattle.tl_manager.specs.code.LinkState.{IsLinkPast}
-use Rattle.tl_manager.proofs.pending.Looking.{AreLooked, source-looked, acquiring-looked, granted-looked}
+use Rattle.tl_manager.proofs.pending.Looking.{AreLooked, acquiring-looked, granted-looked}
+use Rattle.tl_manager.proofs.pending.LookedSources.{source-looked}
 use Rattle.tl_manager.proofs.pending.Looking.{missing-looked}
 use Rattle.tl_manager.proofs.pending.Looking.{sink-looked, probe-looked}
 use Rattle.tl_manager.proofs.blocks.Outside.{recorded-outside}

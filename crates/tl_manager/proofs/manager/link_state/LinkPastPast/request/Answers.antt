@@ -1,6 +1,6 @@
 use Rattle.std.proofs.Common.{sym, ◌∙◌, ap}
 use Rattle.tl_rules.specs.code.Open.{open_request}
-use Rattle.tl_manager.proofs.pending.Looking.{request-unasked, request-asked}
+use Rattle.tl_manager.proofs.pending.LookedSources.{request-unasked, request-asked}
 use Rattle.tl_manager.proofs.pending.Past.{looked-past}
 use Rattle.tl_manager.proofs.manager.link_state.LinkPastPast.request.Goals as goal
 

@@ -1,28 +1,23 @@
 -- What is kept of a block, with a beat that bears on another.
-use Rattle.std.proofs.Common.{◌≡◌, ℕ, zero, suc, Bool, true, false, not, ◌&&◌, ◌||◌, ◌+◌, ◌*◌, ◌/◌, ◌<◌, ◌≤◌, List, [], ◌∷◌}
-use Rattle.std.proofs.Common.{length, refl, sym, ap, ◌∙◌, arith, inl, inr}
-use Rattle.std.specs.Prelude.{if◌then◌else◌, filter, find, None, Option, Some, nat_le}
-use Rattle.std.proofs.lemmas.Bool.{cases_Bool, cases_eq, eq-eqb, le-leb, ne_eqb}
+use Rattle.std.proofs.Common.{◌≡◌, ℕ, zero, suc, true, false, ◌+◌, ◌*◌, ◌/◌, ◌<◌, List, [], ◌∷◌}
+use Rattle.std.proofs.Common.{refl, sym, ◌∙◌, arith, inl, inr}
+use Rattle.std.specs.Prelude.{find, None, Option, Some}
+use Rattle.std.proofs.lemmas.Bool.{cases_Bool}
 use Rattle.tl_beat.specs.declared.beat.Beat.{Beat}
 use Rattle.tl_beat.specs.declared.beat.Beat.TheVariants as beat
 use Rattle.tl_beat.specs.declared.beat.Link.{Link}
 use Rattle.tl_beat.specs.declared.channel.Channel.TheVariants as channel
-use Rattle.tl_burst.specs.statement.Messages.{History, unfinished}
+use Rattle.tl_burst.specs.statement.Messages.{unfinished}
 use Rattle.tl_params.specs.declared.perm.Perm.TheVariants as perm
 use Rattle.tl_rules.specs.statement.Conformance.{Trace, on_link}
-use Rattle.tl_rules.specs.statement.History.{ends, held, says_held}
+use Rattle.tl_rules.specs.statement.History.{ends, held}
 use Rattle.tl_rules.specs.statement.Windows.{is_free}
 use Rattle.tl_bytes.specs.declared.block_bytes.BlockBytes.{BlockBytes}
 use Rattle.tl_bytes.specs.declared.telling.Telling.{Telling}
-use Rattle.tl_bytes.specs.statement.Bytes.{Access, access_writes, after_answer, after_beat, ends_request, is_of, last_told}
-use Rattle.tl_bytes.specs.statement.Bytes.{last_window, may_be, may_read, pending_accesses, tells, told_as, written_as}
-use Rattle.tl_bytes.specs.statement.Known.{KnowsBlock, KnowsRead, others}
-use Rattle.tl_bytes.proofs.Since.{same_after}
+use Rattle.tl_bytes.specs.statement.Bytes.{Access, after_answer, after_beat, ends_request, is_of, last_told}
+use Rattle.tl_bytes.specs.statement.Bytes.{may_be, pending_accesses, tells}
+use Rattle.tl_bytes.specs.statement.Known.{KnowsBlock}
 use Rattle.tl_memory.specs.code.Elsewhere.{KeepsByte, WritesNot}
-use Rattle.tl_memory.specs.declared.block.BlockState.{BlockState}
-use Rattle.tl_memory.specs.declared.pending.PendingAccess.{PendingAccess}
-use Rattle.tl_memory.specs.statement.Known.{AllWriteInside, AreKnown, is_to, KnowsAccess, KnowsAccesses, KnowsState}
-use Rattle.tl_memory.proofs.Writing.{written-here}
 
 -- ---- what a byte may be
 

@@ -1,31 +1,25 @@
 -- What is kept of a block, with one more beat.
-use Rattle.std.proofs.Common.{◌≡◌, ℕ, zero, suc, Bool, true, false, not, ◌&&◌, ◌||◌, ◌+◌, ◌*◌, ◌/◌, ◌<◌, ◌≤◌}
+use Rattle.std.proofs.Common.{◌≡◌, ℕ, Bool, true, false, not, ◌+◌, ◌<◌, ◌≤◌}
 use Rattle.std.proofs.Common.{List, [], ◌∷◌, ◌++◌, length, refl, sym, ap, ◌∙◌, arith, inl, inr}
-use Rattle.std.specs.Prelude.{if◌then◌else◌, filter, find, is_some, None, Option, Some, nat_le, nat_lt, ◌==◌}
-use Rattle.std.specs.List.{AllZip}
+use Rattle.std.specs.Prelude.{if◌then◌else◌, filter, find, None, Option, Some}
 use Rattle.std.specs.Prelude.{⊤}
-use Rattle.std.proofs.Common.{append-nil, append_assoc, drop, get_or, set, take}
+use Rattle.std.proofs.Common.{drop, get_or, take}
 use Rattle.std.proofs.lemmas.Bool.{cases_Bool}
 use Rattle.std.proofs.lemmas.List.{at_drop_more}
 use Rattle.std.proofs.lemmas.Slice.Zip.{all_zipped_more}
 use Rattle.std.proofs.Math.ListN.{drop_of_length-le}
 use Rattle.tl_beat.specs.declared.beat.Beat.{Beat}
-use Rattle.tl_beat.specs.declared.beat.Beat.TheVariants as beat
 use Rattle.tl_beat.specs.declared.beat.Link.{Link}
-use Rattle.tl_params.specs.declared.perm.Perm.TheVariants as perm
-use Rattle.tl_rules.specs.statement.Conformance.{Trace, on_link}
-use Rattle.tl_rules.specs.statement.Windows.{is_free}
+use Rattle.tl_rules.specs.statement.Conformance.{Trace}
 use Rattle.tl_bytes.specs.declared.block_bytes.BlockBytes.{BlockBytes}
-use Rattle.tl_bytes.specs.statement.Bytes.{Access, access_writes, is_of, pending_accesses}
+use Rattle.tl_bytes.specs.statement.Bytes.{Access, is_of, pending_accesses}
 use Rattle.tl_bytes.specs.statement.Known.{KnowsBlock}
-use Rattle.tl_bytes.proofs.Since.{same_after}
-use Rattle.tl_memory.specs.code.Writers.{AreRenewed, IsRenewed, is_named, names, picked, stays}
+use Rattle.tl_memory.specs.code.Writers.{AreRenewed, IsRenewed, is_named, picked, stays}
 use Rattle.tl_memory.specs.code.Writers.{staying, writers_staying}
 use Rattle.tl_memory.specs.declared.pending.PendingAccess.{PendingAccess}
 use Rattle.tl_memory.specs.declared.writer.Writer.{Writer}
 use Rattle.tl_memory.specs.statement.Known.{AllWriteInside, AreKnown, AreWriters, AreWritersOf, IsAsked, is_to}
-use Rattle.tl_memory.specs.statement.Known.{AnyIsTo, IsPendingWrite, KnowsAccess, KnowsAccesses}
-use Rattle.tl_memory.specs.statement.Known.{WritesInside}
+use Rattle.tl_memory.specs.statement.Known.{AnyIsTo, KnowsAccess, KnowsAccesses}
 use Rattle.tl_memory.proofs.Writing.{named, one_kept, one_left}
 
 -- ---- lists

@@ -1,9 +1,9 @@
 -- What is known of the state of a block, from what is known of its parts.
-use Rattle.std.proofs.Common.{◌≡◌, ℕ, suc, Bool, true, false, ◌<◌, ◌≤◌, List, [], ◌∷◌, length, refl, sym, ap, ◌∙◌, arith}
-use Rattle.std.proofs.Common.{◌-◌, ◌++◌, not, ◌&&◌, inl, inr}
-use Rattle.std.specs.Prelude.{filter, find, if◌then◌else◌, None, Option, Some}
-use Rattle.std.proofs.Common.{◌/◌, ◌+◌, ◌*◌}
-use Rattle.std.proofs.lemmas.Bool.{cases_Bool, eqb-true}
+use Rattle.std.proofs.Common.{◌≡◌, ℕ, true, false, List, [], ◌∷◌, refl, sym, ap, ◌∙◌, arith}
+use Rattle.std.proofs.Common.{◌++◌}
+use Rattle.std.specs.Prelude.{filter, None, Option, Some}
+use Rattle.std.proofs.Common.{◌/◌}
+use Rattle.std.proofs.lemmas.Bool.{eqb-true}
 use Rattle.tl_beat.specs.declared.beat.Beat.{Beat}
 use Rattle.tl_beat.specs.declared.beat.Beat.TheVariants as beat
 use Rattle.tl_beat.specs.declared.beat.BeatD.{BeatD}
@@ -12,23 +12,19 @@ use Rattle.tl_bytes.specs.statement.Bytes.{ends_request}
 use Rattle.tl_bytes.specs.statement.Known.{IsWrite}
 use Rattle.tl_memory.specs.code.Elsewhere.{WritesNot}
 use Rattle.tl_beat.specs.declared.beat.Link.{Link}
-use Rattle.tl_params.specs.declared.perm.Perm.TheVariants as perm
 use Rattle.tl_rules.specs.statement.Conformance.{Trace, on_link}
-use Rattle.tl_rules.specs.statement.Windows.{is_free}
 use Rattle.tl_bytes.specs.declared.block_bytes.BlockBytes.{BlockBytes}
-use Rattle.tl_bytes.specs.statement.Bytes.{Access, is_of, last_window, may_read, pending_accesses, told_as, window_began}
-use Rattle.tl_bytes.specs.statement.Bytes.{windows_since}
-use Rattle.tl_bytes.specs.statement.Known.{count_of, KnowsBlock, KnowsRead, KnowsWindows, tellings_at}
-use Rattle.tl_bytes.proofs.Since.{closed_after}
-use Rattle.tl_memory.specs.code.Writers.{AreRenewed, is_named, staying, writers_staying}
+use Rattle.tl_bytes.specs.statement.Bytes.{Access, pending_accesses, told_as}
+use Rattle.tl_bytes.specs.statement.Known.{KnowsBlock, tellings_at}
+use Rattle.tl_memory.specs.code.Writers.{AreRenewed, staying, writers_staying}
 use Rattle.tl_memory.specs.declared.block.BlockState.{BlockState}
 use Rattle.tl_memory.specs.declared.expected.Expected.{Expected}
 use Rattle.tl_memory.specs.declared.pending.PendingAccess.{PendingAccess}
 use Rattle.tl_memory.specs.declared.writer.Writer.{Writer}
-use Rattle.tl_memory.specs.statement.Known.{AnyIsTo, AreWritersOf, Expects, is_to, KnowsAccess, KnowsAccesses}
-use Rattle.tl_memory.specs.statement.Known.{KnowsState, WritesInside}
+use Rattle.tl_memory.specs.statement.Known.{AnyIsTo, Expects, KnowsAccess}
+use Rattle.tl_memory.specs.statement.Known.{KnowsState}
 use Rattle.tl_memory.proofs.Elsewhere.{free-first}
-use Rattle.tl_memory.proofs.Keeping.{finds, IsFound, keeps, keeps-all, renewed-all}
+use Rattle.tl_memory.proofs.Keeping.{IsFound, keeps, renewed-all}
 
 -- a block of which nothing was carried
 pub state-first : {w : ℕ} (s : BlockState w) (n block : ℕ) → KnowsBlock {w = w} s.bytes n block []

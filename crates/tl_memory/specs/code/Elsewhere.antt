@@ -1,11 +1,9 @@
 -- Beats that bear on another block.
-use Rattle.std.specs.Prelude.{ℕ, true, false, [], ◌∷◌, ◌+◌, ◌*◌, ◌<◌, ◌≡◌, Option, Some, None, filter, find, ⊤}
+use Rattle.std.specs.Prelude.{ℕ, true, false, ◌≡◌, Option, Some, None, find, ⊤}
 use Rattle.tl_beat.specs.declared.beat.Beat.{Beat}
 use Rattle.tl_beat.specs.declared.beat.Beat.TheVariants as beat
-use Rattle.tl_beat.specs.declared.beat.Link.{Link}
 use Rattle.tl_rules.specs.statement.Conformance.{Trace, on_link}
-use Rattle.tl_bytes.specs.statement.Bytes.{Access, access_writes, ends_request, is_of, pending_accesses, tells}
-use Rattle.tl_memory.specs.statement.Known.{AllWriteInside, is_to}
+use Rattle.tl_bytes.specs.statement.Bytes.{Access, access_writes, ends_request, is_of, pending_accesses}
 
 -- the access, where there is one, doesn't write the byte at an address
 abbrev pub WritesNot : {w : ℕ} → ℕ → Option (Access w) → Type 0

@@ -7,7 +7,6 @@ use Rattle.std.specs.Prelude.{if◌then◌else◌, filter, is_some, nat_lt, None
 use Rattle.std.proofs.lemmas.Bool.{cases_Bool, eq-eqb, lt-ltb}
 use Rattle.tl_beat.specs.declared.opcode.OpA.{OpA}
 use Rattle.tl_beat.specs.declared.opcode.OpA.TheVariants as a
-use Rattle.tl_bytes.specs.declared.write.Write.{Write}
 use Rattle.tl_bytes.specs.code.Tellings.{is_written, leaves, value_at, left_as}
 use Rattle.tl_bytes.specs.statement.Bytes.{Access, access_writes, could_be, is_of, pending_value, value_written}
 use Rattle.tl_bytes.specs.statement.Known.{count_of, MayWrite, others, windowed}
@@ -56,7 +55,7 @@ other_pending a.AcquirePerm access address e = refl
 
 -- ---- what those write that are kept
 
-module _ {X : Type 0} (keep : X → Bool) (write : X → Write) where
+module _ {X Y : Type 0} (keep : X → Bool) (write : X → Y) where
   pub none_yet : (xs : List X) → [] ≡ picked keep write (take 0 xs)
   unfolding picked
   none_yet xs = refl
@@ -93,7 +92,7 @@ module _ {X : Type 0} (keep : X → Bool) (write : X → Write) where
       ∙ append-nil (picked keep write (take i xs)))
 
 -- an access that is kept has the names that it has
-named : {w : ℕ} (link source : ℕ) (writer : Writer w) (access : Access w) → IsAsked writer.asked access
+pub named : {w : ℕ} (link source : ℕ) (writer : Writer w) (access : Access w) → IsAsked writer.asked access
     → names link source writer.asked ≡ is_of link source access
 named link source writer access k = ap (λ l. (l == link) && (writer.asked.request.source == source)) k.link_is
     ∙ ap (λ s. (access.link == link) && (s == source)) k.source_is
@@ -201,7 +200,7 @@ some-is (suc zero) = refl
 some-is (suc (suc k)) = sym (lt-ltb 0 (suc (suc k)) (omega arith))
 
 windowed-write : {w : ℕ} (n block : ℕ) (t : Trace w) (pending : List (PendingAccess w)) (accesses : List (Access w))
-    → AreKnown pending n block accesses t
+    → AreKnown pending n block accesses t t
     → MayWrite (writes_windowed pending) block (filter (λ x. nat_lt 0 (windows_since n block x.asked t)) accesses)
 unfolding picked
 windowed-write n block t [] [] are place byte lt = refl
@@ -220,7 +219,7 @@ windowed-write n block t (x ∷ pending) (y ∷ accesses) are place byte lt =
 
 -- so that a Grant may bring it
 pub windowed-may-write : {w : ℕ} (n block : ℕ) (t : Trace w) (pending : List (PendingAccess w))
-    → KnowsAccesses pending n block t → MayWrite (writes_windowed pending) block (windowed n block t)
+    → KnowsAccesses pending n block t t → MayWrite (writes_windowed pending) block (windowed n block t)
 windowed-may-write n block t pending k place byte lt =
     windowed-write n block t pending (filter (is_to block) (pending_accesses t)) k.accesses_are place byte lt
     ∙ written-here block place byte (λ x. nat_lt 0 (windows_since n block x.asked t)) (pending_accesses t) lt k.inside

@@ -47,7 +47,7 @@ pub fn granted<const W: usize>(
     accesses: &[PendingAccess<W>],
 ) -> Result<ReadBytes, AllocError>
     ensures { IfOk result (λ read. (n block : ℕ) (t : Trace W) → KnowsBlock bytes.now n block t →
-        KnowsAccesses accesses.now n block t → KnowsGrant read n block t) }
+        KnowsAccesses accesses.now n block t t → KnowsGrant read n block t) }
 {
     let writes = writes_in_windows(alloc, accesses)?;
     let read = ReadBytes::granted(alloc, bytes, writes.as_slice())?;

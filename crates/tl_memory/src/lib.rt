@@ -2,6 +2,9 @@
 #![tactic(auto)]
 
 pub mod access;
+pub mod accesses;
+pub mod block;
+pub mod expected;
 pub mod granted;
 pub mod message;
 pub mod pending;

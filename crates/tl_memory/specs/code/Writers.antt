@@ -1,16 +1,25 @@
--- The accesses that are kept, and what those of them write that pass a test.
-use Rattle.std.specs.Prelude.{ℕ, Bool, true, false, not, [], ◌∷◌, ◌==◌, ◌&&◌, if◌then◌else◌, List}
+-- The accesses that are kept, and what is kept of those that pass a test.
+use Rattle.std.specs.Prelude.{ℕ, Bool, true, false, not, [], ◌∷◌, ◌==◌, ◌&&◌, ◌≤◌, ◌≡◌, if◌then◌else◌, List}
+use Rattle.std.specs.List.{AllZip}
+use Rattle.std.specs.Prelude.{length, Option, Some, None}
+use Rattle.tl_beat.specs.declared.beat.Beat.{Beat}
+use Rattle.tl_beat.specs.declared.beat.Link.{Link}
+use Rattle.tl_rules.specs.statement.Conformance.{Trace}
+use Rattle.tl_bytes.specs.declared.block_bytes.BlockBytes.{BlockBytes}
 use Rattle.tl_bytes.specs.declared.windows.WindowCount.{WindowCount}
 use Rattle.tl_bytes.specs.declared.windows.WindowCount.TheVariants as count
 use Rattle.tl_bytes.specs.declared.write.Write.{Write}
+use Rattle.tl_bytes.specs.statement.Bytes.{Access}
+use Rattle.tl_bytes.specs.statement.Known.{KnowsBlock, KnowsRead}
 use Rattle.tl_memory.specs.declared.access.Asked.{Asked}
 use Rattle.tl_memory.specs.declared.pending.PendingAccess.{PendingAccess}
 use Rattle.tl_memory.specs.declared.writer.Writer.{Writer}
+use Rattle.tl_memory.specs.statement.Known.{AreWritersOf, IsAsked}
 
--- what those of a list write that are kept
-unfoldable pub picked : {X : Type 0} → (X → Bool) → (X → Write) → List X → List Write
-picked keep write [] = []
-picked keep write (x ∷ xs) = if keep x then write x ∷ picked keep write xs else picked keep write xs
+-- what is picked of those of a list that are kept
+unfoldable pub picked : {X Y : Type 0} → (X → Bool) → (X → Y) → List X → List Y
+picked keep pick [] = []
+picked keep pick (x ∷ xs) = if keep x then pick x ∷ picked keep pick xs else picked keep pick xs
 
 -- it has this source on the link
 abbrev pub names : {w : ℕ} → ℕ → ℕ → Asked w → Bool
@@ -28,3 +37,38 @@ some_window _ = true
 -- what those write that have had a window
 abbrev pub writes_windowed : {w : ℕ} → List (PendingAccess w) → List Write
 writes_windowed accesses = picked (λ x. some_window x.windows.count) (λ x. x.writer.write) accesses
+
+-- ---- one more beat
+
+-- the access is the one with this source on the link
+abbrev pub is_named : {w : ℕ} → ℕ → ℕ → PendingAccess w → Bool
+is_named link source x = names link source x.writer.asked
+
+-- the access isn't the one that is gone, where one is
+abbrev pub stays : {w : ℕ} → Option (Link × ℕ) → PendingAccess w → Bool
+stays None x = true
+stays (Some gone) x = not (is_named gone.0.0 gone.1 x)
+
+-- the accesses that stay
+abbrev pub staying : {w : ℕ} → Option (Link × ℕ) → List (PendingAccess w) → List (PendingAccess w)
+staying gone accesses = picked (stays gone) (λ x. x) accesses
+
+-- and their writers
+abbrev pub writers_staying : {w : ℕ} → Option (Link × ℕ) → List (PendingAccess w) → List (Writer w)
+writers_staying gone accesses = picked (stays gone) (λ x. x.writer) accesses
+
+-- what is kept of an access that may bring more with one more beat, with which these are the bytes of its
+-- block, and these may write there
+pub record IsRenewed {w : ℕ} (bytes : BlockBytes) (writers : List (Writer w)) (old new : PendingAccess w) : Type 0
+  where
+    pub writer_is : new.writer ≡ old.writer
+    pub windows_are : new.windows ≡ old.windows
+    pub read_is : (n number : ℕ) (access : Access w) (x : Link × Beat w) (t : Trace w)
+        → IsAsked old.writer.asked access → access.asked ≤ length t → KnowsRead old.read n number access t
+        → KnowsBlock bytes n number (x ∷ t) → AreWritersOf writers number (x ∷ t)
+        → KnowsRead new.read n number access (x ∷ t)
+
+-- of each of them
+abbrev pub AreRenewed : {w : ℕ} → BlockBytes → List (Writer w) → List (PendingAccess w) → List (PendingAccess w)
+    → Type 0
+AreRenewed bytes writers old new = AllZip (IsRenewed bytes writers) old new

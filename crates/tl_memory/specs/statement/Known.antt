@@ -1,6 +1,6 @@
 -- What is known of the bytes of memory, after what all links of a manager have carried.
 use Rattle.std.specs.Prelude.{ℕ, Bool, true, false, None, [], ◌∷◌, ◌+◌, ◌*◌, ◌%◌, ◌^◌, ◌==◌, ◌<◌, ◌≤◌}
-use Rattle.std.specs.Prelude.{◌≡◌, List, length, filter, find, is_some, slice_index, ⊤}
+use Rattle.std.specs.Prelude.{◌≡◌, List, length, filter, find, is_some, Option, Some, slice_index, ⊤}
 use Rattle.tl_beat.specs.declared.beat.Beat.{Beat}
 use Rattle.tl_beat.specs.declared.beat.Beat.TheVariants as beat
 use Rattle.tl_beat.specs.declared.opcode.OpA.{OpA}
@@ -8,14 +8,19 @@ use Rattle.tl_beat.specs.declared.opcode.OpA.TheVariants as a
 use Rattle.tl_beat.specs.statement.Opcode.{a_carries_data}
 use Rattle.tl_burst.specs.statement.Burst.{bit}
 use Rattle.tl_params.specs.declared.level.Level.TheVariants as level
+use Rattle.tl_params.specs.declared.perm.Perm.TheVariants as perm
 use Rattle.tl_rules.specs.code.Control.{a_control}
 use Rattle.tl_rules.specs.statement.Admission.{is_spoiled, lanes_of}
-use Rattle.tl_bytes.specs.statement.Bytes.{Access, access_writes, carried_mask, pending_accesses, pending_value}
+use Rattle.tl_bytes.specs.statement.Bytes.{Access, access_writes, carried_mask, last_window, pending_accesses}
+use Rattle.tl_bytes.specs.statement.Bytes.{pending_value}
 use Rattle.tl_rules.specs.statement.Conformance.{Trace}
 use Rattle.tl_rules.specs.statement.History.{block_at}
+use Rattle.tl_rules.specs.statement.Windows.{is_free}
 use Rattle.tl_bytes.specs.code.Tellings.{is_written, value_at}
 use Rattle.tl_bytes.specs.declared.write.Write.{Write}
-use Rattle.tl_bytes.specs.statement.Known.{KnowsCarried, KnowsRead, KnowsWindows}
+use Rattle.tl_bytes.specs.statement.Known.{KnowsBlock, KnowsCarried, KnowsRead, KnowsWindows}
+use Rattle.tl_memory.specs.declared.block.BlockState.{BlockState}
+use Rattle.tl_memory.specs.declared.expected.Expected.{Expected}
 use Rattle.tl_memory.specs.declared.pending.PendingAccess.{PendingAccess}
 use Rattle.tl_memory.specs.declared.access.Asked.{Asked}
 use Rattle.tl_memory.specs.declared.message.CarriedMessage.{CarriedMessage}
@@ -127,25 +132,50 @@ pub record AreWritersOf {w : ℕ} (writers : List (Writer w)) (block : ℕ) (t :
   pub writers_are : AreWriters writers block (filter (is_to block) (pending_accesses t))
   pub inside : AllWriteInside (pending_accesses t)
 
--- this is kept of an access to the block that is pending after t
-pub record KnowsAccess {w : ℕ} (pending : PendingAccess w) (n block : ℕ) (access : Access w) (t : Trace w) : Type 0
+-- This is kept of an access to the block that is pending after t. Its windows are those that it had before a
+-- beat of which it isn't seen yet whether the block is free with it: those after the trace that was seen.
+pub record KnowsAccess {w : ℕ} (pending : PendingAccess w) (n block : ℕ) (access : Access w) (seen t : Trace w) : Type 0
   where
     pub asked_is : IsAsked pending.writer.asked access
     pub lawful : IsLawful access
     pub write_is : IsPendingWrite pending.writer.write block access
-    pub before : access.asked ≤ length t
-    pub windows_are : KnowsWindows pending.windows n block access.asked t
+    pub before : access.asked ≤ length seen
+    pub windows_are : KnowsWindows pending.windows n block access.asked seen
     pub read_is : KnowsRead pending.read n block access t
 
 -- of these accesses, one by one
-abbrev pub AreKnown : {w : ℕ} → List (PendingAccess w) → ℕ → ℕ → List (Access w) → Trace w → Type 0
-AreKnown [] n block [] t = ⊤
-AreKnown (pending ∷ more) n block (access ∷ accesses) t =
-    KnowsAccess pending n block access t × AreKnown more n block accesses t
-AreKnown _ n block _ t = ⊥
+abbrev pub AreKnown : {w : ℕ} → List (PendingAccess w) → ℕ → ℕ → List (Access w) → Trace w → Trace w → Type 0
+AreKnown [] n block [] seen t = ⊤
+AreKnown (pending ∷ more) n block (access ∷ accesses) seen t =
+    KnowsAccess pending n block access seen t × AreKnown more n block accesses seen t
+AreKnown _ n block _ seen t = ⊥
 
 -- this is kept of the accesses to the block that are pending after t, the last first; each that is pending
 -- writes in its own block alone
-pub record KnowsAccesses {w : ℕ} (pending : List (PendingAccess w)) (n block : ℕ) (t : Trace w) : Type 0 where
-  pub accesses_are : AreKnown pending n block (filter (is_to block) (pending_accesses t)) t
+pub record KnowsAccesses {w : ℕ} (pending : List (PendingAccess w)) (n block : ℕ) (seen t : Trace w) : Type 0 where
+  pub accesses_are : AreKnown pending n block (filter (is_to block) (pending_accesses t)) seen t
   pub inside : AllWriteInside (pending_accesses t)
+
+-- ---- blocks
+
+-- This is kept of a block after t: what its bytes may be, the accesses to it that are pending, and whether it is
+-- free for writing, or when it last was. The freedom, and with it the windows, is that after the trace that was
+-- seen, which is t itself, or t before its last beat.
+pub record KnowsState {w : ℕ} (s : BlockState w) (n block : ℕ) (seen t : Trace w) : Type 0 where
+  pub bytes_are : KnowsBlock s.bytes n block t
+  pub accesses_are : KnowsAccesses s.accesses.items n block seen t
+  pub free_is : s.free ≡ is_free n None perm.Trunk block seen
+  pub last_is : s.free ≡ false → s.last_free ≡ last_window n block seen
+
+-- the access, where there is one, is to the block
+abbrev pub AnyIsTo : {w : ℕ} → ℕ → Option (Access w) → Type 0
+AnyIsTo block None = ⊤
+AnyIsTo block (Some access) = is_to block access ≡ true
+
+-- this is what the answer may bring to an access to the block, where one is pending
+abbrev pub Expects : {w : ℕ} → Option Expected → ℕ → ℕ → Option (Access w) → Trace w → Type 0
+Expects None n block None t = ⊤
+Expects (Some expected) n block (Some access) t =
+    (expected.address ≡ access.request.address) × (expected.size ≡ access.request.size)
+    × KnowsRead expected.bytes n block access t
+Expects _ n block _ t = ⊥

@@ -1,0 +1,248 @@
+-- What is kept of a block, with one more beat.
+use Rattle.std.proofs.Common.{◌≡◌, ℕ, Bool, true, false, not, ◌+◌, ◌<◌, ◌≤◌}
+use Rattle.std.proofs.Common.{List, [], ◌∷◌, ◌++◌, length, refl, sym, ap, ◌∙◌, arith, inl, inr}
+use Rattle.std.specs.Prelude.{if◌then◌else◌, filter, find, None, Option, Some}
+use Rattle.std.specs.Prelude.{⊤}
+use Rattle.std.proofs.Common.{drop, get_or, take}
+use Rattle.std.proofs.lemmas.Bool.{cases_Bool}
+use Rattle.std.proofs.lemmas.List.{at_drop_more}
+use Rattle.std.proofs.lemmas.Slice.Zip.{all_zipped_more}
+use Rattle.std.proofs.Math.ListN.{drop_of_length-le}
+use Rattle.tl_beat.specs.declared.beat.Beat.{Beat}
+use Rattle.tl_beat.specs.declared.beat.Link.{Link}
+use Rattle.tl_rules.specs.statement.Conformance.{Trace}
+use Rattle.tl_bytes.specs.declared.block_bytes.BlockBytes.{BlockBytes}
+use Rattle.tl_bytes.specs.statement.Bytes.{Access, is_of, pending_accesses}
+use Rattle.tl_bytes.specs.statement.Known.{KnowsBlock}
+use Rattle.tl_memory.specs.code.Writers.{AreRenewed, IsRenewed, is_named, picked, stays}
+use Rattle.tl_memory.specs.code.Writers.{staying, writers_staying}
+use Rattle.tl_memory.specs.declared.pending.PendingAccess.{PendingAccess}
+use Rattle.tl_memory.specs.declared.writer.Writer.{Writer}
+use Rattle.tl_memory.specs.statement.Known.{AllWriteInside, AreKnown, AreWriters, AreWritersOf, IsAsked, is_to}
+use Rattle.tl_memory.specs.statement.Known.{AnyIsTo, KnowsAccess, KnowsAccesses}
+use Rattle.tl_memory.proofs.Writing.{named, one_kept, one_left}
+
+-- ---- lists
+
+pub find-keeps : {X : Type 0} (p q : X → Bool) (xs : List X) (x : X) → find p xs ≡ Some x → q x ≡ true
+    → find p (filter q xs) ≡ Some x
+find-keeps p q [] x found passes = absurd cc
+find-keeps p q (y ∷ xs) x found passes = elim (cases_Bool (p y)) [
+  | inl here ↦
+      let same : Some y ≡ Some x = rw here at found in
+      rw (ap q (first same) ∙ passes, here) same
+  | inr later ↦
+      let rest = find-keeps p q xs x (rw later at found) passes in
+      elim (cases_Bool (q y)) [
+        | inl kept ↦ rw (kept, later) rest
+        | inr left ↦ rw left rest
+      ]
+]
+  where
+    first : {X : Type 0} {x y : X} → Some x ≡ Some y → x ≡ y
+    first e = cc
+
+pub finds-none : {X : Type 0} (p q : X → Bool) (xs : List X) → find p xs ≡ None → find p (filter q xs) ≡ None
+finds-none p q [] none = refl
+finds-none p q (y ∷ xs) none = elim (cases_Bool (p y)) [
+  | inl here ↦ absurd (never (rw here at none))
+  | inr later ↦
+      let rest = finds-none p q xs (rw later at none) in
+      elim (cases_Bool (q y)) [
+        | inl kept ↦ rw (kept, later) rest
+        | inr left ↦ rw left rest
+      ]
+]
+  where
+    never : {X : Type 0} {x : X} → Some x ≡ None → ⊥
+    never e = cc
+
+filters-swap : {X : Type 0} (p q : X → Bool) (xs : List X) → filter p (filter q xs) ≡ filter q (filter p xs)
+filters-swap p q [] = refl
+filters-swap p q (x ∷ xs) = elim (cases_Bool (p x)) [
+  | inl p_on ↦ elim (cases_Bool (q x)) [
+    | inl q_on ↦ rw (q_on, p_on, q_on) (ap (λ l. x ∷ l) (filters-swap p q xs))
+    | inr q_off ↦ rw (q_off, p_on, q_off) (filters-swap p q xs)
+  ]
+  | inr p_off ↦ elim (cases_Bool (q x)) [
+    | inl q_on ↦ rw (q_on, p_off) (filters-swap p q xs)
+    | inr q_off ↦ rw (q_off, p_off) (filters-swap p q xs)
+  ]
+]
+
+module _ {X : Type 0} (p : X → Bool) where
+  pub found-here : (i : ℕ) (xs : List X) (x : X) → x ≡ get_or xs i x → i < length xs → p x ≡ true
+      → Some x ≡ find p (drop i xs)
+  found-here i xs x is lt on = sym (at_drop_more (find p) xs i x lt ∙ rw (← is, on) refl)
+
+  pub found-later : (i : ℕ) (xs : List X) (x : X) → x ≡ get_or xs i x → i < length xs → p x ≡ false
+      → find p (drop (i + 1) xs) ≡ find p (drop i xs)
+  found-later i xs x is lt off = sym (at_drop_more (find p) xs i x lt ∙ rw (← is, off) refl)
+
+  pub found-none : (i : ℕ) (xs : List X) → length xs ≤ i → None ≡ find p (drop i xs)
+  found-none i xs le = rw (drop_of_length-le xs le) refl
+
+-- ---- the accesses that stay
+
+-- the access isn't the one that is gone, where one is
+abbrev pub keeps : {w : ℕ} → Option (Link × ℕ) → Access w → Bool
+keeps None access = true
+keeps (Some gone) access = not (is_of gone.0.0 gone.1 access)
+
+pub keeps-all : {w : ℕ} (accesses : List (Access w)) → accesses ≡ filter (keeps None) accesses
+keeps-all [] = refl
+keeps-all (x ∷ accesses) = ap (λ l. x ∷ l) (keeps-all accesses)
+
+stays-as : {w : ℕ} (gone : Option (Link × ℕ)) (x : PendingAccess w) (access : Access w)
+    → IsAsked x.writer.asked access → stays gone x ≡ keeps gone access
+stays-as None x access k = refl
+stays-as (Some gone) x access k = ap not (named gone.0.0 gone.1 x.writer access k)
+
+inside-kept : {w : ℕ} (keep : Access w → Bool) (accesses : List (Access w)) → AllWriteInside accesses
+    → AllWriteInside (filter keep accesses)
+inside-kept keep [] inside = inside
+inside-kept keep (x ∷ accesses) inside = elim (cases_Bool (keep x)) [
+  | inl kept ↦ rw kept (inside.0, inside-kept keep accesses inside.1)
+  | inr left ↦ rw left (inside-kept keep accesses inside.1)
+]
+
+pub writers-known : {w : ℕ} (n block : ℕ) (gone : Option (Link × ℕ)) (seen t : Trace w) (pending : List (PendingAccess w))
+    (accesses : List (Access w))
+    → AreKnown pending n block accesses seen t
+    → AreWriters (writers_staying gone pending) block (filter (keeps gone) accesses)
+unfolding picked
+writers-known n block gone seen t [] [] are = tt
+writers-known n block gone seen t [] (y ∷ accesses) are = absurd are
+writers-known n block gone seen t (x ∷ pending) [] are = absurd are
+writers-known n block gone seen t (x ∷ pending) (y ∷ accesses) are =
+    let more = writers-known n block gone seen t pending accesses are.1 in
+    let same = stays-as gone x y are.0.asked_is in
+    elim (cases_Bool (keeps gone y)) [
+      | inl stay ↦ rw (same ∙ stay, stay) (are.0.asked_is, are.0.write_is, more)
+      | inr goes ↦ rw (same ∙ goes, goes) more
+    ]
+
+-- none is renewed yet
+pub renewed-none : {w : ℕ} (bytes : BlockBytes) (writers : List (Writer w)) (gone : Option (Link × ℕ))
+    (xs : List (PendingAccess w)) → AreRenewed bytes writers (staying gone (take 0 xs)) []
+unfolding picked
+renewed-none bytes writers gone xs = tt
+
+-- one is renewed
+pub renewed-more : {w : ℕ} (bytes : BlockBytes) (writers : List (Writer w)) (gone : Option (Link × ℕ)) (i : ℕ)
+    (xs more : List (PendingAccess w)) (x new : PendingAccess w)
+    → AreRenewed bytes writers (staying gone (take i xs)) more → x ≡ get_or xs i x → i < length xs
+    → stays gone x ≡ true → IsRenewed bytes writers x new
+    → AreRenewed bytes writers (staying gone (take (i + 1) xs)) (more ++ new ∷ [])
+renewed-more bytes writers gone i xs more x new are is lt on one =
+    rw (← one_kept (stays gone) (λ x. x) i xs x x is lt on)
+    (all_zipped_more (IsRenewed bytes writers) (staying gone (take i xs)) more x new are one)
+
+-- one that is gone isn't
+pub renewed-left : {w : ℕ} (bytes : BlockBytes) (writers : List (Writer w)) (gone : Option (Link × ℕ)) (i : ℕ)
+    (xs more : List (PendingAccess w)) (x : PendingAccess w)
+    → AreRenewed bytes writers (staying gone (take i xs)) more → x ≡ get_or xs i x → i < length xs
+    → stays gone x ≡ false → AreRenewed bytes writers (staying gone (take (i + 1) xs)) more
+renewed-left bytes writers gone i xs more x are is lt off =
+    rw (← one_left (stays gone) (λ x. x) i xs x x is lt off) are
+
+module _ {w : ℕ} (n block : ℕ) (bytes : BlockBytes) (writers : List (Writer w)) (seen : Trace w) (x : Link × Beat w)
+    (t : Trace w) (le : length seen ≤ length t) (known : KnowsBlock bytes n block (x ∷ t))
+    (are_writers : AreWritersOf writers block (x ∷ t)) where
+  renewed-one : (old new : PendingAccess w) (access : Access w) → IsRenewed bytes writers old new
+      → KnowsAccess old n block access seen t → KnowsAccess new n block access seen (x ∷ t)
+  renewed-one old new access r k = record {
+    asked_is = rw r.writer_is k.asked_is;
+    lawful = k.lawful;
+    write_is = rw r.writer_is k.write_is;
+    before = k.before;
+    windows_are = rw r.windows_are k.windows_are;
+    read_is = r.read_is n block access x t k.asked_is (omega (arith, k.before, le)) k.read_is known are_writers;
+  }
+
+  renewed-step : (b c : Bool) (z : PendingAccess w) (rest new : List (PendingAccess w)) (y : Access w)
+      (accesses : List (Access w))
+      → b ≡ c → AreRenewed bytes writers (if b then z ∷ rest else rest) new → KnowsAccess z n block y seen t
+      → ((more : List (PendingAccess w)) → AreRenewed bytes writers rest more
+      → AreKnown more n block accesses seen (x ∷ t))
+      → AreKnown new n block (if c then y ∷ accesses else accesses) seen (x ∷ t)
+  renewed-step true true z rest [] y accesses e renewed k more = absurd renewed
+  renewed-step true true z rest (first ∷ new) y accesses e renewed k more =
+      (renewed-one z first y renewed.0 k, more new renewed.1)
+  renewed-step false false z rest new y accesses e renewed k more = more new renewed
+  renewed-step true false z rest new y accesses e renewed k more = absurd cc
+  renewed-step false true z rest new y accesses e renewed k more = absurd cc
+
+  pub renewed-each : (gone : Option (Link × ℕ)) (old new : List (PendingAccess w)) (accesses : List (Access w))
+      → AreKnown old n block accesses seen t → AreRenewed bytes writers (staying gone old) new
+      → AreKnown new n block (filter (keeps gone) accesses) seen (x ∷ t)
+  unfolding picked
+  renewed-each gone [] [] [] are renewed = tt
+  renewed-each gone [] (z ∷ new) [] are renewed = absurd renewed
+  renewed-each gone [] new (y ∷ accesses) are renewed = absurd are
+  renewed-each gone (z ∷ old) new [] are renewed = absurd are
+  renewed-each gone (z ∷ old) new (y ∷ accesses) are renewed =
+      renewed-step (stays gone z) (keeps gone y) z (staying gone old) new y (filter (keeps gone) accesses)
+      (stays-as gone z y are.0.asked_is) renewed are.0
+      (λ more each. renewed-each gone old more accesses are.1 each)
+
+-- those that are pending with one more beat write this
+pub writers-of : {w : ℕ} (n block : ℕ) (gone : Option (Link × ℕ)) (seen : Trace w) (x : Link × Beat w) (t : Trace w)
+    (pending : List (PendingAccess w)) (writers : List (Writer w))
+    → KnowsAccesses pending n block seen t → pending_accesses (x ∷ t) ≡ filter (keeps gone) (pending_accesses t)
+    → writers ≡ writers_staying gone pending → AreWritersOf writers block (x ∷ t)
+writers-of n block gone seen x t pending writers k stay are = record {
+  writers_are = rw (are, stay, filters-swap (is_to block) (keeps gone) (pending_accesses t))
+      (writers-known n block gone seen t pending (filter (is_to block) (pending_accesses t)) k.accesses_are);
+  inside = rw stay (inside-kept (keeps gone) (pending_accesses t) k.inside);
+}
+
+-- and may bring this
+pub renewed-all : {w : ℕ} (n block : ℕ) (gone : Option (Link × ℕ)) (bytes : BlockBytes) (writers : List (Writer w))
+    (seen : Trace w) (x : Link × Beat w) (t : Trace w) (old new : List (PendingAccess w))
+    → KnowsAccesses old n block seen t → pending_accesses (x ∷ t) ≡ filter (keeps gone) (pending_accesses t)
+    → length seen ≤ length t → KnowsBlock bytes n block (x ∷ t) → writers ≡ writers_staying gone old
+    → AreRenewed bytes writers (staying gone old) new → KnowsAccesses new n block seen (x ∷ t)
+renewed-all n block gone bytes writers seen x t old new k stay le known are renewed = record {
+  accesses_are = rw (stay, filters-swap (is_to block) (keeps gone) (pending_accesses t))
+      (renewed-each n block bytes writers seen x t le known
+      (writers-of n block gone seen x t old writers k stay are) gone old new
+      (filter (is_to block) (pending_accesses t)) k.accesses_are renewed);
+  inside = rw stay (inside-kept (keeps gone) (pending_accesses t) k.inside);
+}
+
+-- ---- the one that is pending with a source on a link
+
+-- both are known, or there is none
+abbrev pub IsFound : {w : ℕ} → Option (PendingAccess w) → ℕ → ℕ → Option (Access w) → Trace w → Trace w → Type 0
+IsFound None n block None seen t = ⊤
+IsFound (Some pending) n block (Some access) seen t = KnowsAccess pending n block access seen t
+IsFound _ n block _ seen t = ⊥
+
+finds-known : {w : ℕ} (link source n block : ℕ) (seen t : Trace w) (pending : List (PendingAccess w))
+    (accesses : List (Access w))
+    → AreKnown pending n block accesses seen t
+    → IsFound (find (is_named link source) pending) n block (find (is_of link source) accesses) seen t
+finds-known link source n block seen t [] [] are = tt
+finds-known link source n block seen t [] (y ∷ accesses) are = absurd are
+finds-known link source n block seen t (x ∷ pending) [] are = absurd are
+finds-known link source n block seen t (x ∷ pending) (y ∷ accesses) are =
+    let same = named link source x.writer y are.0.asked_is in
+    elim (cases_Bool (is_of link source y)) [
+      | inl own ↦ rw (same ∙ own, own) (are.0)
+      | inr other ↦ rw (same ∙ other, other) (finds-known link source n block seen t pending accesses are.1)
+    ]
+
+-- so is the one among all that are pending, where it is to the block
+pub finds : {w : ℕ} (link source n block : ℕ) (seen t : Trace w) (pending : List (PendingAccess w))
+    → KnowsAccesses pending n block seen t → AnyIsTo block (find (is_of link source) (pending_accesses t))
+    → IsFound (find (is_named link source) pending) n block (find (is_of link source) (pending_accesses t)) seen t
+finds link source n block seen t pending k to =
+    go (find (is_of link source) (pending_accesses t)) refl to
+  where
+    go : (o : Option (Access _)) → find (is_of link source) (pending_accesses t) ≡ o → AnyIsTo block o
+        → IsFound (find (is_named link source) pending) n block o seen t
+    go None e to = rw (← finds-none (is_of link source) (is_to block) (pending_accesses t) e)
+        (finds-known link source n block seen t pending (filter (is_to block) (pending_accesses t)) k.accesses_are)
+    go (Some access) e to = rw (← find-keeps (is_of link source) (is_to block) (pending_accesses t) access e to)
+        (finds-known link source n block seen t pending (filter (is_to block) (pending_accesses t)) k.accesses_are)

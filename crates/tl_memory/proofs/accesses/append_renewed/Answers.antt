@@ -1,0 +1,46 @@
+use Rattle.std.proofs.Common.{rules, ap, append-nil, append_assoc, sym, ◌∙◌, ◌≡◌, ◌++◌, [], ◌∷◌}
+use Rattle.std.proofs.lemmas.List.{take_all}
+use Rattle.tl_memory.proofs.Keeping.{renewed-left, renewed-more, renewed-none}
+use Rattle.tl_memory.proofs.accesses.append_renewed.Goals as goal
+use Rattle.tl_memory.proofs.accesses.append_renewed.Goals.{then-stays+in_ok-with+in_ok-push, else-stays}
+
+pub loop-access-init : goal.loop-access-init
+loop-access-init g c = (
+  [],
+  sym (append-nil c.args.renewed.now.items),
+  renewed-none c.args.bytes.now c.args.writers.now c.args.gone c.args.accesses.now,
+)
+
+pub loop-access-preserved : goal.loop-access-preserved
+loop-access-preserved g c = elim c.if-stays.branch [
+  | then-stays+in_ok-with+in_ok-push w ↦
+      let pushed : c.if-stays.renewed.items ≡ c.loop-access.renewed.items ++ w.in_ok-with.field-0 ∷ [] =
+      search rules in
+      let so_far = c.loop-access.invariant in (
+        so_far.0 ++ w.in_ok-with.field-0 ∷ [],
+        pushed ∙ ap (λ l. l ++ w.in_ok-with.field-0 ∷ []) so_far.1
+            ∙ append_assoc c.args.renewed.now.items so_far.0 (w.in_ok-with.field-0 ∷ []),
+        renewed-more c.args.bytes.now c.args.writers.now c.args.gone c.loop-access.access-index c.args.accesses.now
+            so_far.0 c.access-item.result w.in_ok-with.field-0 so_far.2 c.access-item.is c.loop-access-test.true
+            (sym c.stays.ensures ∙ w.if-stays.true) (record {
+              writer_is = w.in_ok-with.ensures.writer;
+              windows_are = w.in_ok-with.ensures.windows;
+              read_is = w.in_ok-with.ensures.read;
+            }),
+      )
+  | else-stays w ↦
+      let so_far = c.loop-access.invariant in (
+        so_far.0,
+        ap (λ v. v.items) w.renewed-is ∙ so_far.1,
+        renewed-left c.args.bytes.now c.args.writers.now c.args.gone c.loop-access.access-index c.args.accesses.now
+            so_far.0 c.access-item.result so_far.2 c.access-item.is c.loop-access-test.true
+            (sym c.stays.ensures ∙ w.if-stays.false),
+      )
+]
+
+pub returns : goal.returns
+returns g c = (
+  c.loop-access.invariant.0,
+  c.loop-access.invariant.1,
+  rw (take_all c.loop-access.access-index c.args.accesses.now c.loop-access-test.false) at c.loop-access.invariant.2,
+)

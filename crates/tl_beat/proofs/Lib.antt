@@ -2,7 +2,9 @@ pub mod DigitsAt
 pub mod FieldsAt
 pub mod LanesAt
 pub mod Made
+pub mod OpcodeCodes
 pub mod Pieces
+pub mod ReadFields
 pub mod Spaces
 pub mod LineAt
 pub mod Faults

@@ -22,7 +22,7 @@ use Rattle.tl_beat.specs.code.FromLeft.{tail_at, line_a_at, line_b_at, line_c_at
 use Rattle.tl_beat.specs.code.FromLeft.{spaces_in, body_at}
 use Rattle.tl_beat.proofs.Pieces.{NoSpace, after_first-piece}
 use Rattle.tl_beat.proofs.SpelledDigits.{is_dash-true}
-use Rattle.tl_beat.proofs.ReadLines.{ok_of, ok_is, ok_step}
+use Rattle.tl_beat.proofs.ReadFields.{ok_of, ok_is, ok_step}
 
 -- ---- spaces
 

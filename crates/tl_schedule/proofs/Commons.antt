@@ -7,7 +7,7 @@ use Rattle.std.specs.Prelude.{codes, IfSome, None, Option, Some, slice_index}
 use Rattle.tl_beat.specs.declared.beat.Link.{Link}
 use Rattle.tl_beat.specs.declared.channel.Channel.{Channel}
 use Rattle.tl_beat.specs.statement.Line.{channel_named, spaced}
-use Rattle.tl_beat.proofs.ReadLines.{letter-named}
+use Rattle.tl_beat.proofs.ReadFields.{letter-named}
 use Rattle.tl_schedule.specs.declared.common.Common.{Common}
 use Rattle.tl_schedule.specs.declared.common.Common.TheVariants as common
 use Rattle.tl_schedule.specs.statement.CommonLine.{SpellsCommon, common_event}

@@ -17,7 +17,7 @@ use Rattle.tl_schedule.specs.code.NameReading.{arithmetic_in, arithmetics, grow_
 use Rattle.tl_schedule.specs.code.NameReading.{logical_in, logicals, prune_in, prunes, word_in, word_name, words}
 use Rattle.tl_schedule.proofs.SpelledFields.{number_taken, size_taken, bytes_taken, name_taken, front_taken, end_taken}
 use Rattle.tl_schedule.proofs.SpelledFields.{last_taken, map_taken}
-use Rattle.tl_beat.proofs.ReadLines.{letter-named}
+use Rattle.tl_beat.proofs.ReadFields.{letter-named}
 use Rattle.tl_schedule.proofs.Options.{bind_some}
 
 -- ---- fields in a row

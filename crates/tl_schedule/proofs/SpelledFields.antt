@@ -23,7 +23,7 @@ use Rattle.tl_schedule.specs.code.Then.{◌>>=◌}
 use Rattle.tl_params.proofs.Options.{some_pair}
 use Rattle.tl_schedule.proofs.Options.{bind_some}
 use Rattle.tl_burst.proofs.Whole.{some_is}
-use Rattle.tl_beat.proofs.SpelledLines.{find-passes}
+use Rattle.tl_beat.proofs.OpcodeCodes.{find-passes}
 
 -- ---- numbers
 

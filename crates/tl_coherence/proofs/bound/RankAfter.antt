@@ -13,7 +13,8 @@ use Rattle.tl_beat.specs.declared.opcode.OpB.TheVariants as opb
 use Rattle.tl_params.specs.declared.perm.Perm.TheVariants as perm
 use Rattle.tl_client.specs.statement.Send.{probe_ack}
 use Rattle.tl_coherence.specs.protocol.Invariant.{is_replied}
-use Rattle.tl_coherence.specs.protocol.Protocol.{shown, probe_taken, report_answers, report_grants, access_answered}
+use Rattle.tl_coherence.specs.protocol.Protocol.{probe_taken, report_answers, report_grants, access_answered}
+use Rattle.tl_coherence.specs.protocol.Tokens.{shown}
 use Rattle.tl_coherence.specs.protocol.Protocol.{access_served, release_taken, answer_taken, release_ack_taken}
 use Rattle.tl_coherence.specs.protocol.Protocol.{grant_ack_taken}
 use Rattle.tl_coherence.specs.refinement.PacketMessages.{block_message}

@@ -23,7 +23,8 @@ use Rattle.tl_manager.specs.statement.Handing.{grant_opcode}
 use Rattle.tl_coherence.specs.refinement.AbstractStep.{is_last, taken_by_client}
 use Rattle.tl_coherence.specs.statement.Machine.{Pool, Releases, pool_of, after_end}
 use Rattle.tl_coherence.specs.protocol.Phase.{is_unreleased, is_whole}
-use Rattle.tl_coherence.specs.protocol.Protocol.{is_wanting, answer_taken, grant_taken, release_ack_taken, taken_block}
+use Rattle.tl_coherence.specs.protocol.Protocol.{answer_taken, grant_taken, release_ack_taken, taken_block}
+use Rattle.tl_coherence.specs.protocol.Tokens.{is_wanting}
 use Rattle.tl_coherence.proofs.memory.BesideResponses.{beside-answer, beside-grant, beside-release_ack}
 use Rattle.tl_coherence.proofs.queues.Shown.{carried-shown}
 use Rattle.tl_coherence.proofs.simulation.CarriedResponses.{answer_taken-shown, grant_taken-shown}

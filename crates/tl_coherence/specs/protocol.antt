@@ -3,3 +3,4 @@ pub mod Packet
 pub mod Phase
 pub mod PhaseSteps
 pub mod Protocol
+pub mod Tokens

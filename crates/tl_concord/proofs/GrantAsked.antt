@@ -9,7 +9,8 @@ use Rattle.tl_params.specs.declared.config.Config.{Config}
 use Rattle.tl_rules.specs.statement.History.{asks_for, request_of}
 use Rattle.tl_client.proofs.endpoint.HeldAfter.{same_block}
 use Rattle.tl_coherence.specs.protocol.Phase.{View}
-use Rattle.tl_coherence.specs.protocol.Protocol.{Block, SourceState, is_unserved}
+use Rattle.tl_coherence.specs.protocol.Protocol.{Block, SourceState}
+use Rattle.tl_coherence.specs.protocol.Tokens.{is_unserved}
 use Rattle.tl_coherence.specs.refinement.AbstractStep.{AbstractState}
 use Rattle.tl_coherence.specs.refinement.MonitorRelation.{is_requested}
 use Rattle.tl_coherence.specs.refinement.SimulationRelation.{MonitorRelations, asked_by}

@@ -28,7 +28,8 @@ use Rattle.tl_bytes.specs.statement.Bytes.{carried_byte, could_be, tells}
 use Rattle.tl_coherence.specs.protocol.Packet.{Packet, ProbeAck, Release}
 use Rattle.tl_coherence.specs.protocol.Phase.{Granting, Idle, Own, Other, Acknowledging, GrantedOther, ProbeAnswered}
 use Rattle.tl_coherence.specs.protocol.Phase.{ReleaseSent, View, ok, is_unprobed, is_unreleased}
-use Rattle.tl_coherence.specs.protocol.Protocol.{Block, is_granting, packet, shown, view}
+use Rattle.tl_coherence.specs.protocol.Protocol.{Block, packet, view}
+use Rattle.tl_coherence.specs.protocol.Tokens.{is_granting, shown}
 use Rattle.tl_coherence.specs.refinement.AbstractStep.{AbstractState}
 use Rattle.tl_coherence.specs.refinement.PacketMessages.{block_message, message_of, prune_told, report_told}
 use Rattle.tl_coherence.specs.refinement.SimulationRelation.{MonitorRelations, SimulationRelation, is_caching}

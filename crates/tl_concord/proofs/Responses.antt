@@ -36,7 +36,8 @@ use Rattle.tl_coherence.specs.protocol.Packet.{Acquire, Answer, Grant, GrantAck,
 use Rattle.tl_coherence.specs.protocol.Packet.{ReleaseAck, Request}
 use Rattle.tl_coherence.specs.protocol.Phase.{AcquireOpen, cap_fits, grow_fits, AcquirePhase, NoAcquire, Granting}
 use Rattle.tl_coherence.specs.protocol.Protocol.{Block, is_on, packet, packets_on, view, Acquires, Asked}
-use Rattle.tl_coherence.specs.protocol.Protocol.{Replied, SourceState, is_unserved, is_wanting, shown}
+use Rattle.tl_coherence.specs.protocol.Protocol.{Replied, SourceState}
+use Rattle.tl_coherence.specs.protocol.Tokens.{is_unserved, is_wanting, shown}
 use Rattle.tl_coherence.specs.refinement.AbstractStep.{AbstractState}
 use Rattle.tl_coherence.specs.refinement.Carried.{IsCarried}
 use Rattle.tl_coherence.specs.refinement.PacketMessages.{block_message, message_of, message_of_kind, acquire_of}

@@ -16,7 +16,8 @@ use Rattle.tl_client.specs.declared.verdict.Finish.{Finish}
 use Rattle.tl_client.specs.declared.verdict.Finish.TheVariants as finish
 use Rattle.tl_coherence.specs.declared.event.Event.TheVariants.{Deliver}
 use Rattle.tl_coherence.specs.declared.event.Outcome.TheVariants as outcome
-use Rattle.tl_coherence.specs.protocol.Protocol.{Block, is_granting, view}
+use Rattle.tl_coherence.specs.protocol.Protocol.{Block, view}
+use Rattle.tl_coherence.specs.protocol.Tokens.{is_granting}
 use Rattle.tl_coherence.specs.refinement.SimulationRelation.{MonitorRelations, SimulationRelation}
 use Rattle.tl_coherence.specs.statement.Coherent.{started}
 use Rattle.tl_coherence.specs.statement.Flow.{trace_of}

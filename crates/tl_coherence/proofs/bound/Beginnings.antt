@@ -13,7 +13,7 @@ use Rattle.std.proofs.lemmas.Bool.{cases_eq}
 use Rattle.tl_coherence.specs.protocol.Invariant.{is_asked, is_replied}
 use Rattle.tl_coherence.specs.protocol.Phase.{View, Idle, Other, Acknowledging, GrantedOther, ReleasePhase}
 use Rattle.tl_coherence.specs.bound.Rank.{let_weight}
-use Rattle.tl_coherence.specs.protocol.Protocol.{is_granting, is_releasing, shown}
+use Rattle.tl_coherence.specs.protocol.Tokens.{is_granting, is_releasing, shown}
 use Rattle.tl_coherence.proofs.protocol.Capacities.{request_named, answer_named, acquire_named}
 use Rattle.tl_coherence.proofs.protocol.TokenNames.{shown_there, shows_it}
 use Rattle.tl_coherence.proofs.protocol.Capacities.{grant_named, release_named}

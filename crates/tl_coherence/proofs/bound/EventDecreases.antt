@@ -18,7 +18,8 @@ use Rattle.tl_burst.proofs.Begun.{length-begun}
 use Rattle.tl_coherence.specs.refinement.Carried.{IsCarried}
 use Rattle.tl_coherence.specs.refinement.ChannelRelation.{ChannelRelation}
 use Rattle.tl_coherence.specs.protocol.Phase.{ReleasePhase}
-use Rattle.tl_coherence.specs.protocol.Protocol.{Link, is_on, is_releasing, with_d, with_probe, popped_link}
+use Rattle.tl_coherence.specs.protocol.Protocol.{Link, is_on, with_d, with_probe, popped_link}
+use Rattle.tl_coherence.specs.protocol.Tokens.{is_releasing}
 use Rattle.tl_coherence.specs.protocol.Protocol.{probed_link, probe_taken, reported_block, ended_link, report_answers}
 use Rattle.tl_coherence.specs.protocol.Protocol.{granted_link, report_grants, performed_block, answered_link}
 use Rattle.tl_coherence.specs.protocol.Protocol.{access_answered, served_block, served_link, access_served, let_link}

@@ -13,7 +13,8 @@ use Rattle.tl_beat.specs.declared.opcode.OpB.TheVariants as opb
 use Rattle.tl_params.specs.declared.perm.Perm.TheVariants as perm
 use Rattle.tl_client.specs.statement.Send.{probe_ack}
 use Rattle.tl_coherence.specs.protocol.Invariant.{is_replied}
-use Rattle.tl_coherence.specs.protocol.Protocol.{shown, probe_taken, report_answers, report_grants, access_answered}
+use Rattle.tl_coherence.specs.protocol.Protocol.{probe_taken, report_answers, report_grants, access_answered}
+use Rattle.tl_coherence.specs.protocol.Tokens.{shown}
 use Rattle.tl_coherence.specs.protocol.Protocol.{access_served, release_taken, answer_taken, release_ack_taken}
 use Rattle.tl_coherence.specs.protocol.Protocol.{grant_ack_taken}
 use Rattle.tl_coherence.specs.refinement.PacketMessages.{block_message}
@@ -25,7 +26,7 @@ use Rattle.tl_coherence.proofs.simulation.CarriedEvents.{acquire_granted-shown, 
 use Rattle.tl_coherence.proofs.simulation.CarriedResponses.{answer_taken-shown}
 use Rattle.tl_coherence.proofs.simulation.CarriedResponses.{release_ack_taken-shown, grant_taken-shown}
 use Rattle.tl_coherence.proofs.simulation.CarriedResponses.{grant_ack_taken-shown}
-use Rattle.tl_coherence.proofs.simulation.CarriedProbes.{served-shown}
+use Rattle.tl_coherence.proofs.simulation.CarriedProbes.{access_served-shown, acquire_served-shown}
 use Rattle.tl_coherence.proofs.simulation.CarriedLastReports.{report_answers-shown, report_grants-shown}
 use Rattle.tl_coherence.proofs.simulation.CarriedProbes.{probe_pushes}
 use Rattle.tl_coherence.proofs.queues.Channels.{pushes_at}
@@ -214,9 +215,8 @@ module _ {w : ℕ} (config : Config) (log : Log w) (mail : AccessMessages w) (re
       (probe_pushes n k (λ d. is_probed c true k ((s.block n).pair d).recorded d)) all matched.carried c n rest source
       tracker k some_beats
       (narrow-block w width)
-      sixteen (served-shown (is_caching config) c n true source tracker k rest mail s
-      (acquire_served c n source tracker k rest s) matched.invariant kept.invariant first free (λ i. refl) (λ d. refl))
-      received first free
+      sixteen (acquire_served-shown (is_caching config) c n source tracker k rest mail s matched.invariant
+      kept.invariant first free) received first free
       (left_after mail (acquire_served c n source tracker k rest s) kept)
 
   pub access_served-owed : (source tracker : ℕ) (k : Cap) → length config.clients.items ≤ 16
@@ -229,9 +229,8 @@ module _ {w : ℕ} (config : Config) (log : Log w) (mail : AccessMessages w) (re
       (probe_pushes n k (λ d. is_probed c false k ((s.block n).pair d).recorded d)) all matched.carried c n rest source
       tracker k some_beats
       (narrow-block w width)
-      sixteen (served-shown (is_caching config) c n false source tracker k rest mail s
-      (access_served c n source tracker k rest s) matched.invariant kept.invariant first free (λ i. refl) (λ d. refl))
-      received first free
+      sixteen (access_served-shown (is_caching config) c n source tracker k rest mail s matched.invariant
+      kept.invariant first free) received first free
       (left_after mail (access_served c n source tracker k rest s) kept)
 
   pub report_grants-owed : (q source : ℕ) (k gift : Cap) (r : Report) (d : Bool)

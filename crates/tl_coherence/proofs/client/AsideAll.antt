@@ -20,7 +20,8 @@ use Rattle.tl_client.specs.declared.reply.Reply.TheVariants as reply
 use Rattle.tl_client.specs.statement.Send.{access}
 use Rattle.tl_coherence.specs.refinement.AbstractStep.{answers}
 use Rattle.tl_coherence.specs.protocol.Invariant.{is_asked, serves_of, is_serving}
-use Rattle.tl_coherence.specs.protocol.Protocol.{shown, written}
+use Rattle.tl_coherence.specs.protocol.Protocol.{written}
+use Rattle.tl_coherence.specs.protocol.Tokens.{shown}
 use Rattle.tl_coherence.proofs.client.Aside.{aside-access_asked, aside-acquire_asked, aside-release_asked}
 use Rattle.tl_coherence.proofs.client.Aside.{aside-block_stored, aside-access_answered, aside-acquire_granted}
 use Rattle.tl_coherence.proofs.client.Aside.{aside-acquire_served, aside-access_served, aside-probe_taken}

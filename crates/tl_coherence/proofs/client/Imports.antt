@@ -54,7 +54,8 @@ pub use Rattle.tl_coherence.specs.protocol.Protocol.{Acquires, Asked, Block, Fre
 pub use Rattle.tl_coherence.specs.protocol.Protocol.{Replied, Service, SourceFree, SourceState, State, Waits}
 pub use Rattle.tl_coherence.specs.protocol.Protocol.{acquire_granted, acquire_served, acquiring_block, ended_block}
 pub use Rattle.tl_coherence.specs.protocol.Protocol.{freed_block, grant_taken, granted_at_once, granted_block, is_on}
-pub use Rattle.tl_coherence.specs.protocol.Protocol.{is_probed, is_wanting, let_block, let_go_block, on, packet}
+pub use Rattle.tl_coherence.specs.protocol.Protocol.{is_probed, let_block, let_go_block, on, packet}
+pub use Rattle.tl_coherence.specs.protocol.Tokens.{is_wanting}
 pub use Rattle.tl_coherence.specs.protocol.Protocol.{performed_block, probe_taken, probed_block, releasing_block}
 pub use Rattle.tl_coherence.specs.protocol.Protocol.{report_taken, reported_block, served_block, stored_block}
 pub use Rattle.tl_coherence.specs.protocol.Protocol.{taken_block, view}

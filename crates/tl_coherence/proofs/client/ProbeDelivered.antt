@@ -27,7 +27,7 @@ use Rattle.tl_manager.specs.statement.Handing.{probe_of_block}
 use Rattle.tl_manager.specs.code.Kept as manager
 use Rattle.tl_coherence.specs.refinement.Carried.{IsCarried}
 use Rattle.tl_coherence.specs.refinement.ClientRelation.{comes_granting}
-use Rattle.tl_coherence.specs.protocol.Protocol.{shown, is_sent}
+use Rattle.tl_coherence.specs.protocol.Tokens.{shown, is_sent}
 use Rattle.tl_coherence.specs.refinement.PacketMessages.{message_of, message_of_kind}
 use Rattle.tl_coherence.proofs.queues.Carried.{IsNext}
 use Rattle.tl_coherence.proofs.client.ClientAsked.{IsEndOf}

@@ -14,7 +14,8 @@ use Rattle.tl_client.specs.statement.Endpoint as client
 use Rattle.tl_manager.proofs.calls.Events.{reaction-ack}
 use Rattle.tl_coherence.specs.protocol.Protocol.{freed_block, grant_ack_taken}
 use Rattle.tl_coherence.proofs.memory.BesideKinds.{beside_block}
-use Rattle.tl_coherence.proofs.simulation.CarriedResponses.{grant_ack_taken-carried}
+use Rattle.tl_coherence.proofs.queues.Shown.{carried-shown}
+use Rattle.tl_coherence.proofs.simulation.CarriedResponses.{grant_ack_taken-shown}
 use Rattle.tl_coherence.proofs.deliveries.DeliverDUnmoved.{IsDelivered}
 use Rattle.tl_coherence.proofs.deliveries.ManagersAfter.{IsAtManager, at-manager, after_taken, delivered-last}
 use Rattle.tl_coherence.proofs.deliveries.ManagersAfter.{delivered-part}
@@ -84,10 +85,10 @@ delivered-e {w} config log link h terms x queue width matched known beats moving
         h).mail
         (kind_taken config (next_tracker sys) link.0 k n is.first.rest h).state
         (after_taken config link channel.E x queue sys [])) (sym kind)
-        (grant_ack_taken-carried (is_caching config) link.0 n is.first.rest h.mail h.state sys
-        (after_taken config link channel.E x queue sys []) x queue width matched.invariant
-        (invariant-taken config log h sys link.0 GrantAck n is.first.rest matched tokens tt) tokens sent taken
-        matched.carried))
+        (carried-shown width (grant_ack_taken-shown (is_caching config) link.0 n is.first.rest h.mail h.state
+        matched.invariant (invariant-taken config log h sys link.0 GrantAck n is.first.rest matched tokens tt) tokens
+        sent)
+        taken matched.carried))
         (subst (λ (k : Kind). MemoryRelation (kind_taken config (next_tracker sys) link.0 k n is.first.rest h).mail
         (kind_taken config (next_tracker sys) link.0 k n is.first.rest h).state
         (performing [] (one_memory_after config log))) (sym kind) quiet)

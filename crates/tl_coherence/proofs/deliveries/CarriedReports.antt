@@ -14,8 +14,9 @@ use Rattle.tl_coherence.proofs.deliveries.Imports.{report_taken, packet, prune_t
 use Rattle.tl_coherence.proofs.deliveries.Imports.{report_told, ProbeAck, Release}
 use Rattle.tl_coherence.proofs.deliveries.Imports.{Grant, ReleaseAck, Packet}
 use Rattle.tl_coherence.specs.protocol.Protocol as protocol
-use Rattle.tl_coherence.proofs.simulation.CarriedEvents.{release_taken-carried, report_taken-carried}
-use Rattle.tl_coherence.proofs.simulation.CarriedLastReports.{report_answers-carried, report_grants-carried}
+use Rattle.tl_coherence.proofs.queues.Shown.{carried-shown}
+use Rattle.tl_coherence.proofs.simulation.CarriedEvents.{release_taken-shown, report_taken-shown}
+use Rattle.tl_coherence.proofs.simulation.CarriedLastReports.{report_answers-shown, report_grants-shown}
 use Rattle.tl_coherence.proofs.manager.Choices.{plain-past}
 use Rattle.tl_coherence.proofs.queues.FirstToken.{first-token}
 use Rattle.tl_coherence.proofs.manager.ManagerSettles.{gift_after}
@@ -93,16 +94,14 @@ reports-last {w} config log h sys c n rest x queue at tokens whole handed =
     last alone (GrantSent q d low) f later one = absurd (granted-unseen (c == q) d low (rw f at seen))
     last alone (GrantTaken q) f later one = absurd (taken-unseen (c == q) (rw f at seen))
     last alone (Waits q false source low) f later one =
-        report_answers-carried (is_caching config) c q n source r low (performs v) rest said h.mail h.state sys after x
-        queue at.width inv later tokens f
-        (rw (serving-use (is_caching config) h.state n q source low inv f) refl)
-        (ended-bytes (is_caching config) c q source r low v b (inv.blocks n)
-        (subst (IsWell (is_caching config)) (set-same n (ended_block c r (performs v) b) h.state.block)
+        carried-shown at.width (report_answers-shown (is_caching config) c q n source r low (performs v) rest said
+        h.mail h.state inv later tokens f (rw (serving-use (is_caching config) h.state n q source low inv f) refl)
+        (ended-bytes (is_caching config) c q source r low v b (inv.blocks n) (subst (IsWell (is_caching config))
+        (set-same n (ended_block c r (performs v) b) h.state.block)
         (later.blocks n)) f answered
         (settled_all (length config.clients.items) (is_caching config) c b.pair (plain-past config)
-        (inv.blocks n).outside alone) for.0 for.3 (at.is.sized n).truth)
-        (answer_on_d v _)
-        (last-handing config log h sys c q channel.C x queue said at (one ∙ rw (set_at-same q source said h.mail.answer)
+        (inv.blocks n).outside alone) for.0 for.3 (at.is.sized n).truth) (answer_on_d v _)) (last-handing config log h
+        sys c q channel.C x queue said at (one ∙ rw (set_at-same q source said h.mail.answer)
         refl) whole) at.is.carried
       where
         v : MessageA w
@@ -132,11 +131,10 @@ reports-last {w} config log h sys c n rest x queue at tokens whole handed =
             let d = is_granted_data whole_block grow (b.pair q).recorded in
             let gift = gift_after config c n r whole_block grow h in
             let new : Block (List ℕ) = granted_block c q r d gift b in
-            report_grants-carried (is_caching config) c q n source r d low gift rest
-            (block_message Grant q n new) h.mail h.state sys after x queue at.width inv then_well tokens f
-            (seen_apart q source low c (rw f at seen))
-            (grant_on_d w q n new d gift refl) refl
-            (last-handing config log h sys c q channel.C x queue (block_message Grant q n new) at
+            carried-shown at.width (report_grants-shown (is_caching config) c q n source r d low gift rest
+            (block_message Grant q n new) h.mail h.state inv then_well tokens f (seen_apart q source low c (rw f at
+            seen)) (grant_on_d w q n new d gift refl) refl) (last-handing config log h sys c q channel.C x queue
+            (block_message Grant q n new) at
             (one ∙ ap (λ (i : Block (List ℕ)). (record { 0 = q }, block_message Grant q n i) ∷ [])
             (set-same n new h.state.block)) whole) at.is.carried
 
@@ -150,7 +148,7 @@ reports-last {w} config log h sys c n rest x queue at tokens whole handed =
         → CarriesAfter config c channel.C sys (if y then with_state (report_taken c n r rest h.state) h else last_taken
         (length config.clients.items) config.profile c n r b.service rest h)
     others true f later one =
-        report_taken-carried (is_caching config) c n r rest h.mail h.state sys after x queue at.width inv later tokens
+        carried-shown at.width (report_taken-shown (is_caching config) c n r rest h.mail h.state inv later tokens)
         (last-quietly config log h sys c channel.C x queue at (one ∙ rw f refl) whole) at.is.carried
     others false f later one = last f b.service refl later (one ∙ rw f refl)
 
@@ -247,10 +245,9 @@ carried-followed_c {w} config log h sys c x queue width is beats =
         (with_state (release_taken c n (prune_told ((h.state.block n).pair c).letting) rest h.state) h)
     releases-last n rest tokens whole one =
         let new : Block (List ℕ) = let_block c (prune_told ((h.state.block n).pair c).letting) (h.state.block n) in
-        release_taken-carried (is_caching config) c n (prune_told ((h.state.block n).pair c).letting) rest
-        (block_message ReleaseAck c n new) h.mail h.state sys
-        (stepped config (Deliver (record { 0 = c }) channel.C) sys).after x queue width is.invariant
-        (invariant-taken config log h sys c Release n rest is tokens tt) tokens (ack_on_d w c n new) refl
-        (last-handing config log h sys c c channel.C x queue (block_message ReleaseAck c n new) at
+        carried-shown width (release_taken-shown (is_caching config) c n (prune_told ((h.state.block n).pair c).letting)
+        rest (block_message ReleaseAck c n new) h.mail h.state is.invariant (invariant-taken config log h sys c Release
+        n rest is tokens tt) tokens (ack_on_d w c n new) refl) (last-handing config log h sys c c channel.C x queue
+        (block_message ReleaseAck c n new) at
         (one ∙ ap (λ (i : Block (List ℕ)). (record { 0 = c }, block_message ReleaseAck c n i) ∷ [])
         (set-same n new h.state.block)) whole) is.carried

@@ -37,9 +37,10 @@ use Rattle.tl_coherence.specs.protocol.Protocol.{is_probed, granted_at_once, acq
 use Rattle.tl_coherence.proofs.manager.Admitted.{offered-taken}
 use Rattle.tl_coherence.proofs.manager.Arrivals.{link_of, with_beat, IsComing, ends-coming, service_for}
 use Rattle.tl_coherence.proofs.manager.AtRequests.{end_after, reaction-probing}
-use Rattle.tl_coherence.proofs.simulation.CarriedEvents.{access_answered-carried, acquire_granted-carried}
-use Rattle.tl_coherence.proofs.simulation.CarriedProbes.{probe_pushes, channels-probes, access_served-carried}
-use Rattle.tl_coherence.proofs.simulation.CarriedProbes.{acquire_served-carried}
+use Rattle.tl_coherence.proofs.queues.Shown.{carried-shown}
+use Rattle.tl_coherence.proofs.simulation.CarriedEvents.{access_answered-shown, acquire_granted-shown}
+use Rattle.tl_coherence.proofs.simulation.CarriedProbes.{probe_pushes, channels-probes, access_served-shown}
+use Rattle.tl_coherence.proofs.simulation.CarriedProbes.{acquire_served-shown}
 use Rattle.tl_coherence.proofs.protocol.FollowKept.{IsReady}
 use Rattle.tl_coherence.proofs.protocol.RequestsKept.{some-none, leaves-bytes}
 use Rattle.tl_coherence.proofs.queues.Showing.{carries, none-carried}
@@ -256,23 +257,20 @@ carried-acquire_taken {w} config log h sys c n k rest queue is first asked comes
     go true f kept =
         let some = somebody-probed config log h.mail h.request h.state sys c k n true m is (acquires-so asked.whole)
         (same_block n) (rw caps f) in
-        acquire_served-carried (is_caching config) c n (b.source c) tracker j rest h.mail h.state sys after
-        (beat.A (a_beat_of m k)) queue comes.width is.invariant kept first ready.0
-        (taken-probing config log h.mail h.request h.state sys c k n true j m queue is comes beats last
+        carried-shown comes.width (acquire_served-shown (is_caching config) c n (b.source c) tracker j rest h.mail
+        h.state is.invariant kept first ready.0) (taken-probing config log h.mail h.request h.state sys c k n true j m
+        queue is comes beats last
         (acquires-so asked.whole) (same_block n)
         (ap (λ (d : Reaction w). d.handed) (reaction-probing config c k n j m sys.manager comes last (same_block n) caps
         (probed-some config log h.mail h.request h.state sys c k n true j m is (acquires-so asked.whole) (same_block n)
-        ∙ ap not f))))
-        is.carried
+        ∙ ap not f)))) is.carried
     go false f kept =
         let new = granted_at_once c tracker data_too given b in
         let well : IsWell (is_caching config) new = subst (IsWell (is_caching config)) (set-same n new h.state.block)
         (kept.blocks n) in
-        acquire_granted-carried (is_caching config) c n tracker data_too given rest (block_message Grant c n new) h.mail
-        h.state sys after
-        (beat.A (a_beat_of m k)) queue comes.width is.invariant kept first ready.0
-        (once_on_d w c n tracker data_too given b) refl
-        (taken-answering config c k m (block_message Grant c n new) queue sys comes beats last
+        carried-shown comes.width (acquire_granted-shown (is_caching config) c n tracker data_too given rest
+        (block_message Grant c n new) h.mail h.state is.invariant kept first ready.0 (once_on_d w c n tracker data_too
+        given b) refl) (taken-answering config c k m (block_message Grant c n new) queue sys comes beats last
         (handed-granted config log h.mail h.request h.state sys (is_caching config) c n k is asked comes last
         (rw caps f) well)) is.carried
 
@@ -358,12 +356,10 @@ carried-request_taken {w} config log h sys c source k rest queue is first asked 
         → IsInvariant (is_caching config) (access_taken c source m tracker false None rest h).state
         → Carries (access_taken c source m tracker false None rest h)
     answered none kept =
-        access_answered-carried (is_caching config) c n source (performs m) rest (answers m b.memory) h.mail h.state sys
-        after
-        (beat.A (a_beat_of m k)) queue comes.width is.invariant kept first asked.used
-        (unread-bytes config log h.mail h.request h.state sys c n m is asked.access none)
-        (answer_on_d m (answer_of (message.A m) (effect (message.A m) (bytes_at n b.memory)).1))
-        (taken-answering config c k m (answers m b.memory) queue sys comes beats last
+        carried-shown comes.width (access_answered-shown (is_caching config) c n source (performs m) rest (answers m
+        b.memory) h.mail h.state is.invariant kept first asked.used (unread-bytes config log h.mail h.request h.state
+        sys c n m is asked.access none) (answer_on_d m (answer_of (message.A m) (effect (message.A m) (bytes_at n
+        b.memory)).1))) (taken-answering config c k m (answers m b.memory) queue sys comes beats last
         (handed-answered config log h.mail h.request h.state sys c source k is asked comes last none)) is.carried
 
     go : (p : Bool) (o : Option Cap) → probes_some clients c false (cap_probed m.opcode m.param) b.pair ≡ p
@@ -375,9 +371,9 @@ carried-request_taken {w} config log h sys c source k rest queue is first asked 
     go false (Some j) f g kept = answered f kept
     go true (Some j) f g kept =
         let some : some_below clients (λ d. is_probed c false j (b.pair d).recorded d) ≡ true = rw g at f in
-        access_served-carried (is_caching config) c n source tracker j rest h.mail h.state sys after
-        (beat.A (a_beat_of m k)) queue comes.width is.invariant kept first free
-        (taken-probing config log h.mail h.request h.state sys c k n false j m queue is comes beats last asked.access
+        carried-shown comes.width (access_served-shown (is_caching config) c n source tracker j rest h.mail h.state
+        is.invariant kept first free) (taken-probing config log h.mail h.request h.state sys c k n false j m queue is
+        comes beats last asked.access
         refl
         (ap (λ (d : Reaction w). d.handed) (reaction-probing config c k n j m sys.manager comes last refl g
         (probed-some config log h.mail h.request h.state sys c k n false j m is asked.access refl ∙ ap not some))))

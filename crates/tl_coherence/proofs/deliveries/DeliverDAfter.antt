@@ -23,10 +23,12 @@ use Rattle.tl_manager.specs.statement.Handing.{grant_opcode}
 use Rattle.tl_coherence.specs.refinement.AbstractStep.{is_last, taken_by_client}
 use Rattle.tl_coherence.specs.statement.Machine.{Pool, Releases, pool_of, after_end}
 use Rattle.tl_coherence.specs.protocol.Phase.{is_unreleased, is_whole}
-use Rattle.tl_coherence.specs.protocol.Protocol.{is_wanting, answer_taken, grant_taken, release_ack_taken, taken_block}
+use Rattle.tl_coherence.specs.protocol.Protocol.{answer_taken, grant_taken, release_ack_taken, taken_block}
+use Rattle.tl_coherence.specs.protocol.Tokens.{is_wanting}
 use Rattle.tl_coherence.proofs.memory.BesideResponses.{beside-answer, beside-grant, beside-release_ack}
-use Rattle.tl_coherence.proofs.simulation.CarriedResponses.{answer_taken-carried, grant_taken-carried}
-use Rattle.tl_coherence.proofs.simulation.CarriedResponses.{release_ack_taken-carried}
+use Rattle.tl_coherence.proofs.queues.Shown.{carried-shown}
+use Rattle.tl_coherence.proofs.simulation.CarriedResponses.{answer_taken-shown, grant_taken-shown}
+use Rattle.tl_coherence.proofs.simulation.CarriedResponses.{release_ack_taken-shown}
 use Rattle.tl_coherence.proofs.queues.Channels.{IsTaken, pushes_at}
 use Rattle.tl_coherence.proofs.protocol.HeadOfD.{IsAnswerDue, IsGrantDue, grant_message, ack_message}
 use Rattle.tl_coherence.proofs.client.DeliverD.{finish_at, acked, finish-pool}
@@ -130,8 +132,8 @@ responded-answer {w} config log h sys c source rest x queue due width matched fi
     record {
       carried = subst (λ (m : Option (Message w)). ChannelRelation h.mail (answer_taken c source rest h.state)
           (after_heard c channel.D x queue sys m)) (sym none)
-          (answer_taken-carried (is_caching config) c source rest h.mail h.state sys
-          (after_heard c channel.D x queue sys None) x queue width matched.invariant inv first
+          (carried-shown width (answer_taken-shown (is_caching config) c source rest h.mail h.state matched.invariant
+          inv first)
           (taken_d c x queue sys due.answer None is) matched.carried);
       beside = subst (λ (p : Pool). MemoryRelation h.mail (answer_taken c source rest h.state)
           (after_end c p is.y.source ((one_memory_after config log).opened c p is.y.source)
@@ -159,8 +161,8 @@ responded-release_ack {w} config log h sys c n rest x queue width matched first 
     record {
       carried = subst (λ (m : Option (Message w)). ChannelRelation h.mail (release_ack_taken c n rest h.state)
           (after_heard c channel.D x queue sys m)) (sym none)
-          (release_ack_taken-carried (is_caching config) c n rest h.mail h.state sys
-          (after_heard c channel.D x queue sys None) x queue width matched.invariant inv first
+          (carried-shown width (release_ack_taken-shown (is_caching config) c n rest h.mail h.state matched.invariant
+          inv first)
           (taken_d c x queue sys (ack_message ((h.state.block n).release_source c)) None is) matched.carried);
       beside = subst (λ (p : Pool). MemoryRelation h.mail (release_ack_taken c n rest h.state)
           (after_end c p is.y.source ((one_memory_after config log).opened c p is.y.source)
@@ -200,12 +202,9 @@ responded-grant {w} config log h sys c n rest x queue due width matched first ba
       carried = subst (λ (m : Option (Message w)). ChannelRelation h.mail
           (grant_taken c n due.whole due.data_too due.k rest h.state) (after_heard c channel.D x queue sys m))
           (sym some)
-          (grant_taken-carried (is_caching config) c n due.whole due.data_too due.k rest
-          (grant_ack (h.state.block n).tracker) h.mail h.state sys
-          (after_heard c channel.D x queue sys (Some (grant_ack (h.state.block n).tracker))) x queue width
-          matched.invariant inv first due.service bare
-          refl
-          (rendered_ack c n due.whole due.data_too due.k (h.state.block n))
+          (carried-shown width (grant_taken-shown (is_caching config) c n due.whole due.data_too due.k rest (grant_ack
+          (h.state.block n).tracker) h.mail h.state matched.invariant inv first due.service bare refl (rendered_ack c n
+          due.whole due.data_too due.k (h.state.block n)))
           (taken_d c x queue sys mm (Some (grant_ack (h.state.block n).tracker)) is) matched.carried);
       beside = subst (λ (p : Pool). MemoryRelation h.mail (grant_taken c n due.whole due.data_too due.k rest h.state)
           (after_end c p is.y.source ((one_memory_after config log).opened c p is.y.source)

@@ -36,7 +36,8 @@ pub use Rattle.tl_coherence.specs.protocol.Phase.{AcquireOpen, AcquirePhase, Cli
 pub use Rattle.tl_coherence.specs.protocol.PhaseSteps.{is_granted_data}
 pub use Rattle.tl_coherence.specs.protocol.Protocol.{Block, Free, GrantSent, GrantTaken, Service, SourceState, State}
 pub use Rattle.tl_coherence.specs.protocol.Protocol.{Waits, is_on, let_block, packet, packets_on, release_taken}
-pub use Rattle.tl_coherence.specs.protocol.Protocol.{report_taken, shown, view}
+pub use Rattle.tl_coherence.specs.protocol.Protocol.{report_taken, view}
+pub use Rattle.tl_coherence.specs.protocol.Tokens.{shown}
 pub use Rattle.tl_coherence.specs.refinement.AbstractStep.{AbstractState, abstract_step}
 pub use Rattle.tl_coherence.specs.refinement.AbstractStep.{ack_taken, answers, abstract_delivery}
 pub use Rattle.tl_coherence.specs.refinement.AbstractStep.{kind_taken, last_taken, packet_taken, with_state}

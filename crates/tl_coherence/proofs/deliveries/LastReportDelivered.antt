@@ -27,7 +27,8 @@ use Rattle.tl_params.specs.statement.Param.{grow_code, report_code}
 use Rattle.tl_coherence.specs.refinement.AbstractStep.{acquire_opcode, granted_after}
 use Rattle.tl_coherence.specs.protocol.Invariant.{IsOwnSource}
 use Rattle.tl_coherence.specs.protocol.Phase.{View, Own, Other, Granting, Acknowledging, GrantedOther}
-use Rattle.tl_coherence.specs.protocol.Protocol.{Acquires, is_wanting, granted_block}
+use Rattle.tl_coherence.specs.protocol.Protocol.{Acquires, granted_block}
+use Rattle.tl_coherence.specs.protocol.Tokens.{is_wanting}
 use Rattle.tl_coherence.specs.protocol.Packet.{set}
 use Rattle.tl_coherence.specs.refinement.SimulationRelation.{IsAcquireOf}
 use Rattle.tl_coherence.proofs.queues.Facts.{answered_other, is_other, own_wants}

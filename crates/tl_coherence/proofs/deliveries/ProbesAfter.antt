@@ -34,7 +34,8 @@ use Rattle.tl_coherence.specs.refinement.PacketMessages.{cap_sent, probe_beat}
 use Rattle.tl_coherence.specs.statement.Step as step
 use Rattle.tl_coherence.proofs.memory.BesideKinds.{beside_block, same_acquiring}
 use Rattle.tl_coherence.proofs.queues.Carried.{IsNext}
-use Rattle.tl_coherence.proofs.simulation.CarriedEvents.{probe_taken-carried}
+use Rattle.tl_coherence.proofs.queues.Shown.{carried-shown}
+use Rattle.tl_coherence.proofs.simulation.CarriedEvents.{probe_taken-shown}
 use Rattle.tl_coherence.proofs.queues.Channels.{IsTaken, pushes_at}
 use Rattle.tl_coherence.proofs.queues.FirstToken.{IsFirst, first-token}
 use Rattle.tl_coherence.proofs.client.DeliverD.{same_answers}
@@ -219,10 +220,9 @@ delivered-b {w} config log link h terms x queue width is known beats moving =
             delivered_as config log link channel.B h (kind_taken config (next_tracker sys) c Probe n first.rest h)
             follows
             (subst (λ (z : Step w). ChannelRelation h.mail (probe_taken c n k first.rest h.state) z.after) (sym step_is)
-            (probe_taken-carried (is_caching config) c n k first.rest ack h.mail h.state sys now.after x queue width
-            is.invariant inv tokens sent
-            (ack_channel w b_pair.held (report_at k b_pair.held) n (h.state.block n).truth)
-            (rendered_probed c n k (h.state.block n)) taken is.carried))
+            (carried-shown width (probe_taken-shown (is_caching config) c n k first.rest ack h.mail h.state is.invariant
+            inv tokens sent (ack_channel w b_pair.held (report_at k b_pair.held) n (h.state.block n).truth)
+            (rendered_probed c n k (h.state.block n))) taken is.carried))
             (subst (λ (m : Machine w). MemoryRelation h.mail (probe_taken c n k first.rest h.state) m)
             (sym (remembered_after config log link channel.B now step_is
             ∙ ap (λ (l : List (ℕ × ℕ)). performing l

@@ -36,8 +36,8 @@ use Rattle.tl_coherence.specs.refinement.ClientRelation.{comes_granting}
 use Rattle.tl_coherence.specs.refinement.ManagerRelation.{is_own, client_in}
 use Rattle.tl_coherence.specs.statement.Delivery.{receiver}
 use Rattle.tl_coherence.specs.protocol.Phase.{ok, same_cap, is_unprobed, is_unreleased, is_whole}
-use Rattle.tl_coherence.specs.protocol.Protocol.{Service, Free, Waits, GrantSent, GrantTaken, State, view, is_wanting}
-use Rattle.tl_coherence.specs.protocol.Protocol.{is_granting, is_acknowledging, is_unserved, is_answered}
+use Rattle.tl_coherence.specs.protocol.Protocol.{Service, Free, Waits, GrantSent, GrantTaken, State, view}
+use Rattle.tl_coherence.specs.protocol.Tokens.{is_wanting, is_granting, is_acknowledging, is_unserved, is_answered}
 use Rattle.tl_coherence.specs.refinement.PacketMessages.{AccessMessages, messages_on, probe_beat}
 use Rattle.tl_coherence.specs.refinement.SourceRelation.{is_served, is_granted, cap_waited}
 use Rattle.tl_coherence.specs.refinement.SimulationRelation.{asked_by}

@@ -14,7 +14,7 @@ use Rattle.std.proofs.lemmas.Bool.{eqb-true}
 use Rattle.tl_beat.specs.declared.beat.Beat.TheVariants as beat
 use Rattle.tl_beat.specs.declared.channel.Channel.TheVariants as channel
 use Rattle.tl_burst.specs.declared.message.Message.TheVariants as message
-use Rattle.tl_coherence.specs.protocol.Protocol.{is_releasing}
+use Rattle.tl_coherence.specs.protocol.Tokens.{is_releasing}
 use Rattle.tl_coherence.proofs.client.ClientEnd.{asks-acquire}
 use Rattle.tl_coherence.proofs.protocol.HeadOfD.{IsGrantDue, answer-due, grant-due, grant-rendered, grant_message}
 use Rattle.tl_coherence.proofs.protocol.HeadOfD.{ack_message, own_view}

@@ -22,7 +22,7 @@ use Rattle.tl_params.specs.declared.perm.Perm.TheVariants as perm
 use Rattle.tl_params.specs.statement.Param.{report_at}
 use Rattle.tl_manager.specs.code.Kept.{illegal_at}
 use Rattle.tl_coherence.specs.protocol.Phase.{ProbePhase, NoProbe, same_report}
-use Rattle.tl_coherence.specs.protocol.Protocol.{is_sent}
+use Rattle.tl_coherence.specs.protocol.Tokens.{is_sent}
 use Rattle.tl_coherence.proofs.queues.Carried.{IsNext}
 use Rattle.tl_coherence.proofs.client.ClientTakes.{sound-beat}
 use Rattle.tl_coherence.proofs.queues.Facts.{answered_other, granting_alone, is_other}

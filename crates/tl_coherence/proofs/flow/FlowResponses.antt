@@ -32,7 +32,7 @@ use Rattle.tl_client.specs.statement.Send.{acquisition, about, release, probe_ac
 use Rattle.tl_manager.specs.statement.Handing.{grant_opcode}
 use Rattle.tl_coherence.specs.refinement.AbstractStep.{acquire_opcode}
 use Rattle.tl_coherence.specs.protocol.Invariant.{IsInvariant}
-use Rattle.tl_coherence.specs.protocol.Protocol.{is_releasing}
+use Rattle.tl_coherence.specs.protocol.Tokens.{is_releasing}
 use Rattle.tl_coherence.specs.refinement.SimulationRelation.{IsGivenAsked, gives_asked}
 use Rattle.tl_coherence.proofs.queues.Carried.{IsNext}
 use Rattle.tl_coherence.proofs.client.ClientDelivered.{ack_next}

@@ -47,11 +47,13 @@ pub use Rattle.tl_coherence.specs.protocol.Protocol.{Acquires, Asked, Block, Fre
 pub use Rattle.tl_coherence.specs.protocol.Protocol.{Replied, Service, SourceFree, SourceState, State, Waits}
 pub use Rattle.tl_coherence.specs.protocol.Protocol.{access_asked, acquire_asked, acquire_granted, acquire_served}
 pub use Rattle.tl_coherence.specs.protocol.Protocol.{acquiring_block, freed_block, grant_ack_taken, granted_at_once}
-pub use Rattle.tl_coherence.specs.protocol.Protocol.{is_acked, is_acknowledging, is_answered, is_granting, is_on}
-pub use Rattle.tl_coherence.specs.protocol.Protocol.{is_unserved, is_wanting, let_block, let_go_block, packet}
+pub use Rattle.tl_coherence.specs.protocol.Protocol.{is_on}
+pub use Rattle.tl_coherence.specs.protocol.Tokens.{is_acked, is_acknowledging, is_answered, is_granting, is_unserved}
+pub use Rattle.tl_coherence.specs.protocol.Tokens.{is_wanting, shown}
+pub use Rattle.tl_coherence.specs.protocol.Protocol.{let_block, let_go_block, packet}
 pub use Rattle.tl_coherence.specs.protocol.Protocol.{probe_taken, probed_block, release_ack_taken, release_asked}
 pub use Rattle.tl_coherence.specs.protocol.Protocol.{release_taken, releasing_block, report_taken, reported_block}
-pub use Rattle.tl_coherence.specs.protocol.Protocol.{served_block, shown, taken_block, view}
+pub use Rattle.tl_coherence.specs.protocol.Protocol.{served_block, taken_block, view}
 pub use Rattle.tl_coherence.specs.refinement.AbstractStep.{AbstractState, kind_taken}
 pub use Rattle.tl_coherence.specs.refinement.Carried.{IsCarried}
 pub use Rattle.tl_coherence.specs.statement.Delivery.{receiver}

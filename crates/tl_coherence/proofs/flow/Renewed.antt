@@ -38,7 +38,8 @@ use Rattle.tl_coherence.specs.protocol.Phase.{is_unprobed}
 use Rattle.tl_coherence.specs.protocol.PhaseSteps.{is_granted_data, after_report}
 use Rattle.tl_coherence.specs.protocol.Protocol.{Block, Service, Free, Waits, GrantSent, GrantTaken, State, SourceState}
 use Rattle.tl_coherence.specs.protocol.Protocol.{SourceFree, Asked, InService, Replied, Acquires, view, packet, on}
-use Rattle.tl_coherence.specs.protocol.Protocol.{shown, is_probed, written}
+use Rattle.tl_coherence.specs.protocol.Protocol.{is_probed, written}
+use Rattle.tl_coherence.specs.protocol.Tokens.{shown}
 use Rattle.tl_coherence.specs.protocol.Protocol.{performed_block, ended_block, report_taken, acquire_served}
 use Rattle.tl_coherence.specs.protocol.Protocol.{acquire_granted}
 use Rattle.tl_coherence.specs.protocol.Packet.{Kind, Request, Acquire, Probe, ProbeAck, Release, Answer, Grant}

@@ -42,7 +42,7 @@ use Rattle.tl_manager.proofs.services.Serving.{tracker_among}
 use Rattle.tl_coherence.specs.protocol.Phase.{Idle, AcquireOpen, ReleasePhase, NoRelease, ReleaseSent, ReleaseAcked}
 use Rattle.tl_coherence.specs.protocol.Phase.{is_unreleased, grow_fits}
 use Rattle.tl_coherence.specs.protocol.Invariant.{tracks_with}
-use Rattle.tl_coherence.specs.protocol.Protocol.{is_releasing, is_unserved, shown}
+use Rattle.tl_coherence.specs.protocol.Tokens.{is_releasing, is_unserved, shown}
 use Rattle.tl_coherence.specs.refinement.Carried.{IsCarried}
 use Rattle.tl_coherence.specs.refinement.PacketMessages.{message_of, report_told, prune_told}
 use Rattle.tl_manager.specs.laws.Pending.{one_if}

@@ -31,7 +31,7 @@ use Rattle.tl_manager.specs.statement.Offer.{is_from_client, open_level, unlawfu
 use Rattle.tl_manager.proofs.judging.Judged.{judged-passes, manager-takes}
 use Rattle.tl_manager.proofs.pending.LinkHistories.{whole-e}
 use Rattle.tl_coherence.specs.protocol.Phase.{ProbeAnswered, ReleaseSent, is_unreleased, same_report}
-use Rattle.tl_coherence.specs.protocol.Protocol.{is_answered}
+use Rattle.tl_coherence.specs.protocol.Tokens.{is_answered}
 use Rattle.tl_coherence.specs.refinement.PacketMessages.{message_of, message_of_kind}
 use Rattle.tl_manager.specs.laws.Pending.{one_if}
 use Rattle.tl_coherence.specs.protocol.Packet.{is, count}

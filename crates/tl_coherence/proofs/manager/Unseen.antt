@@ -18,7 +18,8 @@ use Rattle.tl_coherence.specs.refinement.AbstractStep.{asked, taken_by_client}
 use Rattle.tl_coherence.specs.protocol.Phase.{ProbeSent, is_whole}
 use Rattle.tl_coherence.specs.protocol.PhaseSteps.{after_acquire, after_release, after_probe, after_grant}
 use Rattle.tl_coherence.specs.protocol.PhaseSteps.{after_release_ack}
-use Rattle.tl_coherence.specs.protocol.Protocol.{shown, acquiring_block, releasing_block, stored_block, probed_block}
+use Rattle.tl_coherence.specs.protocol.Protocol.{acquiring_block, releasing_block, stored_block, probed_block}
+use Rattle.tl_coherence.specs.protocol.Tokens.{shown}
 use Rattle.tl_coherence.specs.protocol.Protocol.{taken_block, let_go_block, access_asked, acquire_asked, release_asked}
 use Rattle.tl_coherence.specs.protocol.Protocol.{block_stored, probe_taken, answer_taken, grant_taken}
 use Rattle.tl_coherence.specs.protocol.Protocol.{release_ack_taken}

@@ -23,7 +23,8 @@ use Rattle.tl_coherence.specs.protocol.Invariant.{acquires_of, IsInvariant}
 use Rattle.tl_coherence.specs.statement.Machine.{with_number}
 use Rattle.tl_coherence.specs.protocol.Phase.{AcquirePhase, NoAcquire}
 use Rattle.tl_coherence.specs.protocol.PhaseSteps.{after_acquire, after_release}
-use Rattle.tl_coherence.specs.protocol.Protocol.{is_wanting, access_asked, acquiring_block, acquire_asked}
+use Rattle.tl_coherence.specs.protocol.Protocol.{access_asked, acquiring_block, acquire_asked}
+use Rattle.tl_coherence.specs.protocol.Tokens.{is_wanting}
 use Rattle.tl_coherence.specs.protocol.Protocol.{releasing_block, release_asked, stored_block, block_stored}
 use Rattle.tl_coherence.specs.protocol.Packet.{set}
 use Rattle.tl_coherence.specs.refinement.SimulationRelation.{AreSized}

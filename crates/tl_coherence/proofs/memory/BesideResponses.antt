@@ -18,7 +18,7 @@ use Rattle.tl_coherence.specs.protocol.Phase.{AcquirePhase, NoAcquire}
 use Rattle.tl_coherence.specs.protocol.Phase.{is_unreleased, is_whole}
 use Rattle.tl_coherence.specs.protocol.PhaseSteps.{after_release_ack}
 use Rattle.tl_coherence.specs.protocol.PhaseSteps.{after_grant}
-use Rattle.tl_coherence.specs.protocol.Protocol.{is_wanting}
+use Rattle.tl_coherence.specs.protocol.Tokens.{is_wanting}
 use Rattle.tl_coherence.specs.protocol.Protocol.{taken_block, granted_truth}
 use Rattle.tl_coherence.specs.protocol.Protocol.{let_go_block}
 use Rattle.tl_coherence.specs.protocol.Protocol.{answer_taken, grant_taken, release_ack_taken}

@@ -31,7 +31,8 @@ use Rattle.tl_coherence.specs.protocol.Invariant.{IsWell}
 use Rattle.tl_coherence.specs.protocol.Phase.{View, ProbePhase, NoProbe, ProbeSent, ProbeAnswered, ok, same_cap}
 use Rattle.tl_coherence.specs.protocol.Phase.{is_unprobed}
 use Rattle.tl_coherence.specs.protocol.PhaseSteps.{is_above}
-use Rattle.tl_coherence.specs.protocol.Protocol.{Waits, view, is_sent, written}
+use Rattle.tl_coherence.specs.protocol.Protocol.{Waits, view, written}
+use Rattle.tl_coherence.specs.protocol.Tokens.{is_sent}
 use Rattle.tl_coherence.specs.refinement.PacketMessages.{report_told}
 use Rattle.tl_coherence.specs.refinement.SimulationRelation.{IsRequest}
 use Rattle.tl_coherence.proofs.memory.Beside.{IsSameAcquire, done_at, set_at-there, open-here, open-there}

@@ -22,7 +22,8 @@ use Rattle.tl_coherence.specs.refinement.ManagerRelation.{client_in, service_wit
 use Rattle.tl_coherence.specs.statement.Delivery.{receiver}
 use Rattle.tl_coherence.specs.statement.Movable.{is_movable}
 use Rattle.tl_coherence.specs.protocol.Phase.{ReleasePhase, NoRelease, ReleaseSent, ReleaseAcked, is_unreleased}
-use Rattle.tl_coherence.specs.protocol.Protocol.{Service, packets_on, shown}
+use Rattle.tl_coherence.specs.protocol.Protocol.{Service, packets_on}
+use Rattle.tl_coherence.specs.protocol.Tokens.{shown}
 use Rattle.tl_coherence.specs.statement.OneMemory.{one_memory_after}
 use Rattle.tl_coherence.specs.refinement.PacketMessages.{AccessMessages, message_of, messages_on}
 use Rattle.tl_coherence.specs.protocol.Packet.{count}

@@ -29,9 +29,11 @@ pub use Rattle.tl_coherence.specs.protocol.PhaseSteps.{after_grant, after_grant_
 pub use Rattle.tl_coherence.specs.protocol.PhaseSteps.{is_granted_data}
 pub use Rattle.tl_coherence.specs.protocol.Protocol.{Acquires, Asked, Block, Free, GrantSent, GrantTaken, InService}
 pub use Rattle.tl_coherence.specs.protocol.Protocol.{Link, Replied, Service, SourceFree, SourceState, State, Waits}
-pub use Rattle.tl_coherence.specs.protocol.Protocol.{granted_block, is_acked, is_acknowledging, is_answered}
-pub use Rattle.tl_coherence.specs.protocol.Protocol.{is_granting, is_on, is_releasing, is_sent, is_transfer}
-pub use Rattle.tl_coherence.specs.protocol.Protocol.{is_unserved, is_wanting, on, packet, packets_on, shown, shows}
+pub use Rattle.tl_coherence.specs.protocol.Protocol.{granted_block}
+pub use Rattle.tl_coherence.specs.protocol.Tokens.{is_acked, is_acknowledging, is_answered, is_granting, is_releasing}
+pub use Rattle.tl_coherence.specs.protocol.Tokens.{is_sent, is_transfer, is_unserved, is_wanting, shown, shows}
+pub use Rattle.tl_coherence.specs.protocol.Protocol.{is_on}
+pub use Rattle.tl_coherence.specs.protocol.Protocol.{on, packet, packets_on}
 pub use Rattle.tl_coherence.specs.protocol.Protocol.{taken_block, view}
 pub use Rattle.tl_coherence.specs.refinement.Move.{AreMoved, IsMoved, Move, Pops, Pushes, Stays, agrees, channel_for}
 pub use Rattle.tl_coherence.specs.refinement.Move.{is_own_move}

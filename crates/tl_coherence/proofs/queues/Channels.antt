@@ -11,7 +11,8 @@ use Rattle.std.proofs.Common.{inr, arith}
 use Rattle.std.specs.Prelude.{◌==◌, ◌&&◌, if◌then◌else◌, map, Option, Some, None, ⊤}
 use Rattle.std.proofs.lemmas.Bool.{cases_eq, ne_eqb}
 use Rattle.tl_beat.specs.declared.channel.Channel.TheVariants as channel
-use Rattle.tl_coherence.specs.protocol.Protocol.{Link, is_transfer, on}
+use Rattle.tl_coherence.specs.protocol.Protocol.{Link, on}
+use Rattle.tl_coherence.specs.protocol.Tokens.{is_transfer}
 use Rattle.tl_coherence.specs.refinement.PacketMessages.{block_message, message_of_kind}
 use Rattle.tl_coherence.proofs.queues.CarriedMoves.{IsQueued, staying, carried-moved}
 use Rattle.tl_coherence.proofs.queues.Moves.{moves_at}

@@ -12,7 +12,7 @@ use Rattle.tl_params.specs.statement.Param.{report_left, report_right, cap_right
 use Rattle.tl_coherence.specs.protocol.Phase.{grant_fits, grow_fits, is_unacquired}
 use Rattle.tl_coherence.specs.protocol.Phase.{is_unprobed}
 use Rattle.tl_coherence.specs.statement.Permissions.{perm_le}
-use Rattle.tl_coherence.specs.protocol.Protocol.{is_unserved, is_answered}
+use Rattle.tl_coherence.specs.protocol.Tokens.{is_unserved, is_answered}
 use Rattle.tl_coherence.specs.protocol.Invariant.{is_out}
 use Rattle.tl_coherence.proofs.queues.Phases.{and_left, and_right, each_phase, of_phase, implies, implies_is}
 use Rattle.tl_coherence.proofs.queues.PhaseSteps.{on_idle, on_own, on_other, on_granting, on_quiet}

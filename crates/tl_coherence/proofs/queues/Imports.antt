@@ -25,7 +25,8 @@ pub use Rattle.tl_coherence.specs.protocol.Phase.{Acknowledging, AcquireOpen, Cl
 pub use Rattle.tl_coherence.specs.protocol.Phase.{NoAcquire, NoProbe, Other, Own, ProbeAnswered, ProbePhase}
 pub use Rattle.tl_coherence.specs.protocol.Phase.{ReleasePhase, ReleaseSent, View, same_cap}
 unfoldable pub use Rattle.tl_coherence.specs.protocol.Phase.{ok}
-pub use Rattle.tl_coherence.specs.protocol.Protocol.{State, is_on, packet, packets_on, shown}
+pub use Rattle.tl_coherence.specs.protocol.Protocol.{State, is_on, packet, packets_on}
+pub use Rattle.tl_coherence.specs.protocol.Tokens.{shown}
 pub use Rattle.tl_coherence.specs.refinement.Carried.{IsCarried}
 pub use Rattle.tl_coherence.specs.refinement.ChannelRelation.{ChannelRelation}
 pub use Rattle.tl_coherence.specs.statement.Delivery.{receiver}

@@ -8,7 +8,8 @@ use Rattle.std.specs.Prelude.{◌==◌, if◌then◌else◌}
 use Rattle.std.proofs.lemmas.Bool.{cases_eq, ne_eqb, eqb-true, not-true}
 use Rattle.std.specs.Bool.{beq}
 use Rattle.tl_coherence.specs.protocol.Packet.{Holds, IsOrdered}
-use Rattle.tl_coherence.specs.protocol.Protocol.{Block, Link, is_transfer, on}
+use Rattle.tl_coherence.specs.protocol.Protocol.{Block, Link, on}
+use Rattle.tl_coherence.specs.protocol.Tokens.{is_transfer}
 use Rattle.tl_coherence.specs.refinement.Move.{agrees, is_own_move, channel_for}
 use Rattle.tl_coherence.proofs.queues.Tokens.{holds-set, holds-push, holds-push_other}
 use Rattle.tl_coherence.proofs.queues.Tokens.{holds-pop, holds-pop_other, none-push, none-pop, ordered-pop}

@@ -9,7 +9,8 @@ use Rattle.std.specs.Prelude.{◌==◌, if◌then◌else◌}
 use Rattle.std.proofs.lemmas.Bool.{cases_eq, ne_eqb}
 use Rattle.tl_beat.specs.declared.channel.Channel.TheVariants as channel
 use Rattle.tl_coherence.specs.protocol.Packet.{Holds, set_at}
-use Rattle.tl_coherence.specs.protocol.Protocol.{Block, SourceState, Link, is_transfer}
+use Rattle.tl_coherence.specs.protocol.Protocol.{Block, SourceState, Link}
+use Rattle.tl_coherence.specs.protocol.Tokens.{is_transfer}
 use Rattle.tl_coherence.specs.refinement.Move.{agrees, is_own_move, channel_for}
 use Rattle.tl_coherence.proofs.queues.Tokens.{same_number, set-same, set-other}
 use Rattle.tl_coherence.proofs.queues.Tokens.{set-each}

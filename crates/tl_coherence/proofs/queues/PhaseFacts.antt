@@ -10,7 +10,7 @@ use Rattle.tl_params.specs.statement.Param.{report_left, cap_right, report_at}
 use Rattle.tl_coherence.specs.protocol.Phase.{same_report, is_unacquired, is_unreleased}
 use Rattle.tl_coherence.specs.protocol.Phase.{is_unprobed}
 use Rattle.tl_coherence.specs.statement.Permissions.{perm_le}
-use Rattle.tl_coherence.specs.protocol.Protocol.{is_granting, is_acked}
+use Rattle.tl_coherence.specs.protocol.Tokens.{is_granting, is_acked}
 use Rattle.tl_coherence.proofs.queues.Phases.{each_phase, of_phase, implies, implies_is}
 use Rattle.tl_coherence.proofs.queues.PhaseSteps.{on_idle, on_own, on_other, on_granting, on_acknowledging}
 use Rattle.tl_coherence.proofs.queues.PhaseSteps.{on_answered, on_wants, idle_is, own_is}

@@ -12,7 +12,7 @@ use Rattle.tl_coherence.specs.protocol.Phase.{is_unacquired, is_unreleased}
 use Rattle.tl_coherence.specs.protocol.PhaseSteps.{after_acquire, after_release, after_served, is_granted_data}
 use Rattle.tl_coherence.specs.protocol.PhaseSteps.{after_grant_sent, after_probe, after_report, after_release_taken}
 use Rattle.tl_coherence.specs.protocol.PhaseSteps.{after_release_ack, after_grant}
-use Rattle.tl_coherence.specs.protocol.Protocol.{is_answered}
+use Rattle.tl_coherence.specs.protocol.Tokens.{is_answered}
 use Rattle.tl_coherence.proofs.queues.Phases.{where_true, where_is, and_left, and_right, each_bool, each_grow, each_cap}
 use Rattle.tl_coherence.proofs.queues.Phases.{each_prune, each_phase, of_bool, of_grow, of_cap, of_prune, of_phase}
 

@@ -11,7 +11,8 @@ use Rattle.tl_params.specs.declared.param.Prune.TheVariants as prune
 use Rattle.tl_params.specs.declared.perm.Perm.TheVariants as perm
 use Rattle.tl_params.specs.statement.Param.{report_left}
 use Rattle.tl_client.specs.statement.Send.{release, probe_ack}
-use Rattle.tl_coherence.specs.protocol.Protocol.{Service, Free, Waits, GrantSent, GrantTaken, Block, view, is_granting}
+use Rattle.tl_coherence.specs.protocol.Protocol.{Service, Free, Waits, GrantSent, GrantTaken, Block, view}
+use Rattle.tl_coherence.specs.protocol.Tokens.{is_granting}
 use Rattle.tl_coherence.specs.protocol.Invariant.{IsWell}
 use Rattle.tl_coherence.specs.refinement.PacketMessages.{report_told, prune_told, grant_of, block_message}
 use Rattle.tl_coherence.proofs.queues.Channels.{IsShowing}

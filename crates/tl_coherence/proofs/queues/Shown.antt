@@ -15,11 +15,11 @@ pub record IsShown {w : ℕ} (caching : ℕ → Bool) (n c : ℕ) (ch : Channel)
       (λ k i. message_of mail' s' d (packet k i))
 
 -- the channels carry the messages of the tokens after it
-pub carried-shown : {w : ℕ} (caching : ℕ → Bool) (n c : ℕ) (ch : Channel) (pushes : ℕ → Channel → Option (Message w))
-    (mail mail' : AccessMessages w)
-    (s s' : State (List ℕ)) (sys sys' : System w) (x : Beat w) (queue : List (Beat w)) → IsWidth w
-    → IsShown caching n c ch pushes mail mail' s s' → IsTaken c ch x queue pushes sys sys' → ChannelRelation mail s sys
-    → ChannelRelation mail' s' sys'
-carried-shown caching n c ch pushes mail mail' s s' sys sys' x queue width shown taken h =
+pub carried-shown : {w : ℕ} {caching : ℕ → Bool} {n c : ℕ} {ch : Channel} {pushes : ℕ → Channel → Option (Message w)}
+    {mail mail' : AccessMessages w} {s s' : State (List ℕ)} {sys sys' : System w} {x : Beat w} {queue : List (Beat w)}
+    → IsWidth w → IsShown caching n c ch pushes mail mail' s s' → IsTaken c ch x queue pushes sys sys'
+    → ChannelRelation mail s sys → ChannelRelation mail' s' sys'
+carried-shown {caching = caching} {n = n} {c = c} {ch = ch} {pushes = pushes} {mail = mail} {mail' = mail'} {s = s}
+    {s' = s'} {sys = sys} {sys' = sys'} {x = x} {queue = queue} width shown taken h =
     carried-event caching n shown.moves mail mail' s s' sys sys' width shown.showing
     (queued-taken c ch x queue pushes shown.moves mail' s' sys sys' taken shown.fits) h

@@ -11,7 +11,7 @@ use Rattle.tl_coherence.specs.protocol.Invariant.{is_asked, is_replied}
 use Rattle.tl_coherence.specs.refinement.Move.{Move}
 use Rattle.tl_coherence.specs.protocol.Phase.{ReleasePhase, NoRelease, ReleaseSent, ReleaseAcked}
 use Rattle.tl_coherence.specs.bound.Rank.{probing_weight}
-use Rattle.tl_coherence.specs.protocol.Protocol.{is_wanting, is_unserved, shown}
+use Rattle.tl_coherence.specs.protocol.Tokens.{is_wanting, is_unserved, shown}
 use Rattle.tl_manager.specs.laws.Pending.{one_if}
 use Rattle.tl_coherence.specs.protocol.Packet.{Kind}
 use Rattle.tl_coherence.proofs.queues.Channels.{IsShowing}

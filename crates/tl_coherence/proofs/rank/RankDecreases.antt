@@ -7,7 +7,7 @@ use Rattle.std.proofs.Common.{◌≡◌, ℕ, zero, suc, ◌+◌, ◌<◌, ◌�
 use Rattle.std.specs.Prelude.{length}
 use Rattle.std.proofs.lemmas.Bool.{cases_eq}
 use Rattle.tl_coherence.specs.bound.Rank.{total, use_weight, client_weight}
-use Rattle.tl_coherence.specs.protocol.Protocol.{is_unserved}
+use Rattle.tl_coherence.specs.protocol.Tokens.{is_unserved}
 use Rattle.tl_coherence.proofs.queues.Sums.{total-le}
 
 -- one summand falls by k, and the others don't rise

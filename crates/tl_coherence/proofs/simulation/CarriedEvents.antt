@@ -1,10 +1,10 @@
 -- The channels carry the messages of the tokens after the manager or a client takes a message of channels A to C.
-use Rattle.tl_coherence.proofs.simulation.Imports.{IsWidth, Beat, Channel, Message, Cap, Report, Kind}
+use Rattle.tl_coherence.proofs.simulation.Imports.{Channel, Message, Cap, Report, Kind}
 use Rattle.tl_coherence.proofs.simulation.Imports.{Request, Acquire, Probe, ProbeAck, Release, Answer, Grant}
 use Rattle.tl_coherence.proofs.simulation.Imports.{ReleaseAck, Packet, set, set_at, Free}
 use Rattle.tl_coherence.proofs.simulation.Imports.{Block, State, Asked, packet}
-use Rattle.tl_coherence.proofs.simulation.Imports.{IsInvariant, Stays, ChannelRelation, AccessMessages}
-use Rattle.tl_coherence.proofs.simulation.Imports.{block_message, message_of, System, same_channel, channel_of_message}
+use Rattle.tl_coherence.proofs.simulation.Imports.{IsInvariant, Stays, AccessMessages}
+use Rattle.tl_coherence.proofs.simulation.Imports.{block_message, message_of, same_channel, channel_of_message}
 use Rattle.std.proofs.Common.{◌≡◌, ℕ, Bool, true, false, ◌&&◌, List, ◌∷◌, Some, None, refl, ◌∙◌, ap, ◌⊎◌, inl}
 use Rattle.std.proofs.Common.{inr}
 use Rattle.std.specs.Prelude.{◌==◌, if◌then◌else◌}
@@ -23,13 +23,13 @@ use Rattle.tl_coherence.proofs.protocol.AlikeRequests.{alike-granted_at_once}
 use Rattle.tl_coherence.proofs.protocol.Alike.{alike-probed, alike-reported, alike-let}
 use Rattle.tl_coherence.proofs.protocol.Answered.{answer_moves}
 use Rattle.tl_coherence.proofs.protocol.AtOnce.{once_moves}
-use Rattle.tl_coherence.proofs.queues.Channels.{IsTaken, Fits, moved-at}
+use Rattle.tl_coherence.proofs.queues.Channels.{Fits, moved-at}
 use Rattle.tl_coherence.proofs.queues.Channels.{fits-at, pushes_at}
 use Rattle.tl_coherence.proofs.queues.Landed.{pushes_of}
 use Rattle.tl_coherence.proofs.queues.Moves.{moves_at}
 use Rattle.tl_coherence.proofs.protocol.Probed.{probe_moves}
 use Rattle.tl_coherence.proofs.protocol.Reported.{report_moves, let_moves}
-use Rattle.tl_coherence.proofs.queues.Shown.{IsShown, carried-shown}
+use Rattle.tl_coherence.proofs.queues.Shown.{IsShown}
 use Rattle.tl_coherence.proofs.queues.Showing.{carries, showing-block}
 use Rattle.tl_coherence.proofs.queues.Tokens.{same_number, set-same}
 use Rattle.tl_coherence.proofs.simulation.CarriedAsks.{only_on, fits_pushed, new_there}
@@ -87,24 +87,6 @@ access_answered-shown {w} caching c n source f rest m mail s inv inv' first used
         ∙ set-same source m (mail.answer c)
     fits channel.E = tt
 
-pub access_answered-carried : {w : ℕ} (caching : ℕ → Bool) (c n source : ℕ) (f : List ℕ → List ℕ) (rest : List Packet)
-    (m : Message w) (mail : AccessMessages w)
-    (s : State (List ℕ)) (sys sys' : System w) (x : Beat w) (queue : List (Beat w))
-    → IsWidth w → IsInvariant caching s
-    → IsInvariant caching (access_answered c n source f rest s) → (s.link c).a ≡ packet Request source ∷ rest
-    → s.uses c source ≡ Asked
-    → ((k : Kind) (d : ℕ) → (carries k d (s.block n) ≡ false) ⊎ (f (s.block n).truth ≡ (s.block n).truth))
-    → channel_of_message m ≡ channel.D → IsTaken c channel.A x queue (pushes_at c (pushes_of (Some m))) sys sys'
-    → ChannelRelation mail s sys
-    → ChannelRelation (record { request = mail.request; answer = set_at c source m mail.answer })
-    (access_answered c n source f rest s) sys'
-access_answered-carried {w} caching c n source f rest m mail s sys sys' x queue width inv inv' first used bytes chan
-    taken h =
-    carried-shown caching n c channel.A (pushes_at c (pushes_of (Some m))) mail
-    (record { request = mail.request; answer = set_at c source m mail.answer }) s
-    (access_answered c n source f rest s) sys sys' x queue width
-    (access_answered-shown caching c n source f rest m mail s inv inv' first used bytes chan) taken h
-
 pub acquire_granted-shown : {w : ℕ} (caching : ℕ → Bool) (r n tracker : ℕ) (d : Bool) (k : Cap) (rest : List Packet)
     (m : Message w) (mail : AccessMessages w)
     (s : State (List ℕ)) → IsInvariant caching s → IsInvariant caching (acquire_granted r n tracker d k rest s)
@@ -143,21 +125,6 @@ acquire_granted-shown {w} caching r n tracker d k rest m mail s inv inv' first f
     fits channel.C = tt
     fits channel.D = new_there Grant r n new s.block m is
     fits channel.E = tt
-
-pub acquire_granted-carried : {w : ℕ} (caching : ℕ → Bool) (r n tracker : ℕ) (d : Bool) (k : Cap) (rest : List Packet)
-    (m : Message w) (mail : AccessMessages w)
-    (s : State (List ℕ)) (sys sys' : System w) (x : Beat w) (queue : List (Beat w))
-    → IsWidth w → IsInvariant caching s
-    → IsInvariant caching (acquire_granted r n tracker d k rest s) → (s.link r).a ≡ packet Acquire n ∷ rest
-    → (s.block n).service ≡ Free
-    → channel_of_message m ≡ channel.D → block_message Grant r n (granted_at_once r tracker d k (s.block n)) ≡ m
-    → IsTaken r channel.A x queue (pushes_at r (pushes_of (Some m))) sys sys' → ChannelRelation mail s sys
-    → ChannelRelation mail (acquire_granted r n tracker d k rest s) sys'
-acquire_granted-carried {w} caching r n tracker d k rest m mail s sys sys' x queue width inv inv' first free chan is
-    taken h =
-    carried-shown caching n r channel.A (pushes_at r (pushes_of (Some m))) mail mail s
-    (acquire_granted r n tracker d k rest s) sys sys' x queue width
-    (acquire_granted-shown caching r n tracker d k rest m mail s inv inv' first free chan is) taken h
 
 -- ---- a Probe is taken
 
@@ -198,19 +165,6 @@ probe_taken-shown {w} caching c n k rest m mail s inv inv' first sent chan is = 
     fits channel.D = tt
     fits channel.E = tt
 
-pub probe_taken-carried : {w : ℕ} (caching : ℕ → Bool) (c n : ℕ) (k : Cap) (rest : List Packet) (m : Message w)
-    (mail : AccessMessages w) (s : State (List ℕ))
-    (sys sys' : System w) (x : Beat w) (queue : List (Beat w)) → IsWidth w
-    → IsInvariant caching s → IsInvariant caching (probe_taken c n k rest s) → (s.link c).b ≡ packet Probe n ∷ rest
-    → ((s.block n).pair c).probing ≡ ProbeSent k
-    → channel_of_message m ≡ channel.C → block_message ProbeAck c n (probed_block c k (s.block n)) ≡ m
-    → IsTaken c channel.B x queue (pushes_at c (pushes_of (Some m))) sys sys' → ChannelRelation mail s sys
-    → ChannelRelation mail (probe_taken c n k rest s) sys'
-probe_taken-carried {w} caching c n k rest m mail s sys sys' x queue width inv inv' first sent chan is taken h =
-    carried-shown caching n c channel.B (pushes_at c (pushes_of (Some m))) mail mail s (probe_taken c n k rest s) sys
-    sys' x queue width
-    (probe_taken-shown caching c n k rest m mail s inv inv' first sent chan is) taken h
-
 -- ---- a report is taken
 
 pub report_taken-shown : {w : ℕ} (caching : ℕ → Bool) (c n : ℕ) (r : Report) (rest : List Packet)
@@ -247,16 +201,6 @@ report_taken-shown {w} caching c n r rest mail s inv inv' first = record {
     fits d channel.C true = tt
     fits d channel.D true = tt
     fits d channel.E true = tt
-
-pub report_taken-carried : {w : ℕ} (caching : ℕ → Bool) (c n : ℕ) (r : Report) (rest : List Packet)
-    (mail : AccessMessages w) (s : State (List ℕ)) (sys sys' : System w)
-    (x : Beat w) (queue : List (Beat w)) → IsWidth w
-    → IsInvariant caching s → IsInvariant caching (report_taken c n r rest s) → (s.link c).c ≡ packet ProbeAck n ∷ rest
-    → IsTaken c channel.C x queue (λ d at. None) sys sys' → ChannelRelation mail s sys
-    → ChannelRelation mail (report_taken c n r rest s) sys'
-report_taken-carried {w} caching c n r rest mail s sys sys' x queue width inv inv' first taken h =
-    carried-shown caching n c channel.C (λ d at. None) mail mail s (report_taken c n r rest s) sys sys' x queue width
-    (report_taken-shown caching c n r rest mail s inv inv' first) taken h
 
 -- ---- a Release is taken
 
@@ -296,15 +240,3 @@ release_taken-shown {w} caching c n r rest m mail s inv inv' first chan is = rec
     fits channel.C = tt
     fits channel.D = new_there ReleaseAck c n new s.block m is
     fits channel.E = tt
-
-pub release_taken-carried : {w : ℕ} (caching : ℕ → Bool) (c n : ℕ) (r : Prune) (rest : List Packet) (m : Message w)
-    (mail : AccessMessages w) (s : State (List ℕ))
-    (sys sys' : System w) (x : Beat w) (queue : List (Beat w)) → IsWidth w
-    → IsInvariant caching s → IsInvariant caching (release_taken c n r rest s) → (s.link c).c ≡ packet Release n ∷ rest
-    → channel_of_message m ≡ channel.D → block_message ReleaseAck c n (let_block c r (s.block n)) ≡ m
-    → IsTaken c channel.C x queue (pushes_at c (pushes_of (Some m))) sys sys' → ChannelRelation mail s sys
-    → ChannelRelation mail (release_taken c n r rest s) sys'
-release_taken-carried {w} caching c n r rest m mail s sys sys' x queue width inv inv' first chan is taken h =
-    carried-shown caching n c channel.C (pushes_at c (pushes_of (Some m))) mail mail s (release_taken c n r rest s) sys
-    sys' x queue width
-    (release_taken-shown caching c n r rest m mail s inv inv' first chan is) taken h

@@ -1,9 +1,9 @@
 -- The channels carry the messages of the tokens after the last report, for which a service ends.
-use Rattle.tl_coherence.proofs.simulation.Imports.{IsWidth, Beat, Channel, Message, Cap, Report, Kind}
+use Rattle.tl_coherence.proofs.simulation.Imports.{Channel, Message, Cap, Report, Kind}
 use Rattle.tl_coherence.proofs.simulation.Imports.{ProbeAck, Answer, Grant, Packet, set}
 use Rattle.tl_coherence.proofs.simulation.Imports.{set_at, Waits, Block, State, packet, packets_on, shown}
-use Rattle.tl_coherence.proofs.simulation.Imports.{IsInvariant, Move, Stays, ChannelRelation, AccessMessages}
-use Rattle.tl_coherence.proofs.simulation.Imports.{block_message, message_of, System, same_channel, channel_of_message}
+use Rattle.tl_coherence.proofs.simulation.Imports.{IsInvariant, Move, Stays, AccessMessages}
+use Rattle.tl_coherence.proofs.simulation.Imports.{block_message, message_of, same_channel, channel_of_message}
 use Rattle.std.proofs.Common.{◌≡◌, ℕ, Bool, true, false, ◌&&◌, List, [], ◌∷◌, ◌++◌}
 use Rattle.std.proofs.Common.{Some, None, refl, sym, ◌∙◌, ap, ◌⊎◌, inl, inr}
 use Rattle.std.specs.Prelude.{◌==◌, if◌then◌else◌}
@@ -16,11 +16,11 @@ use Rattle.tl_coherence.specs.protocol.Invariant.{is_replied}
 use Rattle.tl_coherence.specs.refinement.Move.{Pushes, Pops, IsMoved}
 use Rattle.tl_coherence.proofs.protocol.Alike.{alike-ended, alike-granted}
 use Rattle.tl_coherence.proofs.simulation.CarriedAsks.{only_on}
-use Rattle.tl_coherence.proofs.queues.Channels.{IsTaken, Fits, pushes_at}
+use Rattle.tl_coherence.proofs.queues.Channels.{Fits, pushes_at}
 use Rattle.tl_coherence.proofs.protocol.Ended.{ended_move, ended_moved}
 use Rattle.tl_coherence.proofs.protocol.GrantedAll.{granted_moves}
 use Rattle.tl_coherence.proofs.queues.Landed.{pushes_of}
-use Rattle.tl_coherence.proofs.queues.Shown.{IsShown, carried-shown}
+use Rattle.tl_coherence.proofs.queues.Shown.{IsShown}
 use Rattle.tl_coherence.proofs.queues.Showing.{carries, showing-block}
 use Rattle.tl_coherence.proofs.queues.Tokens.{same_number, set-same, set-other}
 
@@ -116,25 +116,6 @@ report_answers-shown {w} caching c q n source r k f rest m mail s inv inv' first
         (moves d at) (λ j l. message_of mail' s' d (packet j l))
     fits d at = rw chan (ended_fits n source m at (d == c) (d == q) (λ j l. message_of mail' s' d (packet j l))
         (answer_is d))
-
-pub report_answers-carried : {w : ℕ} (caching : ℕ → Bool) (c q n source : ℕ) (r : Report) (k : Cap) (f : List ℕ
-    → List ℕ) (rest : List Packet) (m : Message w)
-    (mail : AccessMessages w) (s : State (List ℕ)) (sys sys' : System w) (x : Beat w) (queue : List (Beat w))
-    → IsWidth w → IsInvariant caching s → IsInvariant caching (report_answers c q n source r f rest s)
-    → (s.link c).c ≡ packet ProbeAck n ∷ rest → (s.block n).service ≡ Waits q false source k
-    → is_replied (s.uses q source) ≡ false
-    → ((j : Kind) (i : ℕ) → shown j i (s.block n) ≡ true → shown j i (ended_block c r f (s.block n)) ≡ true
-    → (carries j i (s.block n) ≡ false) ⊎ (f (s.block n).truth ≡ (s.block n).truth))
-    → channel_of_message m ≡ channel.D → IsTaken c channel.C x queue (pushes_at q (pushes_of (Some m))) sys sys'
-    → ChannelRelation mail s sys
-    → ChannelRelation (record { request = mail.request; answer = set_at q source m mail.answer })
-    (report_answers c q n source r f rest s) sys'
-report_answers-carried {w} caching c q n source r k f rest m mail s sys sys' x queue width inv inv' first waits used
-    bytes chan taken h =
-    carried-shown caching n c channel.C (pushes_at q (pushes_of (Some m))) mail
-    (record { request = mail.request; answer = set_at q source m mail.answer }) s
-    (report_answers c q n source r f rest s) sys sys' x queue width
-    (report_answers-shown caching c q n source r k f rest m mail s inv inv' first waits used bytes chan) taken h
 
 -- ---- the last report, for which an Acquire is granted
 
@@ -259,17 +240,3 @@ report_grants-shown {w} caching c q n source r d k gift rest m mail s inv inv' f
     fits : (i : ℕ) (at : Channel) → Fits ((i == c) && same_channel at channel.C) (pushes_at q (pushes_of (Some m)) i at)
         (moves i at) (λ j l. message_of mail s' i (packet j l))
     fits i at = rw chan (granted_fits n m at c q i (λ j l. message_of mail s' i (packet j l)) (grant_is i))
-
-pub report_grants-carried : {w : ℕ} (caching : ℕ → Bool) (c q n source : ℕ) (r : Report) (d : Bool) (k gift : Cap)
-    (rest : List Packet) (m : Message w)
-    (mail : AccessMessages w) (s : State (List ℕ)) (sys sys' : System w) (x : Beat w) (queue : List (Beat w))
-    → IsWidth w → IsInvariant caching s → IsInvariant caching (report_grants c q n r d gift rest s)
-    → (s.link c).c ≡ packet ProbeAck n ∷ rest → (s.block n).service ≡ Waits q true source k → (c ≡ q → ⊥)
-    → channel_of_message m ≡ channel.D → block_message Grant q n (granted_block c q r d gift (s.block n)) ≡ m
-    → IsTaken c channel.C x queue (pushes_at q (pushes_of (Some m))) sys sys' → ChannelRelation mail s sys
-    → ChannelRelation mail (report_grants c q n r d gift rest s) sys'
-report_grants-carried {w} caching c q n source r d k gift rest m mail s sys sys' x queue width inv inv' first waits
-    apart chan is taken h =
-    carried-shown caching n c channel.C (pushes_at q (pushes_of (Some m))) mail mail s
-    (report_grants c q n r d gift rest s) sys sys' x queue width
-    (report_grants-shown caching c q n source r d k gift rest m mail s inv inv' first waits apart chan is) taken h

@@ -1,9 +1,9 @@
 -- The channels carry the messages of the tokens after an event at two clients or more: a request that probes, and the
 -- last report, for which an access is answered or an Acquire is granted.
-use Rattle.tl_coherence.proofs.simulation.Imports.{IsWidth, Beat, Channel, Message, beats_of, Cap, Kind}
+use Rattle.tl_coherence.proofs.simulation.Imports.{Channel, Message, beats_of, Cap, Kind}
 use Rattle.tl_coherence.proofs.simulation.Imports.{Request, Acquire, Probe, Packet, set}
 use Rattle.tl_coherence.proofs.simulation.Imports.{Free, Block, State, packet, packets_on}
-use Rattle.tl_coherence.proofs.simulation.Imports.{IsInvariant, Move, Stays, ChannelRelation, AccessMessages}
+use Rattle.tl_coherence.proofs.simulation.Imports.{IsInvariant, Move, Stays, AccessMessages}
 use Rattle.tl_coherence.proofs.simulation.Imports.{block_message, message_of, System, same_channel}
 use Rattle.tl_coherence.proofs.simulation.Imports.{with_messages}
 use Rattle.std.proofs.Common.{◌≡◌, ℕ, zero, suc, ◌+◌, ◌<◌, ◌≤◌, Bool, true, false, not, ◌&&◌, List, [], ◌∷◌, ◌++◌}
@@ -22,9 +22,9 @@ use Rattle.tl_coherence.specs.refinement.Move.{Pops, IsMoved}
 use Rattle.tl_coherence.specs.refinement.PacketMessages.{cap_sent}
 use Rattle.tl_coherence.specs.statement.System.{with_message}
 use Rattle.tl_coherence.proofs.protocol.AlikeRequests.{alike-served}
-use Rattle.tl_coherence.proofs.queues.Channels.{IsTaken, Fits, behind}
+use Rattle.tl_coherence.proofs.queues.Channels.{Fits, behind}
 use Rattle.tl_coherence.proofs.protocol.Served.{request_move, served_moves, kind_served, number_served}
-use Rattle.tl_coherence.proofs.queues.Shown.{IsShown, carried-shown}
+use Rattle.tl_coherence.proofs.queues.Shown.{IsShown}
 use Rattle.tl_coherence.proofs.queues.Showing.{showing-block}
 use Rattle.tl_coherence.proofs.queues.Tokens.{same_number, set-same}
 
@@ -220,7 +220,7 @@ sent_rendered : {w : ℕ} (r : ℕ) (own : Bool) (source tracker : ℕ) (n : ℕ
 unfolding block_message
 sent_rendered {w} r own source tracker n k d b e = sent_probe w r own n k d (b.pair d) e
 
-pub served-shown : {w : ℕ} (caching : ℕ → Bool) (r n : ℕ) (own : Bool) (source tracker : ℕ) (k : Cap)
+served-shown : {w : ℕ} (caching : ℕ → Bool) (r n : ℕ) (own : Bool) (source tracker : ℕ) (k : Cap)
     (rest : List Packet) (mail : AccessMessages w)
     (s s' : State (List ℕ)) → IsInvariant caching s → IsInvariant caching s'
     → (s.link r).a ≡ packet (kind_served own) (number_served own n source) ∷ rest
@@ -264,41 +264,22 @@ served-shown {w} caching r n own source tracker k rest mail s s' inv inv' first 
     fits d at = rw (pushes_is {w = w} n k test d at) (served_fits n k at (d == r) (test d) (kind_served own)
         (number_served own n source) (λ j l. message_of mail s' d (packet j l)) (render_is d))
 
-pub served-carried : {w : ℕ} (caching : ℕ → Bool) (r n : ℕ) (own : Bool) (source tracker : ℕ) (k : Cap)
-    (rest : List Packet) (mail : AccessMessages w)
-    (s s' : State (List ℕ)) (sys sys' : System w) (x : Beat w) (queue : List (Beat w)) → IsWidth w
-    → IsInvariant caching s → IsInvariant caching s'
-    → (s.link r).a ≡ packet (kind_served own) (number_served own n source) ∷ rest → (s.block n).service ≡ Free
-    → ((i : ℕ) → s'.block i ≡ set n (served_block r own source tracker k (s.block n)) s.block i)
-    → ((d : ℕ) → s'.link d ≡ served_link r own n k rest (s.block n) s.link d)
-    → IsTaken r channel.A x queue (probe_pushes n k (λ d. is_probed r own k ((s.block n).pair d).recorded d)) sys sys'
-    → ChannelRelation mail s sys → ChannelRelation mail s' sys'
-served-carried {w} caching r n own source tracker k rest mail s s' sys sys' x queue width inv inv' first free blocks
-    links taken h =
-    carried-shown caching n r channel.A (probe_pushes n k (λ d. is_probed r own k ((s.block n).pair d).recorded d)) mail
-    mail s s' sys sys' x queue width
-    (served-shown caching r n own source tracker k rest mail s s' inv inv' first free blocks links) taken h
-
-pub acquire_served-carried : {w : ℕ} (caching : ℕ → Bool) (r n source tracker : ℕ) (k : Cap) (rest : List Packet)
+pub acquire_served-shown : {w : ℕ} (caching : ℕ → Bool) (r n source tracker : ℕ) (k : Cap) (rest : List Packet)
     (mail : AccessMessages w) (s : State (List ℕ))
-    (sys sys' : System w) (x : Beat w) (queue : List (Beat w)) → IsWidth w
     → IsInvariant caching s → IsInvariant caching (acquire_served r n source tracker k rest s)
     → (s.link r).a ≡ packet Acquire n ∷ rest → (s.block n).service ≡ Free
-    → IsTaken r channel.A x queue (probe_pushes n k (λ d. is_probed r true k ((s.block n).pair d).recorded d)) sys sys'
-    → ChannelRelation mail s sys
-    → ChannelRelation mail (acquire_served r n source tracker k rest s) sys'
-acquire_served-carried caching r n source tracker k rest mail s sys sys' x queue width inv inv' first free taken h =
-    served-carried caching r n true source tracker k rest mail s (acquire_served r n source tracker k rest s) sys sys' x
-    queue width inv inv' first free (λ i. refl) (λ d. refl) taken h
+    → IsShown caching n r channel.A (probe_pushes n k (λ d. is_probed r true k ((s.block n).pair d).recorded d)) mail mail
+    s (acquire_served r n source tracker k rest s)
+acquire_served-shown caching r n source tracker k rest mail s inv inv' first free =
+    served-shown caching r n true source tracker k rest mail s (acquire_served r n source tracker k rest s) inv inv' first
+    free (λ i. refl) (λ d. refl)
 
-pub access_served-carried : {w : ℕ} (caching : ℕ → Bool) (r n source tracker : ℕ) (k : Cap) (rest : List Packet)
+pub access_served-shown : {w : ℕ} (caching : ℕ → Bool) (r n source tracker : ℕ) (k : Cap) (rest : List Packet)
     (mail : AccessMessages w) (s : State (List ℕ))
-    (sys sys' : System w) (x : Beat w) (queue : List (Beat w)) → IsWidth w
     → IsInvariant caching s → IsInvariant caching (access_served r n source tracker k rest s)
     → (s.link r).a ≡ packet Request source ∷ rest → (s.block n).service ≡ Free
-    → IsTaken r channel.A x queue (probe_pushes n k (λ d. is_probed r false k ((s.block n).pair d).recorded d)) sys sys'
-    → ChannelRelation mail s sys
-    → ChannelRelation mail (access_served r n source tracker k rest s) sys'
-access_served-carried caching r n source tracker k rest mail s sys sys' x queue width inv inv' first free taken h =
-    served-carried caching r n false source tracker k rest mail s (access_served r n source tracker k rest s) sys sys' x
-    queue width inv inv' first free (λ i. refl) (λ d. refl) taken h
+    → IsShown caching n r channel.A (probe_pushes n k (λ d. is_probed r false k ((s.block n).pair d).recorded d)) mail mail
+    s (access_served r n source tracker k rest s)
+access_served-shown caching r n source tracker k rest mail s inv inv' first free =
+    served-shown caching r n false source tracker k rest mail s (access_served r n source tracker k rest s) inv inv' first
+    free (λ i. refl) (λ d. refl)

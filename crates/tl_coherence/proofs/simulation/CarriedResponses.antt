@@ -1,10 +1,10 @@
 -- The channels carry the messages of the tokens after a response or a GrantAck is taken.
-use Rattle.tl_coherence.proofs.simulation.Imports.{IsWidth, Beat, Channel, Message, Cap, Kind}
+use Rattle.tl_coherence.proofs.simulation.Imports.{Channel, Message, Cap, Kind}
 use Rattle.tl_coherence.proofs.simulation.Imports.{Answer, Grant}
 use Rattle.tl_coherence.proofs.simulation.Imports.{ReleaseAck, GrantAck, Packet, GrantSent}
 use Rattle.tl_coherence.proofs.simulation.Imports.{GrantTaken, Block, State, packet, shown}
-use Rattle.tl_coherence.proofs.simulation.Imports.{IsInvariant, Stays, ChannelRelation, AccessMessages}
-use Rattle.tl_coherence.proofs.simulation.Imports.{block_message, message_of, System, same_channel, channel_of_message}
+use Rattle.tl_coherence.proofs.simulation.Imports.{IsInvariant, Stays, AccessMessages}
+use Rattle.tl_coherence.proofs.simulation.Imports.{block_message, message_of, same_channel, channel_of_message}
 use Rattle.std.proofs.Common.{◌≡◌, ℕ, Bool, true, false, ◌&&◌, List, ◌∷◌, Some, None, refl, ◌⊎◌}
 use Rattle.std.specs.Prelude.{◌==◌, if◌then◌else◌}
 use Rattle.tl_beat.specs.declared.channel.Channel.TheVariants as channel
@@ -16,11 +16,11 @@ use Rattle.tl_coherence.proofs.protocol.Acknowledged.{let_go_moves, freed_moves}
 use Rattle.tl_coherence.proofs.protocol.Alike.{alike-let_go, alike-taken}
 use Rattle.tl_coherence.proofs.protocol.Alike.{alike-freed}
 use Rattle.tl_coherence.proofs.protocol.Answered.{done_moves}
-use Rattle.tl_coherence.proofs.queues.Channels.{IsTaken, Fits, moved-at}
+use Rattle.tl_coherence.proofs.queues.Channels.{Fits, moved-at}
 use Rattle.tl_coherence.proofs.queues.Channels.{fits-at, pushes_at}
 use Rattle.tl_coherence.proofs.queues.Landed.{pushes_of}
 use Rattle.tl_coherence.proofs.queues.Moves.{moves_at}
-use Rattle.tl_coherence.proofs.queues.Shown.{IsShown, carried-shown}
+use Rattle.tl_coherence.proofs.queues.Shown.{IsShown}
 use Rattle.tl_coherence.proofs.queues.Showing.{carries, showing-block}
 use Rattle.tl_coherence.proofs.protocol.TakenAll.{taken_moves}
 use Rattle.tl_coherence.proofs.simulation.CarriedAsks.{only_on, fits_pushed, new_there}
@@ -63,17 +63,6 @@ answer_taken-shown {w} caching c source rest mail s inv inv' first = record {
     fits channel.D = tt
     fits channel.E = tt
 
-pub answer_taken-carried : {w : ℕ} (caching : ℕ → Bool) (c source : ℕ) (rest : List Packet) (mail : AccessMessages w)
-    (s : State (List ℕ)) (sys sys' : System w) (x : Beat w) (queue : List (Beat w)) → IsWidth w
-    → IsInvariant caching s → IsInvariant caching (answer_taken c source rest s)
-    → (s.link c).d ≡ packet Answer source ∷ rest
-    → IsTaken c channel.D x queue (pushes_at c (pushes_of None)) sys sys' → ChannelRelation mail s sys
-    → ChannelRelation mail (answer_taken c source rest s) sys'
-answer_taken-carried {w} caching c source rest mail s sys sys' x queue width inv inv' first taken h =
-    carried-shown caching 0 c channel.D (pushes_at c (pushes_of None)) mail mail s (answer_taken c source rest s) sys
-    sys' x queue width
-    (answer_taken-shown caching c source rest mail s inv inv' first) taken h
-
 pub release_ack_taken-shown : {w : ℕ} (caching : ℕ → Bool) (c n : ℕ) (rest : List Packet) (mail : AccessMessages w)
     (s : State (List ℕ)) → IsInvariant caching s
     → IsInvariant caching (release_ack_taken c n rest s) → (s.link c).d ≡ packet ReleaseAck n ∷ rest
@@ -106,17 +95,6 @@ release_ack_taken-shown {w} caching c n rest mail s inv inv' first = record {
     fits channel.C = tt
     fits channel.D = tt
     fits channel.E = tt
-
-pub release_ack_taken-carried : {w : ℕ} (caching : ℕ → Bool) (c n : ℕ) (rest : List Packet) (mail : AccessMessages w)
-    (s : State (List ℕ)) (sys sys' : System w) (x : Beat w) (queue : List (Beat w)) → IsWidth w
-    → IsInvariant caching s → IsInvariant caching (release_ack_taken c n rest s)
-    → (s.link c).d ≡ packet ReleaseAck n ∷ rest
-    → IsTaken c channel.D x queue (pushes_at c (pushes_of None)) sys sys' → ChannelRelation mail s sys
-    → ChannelRelation mail (release_ack_taken c n rest s) sys'
-release_ack_taken-carried {w} caching c n rest mail s sys sys' x queue width inv inv' first taken h =
-    carried-shown caching n c channel.D (pushes_at c (pushes_of None)) mail mail s (release_ack_taken c n rest s) sys
-    sys' x queue width
-    (release_ack_taken-shown caching c n rest mail s inv inv' first) taken h
 
 pub grant_taken-shown : {w : ℕ} (caching : ℕ → Bool) (c n : ℕ) (whole d : Bool) (k : Cap) (rest : List Packet)
     (m : Message w) (mail : AccessMessages w)
@@ -159,23 +137,6 @@ grant_taken-shown {w} caching c n whole d k rest m mail s inv inv' first sent by
     fits channel.D = tt
     fits channel.E = new_there GrantAck c n new s.block m is
 
-pub grant_taken-carried : {w : ℕ} (caching : ℕ → Bool) (c n : ℕ) (whole d : Bool) (k : Cap) (rest : List Packet)
-    (m : Message w) (mail : AccessMessages w)
-    (s : State (List ℕ)) (sys sys' : System w) (x : Beat w) (queue : List (Beat w)) → IsWidth w
-    → IsInvariant caching s → IsInvariant caching (grant_taken c n whole d k rest s)
-    → (s.link c).d ≡ packet Grant n ∷ rest → (s.block n).service ≡ GrantSent c d k
-    → ((j : Kind) (i : ℕ) → shown j i (s.block n) ≡ true → shown j i (taken_block c whole d k (s.block n)) ≡ true
-    → (carries j i (s.block n) ≡ false)
-    ⊎ ((taken_block c whole d k (s.block n)).truth ≡ (s.block n).truth))
-    → channel_of_message m ≡ channel.E → block_message GrantAck c n (taken_block c whole d k (s.block n)) ≡ m
-    → IsTaken c channel.D x queue (pushes_at c (pushes_of (Some m))) sys sys' → ChannelRelation mail s sys
-    → ChannelRelation mail (grant_taken c n whole d k rest s) sys'
-grant_taken-carried {w} caching c n whole d k rest m mail s sys sys' x queue width inv inv' first sent bytes chan is
-    taken h =
-    carried-shown caching n c channel.D (pushes_at c (pushes_of (Some m))) mail mail s
-    (grant_taken c n whole d k rest s) sys sys' x queue width
-    (grant_taken-shown caching c n whole d k rest m mail s inv inv' first sent bytes chan is) taken h
-
 -- ---- a GrantAck is taken
 
 pub grant_ack_taken-shown : {w : ℕ} (caching : ℕ → Bool) (c n : ℕ) (rest : List Packet) (mail : AccessMessages w)
@@ -213,13 +174,3 @@ grant_ack_taken-shown {w} caching c n rest mail s inv inv' first sent = record {
     fits d channel.C true = tt
     fits d channel.D true = tt
     fits d channel.E true = tt
-
-pub grant_ack_taken-carried : {w : ℕ} (caching : ℕ → Bool) (c n : ℕ) (rest : List Packet) (mail : AccessMessages w)
-    (s : State (List ℕ)) (sys sys' : System w) (x : Beat w) (queue : List (Beat w)) → IsWidth w
-    → IsInvariant caching s → IsInvariant caching (grant_ack_taken c n rest s) → (s.link c).e ≡ packet GrantAck n ∷ rest
-    → (s.block n).service ≡ GrantTaken c
-    → IsTaken c channel.E x queue (λ d at. None) sys sys' → ChannelRelation mail s sys
-    → ChannelRelation mail (grant_ack_taken c n rest s) sys'
-grant_ack_taken-carried {w} caching c n rest mail s sys sys' x queue width inv inv' first sent taken h =
-    carried-shown caching n c channel.E (λ d at. None) mail mail s (grant_ack_taken c n rest s) sys sys' x queue width
-    (grant_ack_taken-shown caching c n rest mail s inv inv' first sent) taken h

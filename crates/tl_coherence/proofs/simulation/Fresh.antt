@@ -18,7 +18,7 @@ use Rattle.tl_coherence.specs.statement.Flow.{flow}
 use Rattle.tl_coherence.specs.refinement.AbstractStep.{first_block, first_link, first_state, first_abstract_state}
 use Rattle.tl_coherence.specs.protocol.Invariant.{IsWell}
 use Rattle.tl_coherence.specs.protocol.Phase.{ok}
-use Rattle.tl_coherence.specs.protocol.Protocol.{is_transfer}
+use Rattle.tl_coherence.specs.protocol.Tokens.{is_transfer}
 use Rattle.tl_coherence.specs.statement.OneMemory.{one_memory_after}
 use Rattle.tl_coherence.specs.refinement.PacketMessages.{messages_on}
 use Rattle.tl_coherence.specs.statement.System.{fresh}

@@ -25,7 +25,8 @@ pub use Rattle.tl_coherence.specs.protocol.Packet.{Release, ReleaseAck, Request,
 pub use Rattle.tl_coherence.specs.protocol.Phase.{NoAcquire}
 pub use Rattle.tl_coherence.specs.protocol.Protocol.{Acquires, Asked, Block, Free, GrantSent, GrantTaken, InService}
 pub use Rattle.tl_coherence.specs.protocol.Protocol.{Replied, Service, SourceFree, SourceState, State, Waits, is_on, on}
-pub use Rattle.tl_coherence.specs.protocol.Protocol.{packet, packets_on, shown}
+pub use Rattle.tl_coherence.specs.protocol.Protocol.{packet, packets_on}
+pub use Rattle.tl_coherence.specs.protocol.Tokens.{shown}
 pub use Rattle.tl_coherence.specs.refinement.AbstractStep.{AbstractState, asked, kind_taken}
 pub use Rattle.tl_coherence.specs.refinement.ChannelRelation.{ChannelRelation}
 pub use Rattle.tl_coherence.specs.statement.Delivery.{receiver}

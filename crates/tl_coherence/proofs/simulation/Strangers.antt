@@ -17,7 +17,8 @@ use Rattle.tl_manager.proofs.pending.Granted.{of_served}
 use Rattle.tl_coherence.specs.protocol.Invariant.{resting}
 use Rattle.tl_coherence.specs.refinement.ManagerRelation.{client_in, service_with}
 use Rattle.tl_coherence.specs.protocol.Phase.{Own, Other, Granting, Acknowledging, GrantedOther}
-use Rattle.tl_coherence.specs.protocol.Protocol.{view, is_acknowledging}
+use Rattle.tl_coherence.specs.protocol.Protocol.{view}
+use Rattle.tl_coherence.specs.protocol.Tokens.{is_acknowledging}
 use Rattle.tl_coherence.specs.protocol.Packet.{count}
 use Rattle.tl_coherence.proofs.protocol.Capacities.{acquire_named, grant_named, release_named}
 use Rattle.tl_coherence.proofs.protocol.TokenNames.{shown_there, kind_there}

@@ -23,8 +23,9 @@ use Rattle.tl_coherence.specs.protocol.Invariant.{IsInvariant, cap_asked, is_rep
 use Rattle.tl_coherence.specs.protocol.Phase.{ClientBlock, Own, Other, NoAcquire, cap_fits, grant_fits}
 use Rattle.tl_coherence.specs.protocol.PhaseSteps.{after_grant_sent, after_probe, after_report, is_granted_data}
 use Rattle.tl_coherence.specs.protocol.Protocol.{Service, Free, Waits, GrantSent, GrantTaken, Block, State, SourceFree}
-use Rattle.tl_coherence.specs.protocol.Protocol.{Asked, InService, Replied, Acquires, view, on, shown, is_probed}
-use Rattle.tl_coherence.specs.protocol.Protocol.{is_sent, acquire_granted, acquire_served, granted_at_once}
+use Rattle.tl_coherence.specs.protocol.Protocol.{Asked, InService, Replied, Acquires, view, on, is_probed}
+use Rattle.tl_coherence.specs.protocol.Tokens.{shown, is_sent}
+use Rattle.tl_coherence.specs.protocol.Protocol.{acquire_granted, acquire_served, granted_at_once}
 use Rattle.tl_coherence.specs.protocol.Protocol.{granted_pair, probe_taken, report_taken, reported_block, served_block}
 use Rattle.tl_coherence.specs.protocol.Protocol.{served_pair}
 use Rattle.tl_coherence.specs.refinement.PacketMessages.{report_told}

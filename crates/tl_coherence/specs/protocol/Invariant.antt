@@ -10,8 +10,9 @@ use Rattle.tl_coherence.specs.protocol.Phase.{AcquirePhase, AcquireOpen, same_ca
 use Rattle.tl_coherence.specs.protocol.Phase.{NoRelease, NoAcquire, ok, is_unprobed, is_unreleased}
 use Rattle.tl_coherence.specs.protocol.Packet.{Kind, Request, Answer, Holds, IsOrdered, count}
 use Rattle.tl_coherence.specs.protocol.Protocol.{Service, Free, Waits, Block, State, SourceState, Asked, InService}
-use Rattle.tl_coherence.specs.protocol.Protocol.{Replied, Acquires, view, is_wanting, is_granting, is_transfer, is_on}
-use Rattle.tl_coherence.specs.protocol.Protocol.{on, shown, packets_on}
+use Rattle.tl_coherence.specs.protocol.Protocol.{Replied, Acquires, view, is_on}
+use Rattle.tl_coherence.specs.protocol.Tokens.{is_wanting, is_granting, is_transfer, shown}
+use Rattle.tl_coherence.specs.protocol.Protocol.{on, packets_on}
 
 -- one with nothing in flight and nothing held
 abbrev pub resting : ClientBlock

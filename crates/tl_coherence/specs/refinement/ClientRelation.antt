@@ -10,7 +10,8 @@ use Rattle.tl_rules.specs.statement.Conformance.{comes_in_grant}
 use Rattle.tl_rules.specs.statement.History.{held, pending, is_grant, asks_for}
 use Rattle.tl_client.specs.statement.Requests.{open_beat}
 use Rattle.tl_coherence.specs.protocol.Phase.{is_unreleased}
-use Rattle.tl_coherence.specs.protocol.Protocol.{State, is_wanting}
+use Rattle.tl_coherence.specs.protocol.Protocol.{State}
+use Rattle.tl_coherence.specs.protocol.Tokens.{is_wanting}
 
 -- the beats are those of a Grant of the block, given the open request of each source
 abbrev pub comes_granting : {w : ℕ} → ℕ → (ℕ → Option (BeatA w)) → List (Beat w) → Bool

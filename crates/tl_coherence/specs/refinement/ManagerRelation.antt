@@ -8,8 +8,8 @@ use Rattle.tl_manager.specs.statement.Holders.{recorded}
 use Rattle.tl_manager.specs.statement.Service as manager
 use Rattle.tl_manager.specs.statement.Service.{services, service_of_block}
 use Rattle.tl_coherence.specs.protocol.Phase.{View, Own, is_unprobed}
-use Rattle.tl_coherence.specs.protocol.Protocol.{Service, Free, Waits, GrantSent, GrantTaken, State, view, is_granting}
-use Rattle.tl_coherence.specs.protocol.Protocol.{is_acknowledging}
+use Rattle.tl_coherence.specs.protocol.Protocol.{Service, Free, Waits, GrantSent, GrantTaken, State, view}
+use Rattle.tl_coherence.specs.protocol.Tokens.{is_granting, is_acknowledging}
 
 abbrev pub is_own : View → Bool
 is_own Own = true

@@ -12,8 +12,8 @@ use Rattle.tl_rules.specs.statement.Conformance.{comes_in_request, comes_in_rele
 use Rattle.tl_rules.specs.statement.History.{held, pending, block_at, request_of, release_of, probe_of, grant_sink}
 use Rattle.tl_coherence.specs.protocol.Phase.{ReleasePhase, NoRelease, ReleaseSent, ReleaseAcked}
 use Rattle.tl_coherence.specs.protocol.Protocol.{State, SourceState, SourceFree, Asked, InService, Replied, Acquires}
-use Rattle.tl_coherence.specs.protocol.Protocol.{view, is_granting, is_acknowledging, is_answered, is_wanting}
-use Rattle.tl_coherence.specs.protocol.Protocol.{is_unserved}
+use Rattle.tl_coherence.specs.protocol.Protocol.{view}
+use Rattle.tl_coherence.specs.protocol.Tokens.{is_granting, is_acknowledging, is_answered, is_wanting, is_unserved}
 use Rattle.tl_coherence.specs.refinement.ClientRelation.{comes_granting}
 use Rattle.tl_coherence.specs.refinement.PacketMessages.{probe_beat}
 use Rattle.tl_coherence.specs.refinement.SourceRelation.{cap_waited}

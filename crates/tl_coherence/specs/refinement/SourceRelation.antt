@@ -13,7 +13,8 @@ use Rattle.tl_rules.specs.statement.History.{pending, block_at, is_acquire, requ
 use Rattle.tl_manager.specs.statement.Holders.{cap_probed}
 use Rattle.tl_coherence.specs.protocol.Phase.{is_unprobed}
 use Rattle.tl_coherence.specs.protocol.Protocol.{Service, Free, Waits, GrantSent, GrantTaken, State, SourceState}
-use Rattle.tl_coherence.specs.protocol.Protocol.{InService, Acquires, view, is_granting, is_acknowledging}
+use Rattle.tl_coherence.specs.protocol.Protocol.{InService, Acquires, view}
+use Rattle.tl_coherence.specs.protocol.Tokens.{is_granting, is_acknowledging}
 use Rattle.tl_coherence.specs.refinement.ManagerRelation.{is_own}
 use Rattle.tl_coherence.specs.refinement.PacketMessages.{probe_beat}
 

@@ -23,7 +23,7 @@ use Rattle.tl_schedule.specs.statement.EventLine.{SpellsEvent}
 use Rattle.tl_schedule.specs.statement.OutcomeLine.{drained_line}
 use Rattle.tl_engine.specs.statement.Played.{delivery_text, deliveries_text, event_text, number_text, outcome_after}
 use Rattle.tl_engine.specs.code.Playing.{Drains, Happens, PlaysLine, PlaysOn}
-use Rattle.tl_engine.specs.code.PlayableWorld.{Contained, Reaches}
+use Rattle.tl_engine.specs.code.PlayableWorld.{Contained, HasHappened}
 
 -- ---- deliveries
 
@@ -92,12 +92,12 @@ module _ {w : ℕ} (config : Config) where
 -- n deliveries, each the next one, have been made, and written behind the text
 pub record Delivered {w : ℕ} (trace : Bool) (config : Config) (log : Log w) (world : Contained w) (was is : List ℕ)
     (n : ℕ) : Type 0 where
-  pub reached : Reaches config world (drained config n log)
+  pub reached : HasHappened config world (drained config n log)
   pub count : length (drained config n log) ≡ n + length log
   pub says : is ≡ was ++ deliveries_text trace config n log
 
 pub delivered-none : {w : ℕ} (trace : Bool) (config : Config) (log : Log w) (world : Contained w) (was : List ℕ)
-    → Reaches config world log → Delivered trace config log world was was 0
+    → HasHappened config world log → Delivered trace config log world was was 0
 unfolding drained deliveries_text
 delivered-none trace config log world was r = record { reached = r; count = omega arith; says = sym (append-nil was) }
 
@@ -121,7 +121,7 @@ delivered-more {w} trace config log old new was mid is n link ch d found happens
     let longer : length (drained config (n + 1) log) ≡ suc (length log_so_far) = ap (λ (l : Log w). length l) grown in
     let count = d.count in
     record {
-      reached = subst (Reaches config new) (sym grown) h.1;
+      reached = subst (HasHappened config new) (sym grown) h.1;
       count = omega (arith, longer, count);
       says = h.0 ∙ ap (λ (t : List ℕ). t ++ event_text trace (Deliver link ch)
           (outcome_after config log_so_far (Deliver link ch))) d.says
@@ -133,7 +133,7 @@ pub drains-all : {w : ℕ} (trace : Bool) (config : Config) (log : Log w) (world
     → Delivered trace config log world was is n
     → (next_delivery config (system_after config (drained config n log)) ≡ None) ⊎ (load log ≤ n)
     → IsDrained config log n × (is ≡ was ++ deliveries_text trace config n log)
-    × Reaches config world (drained config n log)
+    × HasHappened config world (drained config n log)
 drains-all trace config log world was is n given d (inl none) =
     (ended config n log given d.count none, d.says, d.reached)
 drains-all trace config log world was is n given d (inr enough) =
@@ -142,15 +142,15 @@ drains-all trace config log world was is n given d (inr enough) =
 -- what was written of an event is what comes of it
 pub happened : {w : ℕ} {E : Type 0} (trace : Bool) (old new : Contained w) (event : Event w) (o : Outcome w)
     (was is : List ℕ) (r : Result (Unit {0}) E) → OnOk r (is ≡ was ++ event_text trace event o)
-    → ((config : Config) (log : Log w) → Reaches config old log → o ≡ outcome_after config log event)
-    → ((config : Config) (log : Log w) → Reaches config old log → Reaches config new ((event, o) ∷ log))
+    → ((config : Config) (log : Log w) → HasHappened config old log → o ≡ outcome_after config log event)
+    → ((config : Config) (log : Log w) → HasHappened config old log → HasHappened config new ((event, o) ∷ log))
     → OnOk r (Happens trace old new event was is)
 happened {w} trace old new event o was is (Err e) says comes reached = tt
 happened {w} trace old new event o was is (Ok x) says comes reached = λ config log r.
     let out = comes config log r in (
       says ∙ ap (λ (p : Outcome w). was ++ event_text trace event p) out,
       subst
-          (λ (p : Outcome w). Reaches config new ((event, p) ∷ log)) out (reached config log r),
+          (λ (p : Outcome w). HasHappened config new ((event, p) ∷ log)) out (reached config log r),
     )
 
 -- ---- what a line says

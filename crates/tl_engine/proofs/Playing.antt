@@ -37,7 +37,7 @@ use Rattle.tl_engine.specs.code.Lines.{IsOpen}
 use Rattle.tl_engine.specs.statement.Played.{HeadsSchedule, Played, PlayedAfter, Plays, deliveries_text, event_text}
 use Rattle.tl_engine.specs.statement.Played.{header_text, number_text, outcome_after}
 use Rattle.tl_engine.specs.code.Playing.{KnowsPlay, KnowsSchedule, Opens, PlaysLine, is_trace}
-use Rattle.tl_engine.specs.code.PlayableWorld.{Contained, Reaches}
+use Rattle.tl_engine.specs.code.PlayableWorld.{Contained, HasHappened}
 use Rattle.tl_engine.specs.statement.Width.{bytes_of}
 use Rattle.tl_engine.proofs.OneText.{is_width_of}
 use Rattle.tl_engine.proofs.ShortHeaders.{header-unopened}
@@ -48,7 +48,7 @@ use Rattle.tl_engine.proofs.SaidLines.{open-fault, open-none, says-or-not, typed
 -- the first line is a header
 pub header-plays : (trace : Bool) (line : List ℕ) (version : Version) (wide : Width) (config : Config)
     (world : Contained (bytes_of wide)) → HeadsSchedule line version config → wide ≡ width_of version
-    → Reaches config world [] → KnowsPlay trace world (line ∷ []) (header_text trace version config.clients.items)
+    → HasHappened config world [] → KnowsPlay trace world (line ∷ []) (header_text trace version config.clients.items)
 unfolding Played
 header-plays trace line version wide config world heads is reached = record {
   config = config;

@@ -5,7 +5,7 @@ ghost use Rattle.tl_beat.specs.statement.Width.{IsWidth};
 ghost use Rattle.tl_params.specs.statement.Config.{config_fault};
 ghost use Rattle.tl_params.specs.statement.Header.{level_text, profile_text, version_text, width_text};
 ghost use Rattle.tl_engine.specs.statement.Played.{header_text};
-ghost use Rattle.tl_engine.specs.code.PlayableWorld.{Reaches};
+ghost use Rattle.tl_engine.specs.code.PlayableWorld.{HasHappened};
 ghost use Rattle.tl_engine.specs.statement.Trace.{header_line, levels_text};
 
 use std::alloc::{AllocError, Global};
@@ -118,7 +118,7 @@ pub fn world_of<const W: usize>(
 ) -> Result<World<W, AnyClient<W>, BitDirectory>, AllocError>
     requires width { IsWidth W }
     requires fits { config_fault config ≡ None }
-    ensures { IfOk result (λ world. Reaches config world []) }
+    ensures { IfOk result (λ world. HasHappened config world []) }
 {
     let clients = agents_of(alloc, &config).map_err(|_| AllocError)?;
     let directory = BitDirectory::new(alloc, config.blocks, config.clients.len() as u8)?;

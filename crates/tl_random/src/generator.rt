@@ -4,7 +4,7 @@ ghost use Rattle.std.specs.Prelude.{◌≡◌, ◌<◌, ◌++◌, IfOk, OnOk, le
 ghost use Rattle.tl_beat.specs.statement.Width.{IsWidth};
 ghost use Rattle.tl_schedule.specs.statement.EventLine.{drain_line};
 ghost use Rattle.tl_coherence.specs.statement.Log.{Log};
-ghost use Rattle.tl_engine.specs.code.PlayableWorld.{Reaches};
+ghost use Rattle.tl_engine.specs.code.PlayableWorld.{HasHappened};
 ghost use Rattle.tl_random.specs.statement.Draw.{Draws, below, words_from, words_of};
 ghost use Rattle.tl_random.specs.statement.Drawn.{asking_line, block_below, block_of, delivery_line, is_idle};
 ghost use Rattle.tl_random.specs.statement.Drawn.{line_drawn, takes};
@@ -163,7 +163,7 @@ impl<const W: usize> Generator<W> {
     fn draw_line(&mut self, options: &Options) -> Result<(), AllocError>
         requires { IsWidth W }
         ensures world { self.new.world ≡ self.old.world }
-        ensures drawn { OnOk result ((log : Log W) → Reaches options.now.config self.old.world log →
+        ensures drawn { OnOk result ((log : Log W) → HasHappened options.now.config self.old.world log →
             Draws (line_drawn options.now log) self.old.rng self.new.rng self.new.line.items) }
     {
         self.line.clear();

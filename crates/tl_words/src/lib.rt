@@ -1,5 +1,6 @@
 //! The words of the command line.
 #![tactic(auto)]
 
+mod commands;
 mod help;
 pub mod words;

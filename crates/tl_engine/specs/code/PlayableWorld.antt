@@ -14,5 +14,5 @@ abbrev pub Contained : ℕ → Type 0
 Contained w = WorldState w (AnyClient w) BitDirectory
 
 -- all this has happened to the world
-abbrev pub Reaches : {w : ℕ} → Config → Contained w → Log w → Type 0
-Reaches config world log = IsReached KnowsAny any_terms perm_of_bits config world log
+abbrev pub HasHappened : {w : ℕ} → Config → Contained w → Log w → Type 0
+HasHappened config world log = IsReached KnowsAny any_terms perm_of_bits config world log

@@ -17,7 +17,7 @@ use Rattle.tl_engine.specs.declared.run_lines.RunLines.TheVariants.{Waiting, Fou
 use Rattle.tl_engine.specs.declared.status.Status.{Status}
 use Rattle.tl_engine.specs.statement.Played.{HeadsSchedule, Played, PlayedAfter, Plays, deliveries_text, event_text}
 use Rattle.tl_engine.specs.statement.Played.{outcome_after}
-use Rattle.tl_engine.specs.code.PlayableWorld.{Contained, Reaches}
+use Rattle.tl_engine.specs.code.PlayableWorld.{Contained, HasHappened}
 
 -- what is written of the answer to a Load of this size, or of a Store's
 abbrev pub asked_text : Bool → ℕ → Option Reply → List ℕ
@@ -27,23 +27,23 @@ asked_text true size answer = []
 -- An event has happened to a world, and what came of it stands behind the text.
 abbrev pub Happens : {w : ℕ} → Bool → Contained w → Contained w → Event w → List ℕ → List ℕ → Type 0
 Happens {w} trace old new event was is =
-    (config : Config) (log : Log w) → Reaches config old log
+    (config : Config) (log : Log w) → HasHappened config old log
     → (is ≡ was ++ event_text trace event (outcome_after config log event))
-    × Reaches config new ((event, outcome_after config log event) ∷ log)
+    × HasHappened config new ((event, outcome_after config log event) ∷ log)
 
 -- What is outstanding was delivered, each delivery the next one, and the text has what came of each.
 abbrev pub Drains : {w : ℕ} → Bool → Contained w → Contained w → List ℕ → List ℕ → ℕ → Type 0
 Drains {w} trace old new was is n =
-    (config : Config) (log : Log w) → Reaches config old log
+    (config : Config) (log : Log w) → HasHappened config old log
     → IsDrained config log n × (is ≡ was ++ deliveries_text trace config n log)
-    × Reaches config new (drained config n log)
+    × HasHappened config new (drained config n log)
 
 -- What is said was played.
 abbrev pub PlaysOn : {w : ℕ} → Bool → Contained w → Contained w → Line w → List ℕ → List ℕ → Type 0
 PlaysOn {w} trace old new said was is =
-    (config : Config) (log : Log w) → Reaches config old log
+    (config : Config) (log : Log w) → HasHappened config old log
     → (text : List ℕ) × (grown : Log w) × Plays trace config log said text grown × (is ≡ was ++ text)
-    × Reaches config new grown
+    × HasHappened config new grown
 
 -- A line was played, or it is at fault.
 abbrev pub PlaysLine : {w : ℕ} → Bool → Contained w → Contained w → List ℕ → List ℕ → List ℕ → Option Fault → Type 0
@@ -57,7 +57,7 @@ PlaysLine {w} trace old new line was is (Some fault) = ((said : Line w) → ¬ S
 pub record KnowsPlay {w : ℕ} (trace : Bool) (world : Contained w) (lines : List (List ℕ)) (text : List ℕ) : Type 0 where
   pub config : Config
   pub log : Log w
-  pub reached : Reaches config world log
+  pub reached : HasHappened config world log
   pub before : (more : List (List ℕ)) (rest : List ℕ) (status : Status)
       → PlayedAfter trace config (length lines + 1) log more rest status
       → Played trace (lines ++ more) (text ++ rest) status

@@ -5,9 +5,9 @@ use Rattle.tl_engine.proofs.charting.Charting.take.Goals as goal
 pub returns-in_ok-gather-in-Ok : goal.returns-in_ok-gather-in-Ok
 returns-in_ok-gather-in-Ok g c = λ line spells.
     reads_good c.args.self.now c.push.new.self c.args.link c.args.beat.now c.gather.new.self line c.in_ok-line.line
-    c.begins-first.result c.held_on-before.result spells (search rules)
+    c.begins-first.result c.held_before-before.result spells (search rules)
     (λ levels p t. c.in-Ok.ensures.answer levels p t false) (λ levels p t. c.in-Ok.ensures.knows levels p t false)
-    (λ levels p t. c.begins-first.ensures levels p t false) c.held_on-before.ensures
+    (λ levels p t. c.begins-first.ensures levels p t false) c.held_before-before.ensures
     c.in_ok-gather-in-Ok.ensures.gathers (search rules) c.in_ok-gather-in-Ok.ensures.window
     c.in_ok-gather-in-Ok.ensures.many (search rules) (search rules)
 

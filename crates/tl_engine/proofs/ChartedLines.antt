@@ -3,7 +3,7 @@ use Rattle.std.proofs.Common.{◌≡◌, ◌<◌, ℕ, ◌+◌, ◌-◌, Bool, t
 use Rattle.std.proofs.Common.{◌∙◌, sym, arith, append_assoc, length-append, inl, inr, subst, take}
 use Rattle.std.specs.Fmt.{decimal}
 use Rattle.std.specs.Io.KnownBytes.{Consumes}
-use Rattle.std.specs.Prelude.{codes, ◌==◌, if◌then◌else◌, is_none, IfOk, Option, Some, None, Result, Ok, Err, option_map}
+use Rattle.std.specs.Prelude.{codes, ◌==◌, if◌then◌else◌, is_some, IfOk, Option, Some, None, Result, Ok, Err, option_map}
 use Rattle.std.specs.declared.alloc.Global.{Global}
 use Rattle.std.proofs.lemmas.Bool.{lt-ltb}
 use Rattle.std.proofs.Math.Seq.{take-append_seam}
@@ -113,7 +113,7 @@ other_block k (Some b) e = e
 
 module _ {w : ℕ} (link : Link) (x : Beat w) (t : Trace w) where
   -- of no block anything is held
-  pub says_none : (block : Option ℕ) → is_none block ≡ true → SaysBefore block (link, x) t None
+  pub says_none : (block : Option ℕ) → is_some block ≡ false → SaysBefore block (link, x) t None
   says_none None e = refl
   says_none (Some k) e = absurd cc
 

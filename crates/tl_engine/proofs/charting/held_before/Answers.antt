@@ -1,10 +1,11 @@
-use Rattle.std.proofs.Common.{false, sym, ◌∙◌}
+use Rattle.std.proofs.Common.{Bool, ap, false, not, sym, ◌∙◌}
 use Rattle.tl_engine.proofs.ChartedLines.{says_none, says_nothing}
 use Rattle.tl_engine.proofs.charting.held_before.Goals as goal
 
 pub returns-then-is_none : goal.returns-then-is_none
 returns-then-is_none g c = λ levels p t known within fine.
-    says_none c.args.link c.args.beat.now t c.args.block (sym c.is_none.ensures ∙ c.if-is_none.true)
+    says_none c.args.link c.args.beat.now t c.args.block
+    (c.is_none.ensures ∙ ap (λ (b : Bool). not b) c.if-is_none.true)
 
 pub returns-then-is_same_block : goal.returns-then-is_same_block
 returns-then-is_same_block g c = λ levels p t known within fine. c.held_on.ensures levels p t known within

@@ -53,7 +53,7 @@ fn is_of_channel<const W: usize>(control: &Control, beat: &Beat<W>) -> bool
 }
 
 /// Whether a message wants an answer.
-fn wants_answer(control: &Control) -> bool
+pub fn wants_answer(control: &Control) -> bool
     ensures { result ≡ Drawn.wants_answer control.now }
 {
     match control {

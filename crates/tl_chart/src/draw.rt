@@ -205,16 +205,16 @@ fn append_bracket(
     append("'/>\n", out)
 }
 
-#[tactic(auto, unfolding(crate::specs::statement::Picture::beats_text))]
-/// Appends the bracket of a message that has more than one beat.
-fn append_beats(
+#[tactic(auto, unfolding(crate::specs::statement::Picture::extent_text))]
+/// Appends the extent of a message that has more than one beat: its bracket.
+fn append_extent(
     arrow: &Arrow,
     arrows: &[Arrow],
     x: u64,
     y: u64,
     out: &mut Vec<u8>,
 ) -> Result<(), AllocError>
-    ensures { OnOk result (out.new.items ≡ out.old.items ++ Picture.beats_text arrows.now arrow.now x y) }
+    ensures { OnOk result (out.new.items ≡ out.old.items ++ Picture.extent_text arrows.now arrow.now x y) }
 {
     if arrow.first < arrow.last {
         append_bracket(arrow, x, y, end_place(arrows, arrow.last), out)
@@ -241,7 +241,7 @@ fn append_arrow(
     append_class(arrow, first, fault, out)?;
     append_row(arrow, y, out)?;
     append_across(arrow, x, y, out)?;
-    append_beats(arrow, arrows, x, y, out)?;
+    append_extent(arrow, arrows, x, y, out)?;
     append("</g>\n", out)
 }
 

@@ -5,6 +5,7 @@ pub mod arrow;
 pub mod blocks;
 pub mod chart;
 mod draw;
+mod drawing;
 pub mod gatherer;
 pub mod layout;
 pub mod mark;

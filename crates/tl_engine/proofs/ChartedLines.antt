@@ -3,7 +3,7 @@ use Rattle.std.proofs.Common.{◌≡◌, ◌<◌, ℕ, ◌+◌, ◌-◌, Bool, t
 use Rattle.std.proofs.Common.{◌∙◌, sym, arith, append_assoc, length-append, inl, inr, subst, take}
 use Rattle.std.specs.Fmt.{decimal}
 use Rattle.std.specs.Io.KnownBytes.{Consumes}
-use Rattle.std.specs.Prelude.{codes, ◌==◌, if◌then◌else◌, IfOk, Option, Some, None, Result, Ok, Err, option_map}
+use Rattle.std.specs.Prelude.{codes, ◌==◌, if◌then◌else◌, is_some, IfOk, Option, Some, None, Result, Ok, Err, option_map}
 use Rattle.std.specs.declared.alloc.Global.{Global}
 use Rattle.std.proofs.lemmas.Bool.{lt-ltb}
 use Rattle.std.proofs.Math.Seq.{take-append_seam}
@@ -18,25 +18,28 @@ use Rattle.tl_burst.specs.statement.Messages.{History, channel_of, grown, on, un
 use Rattle.tl_burst.specs.statement.Part.{completes, is_empty}
 use Rattle.tl_params.specs.declared.level.Level.{Level}
 use Rattle.tl_params.specs.declared.perm.Perm.{Perm}
+use Rattle.tl_params.specs.declared.perm.Perm.TheVariants as perm
 use Rattle.tl_params.specs.declared.profile.Profile.{Profile}
 use Rattle.tl_params.specs.declared.rule.Rule.{Rule}
 use Rattle.tl_params.specs.declared.width.Width.{Width}
-use Rattle.tl_rules.specs.statement.Conformance.{Trace, broken_on_link, on_link}
+use Rattle.tl_rules.specs.statement.Conformance.{Trace, broken_on_link, on_link, same_perm}
 use Rattle.tl_rules.specs.statement.History.{begins, ends, held}
-use Rattle.tl_chart.specs.code.Gathered.{Gathers, drawn_of}
+use Rattle.tl_chart.specs.code.Gathered.{Gathers, drawn_of, watched}
+use Rattle.tl_chart.specs.code.Moment.{change_of}
 use Rattle.tl_chart.specs.declared.arrow.Arrow.{Arrow}
 use Rattle.tl_chart.specs.declared.gatherer.Gatherer.{Gatherer}
 use Rattle.tl_chart.specs.declared.window.Window.{Window}
 use Rattle.tl_chart.specs.statement.Chart.{IsChart}
-use Rattle.tl_chart.specs.statement.Drawn.{drawn, fault_drawn, holds}
+use Rattle.tl_chart.specs.statement.Drawn.{drawn, fault_drawn, holds, same_block}
 use Rattle.tl_explain.proofs.follows.Links.{on_own_link}
 use Rattle.tl_explain.specs.statement.Evidence.{next_line}
 use Rattle.tl_monitor.proofs.Knowing.{broken_by, unbroken}
 use Rattle.tl_monitor.specs.declared.fault.MonitorFault.TheVariants as monitor
 use Rattle.tl_monitor.specs.declared.monitor.Monitor.{Monitor}
-use Rattle.tl_monitor.specs.statement.Knows.{Knows, begins_on, fault_of, held_on}
+use Rattle.tl_monitor.specs.code.LinkState.{is_block}
+use Rattle.tl_monitor.specs.statement.Knows.{Knows, LeavesOthers, begins_on, fault_of, held_on}
 use Rattle.tl_engine.specs.code.Charting.{EndsChart, EndsCharting, IsBegun, KnowsChart, KnowsCharting}
-use Rattle.tl_engine.specs.code.Charting.{ReadsLine, fault_in, gatherer_in}
+use Rattle.tl_engine.specs.code.Charting.{ReadsLine, SaysBefore, fault_in, gatherer_in}
 use Rattle.tl_engine.specs.code.Judging.{Ends, Finishes, Judges, Stops}
 use Rattle.tl_engine.specs.code.Lines.{IsOpen, lines_of}
 use Rattle.tl_engine.specs.code.Progress.{HasAll}
@@ -97,6 +100,43 @@ module _ {w : ℕ} (levels : List Level) (link : Link) (within : link.0 < length
       ∙ ap (λ (h : History w). begins x h) (on_own_link link.0 (link, x) t (same_link link.0))
       ∙ begins_behind x (on_link link.0 t)
 
+-- ---- what is held
+
+same_self : (p : Perm) → same_perm p p ≡ true
+same_self perm.None = refl
+same_self perm.Branch = refl
+same_self perm.Trunk = refl
+
+other_block : (k : ℕ) (o : Option ℕ) → same_block (Some k) o ≡ false → is_block k o ≡ false
+other_block k None e = refl
+other_block k (Some b) e = e
+
+module _ {w : ℕ} (link : Link) (x : Beat w) (t : Trace w) where
+  -- of no block anything is held
+  pub says_none : (block : Option ℕ) → is_some block ≡ false → SaysBefore block (link, x) t None
+  says_none None e = refl
+  says_none (Some k) e = absurd cc
+
+  -- a beat that changes what is held of another block alone, or of none
+  pub says_nothing : (block o : Option ℕ) → same_block block o ≡ false → LeavesOthers o x (on_link link.0 t)
+      → SaysBefore block (link, x) t None
+  says_nothing None o other leaves = refl
+  says_nothing (Some k) o other leaves =
+      rw (on_own_link link.0 (link, x) t (same_link link.0), leaves k (other_block k o other))
+      (same_self (held k (on_link link.0 t)))
+
+  -- what is held is another permission than before, or it isn't
+  pub no_change : (block : Option ℕ) → SaysBefore block (link, x) t None → None ≡ change_of block (link, x) t
+  no_change block is = rw is refl
+
+  module _ (block : Option ℕ) (before now : Perm) (was : before ≡ holds block link t)
+      (is : now ≡ holds block link ((link, x) ∷ t)) where
+    pub same_change : same_perm before now ≡ true → None ≡ change_of block (link, x) t
+    same_change same = rw (← was, ← is, same) refl
+
+    pub other_change : same_perm before now ≡ false → Some now ≡ change_of block (link, x) t
+    other_change other = rw (← was, ← is, other) refl
+
 -- ---- a line that is read
 
 -- what is judged, as it is known of a monitor of links
@@ -113,7 +153,7 @@ judged_in k = record {
 
 module _ {w : ℕ} (old : Charting w) (mid : Monitor w) (link : Link) (x : Beat w) where
   -- the monitor takes the beat, and it is gathered
-  pub reads_good : (new : Charting w) (line : List ℕ) (number : ℕ) (first : Bool) (held_before : Perm)
+  pub reads_good : (new : Charting w) (line : List ℕ) (number : ℕ) (first : Bool) (said : Option Perm)
       → Spells line link x → number ≡ old.count + 1
       → ((levels : List Level) (p : Profile) (t : Trace w) → Knows old.monitor levels p t false
       → fault_of levels p t false (link, x) ≡ None)
@@ -122,16 +162,17 @@ module _ {w : ℕ} (old : Charting w) (mid : Monitor w) (link : Link) (x : Beat 
       → ((levels : List Level) (p : Profile) (t : Trace w) → Knows old.monitor levels p t false
       → first ≡ begins_on levels link x t)
       → ((levels : List Level) (p : Profile) (t : Trace w) → Knows old.monitor levels p t false
-      → link.0 < length levels → held_before ≡ holds old.gatherer.window.block link t)
+      → link.0 < length levels → broken_on_link levels p (link, x) t ≡ None
+      → SaysBefore (watched old.gatherer) (link, x) t said)
       → ((levels : List Level) (p : Profile) (t : Trace w) → Knows mid levels p ((link, x) ∷ t) false
       → link.0 < length levels → length old.gatherer.links.items ≡ length levels → number ≡ next_line t
-      → first ≡ begins x (on_link link.0 t) → held_before ≡ holds old.gatherer.window.block link t
+      → first ≡ begins x (on_link link.0 t) → SaysBefore (watched old.gatherer) (link, x) t said
       → Gathers old.gatherer t → Gathers new.gatherer ((link, x) ∷ t))
       → new.monitor ≡ mid → new.gatherer.window ≡ old.gatherer.window
       → length new.gatherer.links.items ≡ length old.gatherer.links.items
       → new.count ≡ number → new.fault ≡ old.fault → ReadsLine old new line None
   unfolding JudgedAfter DrawsAfter
-  reads_good new line number first held_before spells next fine knows begun holding gathered same window many count
+  reads_good new line number first said spells next fine knows begun holding gathered same window many count
       unfaulted = λ lines text k.
       let good : broken_on_link k.levels k.profile (link, x) k.trace ≡ None =
       unbroken (broken_on_link k.levels k.profile (link, x) k.trace) (fine k.levels k.profile k.trace k.known) in
@@ -146,7 +187,7 @@ module _ {w : ℕ} (old : Charting w) (mid : Monitor w) (link : Link) (x : Beat 
         known = rw same known;
         gathers = gathered k.levels k.profile k.trace known within k.many line_is
             (begun k.levels k.profile k.trace k.known ∙ begins_within k.levels link within x k.trace)
-            (holding k.levels k.profile k.trace k.known within) k.gathers;
+            (holding k.levels k.profile k.trace k.known within good) k.gathers;
         many = many ∙ k.many;
         unfaulted = unfaulted ∙ k.unfaulted;
         number = omega (arith, count, line_is);

@@ -1,11 +1,13 @@
 //! Judges a recorded trace, and gathers what is drawn of it.
 
-ghost use Rattle.std.specs.Prelude.{◌≡◌, ◌<◌, [], ◌∷◌, List, ℕ, IfOk, OnOk, false, length};
+ghost use Rattle.std.specs.Prelude.{◌≡◌, ◌<◌, [], ◌∷◌, List, ℕ, None, IfOk, OnOk, false, length};
+ghost use Rattle.tl_beat.specs.declared.beat.Beat.{Beat};
 ghost use Rattle.tl_beat.specs.statement.Line.{Spells};
 ghost use Rattle.tl_beat.specs.statement.Width.{IsWidth};
-ghost use Rattle.tl_chart.specs.code.Gathered.{Gathers};
+ghost use Rattle.tl_chart.specs.code.Gathered.{Gathers, watched};
+ghost use Rattle.tl_chart.specs.code.Moment.{change_of};
 ghost use Rattle.tl_chart.specs.statement.Drawn.{fault_drawn, holds};
-ghost use Rattle.tl_engine.specs.code.Charting.{BeginsChart, EndsChart, IsBegun, KnowsChart, ReadsLine};
+ghost use Rattle.tl_engine.specs.code.Charting.{BeginsChart, EndsChart, IsBegun, KnowsChart, ReadsLine, SaysBefore};
 ghost use Rattle.tl_engine.specs.code.Charting.{fault_in, gatherer_in};
 ghost use Rattle.tl_engine.specs.declared.fault.Fault.TheVariants.{Rule as Breaks};
 ghost use Rattle.tl_engine.specs.statement.Judged.{Judged};
@@ -13,7 +15,7 @@ ghost use Rattle.tl_explain.specs.statement.Evidence.{next_line};
 ghost use Rattle.tl_monitor.specs.statement.Knows.{Knows};
 ghost use Rattle.tl_params.specs.declared.level.Level.{Level};
 ghost use Rattle.tl_params.specs.declared.profile.Profile.{Profile};
-ghost use Rattle.tl_rules.specs.statement.Conformance.{Trace, on_link};
+ghost use Rattle.tl_rules.specs.statement.Conformance.{Trace, broken_on_link, on_link, same_perm};
 ghost use Rattle.tl_rules.specs.statement.History.{begins};
 
 use crate::fault::Fault;
@@ -26,7 +28,7 @@ use tl_beat::fault::LineFault;
 use tl_beat::read::read_line;
 use tl_chart::arrow::{Arrow, Moment};
 use tl_chart::gatherer::Gatherer;
-use tl_chart::window::Window;
+use tl_chart::window::{Window, is_same_block};
 use tl_monitor::fault::MonitorFault;
 use tl_monitor::monitor::Monitor;
 use tl_params::perm::Perm;
@@ -44,7 +46,7 @@ pub struct Charting<const W: usize> {
     count: u64,
 }
 
-/// What a link holds of the block that is drawn.
+/// What a link holds of a block.
 fn held_on<const W: usize>(monitor: &Monitor<W>, link: Link, block: Option<u32>) -> Perm
     ensures { (levels : List Level) (p : Profile) (t : Trace W) → Knows monitor.now levels p t false →
         link.0 < length levels → result ≡ holds block link t }
@@ -52,6 +54,70 @@ fn held_on<const W: usize>(monitor: &Monitor<W>, link: Link, block: Option<u32>)
     match block {
         None => Perm::None,
         Some(block) => monitor.held(link, block),
+    }
+}
+
+/// What the link of a beat holds before it of a block; nothing where the beat leaves that as it is.
+fn held_before<const W: usize>(
+    monitor: &Monitor<W>,
+    link: Link,
+    beat: &Beat<W>,
+    block: Option<u32>,
+) -> Option<Perm>
+    ensures { (levels : List Level) (p : Profile) (t : Trace W) → Knows monitor.now levels p t false →
+        link.0 < length levels → broken_on_link levels p (link, beat.now) t ≡ None →
+        SaysBefore block (link, beat.now) t result }
+{
+    if block.is_none() {
+        return None;
+    }
+    if is_same_block(block, monitor.block_of(link, beat)) {
+        return Some(held_on(monitor, link, block));
+    }
+    None
+}
+
+/// Whether these are the same permission.
+fn is_same(one: Perm, other: Perm) -> bool
+    ensures { result ≡ same_perm one other }
+{
+    one == other
+}
+
+/// What a link holds of a block with a beat that the monitor has taken, where it held another permission
+/// before it.
+fn changed_from<const W: usize>(
+    monitor: &Monitor<W>,
+    link: Link,
+    block: Option<u32>,
+    before: Perm,
+) -> Option<Perm>
+    ensures { (levels : List Level) (p : Profile) (beat : Beat W) (t : Trace W) →
+        Knows monitor.now levels p ((link, beat) ∷ t) false → link.0 < length levels →
+        before ≡ holds block link t → result ≡ change_of block (link, beat) t }
+{
+    let held = held_on(monitor, link, block);
+    if is_same(before, held) {
+        return None;
+    }
+    Some(held)
+}
+
+/// What a link holds of a block with a beat that the monitor has taken, where that is another permission
+/// than before it.
+fn held_change<const W: usize>(
+    monitor: &Monitor<W>,
+    link: Link,
+    block: Option<u32>,
+    before: Option<Perm>,
+) -> Option<Perm>
+    ensures { (levels : List Level) (p : Profile) (beat : Beat W) (t : Trace W) →
+        Knows monitor.now levels p ((link, beat) ∷ t) false → link.0 < length levels →
+        SaysBefore block (link, beat) t before → result ≡ change_of block (link, beat) t }
+{
+    match before {
+        None => None,
+        Some(before) => changed_from(monitor, link, block, before),
     }
 }
 
@@ -72,20 +138,21 @@ impl<const W: usize> Charting<W> {
     }
 
     /// Gathers the beat of a line that breaks no rule, which the monitor has taken: whether it begins a
-    /// message, and what its link held before it of the block that is drawn.
+    /// message, and what its link held before it of the block that is watched.
     fn gather(
         &mut self,
         link: Link,
         line: u64,
         beat: &Beat<W>,
         first: bool,
-        before: Perm,
+        before: Option<Perm>,
     ) -> Result<(), AllocError>
         requires { IsWidth W }
         ensures gathers { OnOk result ((levels : List Level) (p : Profile) (t : Trace W) →
             Knows self.old.monitor levels p ((link, beat.now) ∷ t) false → link.0 < length levels →
             length self.old.gatherer.links.items ≡ length levels → line ≡ next_line t →
-            first ≡ begins beat.now (on_link link.0 t) → before ≡ holds self.old.gatherer.window.block link t →
+            first ≡ begins beat.now (on_link link.0 t) →
+            SaysBefore (watched self.old.gatherer) (link, beat.now) t before →
             Gathers self.old.gatherer t → Gathers self.new.gatherer ((link, beat.now) ∷ t)) }
         ensures window { OnOk result (self.new.gatherer.window ≡ self.old.gatherer.window) }
         ensures many { OnOk result (length self.new.gatherer.links.items ≡ length self.old.gatherer.links.items) }
@@ -93,18 +160,22 @@ impl<const W: usize> Charting<W> {
         ensures monitor { self.new.monitor ≡ self.old.monitor }
         ensures fault { self.new.fault ≡ self.old.fault }
     {
-        let held = held_on(&self.monitor, link, self.gatherer.window.block);
+        self.count = line;
+        if self.gatherer.is_over() {
+            return self.gatherer.count(first);
+        }
         let moment = Moment {
             link,
             line,
             first,
             last: self.monitor.begins(link, beat),
         };
-        self.count = line;
-        self.gatherer.take(moment, beat, before, held)
+        let change = held_change(&self.monitor, link, self.gatherer.watched(), before);
+        self.gatherer.take(moment, beat, change)
     }
 
     /// Draws the beat of a line that breaks a rule.
+    #[inline(never)]
     fn take_fault(&mut self, link: Link, line: u64, beat: &Beat<W>, rule: Rule) -> Fault
         requires { IsWidth W }
         ensures fault { result ≡ Breaks rule }
@@ -124,7 +195,7 @@ impl<const W: usize> Charting<W> {
     {
         let line = self.count.checked_add(1).ok_or(AllocError)?;
         let first = self.monitor.begins(link, beat);
-        let before = held_on(&self.monitor, link, self.gatherer.window.block);
+        let before = held_before(&self.monitor, link, beat, self.gatherer.watched());
         match self.monitor.push(link, beat) {
             Ok(()) => {
                 self.gather(link, line, beat, first, before)?;
@@ -136,6 +207,7 @@ impl<const W: usize> Charting<W> {
     }
 
     /// Judges the line of the next beat, and gathers it.
+    #[inline(never)]
     fn read(&mut self, line: &[u8]) -> Result<Option<Fault>, AllocError>
         requires { IsWidth W }
         ensures { IfOk result (ReadsLine self.old self.new line.now) }
@@ -158,6 +230,7 @@ pub enum ChartLines {
 }
 
 /// Begins with the links that a header names. A line of another form names none.
+#[inline(never)]
 fn begin(alloc: Global, line: &[u8], window: Window) -> Result<Option<ChartLines>, AllocError>
     ensures { IfOk result (BeginsChart line.now) }
 {

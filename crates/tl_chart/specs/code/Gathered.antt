@@ -1,14 +1,18 @@
 -- What a gatherer has of a trace.
 use Rattle.std.specs.Prelude.{ℕ, Bool, List, [], ◌≡◌, ◌<◌, ◌≤◌, ◌==◌, ◌&&◌, if◌then◌else◌, length, slice_index_or, Option}
+use Rattle.std.specs.Prelude.{◌∷◌, ◌++◌, None, false, filter, is_none, nat_lt, not}
 use Rattle.tl_beat.specs.declared.beat.Beat.{Beat}
 use Rattle.tl_beat.specs.declared.beat.Beat.TheVariants as beat
+use Rattle.tl_beat.specs.declared.beat.Link.{Link}
 use Rattle.tl_burst.specs.statement.Messages.{History}
 use Rattle.tl_chart.specs.declared.blocks.LinkBlocks.{LinkBlocks}
 use Rattle.tl_chart.specs.declared.gatherer.Gatherer.{Gatherer}
+use Rattle.tl_chart.specs.declared.mark.Mark.{Mark}
 use Rattle.tl_chart.specs.statement.Drawn.{Drawn, drawn}
 use Rattle.tl_chart.specs.statement.Messages.{block_granted}
 use Rattle.tl_explain.specs.code.Recorded.{AreBlocks}
 use Rattle.tl_monitor.specs.code.Count.{at}
+use Rattle.tl_params.specs.declared.perm.Perm.{Perm}
 use Rattle.tl_rules.specs.statement.Conformance.{Trace, on_link}
 use Rattle.tl_rules.specs.statement.History.{is_grant}
 
@@ -40,8 +44,22 @@ drawn_of g = record {
   closed = g.closed;
 }
 
--- what is drawn of the trace has been gathered
+-- what is marked, and that a link holds so much from this line on: before the window only the last of each link
+abbrev pub marked : ℕ → Link → ℕ → Perm → List Mark → List Mark
+marked first link line held marks =
+    (if nat_lt line first then filter (λ m. not (m.link.0 == link.0)) marks else marks)
+    ++ record { link = link; line = line; held = held } ∷ []
+
+-- nothing is drawn any more, and each message that begins is counted, whatever its block
+abbrev pub is_over : Gatherer → Bool
+is_over g = g.closed && is_none g.window.block
+
+-- the block of which it is drawn what is held; none where nothing is drawn any more
+abbrev pub watched : Gatherer → Option ℕ
+watched g = if g.closed then None else g.window.block
+
+-- What is drawn of the trace has been gathered. The blocks of its messages are known as long as they bear on that.
 pub record Gathers {w : ℕ} (g : Gatherer) (t : Trace w) : Type 0 where
   pub drawn_is : drawn_of g ≡ drawn g.window t
-  pub links_are : KnowLinks g.links.items t
-  pub carry_all : CarryAll g.links.items t
+  pub links_are : is_over g ≡ false → KnowLinks g.links.items t
+  pub carry_all : is_over g ≡ false → CarryAll g.links.items t

@@ -115,16 +115,16 @@ side_text x from to = codes "<path d='M" ++ decimal x ++ codes " " ++ decimal fr
 unfoldable pub bracket_text : Arrow → ℕ → ℕ → ℕ → List ℕ
 bracket_text m x from to = side_text (x - bracket_width m.control) from to ++ close_text m ++ codes "'/>\n"
 
--- where the message has more than one beat
-unfoldable pub beats_text : List Arrow → Arrow → ℕ → ℕ → List ℕ
-beats_text arrows m x y = if nat_lt m.first m.last then bracket_text m x y (end_place arrows m.last) else []
+-- the extent of a message that has more than one beat: its bracket
+unfoldable pub extent_text : List Arrow → Arrow → ℕ → ℕ → List ℕ
+extent_text arrows m x y = if nat_lt m.first m.last then bracket_text m x y (end_place arrows m.last) else []
 
 -- what is drawn of a message: its row, its arrow, its bracket
 unfoldable pub arrow_text : List Arrow → List ℕ → ℕ → ℕ → Arrow → List ℕ
 arrow_text arrows links first fault m =
     class_text first fault m ++ row_text (row_place (row_of arrows m.first)) m
     ++ across_text m (link_place links m.link.0) (row_place (row_of arrows m.first))
-    ++ beats_text arrows m (link_place links m.link.0) (row_place (row_of arrows m.first)) ++ codes "</g>\n"
+    ++ extent_text arrows m (link_place links m.link.0) (row_place (row_of arrows m.first)) ++ codes "</g>\n"
 
 -- all messages, in their order
 abbrev pub arrows_text : List Arrow → List ℕ → ℕ → ℕ → List ℕ

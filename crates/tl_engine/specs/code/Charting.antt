@@ -1,13 +1,16 @@
 -- What is known while a trace is judged and gathered.
-use Rattle.std.specs.Prelude.{◌≡◌, ℕ, ◌+◌, false, List, [], ◌∷◌, ◌++◌, length, Option, Some, None}
+use Rattle.std.specs.Prelude.{◌≡◌, ℕ, ◌+◌, false, true, List, [], ◌∷◌, ◌++◌, length, Option, Some, None}
+use Rattle.tl_beat.specs.declared.beat.Beat.{Beat}
+use Rattle.tl_beat.specs.declared.beat.Link.{Link}
 use Rattle.tl_params.specs.declared.level.Level.{Level}
+use Rattle.tl_params.specs.declared.perm.Perm.{Perm}
 use Rattle.tl_params.specs.declared.profile.Profile.{Profile}
 use Rattle.tl_params.specs.declared.width.Width.{Width}
-use Rattle.tl_rules.specs.statement.Conformance.{Trace}
+use Rattle.tl_rules.specs.statement.Conformance.{Trace, same_perm}
 use Rattle.tl_chart.specs.code.Gathered.{Gathers, drawn_of}
 use Rattle.tl_chart.specs.declared.arrow.Arrow.{Arrow}
 use Rattle.tl_chart.specs.declared.gatherer.Gatherer.{Gatherer}
-use Rattle.tl_chart.specs.statement.Drawn.{Drawn}
+use Rattle.tl_chart.specs.statement.Drawn.{Drawn, holds}
 use Rattle.tl_explain.specs.statement.Evidence.{next_line}
 use Rattle.tl_monitor.specs.statement.Knows.{Knows}
 use Rattle.tl_engine.specs.declared.charting.Charting.{Charting}
@@ -20,6 +23,11 @@ use Rattle.tl_engine.specs.statement.Charted.{Draws, DrawsAfter}
 use Rattle.tl_engine.specs.statement.Fault.{fault_text}
 use Rattle.tl_engine.specs.statement.Judged.{Judged, JudgedAfter, clean_text, faults_of_links}
 use Rattle.tl_engine.specs.statement.Trace.{SpellsHeader}
+
+-- what the link of the beat x behind t holds before it of a block; nothing where the beat leaves that as it is
+abbrev pub SaysBefore : {w : ℕ} → Option ℕ → Link × Beat w → Trace w → Option Perm → Type 0
+SaysBefore block x t None = same_perm (holds block x.0 t) (holds block x.0 (x ∷ t)) ≡ true
+SaysBefore block x t (Some before) = before ≡ holds block x.0 t
 
 -- a header of these links has been read, and nothing else
 pub record IsBegun {w : ℕ} (c : Charting w) (levels : List Level) (p : Profile) : Type 0 where

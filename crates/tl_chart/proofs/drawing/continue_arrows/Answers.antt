@@ -1,6 +1,6 @@
 use Rattle.std.proofs.Common.{rules, arith, ◌≤◌, length}
 use Rattle.tl_chart.proofs.Continuing.{continued_end, continued_none, continued_step}
-use Rattle.tl_chart.proofs.gatherer.continue_arrows.Goals as goal
+use Rattle.tl_chart.proofs.drawing.continue_arrows.Goals as goal
 
 pub loop-arrow-init : goal.loop-arrow-init
 loop-arrow-init g c = λ t is. continued_none _ _

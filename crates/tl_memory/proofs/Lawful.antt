@@ -1,14 +1,11 @@
 -- What is known of a beat that breaks no rule after those before it on its link.
-use Rattle.std.proofs.Common.{◌≡◌, ℕ, Bool, true, false, ◌&&◌, ◌^◌, ◌<◌, ◌≤◌, List, [], ◌∷◌, Option, Some, None}
+use Rattle.std.proofs.Common.{◌≡◌, ℕ, Bool, true, false, ◌||◌, ◌^◌, ◌<◌, ◌≤◌, List, [], ◌∷◌, Option, Some, None}
 use Rattle.std.proofs.Common.{refl, sym, ◌∙◌, arith}
-use Rattle.std.specs.Prelude.{if◌then◌else◌, not, is_none, ◌==◌, nat_le}
+use Rattle.std.specs.Prelude.{if◌then◌else◌, not, is_none, ◌==◌}
 use Rattle.std.proofs.lemmas.Bool.{and_parts, eqb-true, le-leb, not-false}
 use Rattle.tl_beat.specs.declared.beat.Beat.{Beat}
 use Rattle.tl_beat.specs.declared.beat.Beat.TheVariants as beat
 use Rattle.tl_beat.specs.declared.beat.BeatA.{BeatA}
-use Rattle.tl_beat.specs.declared.beat.BeatB.{BeatB}
-use Rattle.tl_beat.specs.declared.beat.BeatC.{BeatC}
-use Rattle.tl_beat.specs.declared.beat.BeatD.{BeatD}
 use Rattle.tl_beat.specs.declared.channel.Channel.TheVariants as channel
 use Rattle.tl_beat.specs.declared.opcode.OpA.{OpA}
 use Rattle.tl_beat.specs.declared.opcode.OpA.TheVariants as a
@@ -17,7 +14,6 @@ use Rattle.tl_beat.specs.statement.Width.{IsWidth}
 use Rattle.tl_burst.specs.statement.Messages.{History, breaks_burst, channel_of, unfinished}
 use Rattle.tl_burst.specs.statement.Part.{is_empty, is_small}
 use Rattle.tl_params.specs.declared.level.Level.{Level}
-use Rattle.tl_params.specs.declared.level.Level.TheVariants as level
 use Rattle.tl_params.specs.declared.profile.Profile.{Profile}
 use Rattle.tl_params.specs.declared.rule.Rule.{Rule}
 use Rattle.tl_params.specs.declared.rule.Rule.TheVariants.{L1, L2, L3, L4, L5, L7, S1}
@@ -25,7 +21,7 @@ use Rattle.tl_rules.specs.code.Control.{a_control, a_own}
 use Rattle.tl_rules.specs.statement.Conformance.{broken_after, broken_given, broken_in_order, broken_order, is_legal}
 use Rattle.tl_rules.specs.statement.History.{begins}
 use Rattle.tl_rules.specs.statement.Legality.{a_has_mask, a_has_param, a_has_size, a_of_level, breaks_l1, breaks_l2}
-use Rattle.tl_rules.specs.statement.Legality.{breaks_l3, breaks_l7, illegal, is_aligned}
+use Rattle.tl_rules.specs.statement.Legality.{breaks_l3, breaks_l7, illegal, is_aligned, is_one_of}
 use Rattle.tl_rules.proofs.Bursts.{both_none, next_rule}
 use Rattle.tl_rules.proofs.Sizes.{access-small, response-small}
 use Rattle.tl_rules.proofs.Takeable.{full_mask-narrow, part_mask-narrow}
@@ -73,25 +69,27 @@ goes_on {w} l p x t e = go (unfinished (channel_of x) t) (in_order l p x t e)
 -- where it is the first, it breaks no rule of the order
 pub begun_in_order : {w : ℕ} (l : Level) (p : Profile) (x : Beat w) (t : History w) → broken_after l p x t ≡ None
     → begins x t ≡ true → broken_order p x t ≡ None
-begun_in_order {w} l p x t e first = go (begins x t) first (in_order l p x t e)
+begun_in_order {w} l p x t e first = go (broken_order p x t) _ (begins x t) first (in_order l p x t e)
   where
-    go : {o rest : Option Rule} (b : Bool) → b ≡ true → (if b then o else rest) ≡ None → o ≡ None
-    go true e h = h
-    go false e h = absurd cc
+    go : (o rest : Option Rule) (b : Bool) → b ≡ true → (if b then o else rest) ≡ None → o ≡ None
+    go o rest true e h = h
+    go o rest false e h = absurd cc
 
 -- ---- its size and its mask
+
+atomic_small : (size : ℕ) → is_one_of size (2 ∷ 3 ∷ []) ≡ true → size ≤ 6
+atomic_small size e = go (size == 2) (size == 3) refl refl e
+  where
+    go : (two three : Bool) → (size == 2) ≡ two → (size == 3) ≡ three → (two || (three || false)) ≡ true → size ≤ 6
+    go true three f g e = let h = eqb-true size 2 f in omega (arith, h)
+    go false true f g e = let h = eqb-true size 3 g in omega (arith, h)
+    go false false f g e = absurd cc
 
 request_small : (w size : ℕ) (l : Level) (opcode : OpA) → IsWidth w → a_has_size w l opcode size ≡ true → size ≤ 6
 request_small w size l a.PutFullData is e = access-small w size l is e
 request_small w size l a.PutPartialData is e = access-small w size l is e
 request_small w size l a.ArithmeticData is e = atomic_small size e
-  where
-    atomic_small : (size : ℕ) → ((size == 2) || ((size == 3) || false)) ≡ true → size ≤ 6
-    atomic_small size e = grind (arith, e)
 request_small w size l a.LogicalData is e = atomic_small size e
-  where
-    atomic_small : (size : ℕ) → ((size == 2) || ((size == 3) || false)) ≡ true → size ≤ 6
-    atomic_small size e = grind (arith, e)
 request_small w size l a.Get is e = access-small w size l is e
 request_small w size l a.Intent is e = access-small w size l is e
 request_small w size l a.AcquireBlock is e = let h = eqb-true size 6 e in omega (arith, h)

@@ -1,8 +1,17 @@
+pub mod Answering
 pub mod Atomics
+pub mod Complete
 pub mod Elsewhere
 pub mod Keeping
+pub mod Lanes
+pub mod Lawful
+pub mod LinkBeats
 pub mod Masks
+pub mod Open
+pub mod OpenAccesses
 pub mod Payloads
 pub mod Puts
+pub mod Responses
 pub mod States
+pub mod Unfinished
 pub mod Writing

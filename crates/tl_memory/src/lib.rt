@@ -6,6 +6,7 @@ pub mod accesses;
 pub mod block;
 pub mod expected;
 pub mod granted;
+pub mod link;
 pub mod message;
 pub mod pending;
 pub mod performed;

@@ -2,10 +2,13 @@ pub mod Answering
 pub mod Atomics
 pub mod Complete
 pub mod Elsewhere
+pub mod Expecting
+pub mod Judging
 pub mod Keeping
 pub mod Lanes
 pub mod Lawful
 pub mod LinkBeats
+pub mod LinkStates
 pub mod Masks
 pub mod Open
 pub mod OpenAccesses

@@ -10,4 +10,5 @@ pub mod link;
 pub mod message;
 pub mod pending;
 pub mod performed;
+pub mod typed;
 pub mod writer;

@@ -1,8 +1,12 @@
 pub mod Atomics
+pub mod Bearing
+pub mod BlockAnswers
+pub mod Borne
 pub mod Elsewhere
 pub mod Keeping
 pub mod Masks
 pub mod Payloads
 pub mod Puts
 pub mod States
+pub mod Tables
 pub mod Writing

@@ -4,9 +4,11 @@
 pub mod access;
 pub mod accesses;
 pub mod block;
+pub mod blocks;
 pub mod expected;
 pub mod granted;
 pub mod message;
+pub mod next;
 pub mod pending;
 pub mod performed;
 pub mod writer;

@@ -1,7 +1,9 @@
 pub mod Brought
 pub mod BytesGranted
 pub mod BytesRead
+pub mod Finding
 pub mod Gathered
+pub mod Pending
 pub mod Reading
 pub mod Since
 pub mod Told

@@ -4,7 +4,7 @@ ghost use Rattle.std.specs.Prelude.{ℕ, suc, [], ◌∷◌, ◌+◌, ◌*◌, �
 ghost use Rattle.tl_beat.specs.declared.beat.Beat.{Beat};
 ghost use Rattle.tl_beat.specs.declared.beat.Link.{Link};
 ghost use Rattle.tl_rules.specs.statement.Conformance.{Trace};
-ghost use Rattle.tl_bytes.specs.statement.Bytes.{Access, may_read};
+ghost use Rattle.tl_bytes.specs.statement.Bytes.{Access, may_read, told_as};
 
 use crate::block_bytes::BlockBytes;
 use crate::telling::Told;
@@ -20,7 +20,8 @@ pub struct ReadBytes {
 }
 
 impl ReadBytes {
-    ghost use Rattle.tl_bytes.specs.statement.Known.{KnowsBlock, KnowsGrant, KnowsRead, MayWrite, others, windowed};
+    ghost use Rattle.tl_bytes.specs.statement.Known.{KnowsBlock, KnowsGrant, KnowsRead, MayWrite, others};
+    ghost use Rattle.tl_bytes.specs.statement.Known.{tellings_at, windowed};
 
     /// What it may bring at the moment at which its request is complete: what the block's bytes may be,
     /// and what the other accesses that are pending may write.
@@ -69,7 +70,8 @@ impl ReadBytes {
 
     /// Whether it may bring this byte of a place.
     pub fn may_bring(&self, place: u8, byte: u8) -> bool
-        ensures { (w n number : ℕ) (access : Access w) (t : Trace w) → KnowsRead self.now n number access t →
+        ensures told { result ≡ told_as byte (tellings_at place self.now.told.items) }
+        ensures read { (w n number : ℕ) (access : Access w) (t : Trace w) → KnowsRead self.now n number access t →
             place < 64 → result ≡ may_read n access t (64 * number + place) byte }
     {
         is_told_as(self.told.as_slice(), place, byte)

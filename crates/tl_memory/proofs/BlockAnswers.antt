@@ -22,8 +22,9 @@ use Rattle.tl_bytes.specs.statement.Bytes.{Access, ends_request, is_access, is_o
 use Rattle.tl_bytes.specs.statement.Bytes.{is_perm_only, pending_accesses, tells}
 use Rattle.tl_bytes.specs.statement.Bytes.{tells_granted}
 use Rattle.tl_memory.specs.code.Elsewhere.{IsElsewhere, NoneIsTo, PassesBy}
-use Rattle.tl_memory.specs.code.Taking.{AreAsked, IsResponse, tells_asked}
+use Rattle.tl_memory.specs.code.Taking.{AreAsked, IsResponse, tells_block}
 use Rattle.tl_memory.specs.statement.Known.{AllWriteInside, AnyIsTo, is_to}
+use Rattle.tl_memory.proofs.Responses.{grants_no_access, none-answered, response-tells}
 use Rattle.tl_memory.proofs.Bearing.{none_of_both, none_of_three, response-elsewhere, response-passes}
 
 -- ---- the request
@@ -49,28 +50,6 @@ grants-asked block y past asked e =
     let first = asked-first y.source past asked e in
     ap (λ o. is_grant y.opcode && asks_for block o) first.1
     ∙ ap (λ k. is_grant y.opcode && (k == block)) first.2
-
-as_asked : {w : ℕ} (opcode : OpD) (first : BeatA w) → tells_granted opcode (Some first) ≡ tells_asked opcode
-    first.opcode
-as_asked d.AccessAck first = refl
-as_asked d.AccessAckData first = refl
-as_asked d.HintAck first = refl
-as_asked d.Grant first = refl
-as_asked d.GrantData first = refl
-as_asked d.ReleaseAck first = refl
-
-pub tells-asked : {w : ℕ} (block : ℕ) (y : BeatD w) (past : History w) (asked : Request)
-    → open_request y.source past ≡ Some asked
-    → tells block (beat.D y) past
-    ≡ (ends (beat.D y) past && ((is_grant y.opcode && (asked.block == block)) && tells_asked y.opcode asked.opcode))
-tells-asked block y past asked e =
-    let first = asked-first y.source past asked e in
-    ap (λ b. ends (beat.D y) past && (b && tells_granted y.opcode (request_of y.source past)))
-    (grants-asked block y past asked e)
-    ∙ ap (λ o. ends (beat.D y) past && ((is_grant y.opcode && (asked.block == block)) && tells_granted y.opcode o))
-    first.1
-    ∙ ap (λ b. ends (beat.D y) past && ((is_grant y.opcode && (asked.block == block)) && b))
-    (as_asked y.opcode first.0 ∙ ap (tells_asked y.opcode) first.3)
 
 -- ---- the accesses that are pending
 
@@ -103,13 +82,12 @@ none-of link source block asked (access ∷ accesses) are bare = (
   none-of link source block asked accesses are.1 bare,
 )
 
-pub all-stay : {w : ℕ} (link source : ℕ) (asked : Request) (accesses : List (Access w))
+none-found : {w : ℕ} (link source : ℕ) (asked : Request) (accesses : List (Access w))
     → AreAsked link source asked accesses → is_access asked.opcode ≡ false
-    → filter (λ access. not (is_of link source access)) accesses ≡ accesses
-all-stay link source asked [] are bare = refl
-all-stay link source asked (access ∷ accesses) are bare =
-    rw (none-asked link source asked access bare are.0)
-    (ap (λ l. access ∷ l) (all-stay link source asked accesses are.1 bare))
+    → find (is_of link source) accesses ≡ None
+none-found link source asked [] are bare = refl
+none-found link source asked (access ∷ accesses) are bare =
+    rw (none-asked link source asked access bare are.0) (none-found link source asked accesses are.1 bare)
 
 -- the access that is answered, where there is one, is to the block of the request
 pub answered-there : {w : ℕ} (link source block : ℕ) (asked : Request) (accesses : List (Access w))
@@ -131,28 +109,22 @@ answer-ends d.Grant asked e = refl
 answer-ends d.GrantData asked e = refl
 answer-ends d.ReleaseAck asked e = absurd cc
 
--- a Grant answers no access
-pub grant-answers : (opcode : OpD) (asked : OpA) → answers opcode asked ≡ true → is_grant opcode ≡ true
-    → is_access asked ≡ false
-grant-answers d.Grant a.AcquireBlock e g = refl
-grant-answers d.Grant a.AcquirePerm e g = refl
-grant-answers d.GrantData a.AcquireBlock e g = refl
-grant-answers _ _ e g = absurd cc
-
-pub access-answered : (opcode : OpD) (asked : OpA) → answers opcode asked ≡ true → is_access asked ≡ true
-    → is_grant opcode ≡ false
-access-answered opcode asked e access = elim (cases_Bool (is_grant opcode)) [
-  | inr bare ↦ bare
-  | inl grant ↦ true_false (sym access ∙ grant-answers opcode asked e grant)
-]
-
-tells-grant : (opcode : OpD) (asked : OpA) → tells_asked opcode asked ≡ true → is_grant opcode ≡ true
+-- what tells of a block is a Grant
+tells-grant : (opcode : OpD) (asked : OpA) → tells_block opcode asked ≡ true → is_grant opcode ≡ true
 tells-grant d.Grant asked e = refl
 tells-grant d.GrantData asked e = refl
 tells-grant d.AccessAck asked e = absurd cc
 tells-grant d.AccessAckData asked e = absurd cc
 tells-grant d.HintAck asked e = absurd cc
 tells-grant d.ReleaseAck asked e = absurd cc
+
+-- and answers no access
+tells-bare : (opcode : OpD) (asked : OpA) → answers opcode asked ≡ true → tells_block opcode asked ≡ true
+    → is_access asked ≡ false
+tells-bare opcode asked e told = elim (cases_Bool (is_access asked)) [
+  | inr bare ↦ bare
+  | inl access ↦ true_false (sym (tells-grant opcode asked told) ∙ grants_no_access opcode asked e access)
+]
 
 -- ---- blocks that a response leaves
 
@@ -168,12 +140,12 @@ other-passes block link y asked t inside is other =
 
 tells-off : {w : ℕ} (block : ℕ) (y : BeatD w) (past : History w) (asked : Request)
     → open_request y.source past ≡ Some asked
-    → (ends (beat.D y) past ≡ false) ⊎ (tells_asked y.opcode asked.opcode ≡ false)
+    → (ends (beat.D y) past ≡ false) ⊎ (tells_block y.opcode asked.opcode ≡ false)
     → tells block (beat.D y) past ≡ false
-tells-off block y past asked e off = tells-asked block y past asked e ∙ elim off [
+tells-off block y past asked e off = response-tells block y asked past e ∙ elim off [
   | inl goes_on ↦ rw goes_on refl
-  | inr silent ↦ none_of_three (ends (beat.D y) past) (is_grant y.opcode && (asked.block == block))
-      (tells_asked y.opcode asked.opcode) silent
+  | inr silent ↦ none_of_three (ends (beat.D y) past) (asked.block == block)
+      (tells_block y.opcode asked.opcode) silent
 ]
 
 not_both : (a b : Bool) → b ≡ false → not a && b ≡ true → ⊥
@@ -192,7 +164,7 @@ begun-elsewhere block link y asked t inside is goes_on =
 -- a response that tells nothing, to what is no access
 pub told-elsewhere : {w : ℕ} (block : ℕ) (link : Link) (y : BeatD w) (asked : Request) (t : Trace w)
     → AllWriteInside (pending_accesses t) → IsResponse link.0 y asked t
-    → tells_asked y.opcode asked.opcode ≡ false → is_access asked.opcode ≡ false
+    → tells_block y.opcode asked.opcode ≡ false → is_access asked.opcode ≡ false
     → IsElsewhere block (link, beat.D y) t
 told-elsewhere block link y asked t inside is silent bare =
     response-elsewhere block link y t inside
@@ -204,34 +176,16 @@ told-elsewhere block link y asked t inside is silent bare =
 -- a Grant that tells what the block has
 pub grant-tells : {w : ℕ} (block : ℕ) (y : BeatD w) (past : History w) (asked : Request)
     → open_request y.source past ≡ Some asked → asked.block ≡ block → ends (beat.D y) past ≡ true
-    → tells_asked y.opcode asked.opcode ≡ true → tells block (beat.D y) past ≡ true
-grant-tells block y past asked e here over told = tells-asked block y past asked e
-    ∙ rw (over, tells-grant y.opcode asked.opcode told, eq-eqb asked.block block here, told) refl
-
-same-if : {X : Type 0} (c : Bool) (one other : X) → one ≡ other → (if c then one else other) ≡ other
-same-if true one other e = e
-same-if false one other e = refl
+    → tells_block y.opcode asked.opcode ≡ true → tells block (beat.D y) past ≡ true
+grant-tells block y past asked e here over told = response-tells block y asked past e
+    ∙ rw (over, eq-eqb asked.block block here, told) refl
 
 -- with it the same accesses are pending
 pub grant-stays : {w : ℕ} (link : Link) (y : BeatD w) (asked : Request) (t : Trace w) → IsResponse link.0 y asked t
-    → tells_asked y.opcode asked.opcode ≡ true → pending_accesses ((link, beat.D y) ∷ t) ≡ pending_accesses t
-unfolding pending_accesses
+    → tells_block y.opcode asked.opcode ≡ true → pending_accesses ((link, beat.D y) ∷ t) ≡ pending_accesses t
 grant-stays link y asked t is told =
-    same-if (ends_request y (on_link link.0 t)) _ (pending_accesses t)
-    (all-stay link.0 y.source asked (pending_accesses t) is.are_asked
-    (grant-answers y.opcode asked.opcode is.answers_it (tells-grant y.opcode asked.opcode told)))
-
--- the answer to an access tells nothing beside
-pub answer-silent : {w : ℕ} (block : ℕ) (link : Link) (y : BeatD w) (asked : Request) (t : Trace w)
-    → IsResponse link.0 y asked t → is_access asked.opcode ≡ true
-    → tells block (beat.D y) (on_link link.0 t) ≡ false
-answer-silent block link y asked t is access =
-    tells-asked block y (on_link link.0 t) asked is.asked_is
-    ∙ rw (access-answered y.opcode asked.opcode is.answers_it access) (never (ends (beat.D y) (on_link link.0 t)))
-  where
-    never : (b : Bool) → b && false ≡ false
-    never true = refl
-    never false = refl
+    none-answered link y t (none-found link.0 y.source asked (pending_accesses t) is.are_asked
+    (tells-bare y.opcode asked.opcode is.answers_it told))
 
 pub answer-over : {w : ℕ} (link : Link) (y : BeatD w) (asked : Request) (t : Trace w)
     → IsResponse link.0 y asked t → ends (beat.D y) (on_link link.0 t) ≡ true

@@ -32,7 +32,7 @@ some_of payload q (Some v) e some =
     let lt = slice_get_within payload q v (sym e) in
     record { place = q; is_there = refl; inside = lt; value = e ∙ slice_get-get_or payload q 0 lt }
 
-has_byte : (carries : Bool) (counts : ℕ → Bool) (payload : List ℕ) (o : Option ℕ)
+pub has_byte : (carries : Bool) (counts : ℕ → Bool) (payload : List ℕ) (o : Option ℕ)
     → is_some (if carries then byte_if counts payload o else None) ≡ true
     → HasByte payload o (if carries then byte_if counts payload o else None)
 has_byte false counts payload o some = absurd cc
@@ -44,7 +44,7 @@ has_byte true counts payload (Some q) some = go (counts q) some
     go true e = some_of payload q (slice_get payload q) refl e
     go false e = absurd cc
 
-placed : (base x q : ℕ) → (if nat_le base x then Some (x - base) else None) ≡ Some q → (base ≤ x) × (q ≡ x - base)
+pub placed : (base x q : ℕ) → (if nat_le base x then Some (x - base) else None) ≡ Some q → (base ≤ x) × (q ≡ x - base)
 placed base x q e = elim (cases_lt x base) [
   | inl below ↦ absurd (none_some (sym (rw (lt-leb base x below) refl) ∙ e))
   | inr from ↦ (from, same (nat_le base x) e)
@@ -57,7 +57,7 @@ placed base x q e = elim (cases_lt x base) [
     same true e = cc
     same false e = absurd cc
 
-put_is : {w : ℕ} (op : OpA) (m : MessageA w) (memory : Memory) (x : ℕ) → is_put op ≡ true → writes op m x ≡ true
+pub put_is : {w : ℕ} (op : OpA) (m : MessageA w) (memory : Memory) (x : ℕ) → is_put op ≡ true → writes op m x ≡ true
     → (is_some (byte_at 0 (message.A m) x) ≡ true)
     × (after op m memory x ≡ unwrap_or (byte_at 0 (message.A m) x) (memory x))
 put_is a.PutFullData m memory x e written = (written, refl)

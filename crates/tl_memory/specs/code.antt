@@ -1,3 +1,4 @@
 pub mod Elsewhere
+pub mod Expected
 pub mod Taking
 pub mod Writers

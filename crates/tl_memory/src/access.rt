@@ -67,6 +67,17 @@ fn is_set(mask: u64, bit: usize) -> bool
     bit < 64 && (mask >> bit) % 2 == 1
 }
 
+/// Whether a request of this address and size reaches the byte at a place of its block.
+pub fn reaches(address: u32, size: u8, place: usize) -> bool
+    ensures { place < 64 → result ≡ burst.reaches address size (64 * block_at address + place) }
+{
+    let first = (address % 64) as usize;
+    if place < first {
+        return false;
+    }
+    size > 6 || place - first < 1 << size
+}
+
 impl<const W: usize> Asked<W> {
     ghost use Rattle.tl_memory.specs.statement.Known.{AreWide, KnowsMessage};
 
@@ -118,15 +129,11 @@ impl<const W: usize> Asked<W> {
 
     /// Whether an atomic reaches the byte at a place of its block.
     fn reaches(&self, place: usize) -> bool
-        ensures { (access : Access W) → IsAsked self.now access →
+        ensures { (access : Access W) → IsAsked self.now access → place < 64 →
             result ≡ burst.reaches access.request.address access.request.size
             (64 * block_at access.request.address + place) }
     {
-        let first = (self.request.address % 64) as usize;
-        match place.checked_sub(first) {
-            None => false,
-            Some(at) => at < 1 << self.request.size,
-        }
+        reaches(self.request.address, self.request.size, place)
     }
 
     /// Whether it writes the byte at a place of its block.

@@ -7,6 +7,7 @@ pub mod block;
 pub mod blocks;
 pub mod expected;
 pub mod granted;
+pub mod link;
 pub mod message;
 pub mod next;
 pub mod pending;

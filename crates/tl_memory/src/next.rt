@@ -1,6 +1,6 @@
 //! What a beat makes of the state of the block that it bears on.
 
-ghost use Rattle.std.specs.Prelude.{ℕ, suc, Bool, Some, None, ◌∷◌, ◌≡◌, ◌≤◌, ◌&&◌, length, IfOk};
+ghost use Rattle.std.specs.Prelude.{ℕ, suc, Bool, Option, Some, None, ◌∷◌, ◌≡◌, ◌≤◌, ◌&&◌, length, IfOk, IsTrue};
 ghost use Rattle.tl_beat.specs.declared.beat.Beat.{Beat};
 ghost use Rattle.tl_beat.specs.declared.beat.Beat.TheVariants as beat;
 ghost use Rattle.tl_beat.specs.declared.beat.Link.{Link};
@@ -8,16 +8,21 @@ ghost use Rattle.tl_beat.specs.declared.channel.Channel.TheVariants as channel;
 ghost use Rattle.tl_beat.specs.statement.Opcode.{c_carries_data};
 ghost use Rattle.tl_beat.specs.statement.Width.{IsWidth};
 ghost use Rattle.tl_burst.specs.statement.Messages.{History, unfinished};
+ghost use Rattle.tl_burst.specs.statement.Part;
 ghost use Rattle.tl_params.specs.declared.perm.Perm.TheVariants as perm;
 ghost use Rattle.tl_rules.specs.statement.Conformance.{Trace, on_link};
 ghost use Rattle.tl_rules.specs.statement.History.{block_at, ends};
 ghost use Rattle.tl_rules.specs.statement.Windows.{is_free};
 ghost use Rattle.tl_bytes.specs.statement.Bytes as bytes;
-ghost use Rattle.tl_memory.specs.code.Taking.{IsNext, IsRequested, IsResponse, tells_asked};
+ghost use Rattle.tl_memory.specs.code.Elsewhere.{block_borne};
+ghost use Rattle.tl_memory.specs.code.Taking.{IsLegalBeat, IsNext, IsRequested, IsResponse, IsSeen, request_answered};
+ghost use Rattle.tl_memory.specs.code.Taking.{tells_block};
 ghost use Rattle.tl_memory.specs.statement.Known.{HasRoom, KnowsMessage, KnowsState};
+ghost use Rattle.tl_memory.specs.statement.Links.{KnowsMessages};
 
 use crate::access::{Asked, is_access};
 use crate::block::BlockState;
+use crate::link::LinkMessages;
 use crate::message::CarriedMessage;
 use std::alloc::{AllocError, Global};
 use tl_beat::beat::{Beat, BeatA, BeatC, BeatD, Link};
@@ -105,7 +110,7 @@ pub fn after_report<const W: usize>(
 
 /// Whether a response tells of the block of such a request what it has.
 fn tells(opcode: OpD, asked: OpA) -> bool
-    ensures { result ≡ tells_asked opcode asked }
+    ensures { result ≡ tells_block opcode asked }
 {
     match opcode {
         OpD::GrantData => true,
@@ -146,4 +151,35 @@ pub fn after_response<const W: usize>(
         return Ok(Some(state.answered(alloc, link, y.source, &all, moment)?));
     }
     Ok(None)
+}
+
+/// The state with a beat that bears on its block, at this moment, where that changes more of it than how free it
+/// is: this is the request that the beat answers, and these are the messages that aren't complete on its link.
+pub fn after_beat<const W: usize>(
+    alloc: Global,
+    state: &BlockState<W>,
+    link: Link,
+    beat: &Beat<W>,
+    asked: Option<Request>,
+    messages: &LinkMessages,
+    moment: u64,
+) -> Result<Option<BlockState<W>>, AllocError>
+    requires width { IsWidth W }
+    requires small { IsTrue (Part.is_small beat.now) }
+    ensures { IfOk result (λ next. (n block : ℕ) (free : Option Bool) (t : Trace W) →
+        KnowsState state.now n block t t → KnowsMessages messages.now (on_link link.0 t) →
+        IsLegalBeat link.0 beat.now t → asked ≡ request_answered beat.now (on_link link.0 t) →
+        block_borne beat.now (on_link link.0 t) ≡ Some block → moment ≡ suc (length t) →
+        IsSeen free n block (link, beat.now) t → IsNext next free n block (link, beat.now) t) }
+{
+    let before = moment.saturating_sub(1);
+    match beat {
+        Beat::A(y) => after_request(alloc, state, link, y, &messages.a, moment),
+        Beat::C(y) => after_report(alloc, state, y, &messages.c, before),
+        Beat::D(y) => match asked {
+            Some(asked) => after_response(alloc, state, link, y, asked, &messages.d, before),
+            None => Ok(None),
+        },
+        _ => Ok(None),
+    }
 }

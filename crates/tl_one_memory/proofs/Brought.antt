@@ -24,7 +24,7 @@ use Rattle.tl_rules.specs.statement.History.{is_release_ack}
 use Rattle.tl_bytes.specs.statement.Bytes.{Access, before_last, carried_byte, each_from, is_of, is_true, is_true_read}
 use Rattle.tl_bytes.specs.statement.Bytes.{may_read, pending_accesses, reads_truly}
 use Rattle.tl_one_memory.proofs.Granted.{granted}
-use Rattle.tl_one_memory.proofs.Finding.{same-some}
+use Rattle.tl_bytes.proofs.Finding.{same-some}
 use Rattle.tl_one_memory.proofs.Read.{are-begun_read, read-next}
 use Rattle.tl_one_memory.specs.statement.Run.{IsAnswer, IsRun, IsTaken, Performs, Run, Stores, Takes, place_in, returns}
 use Rattle.tl_one_memory.specs.statement.Run.{found_in, trace_in}

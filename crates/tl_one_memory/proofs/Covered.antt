@@ -19,8 +19,8 @@ use Rattle.tl_bytes.specs.statement.Bytes.{Access, access_writes, after_answer, 
 use Rattle.tl_bytes.specs.statement.Bytes.{could_be, ends_request, is_access, is_of, last_told, last_window, may_be}
 use Rattle.tl_bytes.specs.statement.Bytes.{pending_accesses, pending_value, same_value, tells, told_too, value_written}
 use Rattle.tl_bytes.specs.statement.Bytes.{window_began, windows_since}
-use Rattle.tl_one_memory.proofs.Finding.{Among, among-filter, among-map, among-or}
-use Rattle.tl_one_memory.proofs.Pending.{IsPending, IsAnsweredNow, asked-by_now, pending-after, pending-before}
+use Rattle.tl_bytes.proofs.Finding.{Among, among-filter, among-map, among-or}
+use Rattle.tl_bytes.proofs.Pending.{IsPending, IsAnsweredNow, asked-by_now, pending-after, pending-before}
 use Rattle.tl_one_memory.proofs.Spans.{began_by_now, one-still, windowed-more}
 
 -- nobody may write the block by himself

@@ -21,9 +21,9 @@ use Rattle.tl_bytes.specs.statement.Bytes.{Access, access_writes, before_last, c
 use Rattle.tl_bytes.specs.statement.Bytes.{may_be, may_grant, pending_accesses, pending_value, told_as, windows_since}
 use Rattle.tl_bytes.specs.statement.Bytes.{written_as}
 use Rattle.tl_one_memory.proofs.Covered.{IsToldLate, IsWrittenNow, is_unwritten}
-use Rattle.tl_one_memory.proofs.Finding.{Among, among-filter, among-found, found-among}
+use Rattle.tl_bytes.proofs.Finding.{Among, among-filter, among-found, found-among}
 use Rattle.tl_one_memory.proofs.Known.{Answers, IsDone, IsKnown, known}
-use Rattle.tl_one_memory.proofs.Pending.{IsAsked, asked-by_now}
+use Rattle.tl_bytes.proofs.Pending.{IsAsked, asked-by_now}
 use Rattle.tl_one_memory.proofs.Spans.{windowed-free}
 use Rattle.tl_one_memory.specs.statement.Run.{IsGranted, IsRun, IsTaken, Performs, Run, Stores, Takes}
 use Rattle.tl_one_memory.specs.statement.Run.{memory_in, run_before, trace_in}

@@ -15,8 +15,8 @@ use Rattle.tl_bytes.specs.statement.Bytes.{Access, access_writes, ends_request, 
 use Rattle.tl_bytes.specs.statement.Bytes.{pending_accesses}
 use Rattle.tl_one_memory.proofs.Covered.{AreWindowed, IsCovered, IsOrderly, covered-after, covered-as, is_unwritten}
 use Rattle.tl_one_memory.proofs.Covered.{windowed-after, windowed-as}
-use Rattle.tl_one_memory.proofs.Finding.{find-left_out, none-some, same-some}
-use Rattle.tl_one_memory.proofs.Pending.{IsPending, asked-by_now}
+use Rattle.tl_bytes.proofs.Finding.{find-left_out, none-some, same-some}
+use Rattle.tl_bytes.proofs.Pending.{IsPending, asked-by_now}
 use Rattle.tl_one_memory.proofs.Spans.{windowed-free}
 use Rattle.tl_one_memory.proofs.Values.{HasFound, after-unwritten, value-pending, value-told}
 use Rattle.tl_one_memory.specs.statement.Run.{IsPerformed, IsRun, IsTaken, Performs, Run, Stores, Takes}

@@ -1,9 +1,7 @@
 pub mod Brought
 pub mod Covered
-pub mod Finding
 pub mod Granted
 pub mod Known
-pub mod Pending
 pub mod Read
 pub mod Spans
 pub mod Values

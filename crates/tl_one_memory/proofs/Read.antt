@@ -16,10 +16,10 @@ use Rattle.tl_rules.specs.statement.History.{is_release_ack}
 use Rattle.tl_bytes.specs.statement.Bytes.{Access, access_writes, before_last, could_be, is_of, may_be, may_read}
 use Rattle.tl_bytes.specs.statement.Bytes.{pending_accesses, pending_value, told_as, written_as}
 use Rattle.tl_one_memory.proofs.Covered.{IsWrittenNow}
-use Rattle.tl_one_memory.proofs.Finding.{among-filter, among-found, found-among, found-passes, none-some, same-some}
+use Rattle.tl_bytes.proofs.Finding.{among-filter, among-found, found-among, found-passes, none-some, same-some}
 use Rattle.tl_one_memory.proofs.Granted.{told-as}
 use Rattle.tl_one_memory.proofs.Known.{Answers, IsDone, answered-gone, found-still, found-taken, known}
-use Rattle.tl_one_memory.proofs.Pending.{IsPending, asked-by_now, pending-before}
+use Rattle.tl_bytes.proofs.Pending.{IsPending, asked-by_now, pending-before}
 use Rattle.tl_one_memory.specs.statement.Run.{IsAnswer, IsPerformed, IsRun, IsTaken, Performs, Run, Stores, Takes}
 use Rattle.tl_one_memory.specs.statement.Run.{found_in, is_answered_by, memory_in, trace_in}
 

@@ -13,7 +13,7 @@ use Rattle.tl_burst.specs.statement.Messages.{History, unfinished}
 use Rattle.tl_rules.specs.statement.Conformance.{Trace, on_link}
 use Rattle.tl_rules.specs.statement.History.{ends}
 use Rattle.tl_bytes.specs.statement.Bytes.{Access, asked_by, ends_request, is_access, is_of, pending_accesses}
-use Rattle.tl_one_memory.proofs.Pending.{IsPending, pending-after}
+use Rattle.tl_bytes.proofs.Pending.{IsPending, pending-after}
 use Rattle.tl_true_bytes.proofs.Opened.{GoesOn, IsAskedBy, IsOpen, open-before}
 
 -- an access with this source of the link is pending

@@ -22,7 +22,7 @@ use Rattle.tl_coherence.proofs.memory.Beside.{IsElsewhere, done_at, open-here, o
 use Rattle.tl_coherence.proofs.queues.Tokens.{same_number}
 use Rattle.tl_concord.proofs.WritesBeside.{same_access, same_open}
 use Rattle.tl_one_memory.proofs.Known.{answered-gone}
-use Rattle.tl_one_memory.proofs.Pending.{IsAskedNow, IsPending, pending-before}
+use Rattle.tl_bytes.proofs.Pending.{IsAskedNow, IsPending, pending-before}
 use Rattle.tl_one_memory.specs.statement.Run.{Performs, Run, Stores, Takes, found_in, is_answered_by, memory_in}
 use Rattle.tl_one_memory.specs.statement.Run.{trace_in, with_performed}
 use Rattle.tl_true_bytes.specs.code.Beside.{IsBeside, IsFoundAs, IsOpenAs, result_in}

@@ -42,7 +42,7 @@ use Rattle.tl_coherence.proofs.links.FromInvariant.{matched-given}
 use Rattle.tl_coherence.proofs.memory.OneMemory.{effect-sourced}
 use Rattle.tl_concord.proofs.WritesBeside.{replied_with}
 use Rattle.tl_concord.specs.statement.Accesses.{IsAsked, IsOfAccess}
-use Rattle.tl_one_memory.proofs.Pending.{IsAskedNow}
+use Rattle.tl_bytes.proofs.Pending.{IsAskedNow}
 use Rattle.tl_true_bytes.specs.code.Beside.{IsOpenAs}
 use Rattle.tl_true_bytes.specs.code.Like.{IsLike}
 use Rattle.tl_true_bytes.proofs.Asked.{IsSomePending}

@@ -10,7 +10,7 @@ use Rattle.tl_beat.specs.declared.opcode.OpA.{OpA}
 use Rattle.tl_beat.specs.declared.opcode.OpD.{OpD}
 use Rattle.tl_beat.specs.declared.opcode.OpD.TheVariants as d
 use Rattle.tl_beat.specs.statement.Opcode.{a_carries_data}
-use Rattle.tl_burst.specs.statement.Messages.{unfinished}
+use Rattle.tl_burst.specs.statement.Messages.{History, on, unfinished}
 use Rattle.tl_params.specs.declared.perm.Perm.TheVariants as perm
 use Rattle.tl_rules.specs.code.Open.{open_request}
 use Rattle.tl_rules.specs.declared.past.Request.{Request}
@@ -30,6 +30,17 @@ IsNext None (Some free) n block x t = IsElsewhere block x t × (free ≡ is_free
 IsNext (Some s) None n block x t = KnowsState s n block (x ∷ t) (x ∷ t)
 IsNext (Some s) (Some free) n block x t =
     KnowsState s n block t (x ∷ t) × (free ≡ is_free n None perm.Trunk block (x ∷ t))
+
+-- How free the block is for writing with a beat is told beside its state, but with a beat of channel A, which
+-- changes nothing of that.
+abbrev pub IsSeen : {w : ℕ} → Option Bool → ℕ → ℕ → Link × Beat w → Trace w → Type 0
+IsSeen None n block x t = on channel.A x.1 ≡ true
+IsSeen (Some free) n block x t = (on channel.A x.1 ≡ false) × (free ≡ is_free n None perm.Trunk block (x ∷ t))
+
+-- the request that is open with the source of a response
+abbrev pub request_answered : {w : ℕ} → Beat w → History w → Option Request
+request_answered (beat.D y) past = open_request y.source past
+request_answered _ past = None
 
 -- ---- beats that break no rule
 
@@ -52,11 +63,11 @@ AreAsked link source asked (access ∷ accesses) =
     × (block_at access.request.address ≡ asked.block))
     × AreAsked link source asked accesses
 
--- a response tells of the block of such a request what it has
-abbrev pub tells_asked : OpD → OpA → Bool
-tells_asked d.GrantData asked = true
-tells_asked d.Grant asked = is_perm_only asked
-tells_asked _ asked = false
+-- the response to a request of this opcode tells what its block has
+abbrev pub tells_block : OpD → OpA → Bool
+tells_block d.GrantData asked = true
+tells_block d.Grant asked = is_perm_only asked
+tells_block _ asked = false
 
 -- what is known of a beat of channel D that answers this request
 pub record IsResponse {w : ℕ} (link : ℕ) (y : BeatD w) (asked : Request) (t : Trace w) : Type 0 where

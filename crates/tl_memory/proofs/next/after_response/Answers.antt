@@ -6,10 +6,11 @@ use Rattle.tl_burst.specs.statement.Messages.{unfinished}
 use Rattle.tl_rules.specs.statement.Conformance.{on_link}
 use Rattle.tl_rules.specs.statement.History.{ends}
 use Rattle.tl_bytes.specs.statement.Bytes.{is_access, pending_accesses}
-use Rattle.tl_memory.specs.code.Taking.{tells_asked}
+use Rattle.tl_memory.specs.code.Taking.{tells_block}
 use Rattle.tl_memory.proofs.Masks.{few}
-use Rattle.tl_memory.proofs.BlockAnswers.{answer-over, answer-silent, answered-there, begun-elsewhere, grant-stays}
+use Rattle.tl_memory.proofs.BlockAnswers.{answer-over, answered-there, begun-elsewhere, grant-stays}
 use Rattle.tl_memory.proofs.BlockAnswers.{grant-tells, told-elsewhere}
+use Rattle.tl_memory.proofs.Responses.{access-untold}
 use Rattle.tl_memory.proofs.next.after_response.Goals as goal
 
 pub returns-then-not-completes : goal.returns-then-not-completes
@@ -33,7 +34,7 @@ returns-then-tells g c = λ n block free t k message is here now seen.
     let over : ends (beat.D y) (on_link link.0 t) ≡ true =
     sym (c.completes.ensures burst message (omega (arith, short))) ∙ yes in
     let on : c.tells.result ≡ true = search rules in
-    let told : tells_asked y.opcode c.args.asked.opcode ≡ true = sym c.tells.ensures ∙ on in
+    let told : tells_block y.opcode c.args.asked.opcode ≡ true = sym c.tells.ensures ∙ on in
     let all = c.with-all.ensures burst message is.room in (
       c.in_ok-told.ensures n block (link, beat.D y) t k
           (grant-tells block y (on_link link.0 t) c.args.asked is.asked_is here over told)
@@ -53,7 +54,7 @@ returns-then-is_access g c = λ n block free t k message is here now seen.
     sym (c.completes.ensures burst message (omega (arith, short))) ∙ yes in
     let on : c.is_access.result ≡ true = search rules in
     let access : is_access c.args.asked.opcode ≡ true = sym c.is_access.ensures ∙ on in (
-      c.in_ok-answered.ensures n block y t k (answer-silent block link y c.args.asked t is access)
+      c.in_ok-answered.ensures n block y t k (access-untold block y c.args.asked (on_link link.0 t) is.answers_it access)
           (answer-over link y c.args.asked t is over) refl
           (answered-there link.0 y.source block c.args.asked (pending_accesses t) is.are_asked here)
           (c.with-all.ensures burst message is.room) now,

@@ -14,7 +14,7 @@ use Rattle.tl_rules.specs.statement.Conformance.{Trace, on_link}
 use Rattle.tl_rules.specs.statement.History.{ends}
 use Rattle.tl_bytes.specs.statement.Bytes.{Access, asked_by, ends_request, is_access, is_of, pending_accesses}
 use Rattle.tl_bytes.specs.statement.Bytes.{pending_with}
-use Rattle.tl_one_memory.proofs.Finding.{find-left, find-left_out, same-some}
+use Rattle.tl_bytes.proofs.Finding.{find-left, find-left_out, same-some}
 
 -- the access with this source of the link is pending
 abbrev pub IsPending : {w : ℕ} → ℕ → ℕ → Access w → Trace w → Type 0

@@ -1,0 +1,219 @@
+-- What is known of an access whose request is complete, where no beat of its link broke a rule.
+use Rattle.std.proofs.Common.{◌≡◌, ℕ, zero, suc, Bool, true, false, not, ◌+◌, ◌*◌, ◌/◌, ◌%◌, ◌^◌, ◌<◌, ◌≤◌}
+use Rattle.std.proofs.Common.{List, ◌∷◌, length, Option, None, refl, ap, ◌∙◌, arith, inl, inr}
+use Rattle.std.specs.Prelude.{min, if◌then◌else◌, nat_le, nat_lt}
+use Rattle.std.proofs.lemmas.Bool.{eqb-true, le-leb, ltb-true, and_parts, leb-true}
+use Rattle.tl_beat.specs.declared.beat.Beat.{Beat}
+use Rattle.tl_beat.specs.declared.beat.Beat.TheVariants as beat
+use Rattle.tl_beat.specs.declared.beat.BeatA.{BeatA}
+use Rattle.tl_beat.specs.declared.channel.Channel.TheVariants as channel
+use Rattle.tl_beat.specs.declared.opcode.OpA.{OpA}
+use Rattle.tl_beat.specs.declared.opcode.OpA.TheVariants as a
+use Rattle.tl_beat.specs.statement.First.{first_if}
+use Rattle.tl_beat.specs.statement.Opcode.{a_carries_data}
+use Rattle.tl_beat.specs.statement.Width.{IsWidth}
+use Rattle.tl_burst.specs.declared.message.MessageA.{MessageA}
+use Rattle.tl_burst.specs.statement.Burst.{bit, data_beats, place_of, reaches}
+use Rattle.tl_burst.specs.statement.Messages.{History, burst_length, unfinished}
+use Rattle.tl_params.specs.declared.level.Level.{Level}
+use Rattle.tl_params.specs.declared.level.Level.TheVariants as level
+use Rattle.tl_params.specs.declared.profile.Profile.{Profile}
+use Rattle.tl_params.specs.declared.rule.Rule.{Rule}
+use Rattle.tl_params.specs.declared.rule.Rule.TheVariants.{L1, L2, L3, L4}
+use Rattle.tl_rules.specs.code.Place.{base_of}
+use Rattle.tl_rules.specs.laws.Typed.{AreTyped}
+use Rattle.tl_rules.specs.statement.Admission.{bytes_carried}
+use Rattle.tl_rules.specs.statement.Conformance.{broken_after, is_legal}
+use Rattle.tl_rules.specs.statement.History.{block_at, ends}
+use Rattle.tl_rules.specs.statement.Legality.{a_has_param, a_has_size, a_of_level, is_aligned}
+use Rattle.tl_rules.proofs.Rooms.{base_in_memory, room_in_block}
+use Rattle.tl_bytes.specs.statement.Bytes.{asked_by, is_access, writes}
+use Rattle.tl_memory.specs.statement.Known.{AreWide, IsLawful, IsPerformable, WritesInside, is_put}
+use Rattle.tl_memory.proofs.Atomics.{atomic-writes}
+use Rattle.tl_memory.proofs.Lawful.{IsRequest, by_itself, goes_on, is-request}
+use Rattle.tl_memory.proofs.Payloads.{wide-length}
+use Rattle.tl_memory.proofs.Puts.{has_byte, placed, put-carries, put_is}
+use Rattle.tl_memory.proofs.Unfinished.{are-begun, are-wide}
+
+-- ---- it breaks no rule at TL-UH
+
+passed : (b : Bool) (r : Rule) (rest : Option Rule) → b ≡ true → rest ≡ None → first_if (not b) r rest ≡ None
+passed b r rest e f = rw (e, f) refl
+
+access_of_uh : (opcode : OpA) → is_access opcode ≡ true → a_of_level level.UH opcode ≡ true
+access_of_uh a.PutFullData e = refl
+access_of_uh a.PutPartialData e = refl
+access_of_uh a.ArithmeticData e = refl
+access_of_uh a.LogicalData e = refl
+access_of_uh a.Get e = refl
+access_of_uh a.Intent e = absurd cc
+access_of_uh a.AcquireBlock e = absurd cc
+access_of_uh a.AcquirePerm e = absurd cc
+
+size_of_uh : (w : ℕ) (l : Level) (opcode : OpA) (size : ℕ) → a_has_size w l opcode size ≡ true → size ≤ 6
+    → a_has_size w level.UH opcode size ≡ true
+size_of_uh w l a.PutFullData size e le = le-leb size 6 le
+size_of_uh w l a.PutPartialData size e le = le-leb size 6 le
+size_of_uh w l a.ArithmeticData size e le = e
+size_of_uh w l a.LogicalData size e le = e
+size_of_uh w l a.Get size e le = le-leb size 6 le
+size_of_uh w l a.Intent size e le = le-leb size 6 le
+size_of_uh w l a.AcquireBlock size e le = e
+size_of_uh w l a.AcquirePerm size e le = e
+
+performable : (w : ℕ) (l : Level) (opcode : OpA) (param size address mask : ℕ) → is_access opcode ≡ true
+    → IsRequest w l opcode param size address mask → IsPerformable w opcode param size address
+performable w l opcode param size address mask access r =
+    passed (a_of_level level.UH opcode) L1 _ (access_of_uh opcode access)
+    (passed (a_has_param opcode param) L2 _ r.has_param
+    (passed (a_has_size w level.UH opcode size) L3 _ (size_of_uh w l opcode size r.has_size r.small)
+    (passed (is_aligned address size) L4 None r.aligned refl)))
+
+-- ---- where its bytes lie
+
+-- all that an aligned request reaches is in the beats that carry it
+reach_carried : (w size address : ℕ) → IsWidth w → size ≤ 6 → address % 2 ^ size ≡ 0
+    → address % w + 2 ^ size ≤ w * data_beats w size
+reach_carried w zero address is le e = elim is [
+  | inl i ↦ rw i (omega arith)
+  | inr more ↦ elim more [ inl i ↦ rw i (omega arith) | inr i ↦ rw i (omega arith) ]
+]
+reach_carried w (suc zero) address is le e = elim is [
+  | inl i ↦ rw i (omega arith)
+  | inr more ↦ elim more [ inl i ↦ rw i (omega arith) | inr i ↦ rw i (omega arith) ]
+]
+reach_carried w (suc (suc zero)) address is le e = elim is [
+  | inl i ↦ rw i (omega arith)
+  | inr more ↦ elim more [ inl i ↦ rw i (omega arith) | inr i ↦ rw i (omega arith) ]
+]
+reach_carried w (suc (suc (suc zero))) address is le e = elim is [
+  | inl i ↦ rw i (omega arith)
+  | inr more ↦ elim more [ inl i ↦ rw i (omega arith) | inr i ↦ rw i (omega arith) ]
+]
+reach_carried w (suc (suc (suc (suc zero)))) address is le e = elim is [
+  | inl i ↦ rw i (omega arith)
+  | inr more ↦ elim more [ inl i ↦ rw i (omega arith) | inr i ↦ rw i (omega arith) ]
+]
+reach_carried w (suc (suc (suc (suc (suc zero))))) address is le e = elim is [
+  | inl i ↦ rw i (omega arith)
+  | inr more ↦ elim more [ inl i ↦ rw i (omega arith) | inr i ↦ rw i (omega arith) ]
+]
+reach_carried w (suc (suc (suc (suc (suc (suc zero)))))) address is le e = elim is [
+  | inl i ↦ rw i (omega arith)
+  | inr more ↦ elim more [ inl i ↦ rw i (omega arith) | inr i ↦ rw i (omega arith) ]
+]
+reach_carried w (suc (suc (suc (suc (suc (suc (suc n))))))) address is le e = absurd (omega arith)
+
+-- and these lie in its block
+pub carried_inside : (w size address : ℕ) → IsWidth w → size ≤ 6 → address % 2 ^ size ≡ 0
+    → base_of w address + w * data_beats w size ≤ 64
+carried_inside w zero address is le e = elim is [
+  | inl i ↦ rw i (omega arith)
+  | inr more ↦ elim more [ inl i ↦ rw i (omega arith) | inr i ↦ rw i (omega arith) ]
+]
+carried_inside w (suc zero) address is le e = elim is [
+  | inl i ↦ rw i (omega arith)
+  | inr more ↦ elim more [ inl i ↦ rw i (omega arith) | inr i ↦ rw i (omega arith) ]
+]
+carried_inside w (suc (suc zero)) address is le e = elim is [
+  | inl i ↦ rw i (omega arith)
+  | inr more ↦ elim more [ inl i ↦ rw i (omega arith) | inr i ↦ rw i (omega arith) ]
+]
+carried_inside w (suc (suc (suc zero))) address is le e = elim is [
+  | inl i ↦ rw i (omega arith)
+  | inr more ↦ elim more [ inl i ↦ rw i (omega arith) | inr i ↦ rw i (omega arith) ]
+]
+carried_inside w (suc (suc (suc (suc zero)))) address is le e = elim is [
+  | inl i ↦ rw i (omega arith)
+  | inr more ↦ elim more [ inl i ↦ rw i (omega arith) | inr i ↦ rw i (omega arith) ]
+]
+carried_inside w (suc (suc (suc (suc (suc zero))))) address is le e = elim is [
+  | inl i ↦ rw i (omega arith)
+  | inr more ↦ elim more [ inl i ↦ rw i (omega arith) | inr i ↦ rw i (omega arith) ]
+]
+carried_inside w (suc (suc (suc (suc (suc (suc zero)))))) address is le e = elim is [
+  | inl i ↦ rw i (omega arith)
+  | inr more ↦ elim more [ inl i ↦ rw i (omega arith) | inr i ↦ rw i (omega arith) ]
+]
+carried_inside w (suc (suc (suc (suc (suc (suc (suc n))))))) address is le e = absurd (omega arith)
+
+-- ---- what it writes
+
+put_inside : {w : ℕ} (m : MessageA w) (x : ℕ) → IsWidth w → is_put m.opcode ≡ true → writes m.opcode m x ≡ true
+    → base_of w m.address + length m.payload ≤ 64 → block_at x ≡ block_at m.address
+put_inside {w} m x is put written room =
+    let has = has_byte (a_carries_data m.opcode) (λ q. bit m.mask q) m.payload (place_of w m.address x)
+    (put_is m.opcode m (λ y. 0) x put written).0 in
+    let at = placed (w * (m.address / w)) x has.place has.is_there in
+    let start = base_in_memory w m.address is in
+    let inside = has.inside in
+    in_same_block m.address x (base_of w m.address) has.place (omega (arith, at.0, at.1, start))
+    (omega (arith, room, inside))
+  where
+    in_same_block : (address x base place : ℕ) → x ≡ 64 * (address / 64) + base + place → base + place < 64
+        → x / 64 ≡ address / 64
+    in_same_block address x base place e lt = omega (arith, e, lt)
+
+reached_inside : (address size x : ℕ) → size ≤ 6 → is_aligned address size ≡ true → reaches address size x ≡ true
+    → x / 64 ≡ address / 64
+reached_inside address size x le aligned reached =
+    let both = and_parts (nat_le address x) (nat_lt x (address + 2 ^ size)) reached in
+    let room = room_in_block size address le (eqb-true (address % 2 ^ size) 0 aligned) in
+    let from = leb-true address x both.0 in
+    let to = ltb-true x (address + 2 ^ size) both.1 in
+    omega (arith, room, from, to)
+
+-- ---- a request that is complete
+
+module _ {w : ℕ} (l : Level) (p : Profile) (link : ℕ) (x : BeatA w) (t : History w) (moment : ℕ) (is : IsWidth w)
+    (typed : AreTyped (beat.A x ∷ unfinished channel.A t)) (legal : is_legal l p t ≡ true)
+    (fine : broken_after l p (beat.A x) t ≡ None) (last : ends (beat.A x) t ≡ true) where
+  abbrev burst : List (Beat w)
+  burst = beat.A x ∷ unfinished channel.A t
+
+  request : IsRequest w l x.opcode x.param x.size x.address x.mask
+  request = is-request l x is (by_itself l p (beat.A x) t fine)
+
+  pub wide-burst : a_carries_data x.opcode ≡ true → AreWide burst
+  wide-burst carries = are-wide l x (unfinished channel.A t) typed (goes_on l p (beat.A x) t fine)
+      (are-begun l p channel.A t is legal) carries
+
+  long : a_carries_data x.opcode ≡ true → length (bytes_carried burst) ≡ w * data_beats w x.size
+  long carries =
+      wide-length burst (wide-burst carries) ∙ ap (λ n. w * n) (count ∙ whole (a_carries_data x.opcode) carries)
+    where
+      count : suc (length (unfinished channel.A t)) ≡ burst_length (beat.A x)
+      count =
+          let e = eqb-true (length (unfinished channel.A t) + 1) (burst_length (beat.A x)) last in omega (arith, e)
+
+      whole : (b : Bool) → b ≡ true → (if b then data_beats w x.size else 1) ≡ data_beats w x.size
+      whole b e = rw e refl
+
+  same_size : min x.size 6 ≡ x.size
+  same_size = let le = request.small in omega (arith, le)
+
+  aligned : x.address % 2 ^ x.size ≡ 0
+  aligned = eqb-true (x.address % 2 ^ x.size) 0 request.aligned
+
+  pub lawful-asked : is_access x.opcode ≡ true → IsLawful (asked_by link x burst moment)
+  lawful-asked access = (
+    rw same_size (performable w l x.opcode x.param x.size x.address x.mask access request),
+    λ carries.
+        let reach = reach_carried w x.size x.address is request.small aligned in
+        rw (same_size, long carries) reach,
+  )
+
+  pub writes-inside : WritesInside (asked_by link x burst moment)
+  writes-inside y written = go (is_put x.opcode) refl
+    where
+      m : MessageA w
+      m = (asked_by link x burst moment).request
+
+      go : (b : Bool) → is_put x.opcode ≡ b → block_at y ≡ block_at x.address
+      go true put =
+          let inside = carried_inside w x.size x.address is request.small aligned in
+          let carries = put-carries x.opcode put in
+          put_inside m y is put written (rw (long carries) inside)
+      go false other =
+          let atomic = atomic-writes x.opcode m y other written in
+          reached_inside x.address x.size y request.small request.aligned (rw same_size at atomic.1)

@@ -1,0 +1,164 @@
+-- What is known of a beat that breaks no rule after those before it on its link.
+use Rattle.std.proofs.Common.{◌≡◌, ℕ, Bool, true, false, ◌||◌, ◌^◌, ◌<◌, ◌≤◌, List, [], ◌∷◌, Option, Some, None}
+use Rattle.std.proofs.Common.{refl, sym, ◌∙◌, arith}
+use Rattle.std.specs.Prelude.{if◌then◌else◌, not, is_none, ◌==◌}
+use Rattle.std.proofs.lemmas.Bool.{and_parts, eqb-true, le-leb, not-false}
+use Rattle.tl_beat.specs.declared.beat.Beat.{Beat}
+use Rattle.tl_beat.specs.declared.beat.Beat.TheVariants as beat
+use Rattle.tl_beat.specs.declared.beat.BeatA.{BeatA}
+use Rattle.tl_beat.specs.declared.channel.Channel.TheVariants as channel
+use Rattle.tl_beat.specs.declared.opcode.OpA.{OpA}
+use Rattle.tl_beat.specs.declared.opcode.OpA.TheVariants as a
+use Rattle.tl_beat.specs.statement.First.{first_if}
+use Rattle.tl_beat.specs.statement.Width.{IsWidth}
+use Rattle.tl_burst.specs.statement.Messages.{History, breaks_burst, channel_of, unfinished}
+use Rattle.tl_burst.specs.statement.Part.{is_empty, is_small}
+use Rattle.tl_params.specs.declared.level.Level.{Level}
+use Rattle.tl_params.specs.declared.profile.Profile.{Profile}
+use Rattle.tl_params.specs.declared.rule.Rule.{Rule}
+use Rattle.tl_params.specs.declared.rule.Rule.TheVariants.{L1, L2, L3, L4, L5, L7, S1}
+use Rattle.tl_rules.specs.code.Control.{a_control, a_own}
+use Rattle.tl_rules.specs.statement.Conformance.{broken_after, broken_given, broken_in_order, broken_order, is_legal}
+use Rattle.tl_rules.specs.statement.History.{begins}
+use Rattle.tl_rules.specs.statement.Legality.{a_has_mask, a_has_param, a_has_size, a_of_level, breaks_l1, breaks_l2}
+use Rattle.tl_rules.specs.statement.Legality.{breaks_l3, breaks_l7, illegal, is_aligned, is_one_of}
+use Rattle.tl_rules.proofs.Bursts.{both_none, next_rule}
+use Rattle.tl_rules.proofs.Sizes.{access-small, response-small}
+use Rattle.tl_rules.proofs.Takeable.{full_mask-narrow, part_mask-narrow}
+use Rattle.tl_rules.proofs.Verdicts.{illegal_a}
+
+-- ---- the beat and what came before it
+
+none_is : {X : Type 0} (o : Option X) → is_none o ≡ true → o ≡ None
+none_is None e = refl
+none_is (Some x) e = absurd cc
+
+pub legal-parts : {w : ℕ} (l : Level) (p : Profile) (x : Beat w) (t : History w) → is_legal l p (x ∷ t) ≡ true
+    → (broken_after l p x t ≡ None) × (is_legal l p t ≡ true)
+unfolding is_legal
+legal-parts l p x t e =
+    let both = and_parts (is_none (broken_after l p x t)) (is_legal l p t) e in
+    (none_is (broken_after l p x t) both.0, both.1)
+
+both_given : {w : ℕ} (p : Profile) (o : Option Rule) (x : Beat w) (t : History w) → broken_given p o x t ≡ None
+    → (o ≡ None) × (broken_in_order p x t ≡ None)
+both_given p None x t e = (refl, e)
+both_given p (Some r) x t e = absurd cc
+
+pub by_itself : {w : ℕ} (l : Level) (p : Profile) (x : Beat w) (t : History w) → broken_after l p x t ≡ None
+    → illegal l (channel_of x) x ≡ None
+unfolding broken_after
+by_itself l p x t e = (both_given p (illegal l (channel_of x) x) x t e).0
+
+in_order : {w : ℕ} (l : Level) (p : Profile) (x : Beat w) (t : History w) → broken_after l p x t ≡ None
+    → broken_in_order p x t ≡ None
+unfolding broken_after
+in_order l p x t e = (both_given p (illegal l (channel_of x) x) x t e).1
+
+-- it goes on as the burst that is unfinished
+pub goes_on : {w : ℕ} (l : Level) (p : Profile) (x : Beat w) (t : History w) → broken_after l p x t ≡ None
+    → breaks_burst x (unfinished (channel_of x) t) ≡ false
+goes_on {w} l p x t e = go (unfinished (channel_of x) t) (in_order l p x t e)
+  where
+    go : (burst : List (Beat w))
+        → (if is_empty burst then broken_order p x t else first_if (breaks_burst x burst) S1 None) ≡ None
+        → breaks_burst x burst ≡ false
+    go [] e = refl
+    go (y ∷ burst) e = (next_rule (breaks_burst x (y ∷ burst)) S1 None e).0
+
+-- where it is the first, it breaks no rule of the order
+pub begun_in_order : {w : ℕ} (l : Level) (p : Profile) (x : Beat w) (t : History w) → broken_after l p x t ≡ None
+    → begins x t ≡ true → broken_order p x t ≡ None
+begun_in_order {w} l p x t e first = go (broken_order p x t) _ (begins x t) first (in_order l p x t e)
+  where
+    go : (o rest : Option Rule) (b : Bool) → b ≡ true → (if b then o else rest) ≡ None → o ≡ None
+    go o rest true e h = h
+    go o rest false e h = absurd cc
+
+-- ---- its size and its mask
+
+atomic_small : (size : ℕ) → is_one_of size (2 ∷ 3 ∷ []) ≡ true → size ≤ 6
+atomic_small size e = go (size == 2) (size == 3) refl refl e
+  where
+    go : (two three : Bool) → (size == 2) ≡ two → (size == 3) ≡ three → (two || (three || false)) ≡ true → size ≤ 6
+    go true three f g e = let h = eqb-true size 2 f in omega (arith, h)
+    go false true f g e = let h = eqb-true size 3 g in omega (arith, h)
+    go false false f g e = absurd cc
+
+request_small : (w size : ℕ) (l : Level) (opcode : OpA) → IsWidth w → a_has_size w l opcode size ≡ true → size ≤ 6
+request_small w size l a.PutFullData is e = access-small w size l is e
+request_small w size l a.PutPartialData is e = access-small w size l is e
+request_small w size l a.ArithmeticData is e = atomic_small size e
+request_small w size l a.LogicalData is e = atomic_small size e
+request_small w size l a.Get is e = access-small w size l is e
+request_small w size l a.Intent is e = access-small w size l is e
+request_small w size l a.AcquireBlock is e = let h = eqb-true size 6 e in omega (arith, h)
+request_small w size l a.AcquirePerm is e = let h = eqb-true size 6 e in omega (arith, h)
+
+-- what a request is that breaks no rule by itself
+pub record IsRequest (w : ℕ) (l : Level) (opcode : OpA) (param size address mask : ℕ) : Type 0 where
+  pub of_level : a_of_level l opcode ≡ true
+  pub has_param : a_has_param opcode param ≡ true
+  pub has_size : a_has_size w l opcode size ≡ true
+  pub aligned : is_aligned address size ≡ true
+  pub has_mask : a_has_mask w opcode size address mask ≡ true
+  pub small : size ≤ 6
+
+pub is-request : {w : ℕ} (l : Level) (x : BeatA w) → IsWidth w → illegal l channel.A (beat.A x) ≡ None
+    → IsRequest w l x.opcode x.param x.size x.address x.mask
+is-request {w} l x is e =
+    let parts = both_none (a_control w l x.opcode x.param x.size x.address)
+    (a_own w x.opcode x.size x.address x.mask x.corrupt) (sym (illegal_a l x) ∙ e) in
+    let one = next_rule (not (a_of_level l x.opcode)) L1 _ parts.0 in
+    let two = next_rule (not (a_has_param x.opcode x.param)) L2 _ one.1 in
+    let three = next_rule (not (a_has_size w l x.opcode x.size)) L3 _ two.1 in
+    let four = next_rule (not (is_aligned x.address x.size)) L4 None three.1 in
+    let five = next_rule (not (a_has_mask w x.opcode x.size x.address x.mask)) L5 _ parts.1 in
+    let sized = not-false (a_has_size w l x.opcode x.size) three.0 in
+    record {
+      of_level = not-false (a_of_level l x.opcode) one.0;
+      has_param = not-false (a_has_param x.opcode x.param) two.0;
+      has_size = sized;
+      aligned = not-false (is_aligned x.address x.size) four.0;
+      has_mask = not-false (a_has_mask w x.opcode x.size x.address x.mask) five.0;
+      small = request_small w x.size l x.opcode is sized;
+    }
+
+of_size : {w : ℕ} (l : Level) (x : Beat w) → illegal l (channel_of x) x ≡ None → breaks_l3 l x ≡ false
+unfolding illegal
+of_size l x e =
+    let one = next_rule (breaks_l1 l (channel_of x) x) L1 _ e in
+    let seven = next_rule (breaks_l7 x) L7 _ one.1 in
+    let two = next_rule (breaks_l2 x) L2 _ seven.1 in
+    (next_rule (breaks_l3 l x) L3 _ two.1).0
+
+block_small : (size : ℕ) → not (size == 6) ≡ false → size ≤ 6
+block_small size e = let h = eqb-true size 6 (not-false (size == 6) e) in omega (arith, h)
+
+-- a message may have its size
+pub small : {w : ℕ} (l : Level) (x : Beat w) → IsWidth w → illegal l (channel_of x) x ≡ None → is_small x ≡ true
+small l (beat.A x) is e = le-leb x.size 6 (is-request l x is e).small
+small l (beat.B x) is e = le-leb x.size 6 (block_small x.size (of_size l (beat.B x) e))
+small l (beat.C x) is e = le-leb x.size 6 (block_small x.size (of_size l (beat.C x) e))
+small l (beat.D x) is e = le-leb x.size 6 (response-small l channel.D x is e)
+small l (beat.E x) is e = refl
+
+-- its mask names no lane that there isn't
+pub narrow : (w : ℕ) (l : Level) (opcode : OpA) (param size address mask : ℕ) → IsWidth w → mask < 2 ^ 16
+    → IsRequest w l opcode param size address mask → mask < 2 ^ w
+narrow w l a.PutFullData param size address mask is fits r =
+    full_mask-narrow w size address mask is r.small fits r.aligned r.has_mask
+narrow w l a.PutPartialData param size address mask is fits r =
+    part_mask-narrow w size address mask is r.small fits r.aligned r.has_mask
+narrow w l a.ArithmeticData param size address mask is fits r =
+    full_mask-narrow w size address mask is r.small fits r.aligned r.has_mask
+narrow w l a.LogicalData param size address mask is fits r =
+    full_mask-narrow w size address mask is r.small fits r.aligned r.has_mask
+narrow w l a.Get param size address mask is fits r =
+    full_mask-narrow w size address mask is r.small fits r.aligned r.has_mask
+narrow w l a.Intent param size address mask is fits r =
+    full_mask-narrow w size address mask is r.small fits r.aligned r.has_mask
+narrow w l a.AcquireBlock param size address mask is fits r =
+    full_mask-narrow w size address mask is r.small fits r.aligned r.has_mask
+narrow w l a.AcquirePerm param size address mask is fits r =
+    full_mask-narrow w size address mask is r.small fits r.aligned r.has_mask

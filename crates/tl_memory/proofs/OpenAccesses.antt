@@ -1,0 +1,277 @@
+-- Accesses that are pending on links where no beat broke a rule: each is the open request with its source.
+use Rattle.std.proofs.Common.{◌≡◌, ℕ, suc, Bool, true, false, not, ◌%◌, ◌^◌, ◌≤◌, List, [], ◌∷◌}
+use Rattle.std.proofs.Common.{length, Option, Some, None, refl, sym, ap, ◌∙◌, inl, inr, arith}
+use Rattle.std.specs.Prelude.{◌==◌, find, min, slice_get}
+use Rattle.std.proofs.lemmas.Bool.{and_parts, cases_eq, eq-eqb, eqb-true, ne_eqb}
+use Rattle.tl_beat.specs.declared.beat.Beat.{Beat}
+use Rattle.tl_beat.specs.declared.beat.Beat.TheVariants as beat
+use Rattle.tl_beat.specs.declared.beat.BeatA.{BeatA}
+use Rattle.tl_beat.specs.declared.beat.Link.{Link}
+use Rattle.tl_beat.specs.statement.Width.{IsWidth}
+use Rattle.tl_burst.specs.statement.Messages.{History}
+use Rattle.tl_params.specs.declared.level.Level.{Level}
+use Rattle.tl_params.specs.declared.level.Level.TheVariants as level
+use Rattle.tl_params.specs.declared.profile.Profile.{Profile}
+use Rattle.tl_rules.specs.code.Open.{open_request}
+use Rattle.tl_rules.specs.declared.past.Request.{Request}
+use Rattle.tl_rules.specs.statement.Conformance.{Trace, broken_after, broken_at_level, broken_on_link, is_legal, on_link}
+use Rattle.tl_rules.specs.statement.History.{block_at, ends, is_release_ack}
+use Rattle.tl_bytes.specs.statement.Bytes.{Access, ends_request, is_access, is_of, pending_accesses, pending_with}
+use Rattle.tl_bytes.proofs.Finding.{find-left_out, same-some}
+use Rattle.tl_bytes.proofs.Pending.{IsAnsweredNow, IsAskedNow, IsPending, pending-after, pending-before}
+use Rattle.tl_memory.specs.statement.Known.{AnyIsTo}
+use Rattle.tl_memory.specs.statement.Links.{AreLegal}
+use Rattle.tl_memory.proofs.Answering.{fields_of, open-now}
+use Rattle.tl_memory.proofs.Lawful.{by_itself, is-request}
+use Rattle.tl_memory.proofs.Open.{IsOpen, completes_answer, fresh, open-parts, open-still, open-whole}
+
+-- ---- the history of a link
+
+own-link : {w : ℕ} (c : ℕ) (x : Link × Beat w) (t : Trace w) → x.0.0 ≡ c → on_link c (x ∷ t) ≡ x.1 ∷ on_link c t
+unfolding on_link
+own-link c x t e = rw (eq-eqb x.0.0 c e) refl
+
+other-link : {w : ℕ} (c : ℕ) (x : Link × Beat w) (t : Trace w) → (x.0.0 ≡ c → ⊥) → on_link c (x ∷ t) ≡ on_link c t
+unfolding on_link
+other-link c x t ne = rw (ne_eqb x.0.0 c ne) refl
+
+-- the beat breaks no rule of its link, which has a level
+pub record IsFine {w : ℕ} (levels : List Level) (p : Profile) (x : Link × Beat w) (t : Trace w) : Type 0 where
+  pub level : Level
+  pub has_level : slice_get levels x.0.0 ≡ Some level
+  pub fine : broken_after level p x.1 (on_link x.0.0 t) ≡ None
+
+pub is-fine : {w : ℕ} (levels : List Level) (p : Profile) (x : Link × Beat w) (t : Trace w)
+    → broken_on_link levels p x t ≡ None → IsFine levels p x t
+is-fine levels p x t e = go (slice_get levels x.0.0) refl e
+  where
+    go : (o : Option Level) → slice_get levels x.0.0 ≡ o → broken_at_level o p x.1 (on_link x.0.0 t) ≡ None
+        → IsFine levels p x t
+    go None is e = absurd cc
+    go (Some l) is e = record { level = l; has_level = is; fine = e }
+
+pub legal-on : {w : ℕ} (levels : List Level) (p : Profile) (c : ℕ) (l : Level) (t : Trace w)
+    → slice_get levels c ≡ Some l → AreLegal levels p t → is_legal l p (on_link c t) ≡ true
+unfolding on_link is_legal
+legal-on levels p c l [] has legal = refl
+legal-on levels p c l (x ∷ t) has legal = elim (cases_eq x.0.0 c) [
+  | inr other ↦ rw (ne_eqb x.0.0 c other) (legal-on levels p c l t has legal.1)
+  | inl own ↦
+      let f = is-fine levels p x t legal.0 in
+      let level_is : f.level ≡ l =
+      same-some l f.level (sym has ∙ ap (slice_get levels) (sym own) ∙ f.has_level) in
+      let fine : broken_after l p x.1 (on_link c t) ≡ None =
+      ap (λ k. broken_after k p x.1 (on_link c t)) (sym level_is)
+      ∙ ap (λ n. broken_after f.level p x.1 (on_link n t)) (sym own) ∙ f.fine in
+      rw (eq-eqb x.0.0 c own, fine) (legal-on levels p c l t has legal.1)
+]
+
+-- a link without a level has no beats
+pub legal-link : {w : ℕ} (levels : List Level) (p : Profile) (c : ℕ) (t : Trace w) → AreLegal levels p t
+    → (l : Level) × (is_legal l p (on_link c t) ≡ true)
+unfolding on_link is_legal
+legal-link {w} levels p c t legal = go (slice_get levels c) refl
+  where
+    no_beats : (t : Trace w) → slice_get levels c ≡ None → AreLegal levels p t → on_link c t ≡ []
+    no_beats [] none legal = refl
+    no_beats (x ∷ t) none legal = elim (cases_eq x.0.0 c) [
+      | inr other ↦ rw (ne_eqb x.0.0 c other) (no_beats t none legal.1)
+      | inl own ↦
+          let f = is-fine levels p x t legal.0 in
+          absurd (let no : None ≡ Some f.level = sym none ∙ ap (slice_get levels) (sym own) ∙ f.has_level in cc)
+    ]
+
+    nothing : (h : History w) → h ≡ [] → is_legal level.UL p h ≡ true
+    nothing h none = rw none refl
+
+    go : (o : Option Level) → slice_get levels c ≡ o → (l : Level) × (is_legal l p (on_link c t) ≡ true)
+    go (Some l) has = (l, legal-on levels p c l t has legal)
+    go None none = (level.UL, nothing (on_link c t) (no_beats t none legal))
+
+-- ---- the access is the open request
+
+pub record IsRequestOf {w : ℕ} (c s : ℕ) (access : Access w) (t : Trace w) : Type 0 where
+  pub asked : Request
+  pub is_open : IsOpen s asked (on_link c t)
+  pub opcode_is : asked.opcode ≡ access.request.opcode
+  pub block_is : asked.block ≡ block_at access.request.address
+  pub size_is : asked.size ≡ access.request.size
+  pub accesses : is_access asked.opcode ≡ true
+  pub small : access.request.size ≤ 6
+  pub aligned : access.request.address % 2 ^ access.request.size ≡ 0
+
+-- its answer is complete, and it isn't pending
+answered-gone : {w : ℕ} (c s : ℕ) (access : Access w) (x : Link × Beat w) (t : Trace w) → x.0.0 ≡ c
+    → completes_answer s x.1 (on_link x.0.0 t) ≡ true → IsPending c s access (x ∷ t) → ⊥
+unfolding pending_accesses
+answered-gone {w} c s access x t own completes is = go x.1 completes is
+  where
+    go : (b : Beat w) → completes_answer s b (on_link x.0.0 t) ≡ true
+        → find (is_of c s) (pending_with x.0.0 b (on_link x.0.0 t) (suc (length t)) (pending_accesses t)) ≡ Some access
+        → ⊥
+    go (beat.D y) e is =
+        let both = and_parts (ends (beat.D y) (on_link x.0.0 t)) _ e in
+        let rest = and_parts (not (is_release_ack y.opcode)) (y.source == s) both.1 in
+        let ended : ends_request y (on_link x.0.0 t) ≡ true = rw (rest.0, both.0) refl in
+        let source = eqb-true y.source s rest.1 in
+        none (sym (find-left_out (is_of x.0.0 y.source) (is_of c s) (pending_accesses t)
+        (λ a g. rw (own, source) g)) ∙ (rw ended at is))
+      where
+        none : None ≡ Some access → ⊥
+        none e = cc
+    go (beat.A y) e is = absurd cc
+    go (beat.B y) e is = absurd cc
+    go (beat.C y) e is = absurd cc
+    go (beat.E y) e is = absurd cc
+
+-- a request stays open until its answer is complete
+pub open-after : {w : ℕ} (levels : List Level) (p : Profile) (c s : ℕ) (asked : Request) (x : Link × Beat w)
+    (t : Trace w)
+    → broken_on_link levels p x t ≡ None → IsOpen s asked (on_link c t)
+    → (x.0.0 ≡ c → completes_answer s x.1 (on_link c t) ≡ false) → IsOpen s asked (on_link c (x ∷ t))
+open-after levels p c s asked x t fine o unended = elim (cases_eq x.0.0 c) [
+  | inr other ↦ rw (other-link c x t other) o
+  | inl own ↦
+      let f = is-fine levels p x t fine in
+      rw (own-link c x t own) (open-still f.level p s asked x.1 (on_link c t)
+      (ap (λ n. broken_after f.level p x.1 (on_link n t)) (sym own) ∙ f.fine) o (unended own))
+]
+
+pub pending-open : {w : ℕ} (levels : List Level) (p : Profile) (c s : ℕ) (access : Access w) (t : Trace w) → IsWidth w
+    → AreLegal levels p t → IsPending c s access t → IsRequestOf c s access t
+unfolding pending_accesses
+pending-open levels p c s access [] is legal pending = absurd cc
+pending-open {w} levels p c s access (x ∷ t) is legal pending = elim (pending-before c s access x t pending) [
+  | inl old ↦ still (pending-open levels p c s access t is legal.1 old)
+  | inr now ↦ new now
+]
+  where
+    f : IsFine levels p x t
+    f = is-fine levels p x t legal.0
+
+    unended : x.0.0 ≡ c → completes_answer s x.1 (on_link c t) ≡ false
+    unended own = go (completes_answer s x.1 (on_link c t)) refl
+      where
+        go : (b : Bool) → completes_answer s x.1 (on_link c t) ≡ b → b ≡ false
+        go true e = absurd (answered-gone c s access x t own
+            (ap (λ n. completes_answer s x.1 (on_link n t)) own ∙ e) pending)
+        go false e = refl
+
+    still : IsRequestOf c s access t → IsRequestOf c s access (x ∷ t)
+    still k = record {
+      asked = k.asked;
+      is_open = open-after levels p c s k.asked x t legal.0 k.is_open unended;
+      opcode_is = k.opcode_is;
+      block_is = k.block_is;
+      size_is = k.size_is;
+      accesses = k.accesses;
+      small = k.small;
+      aligned = k.aligned;
+    }
+
+    new : IsAskedNow c s access x t → IsRequestOf c s access (x ∷ t)
+    new now =
+        let z = now.first in
+        let past = on_link x.0.0 t in
+        let both = and_parts (is_access z.opcode) (ends (beat.A z) past) now.completes in
+        let fine : broken_after f.level p (beat.A z) past ≡ None =
+        ap (λ b. broken_after f.level p b past) (sym now.beat_is) ∙ f.fine in
+        let opened = open-now f.level p z past (legal-on levels p x.0.0 f.level t f.has_level legal.1) fine both.1 in
+        let history : on_link c (x ∷ t) ≡ beat.A z ∷ past =
+        ap (λ n. on_link n (x ∷ t)) now.link_is ∙ own-link x.0.0 x t refl ∙ ap (λ b. b ∷ past) now.beat_is in
+        let r = is-request f.level z is (by_itself f.level p (beat.A z) past fine) in
+        let small = r.small in
+        let same_size : min z.size 6 ≡ z.size = omega (arith, small) in
+        let request_size : access.request.size ≡ z.size =
+        ap (λ (q : Access w). q.request.size) now.access_is ∙ same_size in
+        let address : access.request.address ≡ z.address = ap (λ (q : Access w). q.request.address) now.access_is in
+        record {
+          asked = fields_of z;
+          is_open = open-parts s (fields_of z) (on_link c (x ∷ t)) (rw (history, now.source_is) opened);
+          opcode_is = ap (λ (q : Access w). q.request.opcode) (sym now.access_is);
+          block_is = ap (λ (q : Access w). block_at q.request.address) (sym now.access_is);
+          size_is = sym request_size;
+          accesses = both.0;
+          small = omega (arith, request_size, small);
+          aligned = rw (address, request_size) (eqb-true (z.address % 2 ^ z.size) 0 r.aligned);
+        }
+
+-- ---- what the answer to an open request is an answer to
+
+pub same_asked : {w : ℕ} (s : ℕ) (one other : Request) (t : History w) → open_request s t ≡ Some one → IsOpen s other t
+    → other ≡ one
+same_asked s one other t e o = same-some one other (sym e ∙ open-whole s other t o)
+
+module _ {w : ℕ} (levels : List Level) (p : Profile) (c s : ℕ) (asked : Request) (t : Trace w) (width : IsWidth w)
+    (legal : AreLegal levels p t) (opened : open_request s (on_link c t) ≡ Some asked) where
+  -- the access that is pending with its source, where one is, is to its block
+  pub any-to : AnyIsTo asked.block (find (is_of c s) (pending_accesses t))
+  any-to = go (find (is_of c s) (pending_accesses t)) refl
+    where
+      go : (o : Option (Access w)) → find (is_of c s) (pending_accesses t) ≡ o → AnyIsTo asked.block o
+      go None is = tt
+      go (Some access) is =
+          let k = pending-open levels p c s access t width legal is in
+          let same = same_asked s asked k.asked (on_link c t) opened k.is_open in
+          eq-eqb (block_at access.request.address) asked.block
+          (sym k.block_is ∙ ap (λ (r : Request). r.block) same)
+
+  -- none is where it isn't an access
+  pub no-access : is_access asked.opcode ≡ false → find (is_of c s) (pending_accesses t) ≡ None
+  no-access other = go (find (is_of c s) (pending_accesses t)) refl
+    where
+      go : (o : Option (Access w)) → find (is_of c s) (pending_accesses t) ≡ o → o ≡ None
+      go None is = refl
+      go (Some access) is =
+          let k = pending-open levels p c s access t width legal is in
+          let same = same_asked s asked k.asked (on_link c t) opened k.is_open in
+          absurd (let no : true ≡ false =
+          sym k.accesses ∙ ap (λ (r : Request). is_access r.opcode) same ∙ other in cc)
+
+-- ---- the access that a request asks for stays until its answer is complete
+
+pub found-still : {w : ℕ} (levels : List Level) (p : Profile) (c s : ℕ) (asked : Request) (x : Link × Beat w)
+    (t : Trace w)
+    → broken_on_link levels p x t ≡ None → IsOpen s asked (on_link c t)
+    → (x.0.0 ≡ c → completes_answer s x.1 (on_link c t) ≡ false)
+    → find (is_of c s) (pending_accesses (x ∷ t)) ≡ find (is_of c s) (pending_accesses t)
+found-still {w} levels p c s asked x t legal o unended =
+    go (find (is_of c s) (pending_accesses (x ∷ t))) (find (is_of c s) (pending_accesses t)) refl refl
+  where
+    f : IsFine levels p x t
+    f = is-fine levels p x t legal
+
+    -- no beat of channel A has its source
+    apart : (z : BeatA w) → x.1 ≡ beat.A z → c ≡ x.0.0 → s ≡ z.source → ⊥
+    apart z is link source =
+        let fine : broken_after f.level p (beat.A z) (on_link x.0.0 t) ≡ None =
+        ap (λ b. broken_after f.level p b (on_link x.0.0 t)) (sym is) ∙ f.fine in
+        let other = fresh f.level p s asked z (on_link x.0.0 t) fine (rw (← link) o) in
+        let no : true ≡ false = sym (eq-eqb z.source s (sym source)) ∙ other in
+        absurd cc
+
+    go : (after before : Option (Access w)) → find (is_of c s) (pending_accesses (x ∷ t)) ≡ after
+        → find (is_of c s) (pending_accesses t) ≡ before
+        → find (is_of c s) (pending_accesses (x ∷ t)) ≡ find (is_of c s) (pending_accesses t)
+    go (Some access) before e f = elim (pending-before c s access x t e) [
+      | inl old ↦ e ∙ sym old
+      | inr now ↦ absurd (apart now.first now.beat_is now.link_is now.source_is)
+    ]
+    go None None e f = e ∙ sym f
+    go None (Some access) e f =
+        elim (pending-after c s access x t f (λ z is complete link source. apart z is link source)) [
+          | inl still ↦ absurd (let no : None ≡ Some access = sym e ∙ still in cc)
+          | inr answered ↦ absurd (ended answered)
+        ]
+      where
+        ended : IsAnsweredNow c s x t → ⊥
+        ended k =
+            let y = k.last in
+            let past = on_link x.0.0 t in
+            let both = and_parts (not (is_release_ack y.opcode)) (ends (beat.D y) past) k.completes in
+            let all : completes_answer s (beat.D y) past ≡ true =
+            rw (both.0, both.1, eq-eqb y.source s (sym k.source_is)) refl in
+            let none : completes_answer s x.1 past ≡ false =
+            ap (λ n. completes_answer s x.1 (on_link n t)) (sym k.link_is) ∙ unended (sym k.link_is) in
+            let no : true ≡ false = sym all ∙ ap (λ b. completes_answer s b past) (sym k.beat_is) ∙ none in
+            absurd cc

@@ -1,0 +1,113 @@
+-- What a response is to the blocks and to the accesses that are pending, by the open request that it answers.
+use Rattle.std.proofs.Common.{◌≡◌, ℕ, Bool, true, false, not, ◌&&◌, List, [], ◌∷◌, Option, Some, None}
+use Rattle.std.proofs.Common.{refl, sym, ap, inl, inr}
+use Rattle.std.specs.Prelude.{if◌then◌else◌, ◌==◌, filter, find}
+use Rattle.std.proofs.lemmas.Bool.{cases_Bool}
+use Rattle.tl_beat.specs.declared.beat.Beat.TheVariants as beat
+use Rattle.tl_beat.specs.declared.beat.BeatA.{BeatA}
+use Rattle.tl_beat.specs.declared.beat.BeatD.{BeatD}
+use Rattle.tl_beat.specs.declared.beat.Link.{Link}
+use Rattle.tl_beat.specs.declared.opcode.OpA.{OpA}
+use Rattle.tl_beat.specs.declared.opcode.OpA.TheVariants as a
+use Rattle.tl_beat.specs.declared.opcode.OpD.{OpD}
+use Rattle.tl_beat.specs.declared.opcode.OpD.TheVariants as d
+use Rattle.tl_burst.specs.statement.Messages.{History}
+use Rattle.tl_rules.specs.code.Open.{open_request, request_fields}
+use Rattle.tl_rules.specs.declared.past.Request.{Request}
+use Rattle.tl_rules.specs.statement.Conformance.{Trace, answers, on_link}
+use Rattle.tl_rules.specs.statement.History.{asks_for, block_at, ends, is_grant, request_of}
+use Rattle.tl_rules.proofs.Open.{request-fields}
+use Rattle.tl_bytes.specs.statement.Bytes.{ends_request, is_access, is_of, is_perm_only}
+use Rattle.tl_bytes.specs.statement.Bytes.{pending_accesses, tells, tells_granted}
+use Rattle.tl_memory.specs.code.Taking.{tells_block}
+
+-- ---- what it tells of a block
+
+-- a Grant answers no access
+pub grants_no_access : (opcode : OpD) (asked : OpA) → answers opcode asked ≡ true → is_access asked ≡ true
+    → is_grant opcode ≡ false
+grants_no_access d.AccessAck asked e access = refl
+grants_no_access d.AccessAckData asked e access = refl
+grants_no_access d.HintAck asked e access = refl
+grants_no_access d.ReleaseAck asked e access = refl
+grants_no_access d.Grant a.AcquireBlock e access = absurd cc
+grants_no_access d.Grant a.AcquirePerm e access = absurd cc
+grants_no_access d.Grant _ e access = absurd cc
+grants_no_access d.GrantData a.AcquireBlock e access = absurd cc
+grants_no_access d.GrantData _ e access = absurd cc
+
+-- the answer to an access tells nothing
+pub access-untold : {w : ℕ} (block : ℕ) (y : BeatD w) (asked : Request) (t : History w)
+    → answers y.opcode asked.opcode ≡ true → is_access asked.opcode ≡ true → tells block (beat.D y) t ≡ false
+access-untold block y asked t e access =
+    rw (grants_no_access y.opcode asked.opcode e access) (never (ends (beat.D y) t))
+  where
+    never : (b : Bool) → (b && false) ≡ false
+    never true = refl
+    never false = refl
+
+told_if : {w : ℕ} (block : ℕ) (opcode : OpD) (asked : Request) (o : Option (BeatA w)) → request_fields o ≡ Some asked
+    → ((is_grant opcode && asks_for block o) && tells_granted opcode o)
+    ≡ ((asked.block == block) && tells_block opcode asked.opcode)
+told_if block opcode asked None e = absurd cc
+told_if block opcode asked (Some x) e = rw (← same) (go opcode)
+  where
+    same : record { opcode = x.opcode; param = x.param; size = x.size; block = block_at x.address } ≡ asked
+    same = cc
+
+    never : (b : Bool) → false ≡ (b && false)
+    never true = refl
+    never false = refl
+
+    go : (opcode : OpD)
+        → ((is_grant opcode && (block_at x.address == block)) && tells_granted opcode (Some x))
+        ≡ ((block_at x.address == block) && tells_block opcode x.opcode)
+    go d.GrantData = refl
+    go d.Grant = refl
+    go d.AccessAck = never (block_at x.address == block)
+    go d.AccessAckData = never (block_at x.address == block)
+    go d.HintAck = never (block_at x.address == block)
+    go d.ReleaseAck = never (block_at x.address == block)
+
+-- its last beat tells of the block of its request, and of no other, where it is of this kind
+pub response-tells : {w : ℕ} (block : ℕ) (y : BeatD w) (asked : Request) (t : History w)
+    → open_request y.source t ≡ Some asked
+    → tells block (beat.D y) t ≡ (ends (beat.D y) t && ((asked.block == block) && tells_block y.opcode asked.opcode))
+response-tells block y asked t opened =
+    ap (λ b. ends (beat.D y) t && b)
+    (told_if block y.opcode asked (request_of y.source t) (request-fields y.source t asked (sym opened)))
+
+-- ---- the accesses that are pending
+
+all-left : {X : Type 0} (test : X → Bool) (xs : List X) → find test xs ≡ None → filter (λ x. not (test x)) xs ≡ xs
+all-left test [] none = refl
+all-left {X} test (x ∷ xs) none = elim (cases_Bool (test x)) [
+  | inl is ↦ absurd (let no : Some x ≡ None = rw is at none in cc)
+  | inr isnt ↦ rw isnt (ap (λ l. x ∷ l) (all-left test xs (rw isnt at none)))
+]
+
+-- they stay where the request that is answered isn't among them
+pub none-answered : {w : ℕ} (link : Link) (y : BeatD w) (t : Trace w)
+    → find (is_of link.0 y.source) (pending_accesses t) ≡ None
+    → pending_accesses ((link, beat.D y) ∷ t) ≡ pending_accesses t
+unfolding pending_accesses
+none-answered link y t none = go (ends_request y (on_link link.0 t))
+  where
+    go : (b : Bool)
+        → (if b then filter (λ access. not (is_of link.0 y.source access)) (pending_accesses t) else pending_accesses t)
+        ≡ pending_accesses t
+    go true = all-left (is_of link.0 y.source) (pending_accesses t) none
+    go false = refl
+
+-- and where no answer is complete
+pub answer-unended : {w : ℕ} (link : Link) (y : BeatD w) (t : Trace w) → ends_request y (on_link link.0 t) ≡ false
+    → pending_accesses ((link, beat.D y) ∷ t) ≡ pending_accesses t
+unfolding pending_accesses
+answer-unended link y t e = rw e refl
+
+-- and where no request of an access is complete
+pub none-asked : {w : ℕ} (link : Link) (x : BeatA w) (t : Trace w)
+    → is_access x.opcode && ends (beat.A x) (on_link link.0 t) ≡ false
+    → pending_accesses ((link, beat.A x) ∷ t) ≡ pending_accesses t
+unfolding pending_accesses
+none-asked link x t e = rw e refl

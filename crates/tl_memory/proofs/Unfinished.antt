@@ -1,0 +1,160 @@
+-- What is known of a burst that isn't complete, where no beat of its link broke a rule.
+use Rattle.std.proofs.Common.{◌≡◌, ℕ, true, false, ◌+◌, ◌*◌, ◌<◌, ◌≤◌, List, [], ◌∷◌, length}
+use Rattle.std.proofs.Common.{refl, sym, ap, ◌∙◌, arith, inl, inr}
+use Rattle.std.specs.Prelude.{IfSome, is_some, Option, Some, None, unwrap_or, ⊤}
+use Rattle.std.proofs.lemmas.Bool.{cases_Bool, cases_eq, eq-eqb, leb-true, ne_eqb, not-false}
+use Rattle.tl_beat.specs.declared.beat.Beat.{Beat}
+use Rattle.tl_beat.specs.declared.beat.Beat.TheVariants as beat
+use Rattle.tl_beat.specs.declared.beat.BeatA.{BeatA}
+use Rattle.tl_beat.specs.declared.channel.Channel.{Channel}
+use Rattle.tl_beat.specs.declared.channel.Channel.TheVariants as channel
+use Rattle.tl_beat.specs.statement.Opcode.{a_carries_data, b_carries_data, c_carries_data, d_carries_data}
+use Rattle.tl_beat.specs.statement.Width.{IsWidth}
+use Rattle.tl_burst.specs.statement.Messages.{History, breaks_burst, burst_length, channel_of, grown, on, same_control}
+use Rattle.tl_burst.specs.statement.Messages.{unfinished}
+use Rattle.tl_burst.proofs.ControlFields.{control_a, control_b, control_c, control_d}
+use Rattle.tl_burst.proofs.Bits.{earlier_place}
+use Rattle.tl_burst.proofs.Splitting.{some_data_beats}
+use Rattle.tl_params.specs.declared.level.Level.{Level}
+use Rattle.tl_params.specs.declared.profile.Profile.{Profile}
+use Rattle.tl_rules.specs.laws.Typed.{AreTyped, IsTyped}
+use Rattle.tl_rules.specs.statement.Conformance.{broken_after, is_legal}
+use Rattle.tl_rules.specs.statement.Legality.{illegal}
+use Rattle.tl_rules.proofs.Checks.{data_room}
+use Rattle.tl_rules.proofs.Widths.{width-bounds}
+use Rattle.tl_burst.specs.statement.Part.{is_small}
+use Rattle.tl_memory.specs.statement.Known.{AreWide, HasRoom}
+use Rattle.tl_memory.proofs.Lawful.{by_itself, goes_on, is-request, legal-parts, narrow, small}
+use Rattle.tl_memory.proofs.Masks.{positive}
+
+on-own : {w : ℕ} (ch : Channel) (x : Beat w) → on ch x ≡ true → channel_of x ≡ ch
+on-own channel.A (beat.A x) e = refl
+on-own channel.B (beat.B x) e = refl
+on-own channel.C (beat.C x) e = refl
+on-own channel.D (beat.D x) e = refl
+on-own channel.E (beat.E x) e = refl
+on-own _ _ e = absurd cc
+
+-- beats with the same control fields are of bursts of one length
+same_length : {w : ℕ} (x y : Beat w) → same_control x y ≡ true → burst_length x ≡ burst_length y
+same_length (beat.A x) (beat.A y) e = let c = control_a x y e in rw (c.0, c.2) refl
+same_length (beat.B x) (beat.B y) e = let c = control_b x y e in rw (c.0, c.2) refl
+same_length (beat.C x) (beat.C y) e = let c = control_c x y e in rw (c.0, c.2) refl
+same_length (beat.D x) (beat.D y) e = let c = control_d x y e in rw (c.0, c.2) refl
+same_length (beat.E x) (beat.E y) e = refl
+same_length _ _ e = absurd cc
+
+some_beats : {w : ℕ} (x : Beat w) → IsWidth w → 0 < burst_length x
+some_beats {w} (beat.A x) is = some_data_beats w x.size (a_carries_data x.opcode) is
+some_beats {w} (beat.B x) is = some_data_beats w x.size (b_carries_data x.opcode) is
+some_beats {w} (beat.C x) is = some_data_beats w x.size (c_carries_data x.opcode) is
+some_beats {w} (beat.D x) is = some_data_beats w x.size (d_carries_data x.opcode) is
+some_beats (beat.E x) is = omega arith
+
+-- a block has room for its bytes
+burst_room : {w : ℕ} (x : Beat w) → IsWidth w → is_small x ≡ true → w * burst_length x ≤ 64
+burst_room {w} (beat.A x) is e = data_room w x.size (a_carries_data x.opcode) is (leb-true x.size 6 e)
+burst_room {w} (beat.B x) is e = data_room w x.size (b_carries_data x.opcode) is (leb-true x.size 6 e)
+burst_room {w} (beat.C x) is e = data_room w x.size (c_carries_data x.opcode) is (leb-true x.size 6 e)
+burst_room {w} (beat.D x) is e = data_room w x.size (d_carries_data x.opcode) is (leb-true x.size 6 e)
+burst_room {w} (beat.E x) is e = omega (arith, (width-bounds w is).1)
+
+-- Each of these beats of a channel, the newest of which is first, breaks no rule by itself, goes on as those
+-- before it, and isn't the last of their burst.
+abbrev pub AreBegun : {w : ℕ} → Level → Channel → List (Beat w) → Type 0
+AreBegun l ch [] = ⊤
+AreBegun l ch (x ∷ burst) =
+    (on ch x ≡ true) × (illegal l ch x ≡ None) × (breaks_burst x burst ≡ false)
+    × (length (x ∷ burst) < burst_length x) × AreBegun l ch burst
+
+-- a beat that goes on as they did has room in the burst
+pub fewer : {w : ℕ} (l : Level) (ch : Channel) (x : Beat w) (burst : List (Beat w)) → IsWidth w
+    → breaks_burst x burst ≡ false → AreBegun l ch burst → length burst < burst_length x
+fewer l ch x [] is e begun = some_beats x is
+fewer l ch x (y ∷ burst) is e begun =
+    let same = same_length x y (not-false (same_control x y) e) in
+    omega (arith, begun.3, same)
+
+grows : {w : ℕ} (l : Level) (ch : Channel) (x : Beat w) (burst : List (Beat w)) → IsWidth w → on ch x ≡ true
+    → illegal l ch x ≡ None → breaks_burst x burst ≡ false → AreBegun l ch burst → AreBegun l ch (grown x burst)
+grows l ch x burst is own alone e begun = elim (cases_eq (length burst + 1) (burst_length x)) [
+  | inl last ↦ rw (eq-eqb (length burst + 1) (burst_length x) last) tt
+  | inr more ↦
+      let less = fewer l ch x burst is e begun in
+      rw (ne_eqb (length burst + 1) (burst_length x) more) (own, alone, e, omega (arith, less, more), begun)
+]
+
+-- so are the beats of each channel that are unfinished
+pub are-begun : {w : ℕ} (l : Level) (p : Profile) (ch : Channel) (t : History w) → IsWidth w → is_legal l p t ≡ true
+    → AreBegun l ch (unfinished ch t)
+unfolding unfinished
+are-begun l p ch [] is legal = tt
+are-begun {w} l p ch (x ∷ t) is legal = elim (cases_Bool (on ch x)) [
+  | inr off ↦ rw off (are-begun l p ch t is parts.1)
+  | inl own ↦ rw own (grows l ch x (unfinished ch t) is own (alone own)
+      (ap (λ c. breaks_burst x (unfinished c t)) (sym (on-own ch x own)) ∙ goes_on l p x t parts.0)
+      (are-begun l p ch t is parts.1))
+]
+  where
+    parts : (broken_after l p x t ≡ None) × (is_legal l p t ≡ true)
+    parts = legal-parts l p x t legal
+
+    alone : on ch x ≡ true → illegal l ch x ≡ None
+    alone own = ap (λ c. illegal l c x) (sym (on-own ch x own)) ∙ by_itself l p x t parts.0
+
+-- ---- a beat that breaks no rule
+
+module _ {w : ℕ} (l : Level) (p : Profile) (x : Beat w) (t : History w) (is : IsWidth w) (legal : is_legal l p t ≡ true)
+    (fine : broken_after l p x t ≡ None) where
+  abbrev before : List (Beat w)
+  before = unfinished (channel_of x) t
+
+  pub fewer-before : length before < burst_length x
+  fewer-before = fewer l (channel_of x) x before is (goes_on l p x t fine) (are-begun l p (channel_of x) t is legal)
+
+  pub small-beat : is_small x ≡ true
+  small-beat = small l x is (by_itself l p x t fine)
+
+  pub room : w * length before + w ≤ 64
+  room =
+      let bytes = burst_room x is small-beat in
+      let less = earlier_place w (burst_length x) (length before) fewer-before in
+      omega (arith, bytes, less)
+
+-- a block has room for its bytes, and its mask names no lane that there isn't
+pub has-room : {w : ℕ} (l : Level) (p : Profile) (x : Beat w) (t : History w) → IsWidth w → IsTyped x
+    → is_legal l p t ≡ true → broken_after l p x t ≡ None → HasRoom x (unfinished (channel_of x) t)
+has-room {w} l p (beat.A x) t is typed legal fine = (
+  room l p (beat.A x) t is legal fine,
+  narrow w l x.opcode x.param x.size x.address x.mask is typed.0 (is-request l x is (by_itself l p (beat.A x) t fine)),
+)
+has-room {w} l p (beat.B x) t is typed legal fine = (room l p (beat.B x) t is legal fine, positive w)
+has-room {w} l p (beat.C x) t is typed legal fine = (room l p (beat.C x) t is legal fine, positive w)
+has-room {w} l p (beat.D x) t is typed legal fine = (room l p (beat.D x) t is legal fine, positive w)
+has-room {w} l p (beat.E x) t is typed legal fine = (room l p (beat.E x) t is legal fine, positive w)
+
+-- ---- the lanes of a request's beats
+
+wide_lanes : {w : ℕ} (x : BeatA w) → IsTyped (beat.A x) → a_carries_data x.opcode ≡ true
+    → length (unwrap_or x.lanes []) ≡ w
+wide_lanes {w} x typed carries = go x.lanes (x.carries ∙ carries) typed.1
+  where
+    go : (o : Option (List ℕ)) → is_some o ≡ true → IfSome o (λ lanes. length lanes ≡ w)
+        → length (unwrap_or o []) ≡ w
+    go None some long = absurd cc
+    go (Some lanes) some long = long
+
+-- each of them has a byte for each lane where the last carries data
+pub are-wide : {w : ℕ} (l : Level) (x : BeatA w) (burst : List (Beat w)) → AreTyped (beat.A x ∷ burst)
+    → breaks_burst (beat.A x) burst ≡ false → AreBegun l channel.A burst → a_carries_data x.opcode ≡ true
+    → AreWide (beat.A x ∷ burst)
+are-wide l x [] typed e begun carries = (wide_lanes x typed.0 carries, tt)
+are-wide l x (beat.A y ∷ burst) typed e begun carries =
+    let same = control_a x y (not-false (same_control (beat.A x) (beat.A y)) e) in (
+      wide_lanes x typed.0 carries,
+      are-wide l y burst typed.1 begun.2 begun.4 (ap a_carries_data (sym same.0) ∙ carries),
+    )
+are-wide l x (beat.B y ∷ burst) typed e begun carries = absurd (let no : false ≡ true = begun.0 in cc)
+are-wide l x (beat.C y ∷ burst) typed e begun carries = absurd (let no : false ≡ true = begun.0 in cc)
+are-wide l x (beat.D y ∷ burst) typed e begun carries = absurd (let no : false ≡ true = begun.0 in cc)
+are-wide l x (beat.E y ∷ burst) typed e begun carries = absurd (let no : false ≡ true = begun.0 in cc)

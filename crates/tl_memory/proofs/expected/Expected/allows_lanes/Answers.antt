@@ -1,0 +1,18 @@
+use Rattle.std.proofs.Common.{rules, arith, ◌≡◌, ◌+◌, ◌*◌, ◌/◌}
+use Rattle.tl_rules.specs.code.Place.{base_of}
+use Rattle.tl_memory.specs.code.Expected.{allows}
+use Rattle.tl_memory.proofs.Lanes.{no-lanes, some-lanes}
+use Rattle.tl_memory.proofs.expected.Expected.allows_lanes.Goals as goal
+
+pub returns-in-None : goal.returns-in-None
+returns-in-None g c = λ room.
+    let e = c.args.self.now in
+    no-lanes (allows e) (g.row.W * (e.address / g.row.W) + g.row.W * c.args.beats) c.args.x.now (search rules)
+
+pub returns-in-Some : goal.returns-in-Some
+returns-in-Some g c = λ room.
+    let e = c.args.self.now in
+    let first : c.saturating_add-first.result ≡ base_of g.row.W e.address + g.row.W * c.args.beats =
+    omega (arith, c.saturating_add-first.ensures, c.saturating_mul.ensures, c.base.ensures.value, room) in
+    some-lanes g.row.W (allows e) e.address c.args.beats c.saturating_add-first.result c.in-Some.lanes c.args.x.now
+    c.allows_all.result c.requires (search rules) first (c.allows_all.ensures (omega (arith, first, room)))

@@ -1,20 +1,19 @@
 -- No two accesses that are pending have the same source on a link, where no beat broke a rule: so all with the
 -- source of a response are the request that it answers.
-use Rattle.std.proofs.Common.{◌≡◌, ℕ, suc, Bool, true, false, not, ◌&&◌, List, [], ◌∷◌, length, Option, Some, None}
+use Rattle.std.proofs.Common.{◌≡◌, ℕ, suc, Bool, true, false, not, ◌&&◌, List, [], ◌∷◌, length, Some, None}
 use Rattle.std.proofs.Common.{refl, sym, ap, ◌∙◌, inl, inr}
-use Rattle.std.specs.Prelude.{if◌then◌else◌, ◌==◌, filter, find}
+use Rattle.std.specs.Prelude.{if◌then◌else◌, ◌==◌, filter, find, ⊤}
 use Rattle.std.proofs.lemmas.Bool.{and_parts, cases_Bool, eq-eqb, eqb-true}
 use Rattle.tl_beat.specs.declared.beat.Beat.{Beat}
 use Rattle.tl_beat.specs.declared.beat.Beat.TheVariants as beat
 use Rattle.tl_beat.specs.declared.beat.BeatA.{BeatA}
-use Rattle.tl_beat.specs.declared.beat.BeatD.{BeatD}
 use Rattle.tl_beat.specs.declared.beat.Link.{Link}
+use Rattle.tl_beat.specs.statement.Width.{IsWidth}
 use Rattle.tl_params.specs.declared.level.Level.{Level}
 use Rattle.tl_params.specs.declared.profile.Profile.{Profile}
 use Rattle.tl_rules.specs.code.Open.{open_request}
 use Rattle.tl_rules.specs.declared.past.Request.{Request}
 use Rattle.tl_rules.specs.statement.Conformance.{Trace, broken_after, on_link}
-use Rattle.tl_rules.specs.statement.History.{block_at}
 use Rattle.tl_bytes.specs.statement.Bytes.{Access, is_access, is_of, pending_accesses, pending_with}
 use Rattle.tl_bytes.proofs.Finding.{find-left}
 use Rattle.tl_bytes.proofs.Pending.{IsPending}
@@ -48,9 +47,9 @@ more-first new all (access ∷ accesses) apart first =
 -- a request isn't complete with the source of one that is pending
 new-apart : {w : ℕ} (levels : List Level) (p : Profile) (x : Link × Beat w) (t : Trace w) (z : BeatA w)
     (new access : Access w)
-    → AreLegal levels p (x ∷ t) → x.1 ≡ beat.A z → new.link ≡ x.0.0 → new.request.source ≡ z.source
+    → IsWidth w → AreLegal levels p (x ∷ t) → x.1 ≡ beat.A z → new.link ≡ x.0.0 → new.request.source ≡ z.source
     → IsPending access.link access.request.source access t → is_of access.link access.request.source new ≡ false
-new-apart {w} levels p x t z new access legal is link source pending =
+new-apart levels p x t z new access width legal is link source pending =
     elim (cases_Bool (is_of access.link access.request.source new)) [
       | inr other ↦ other
       | inl same ↦
@@ -60,7 +59,7 @@ new-apart {w} levels p x t z new access legal is link source pending =
           let fine : broken_after f.level p (beat.A z) (on_link access.link t) ≡ None =
           ap (λ b. broken_after f.level p b (on_link access.link t)) (sym is)
           ∙ ap (λ n. broken_after f.level p x.1 (on_link n t)) (sym here) ∙ f.fine in
-          let k = pending-open levels p access.link access.request.source access t legal.1 pending in
+          let k = pending-open levels p access.link access.request.source access t width legal.1 pending in
           let other = fresh f.level p access.request.source k.asked z (on_link access.link t) fine k.is_open in
           true_false (sym both.1 ∙ ap (λ s. s == access.request.source) source ∙ other)
     ]
@@ -94,7 +93,7 @@ left-first link source all (access ∷ accesses) first =
 
 -- ---- all that are pending
 
-module _ {w : ℕ} (levels : List Level) (p : Profile) where
+module _ {w : ℕ} (levels : List Level) (p : Profile) (width : IsWidth w) where
   pub are-first : (t : Trace w) → AreLegal levels p t → AreFirst (pending_accesses t) (pending_accesses t)
   unfolding pending_accesses
   are-first [] legal = tt
@@ -107,7 +106,7 @@ module _ {w : ℕ} (levels : List Level) (p : Profile) where
       asks z is true new link source first = (
         rw (own new) refl,
         more-first new (pending_accesses t) (pending_accesses t)
-            (λ access found. new-apart levels p x t z new access legal is link source found) first,
+            (λ access found. new-apart levels p x t z new access width legal is link source found) first,
       )
       asks z is false new link source first = first
 
@@ -139,7 +138,7 @@ module _ {w : ℕ} (levels : List Level) (p : Profile) where
         ap (λ n. find (is_of n s) (pending_accesses t)) (sym (eqb-true access.link c both.0))
         ∙ ap (λ m. find (is_of access.link m) (pending_accesses t)) (sym (eqb-true access.request.source s both.1))
         ∙ (rw is at first.0) in
-        let k = pending-open levels p c s access t legal found in
+        let k = pending-open levels p c s access t width legal found in
         let one : k.asked ≡ asked = same_asked s asked k.asked (on_link c t) opened k.is_open in (
           ap is_access (sym k.opcode_is) ∙ k.accesses,
           sym k.opcode_is ∙ ap (λ (r : Request). r.opcode) one,

@@ -1,15 +1,13 @@
 -- What a response that breaks no rule tells of blocks, by the request that it answers.
 use Rattle.std.proofs.Common.{◌≡◌, ◌⊎◌, ℕ, Bool, true, false, not, ◌&&◌, ◌/◌}
 use Rattle.std.proofs.Common.{◌∷◌, List, [], refl, sym, ap, ◌∙◌, inl, inr}
-use Rattle.std.specs.Prelude.{if◌then◌else◌, filter, find, None, Option, Some, ◌==◌}
+use Rattle.std.specs.Prelude.{find, None, Option, Some, ◌==◌}
 use Rattle.std.proofs.lemmas.Bool.{cases_Bool, eq-eqb}
-use Rattle.tl_beat.specs.declared.beat.Beat.{Beat}
 use Rattle.tl_beat.specs.declared.beat.Beat.TheVariants as beat
 use Rattle.tl_beat.specs.declared.beat.BeatA.{BeatA}
 use Rattle.tl_beat.specs.declared.beat.BeatD.{BeatD}
 use Rattle.tl_beat.specs.declared.beat.Link.{Link}
 use Rattle.tl_beat.specs.declared.opcode.OpA.{OpA}
-use Rattle.tl_beat.specs.declared.opcode.OpA.TheVariants as a
 use Rattle.tl_beat.specs.declared.opcode.OpD.{OpD}
 use Rattle.tl_beat.specs.declared.opcode.OpD.TheVariants as d
 use Rattle.tl_burst.specs.statement.Messages.{History}
@@ -19,11 +17,10 @@ use Rattle.tl_rules.specs.statement.Conformance.{Trace, answers, on_link}
 use Rattle.tl_rules.specs.statement.History.{asks_for, block_at, ends, grants, is_grant, is_release_ack, request_of}
 use Rattle.tl_rules.proofs.Open.{request-fields}
 use Rattle.tl_bytes.specs.statement.Bytes.{Access, ends_request, is_access, is_of}
-use Rattle.tl_bytes.specs.statement.Bytes.{is_perm_only, pending_accesses, tells}
-use Rattle.tl_bytes.specs.statement.Bytes.{tells_granted}
+use Rattle.tl_bytes.specs.statement.Bytes.{pending_accesses, tells}
 use Rattle.tl_memory.specs.code.Elsewhere.{IsElsewhere, NoneIsTo, PassesBy}
 use Rattle.tl_memory.specs.code.Taking.{AreAsked, IsResponse, tells_block}
-use Rattle.tl_memory.specs.statement.Known.{AllWriteInside, AnyIsTo, is_to}
+use Rattle.tl_memory.specs.statement.Known.{AllWriteInside, AnyIsTo}
 use Rattle.tl_memory.proofs.Responses.{grants_no_access, none-answered, response-tells}
 use Rattle.tl_memory.proofs.Bearing.{none_of_both, none_of_three, response-elsewhere, response-passes}
 

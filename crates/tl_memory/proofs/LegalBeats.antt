@@ -1,5 +1,5 @@
 -- What is known of a beat that breaks no rule of its link, where none before it did.
-use Rattle.std.proofs.Common.{◌≡◌, ℕ, suc, Bool, true, false, ◌&&◌, List, ◌∷◌, length, refl, None}
+use Rattle.std.proofs.Common.{◌≡◌, ℕ, suc, false, List, ◌∷◌, length, refl, None}
 use Rattle.std.proofs.lemmas.Bool.{and_parts}
 use Rattle.tl_beat.specs.declared.beat.Beat.{Beat}
 use Rattle.tl_beat.specs.declared.beat.Beat.TheVariants as beat
@@ -55,7 +55,7 @@ module _ {w : ℕ} (levels : List Level) (p : Profile) (link : Link) (t : Trace 
         record {
           asked_is = opened;
           answers_it = k.admitted;
-          are_asked = are-asked levels p link.0 y.source k.asked t legal opened;
+          are_asked = are-asked levels p is link.0 y.source k.asked t legal opened;
           room = (room f.level p (beat.D y) (on_link link.0 t) is past f.fine, positive w);
         },
       )

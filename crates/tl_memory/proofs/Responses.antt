@@ -17,7 +17,7 @@ use Rattle.tl_rules.specs.declared.past.Request.{Request}
 use Rattle.tl_rules.specs.statement.Conformance.{Trace, answers, on_link}
 use Rattle.tl_rules.specs.statement.History.{asks_for, block_at, ends, is_grant, request_of}
 use Rattle.tl_rules.proofs.Open.{request-fields}
-use Rattle.tl_bytes.specs.statement.Bytes.{ends_request, is_access, is_of, is_perm_only}
+use Rattle.tl_bytes.specs.statement.Bytes.{ends_request, is_access, is_of}
 use Rattle.tl_bytes.specs.statement.Bytes.{pending_accesses, tells, tells_granted}
 use Rattle.tl_memory.specs.code.Taking.{tells_block}
 

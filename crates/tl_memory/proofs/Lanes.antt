@@ -65,8 +65,8 @@ pub no-lanes : {w : ℕ} (test : ℕ → ℕ → Bool) (from : ℕ) (x : BeatD w
 unfolding each_from
 no-lanes test from x none = rw none refl
 
-pub some-lanes : (w : ℕ) (test : ℕ → ℕ → Bool) (address k first : ℕ) (lanes : List ℕ) (x : BeatD w) (b : Bool) → IsWidth w
-    → x.lanes ≡ Some lanes → first ≡ base_of w address + w * k
+pub some-lanes : (w : ℕ) (test : ℕ → ℕ → Bool) (address k first : ℕ) (lanes : List ℕ) (x : BeatD w) (b : Bool)
+    → IsWidth w → x.lanes ≡ Some lanes → first ≡ base_of w address + w * k
     → b ≡ each_from test (64 * block_at address + first) lanes
     → b ≡ each_from test (w * (address / w) + w * k) (lanes_of (beat.D x))
 some-lanes w test address k first lanes x b is some at e =

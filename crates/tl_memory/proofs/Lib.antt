@@ -6,11 +6,14 @@ pub mod BlockAnswers
 pub mod Borne
 pub mod Complete
 pub mod Elsewhere
+pub mod Expecting
+pub mod Judging
 pub mod Keeping
 pub mod Lanes
 pub mod Lawful
 pub mod LegalBeats
 pub mod LinkBeats
+pub mod LinkStates
 pub mod Masks
 pub mod Open
 pub mod OpenAccesses

@@ -14,7 +14,8 @@ use Rattle.tl_params.specs.declared.level.Level.TheVariants as level
 use Rattle.tl_params.specs.declared.profile.Profile.{Profile}
 use Rattle.tl_rules.specs.code.Open.{open_request}
 use Rattle.tl_rules.specs.declared.past.Request.{Request}
-use Rattle.tl_rules.specs.statement.Conformance.{Trace, broken_after, broken_at_level, broken_on_link, is_legal, on_link}
+use Rattle.tl_rules.specs.statement.Conformance.{Trace, broken_after, broken_at_level, broken_on_link, is_legal}
+use Rattle.tl_rules.specs.statement.Conformance.{on_link}
 use Rattle.tl_rules.specs.statement.History.{block_at, ends, is_release_ack}
 use Rattle.tl_bytes.specs.statement.Bytes.{Access, ends_request, is_access, is_of, pending_accesses, pending_with}
 use Rattle.tl_bytes.proofs.Finding.{find-left_out, same-some}
@@ -27,11 +28,11 @@ use Rattle.tl_memory.proofs.Open.{IsOpen, completes_answer, fresh, open-parts, o
 
 -- ---- the history of a link
 
-own-link : {w : ℕ} (c : ℕ) (x : Link × Beat w) (t : Trace w) → x.0.0 ≡ c → on_link c (x ∷ t) ≡ x.1 ∷ on_link c t
+pub own-link : {w : ℕ} (c : ℕ) (x : Link × Beat w) (t : Trace w) → x.0.0 ≡ c → on_link c (x ∷ t) ≡ x.1 ∷ on_link c t
 unfolding on_link
 own-link c x t e = rw (eq-eqb x.0.0 c e) refl
 
-other-link : {w : ℕ} (c : ℕ) (x : Link × Beat w) (t : Trace w) → (x.0.0 ≡ c → ⊥) → on_link c (x ∷ t) ≡ on_link c t
+pub other-link : {w : ℕ} (c : ℕ) (x : Link × Beat w) (t : Trace w) → (x.0.0 ≡ c → ⊥) → on_link c (x ∷ t) ≡ on_link c t
 unfolding on_link
 other-link c x t ne = rw (ne_eqb x.0.0 c ne) refl
 

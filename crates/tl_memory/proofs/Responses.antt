@@ -1,25 +1,31 @@
 -- What a response is to the blocks and to the accesses that are pending, by the open request that it answers.
 use Rattle.std.proofs.Common.{◌≡◌, ℕ, Bool, true, false, not, ◌&&◌, List, [], ◌∷◌, Option, Some, None}
-use Rattle.std.proofs.Common.{refl, sym, ap, inl, inr}
-use Rattle.std.specs.Prelude.{if◌then◌else◌, ◌==◌, filter, find}
-use Rattle.std.proofs.lemmas.Bool.{cases_Bool}
+use Rattle.std.proofs.Common.{refl, sym, ap, ◌∙◌, inl, inr}
+use Rattle.std.specs.Prelude.{if◌then◌else◌, ◌==◌, filter, find, ⊤}
+use Rattle.std.proofs.lemmas.Bool.{cases_Bool, eq-eqb, eqb-true}
+use Rattle.tl_beat.specs.declared.beat.Beat.{Beat}
 use Rattle.tl_beat.specs.declared.beat.Beat.TheVariants as beat
 use Rattle.tl_beat.specs.declared.beat.BeatA.{BeatA}
+use Rattle.tl_beat.specs.declared.beat.BeatC.{BeatC}
 use Rattle.tl_beat.specs.declared.beat.BeatD.{BeatD}
 use Rattle.tl_beat.specs.declared.beat.Link.{Link}
+use Rattle.tl_beat.specs.declared.channel.Channel.TheVariants as channel
 use Rattle.tl_beat.specs.declared.opcode.OpA.{OpA}
 use Rattle.tl_beat.specs.declared.opcode.OpA.TheVariants as a
 use Rattle.tl_beat.specs.declared.opcode.OpD.{OpD}
 use Rattle.tl_beat.specs.declared.opcode.OpD.TheVariants as d
-use Rattle.tl_burst.specs.statement.Messages.{History}
+use Rattle.tl_beat.specs.statement.Opcode.{c_carries_data}
+use Rattle.tl_burst.specs.statement.Messages.{History, on}
 use Rattle.tl_rules.specs.code.Open.{open_request, request_fields}
 use Rattle.tl_rules.specs.declared.past.Request.{Request}
 use Rattle.tl_rules.specs.statement.Conformance.{Trace, answers, on_link}
 use Rattle.tl_rules.specs.statement.History.{asks_for, block_at, ends, is_grant, request_of}
 use Rattle.tl_rules.proofs.Open.{request-fields}
-use Rattle.tl_bytes.specs.statement.Bytes.{ends_request, is_access, is_of}
+use Rattle.tl_bytes.specs.statement.Bytes.{Access, access_writes, ends_request, is_access, is_of}
 use Rattle.tl_bytes.specs.statement.Bytes.{pending_accesses, tells, tells_granted}
+use Rattle.tl_memory.specs.code.Elsewhere.{KeepsByte, WritesNot}
 use Rattle.tl_memory.specs.code.Taking.{tells_block}
+use Rattle.tl_memory.specs.statement.Known.{AllWriteInside, AnyIsTo, WritesInside}
 
 -- ---- what it tells of a block
 
@@ -111,3 +117,49 @@ pub none-asked : {w : ℕ} (link : Link) (x : BeatA w) (t : Trace w)
     → pending_accesses ((link, beat.A x) ∷ t) ≡ pending_accesses t
 unfolding pending_accesses
 none-asked link x t e = rw e refl
+
+-- and with a beat of another channel
+pub none-bears : {w : ℕ} (link : Link) (x : Beat w) (t : Trace w) → on channel.A x ≡ false → on channel.D x ≡ false
+    → pending_accesses ((link, x) ∷ t) ≡ pending_accesses t
+unfolding pending_accesses
+none-bears link (beat.A x) t a d = absurd cc
+none-bears link (beat.B x) t a d = refl
+none-bears link (beat.C x) t a d = refl
+none-bears link (beat.D x) t a d = absurd cc
+none-bears link (beat.E x) t a d = refl
+
+-- ---- data that are given back
+
+-- they tell of their block, with the last beat
+pub data-tell : {w : ℕ} (x : BeatC w) (t : History w) → ends (beat.C x) t ≡ true → c_carries_data x.opcode ≡ true
+    → tells (block_at x.address) (beat.C x) t ≡ true
+data-tell x t last carries = rw (last, carries) (eq-eqb (block_at x.address) (block_at x.address) refl)
+
+-- ---- beats that bear on another block
+
+-- the access, where there is one, writes in its own block alone
+abbrev AnyWritesInside : {w : ℕ} → Option (Access w) → Type 0
+AnyWritesInside None = ⊤
+AnyWritesInside (Some access) = WritesInside access
+
+found-inside : {w : ℕ} (test : Access w → Bool) (accesses : List (Access w)) → AllWriteInside accesses
+    → AnyWritesInside (find test accesses)
+found-inside test [] inside = tt
+found-inside test (access ∷ accesses) inside = elim (cases_Bool (test access)) [
+  | inl here ↦ rw here inside.0
+  | inr not_here ↦ rw not_here (found-inside test accesses inside.1)
+]
+
+-- the answer to a request for a block writes no byte of another
+pub answer-elsewhere : {w : ℕ} (link : Link) (y : BeatD w) (block address : ℕ) (t : Trace w)
+    → AllWriteInside (pending_accesses t) → AnyIsTo block (find (is_of link.0 y.source) (pending_accesses t))
+    → (block_at address ≡ block → ⊥) → KeepsByte address link.0 (beat.D y) t
+answer-elsewhere {w} link y block address t inside to other = λ last.
+    go (find (is_of link.0 y.source) (pending_accesses t)) (found-inside _ (pending_accesses t) inside) to
+  where
+    go : (o : Option (Access w)) → AnyWritesInside o → AnyIsTo block o → WritesNot address o
+    go None in_own here = tt
+    go (Some access) in_own here = elim (cases_Bool (access_writes address access)) [
+      | inr none ↦ none
+      | inl some ↦ absurd (other (in_own address some ∙ eqb-true (block_at access.request.address) block here))
+    ]

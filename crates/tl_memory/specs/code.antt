@@ -1,3 +1,4 @@
+pub mod Allowed
 pub mod Elsewhere
 pub mod Expected
 pub mod Taking

@@ -11,23 +11,10 @@ ghost use Rattle.tl_bytes.specs.statement.Bytes.{Access, each_from, grants_truly
 ghost use Rattle.tl_bytes.specs.statement.Known.{KnowsGrant};
 
 use crate::access::reaches;
+use crate::typed::prove_response;
 use tl_beat::beat::BeatD;
 use tl_bytes::read_bytes::ReadBytes;
 use tl_rules::place::base;
-
-/// There is a byte for each lane.
-fn prove_long<const W: usize>(lanes: &[u8; W])
-    ensures { length lanes.now ≡ W }
-{}
-
-/// A beat has a byte for each lane, where it has any.
-fn prove_wide<const W: usize>(x: &BeatD<W>)
-    ensures { length (lanes_of (beat.D x.now)) ≤ W }
-{
-    if let Some(lanes) = &x.lanes {
-        prove_long(lanes);
-    }
-}
 
 /// What a response may bring: of the bytes from this address on, its first lane's, those within a request
 /// of this size.
@@ -85,11 +72,11 @@ impl Expected {
         requires { IsWidth W }
         ensures granted { (n block : ℕ) (t : Trace W) → self.now.address ≡ 64 * block → self.now.size ≡ 6 →
             KnowsGrant self.now.bytes n block t → W * beats + W ≤ 64 → result ≡ grants_truly n block beats x.now t }
-        ensures read { (n block : ℕ) (access : Access W) (t : Trace W) → Expects (Some self.now) n block (Some access) t →
-            is_to block access ≡ true → base_of W access.request.address + W * beats + W ≤ 64 →
+        ensures read { (n block : ℕ) (access : Access W) (t : Trace W) →
+            Expects (Some self.now) n block (Some access) t → is_to block access ≡ true → base_of W access.request.address + W * beats + W ≤ 64 →
             result ≡ reads_truly n (Some access) beats x.now t }
     {
-        prove_wide(x);
+        prove_response(x);
         self.allows_lanes(beats, x)
     }
 }

@@ -12,4 +12,5 @@ pub mod message;
 pub mod next;
 pub mod pending;
 pub mod performed;
+pub mod typed;
 pub mod writer;

@@ -1,32 +1,24 @@
 //! What is kept of a link.
 
-ghost use Rattle.std.specs.Prelude.{ℕ, true, [], ◌∷◌, ◌≡◌, None, length};
+ghost use Rattle.std.specs.Prelude.{ℕ, true, [], ◌∷◌, ◌≡◌, List, None};
 ghost use Rattle.tl_beat.specs.declared.beat.Beat.{Beat};
 ghost use Rattle.tl_beat.specs.declared.beat.Beat.TheVariants as beat;
+ghost use Rattle.tl_beat.specs.declared.beat.BeatD.{BeatD};
+ghost use Rattle.tl_beat.specs.declared.beat.Link.{Link};
 ghost use Rattle.tl_beat.specs.statement.Width.{IsWidth};
 ghost use Rattle.tl_burst.specs.statement.Messages.{History};
 ghost use Rattle.tl_params.specs.declared.level.Level.{Level};
 ghost use Rattle.tl_params.specs.declared.profile.Profile.{Profile};
-ghost use Rattle.tl_rules.specs.laws.Typed.{IsTyped};
-ghost use Rattle.tl_rules.specs.statement.Conformance.{broken_after, is_legal};
+ghost use Rattle.tl_rules.specs.statement.Conformance.{Trace, broken_after, broken_on_link, is_legal, on_link};
+ghost use Rattle.tl_rules.specs.statement.History.{begins};
+ghost use Rattle.tl_bytes.specs.statement.Bytes as bytes;
+ghost use Rattle.tl_memory.specs.code.Allowed as allowed;
 
+use crate::expected::Expected;
 use crate::message::{CarriedMessage, is_small};
-use tl_beat::beat::{Beat, BeatA};
-
-/// There is a byte for each lane.
-fn prove_wide<const W: usize>(lanes: &[u8; W])
-    ensures { length lanes.now ≡ W }
-{}
-
-/// The mask of a request's beat has 16 bits, and its lanes a byte each.
-fn prove_typed<const W: usize>(x: &BeatA<W>)
-    ensures { IsTyped (beat.A x.now) }
-{
-    let _mask = x.mask;
-    if let Some(lanes) = &x.lanes {
-        prove_wide(lanes);
-    }
-}
+use crate::typed::prove_request;
+use tl_beat::beat::{Beat, BeatD};
+use tl_beat::opcode::OpD;
 
 /// What the messages that aren't complete have brought on the channels of a link that carry bytes to
 /// memory and back.
@@ -62,11 +54,95 @@ impl LinkMessages {
         }
         match beat {
             Beat::A(x) => {
-                prove_typed(x);
+                prove_request(x);
                 self.a = self.a.after(beat);
             }
             Beat::C(_) => self.c = self.c.after(beat),
             Beat::D(_) => self.d = self.d.after(beat),
+            _ => {}
+        }
+    }
+}
+
+/// Whether the bytes of a response are judged: of one that carries any to a client.
+fn is_judged(opcode: OpD) -> bool
+    ensures { result ≡ allowed.is_judged opcode }
+{
+    matches!(opcode, OpD::GrantData | OpD::AccessAckData)
+}
+
+/// Whether a beat of a response, before which so many came, has bytes that it may bring.
+fn is_allowed<const W: usize>(expected: &Option<Expected>, beats: usize, x: &BeatD<W>) -> bool
+    requires { IsWidth W }
+    ensures { allowed.IsAllowed expected.now beats x.now result }
+{
+    match expected {
+        None => true,
+        Some(known) => known.is_expected(beats, x),
+    }
+}
+
+/// What is kept of a link: the messages that aren't complete, and what the response may bring that has begun
+/// on channel D.
+#[derive(Drop)]
+pub struct LinkState {
+    messages: LinkMessages,
+    expected: Option<Expected>,
+}
+
+impl LinkState {
+    ghost use Rattle.tl_memory.specs.statement.Expecting.{ExpectsResponse};
+    ghost use Rattle.tl_memory.specs.statement.Links.{AreLegal, KnowsLink};
+
+    /// No message on any channel.
+    pub fn new() -> Self
+        ensures { (w n link : ℕ) → KnowsLink {w = w} result n link [] }
+    {
+        LinkState {
+            messages: LinkMessages::new(),
+            expected: None,
+        }
+    }
+
+    /// Whether a response's beat has true bytes, where this is what the response may bring if it begins with it.
+    pub fn is_true<const W: usize>(&self, begun: &Option<Expected>, x: &BeatD<W>) -> bool
+        requires { IsWidth W }
+        ensures { (levels : List Level) (p : Profile) (n : ℕ) (link : Link) (t : Trace W) →
+            KnowsLink self.now n link.0 t → AreLegal levels p t → broken_on_link levels p (link, beat.D x.now) t ≡ None →
+            (begins (beat.D x.now) (on_link link.0 t) ≡ true →
+            ExpectsResponse begun.now n link.0 x.now.opcode x.now.source t t) →
+            result ≡ bytes.is_true x.now.opcode n link.0 x.now t }
+    {
+        if x.corrupt {
+            return true;
+        }
+        if !is_judged(x.opcode) {
+            return true;
+        }
+        let beats = self.messages.d.bytes.count();
+        if beats == 0 {
+            return is_allowed(begun, beats, x);
+        }
+        is_allowed(&self.expected, beats, x)
+    }
+
+    /// Takes a beat, where this is what the response may bring that begins with it.
+    pub fn take<const W: usize>(&mut self, begun: Option<Expected>, x: &Beat<W>)
+        requires { IsWidth W }
+        ensures { (levels : List Level) (p : Profile) (n : ℕ) (link : Link) (t : Trace W) →
+            KnowsLink self.old n link.0 t → AreLegal levels p t → broken_on_link levels p (link, x.now) t ≡ None →
+            ((y : BeatD W) → x.now ≡ beat.D y → begins (beat.D y) (on_link link.0 t) ≡ true →
+            ExpectsResponse begun n link.0 y.opcode y.source t t) →
+            KnowsLink self.new n link.0 ((link, x.now) ∷ t) }
+    {
+        let first = self.messages.d.bytes.count() == 0;
+        self.messages.take(x);
+        match x {
+            Beat::D(_) => {
+                if first {
+                    self.expected = begun;
+                }
+            }
             _ => {}
         }
     }

@@ -5,8 +5,10 @@ use Rattle.tl_burst.specs.statement.Messages.{History, unfinished}
 use Rattle.tl_params.specs.declared.level.Level.{Level}
 use Rattle.tl_params.specs.declared.profile.Profile.{Profile}
 use Rattle.tl_rules.specs.laws.Typed.{AreTyped}
-use Rattle.tl_rules.specs.statement.Conformance.{Trace, broken_on_link}
+use Rattle.tl_rules.specs.statement.Conformance.{Trace, broken_on_link, on_link}
 use Rattle.tl_memory.specs.declared.link.LinkMessages.{LinkMessages}
+use Rattle.tl_memory.specs.declared.link.LinkState.{LinkState}
+use Rattle.tl_memory.specs.statement.Expecting.{KnowsExpected}
 use Rattle.tl_memory.specs.statement.Known.{KnowsMessage}
 
 -- each beat of the trace broke no rule of its link after those before it
@@ -21,3 +23,8 @@ pub record KnowsMessages {w : ℕ} (m : LinkMessages) (t : History w) : Type 0 w
   pub c_is : KnowsMessage m.c (unfinished channel.C t)
   pub d_is : KnowsMessage m.d (unfinished channel.D t)
   pub typed : AreTyped (unfinished channel.A t)
+
+-- this is kept of a link
+pub record KnowsLink {w : ℕ} (s : LinkState) (n link : ℕ) (t : Trace w) : Type 0 where
+  pub messages_are : KnowsMessages s.messages (on_link link t)
+  pub expected_is : KnowsExpected s.expected n link t

@@ -11,7 +11,7 @@ returns-clause-granted g c = λ n block t at sized known room.
     let base = base-of_block g.row.W e.address block at in
     c.allows_lanes.ensures (omega (arith, base, room))
     ∙ granted-all g.row.W e n block c.args.beats t (lanes_of (beat.D c.args.x.now)) c.requires at sized known room
-    c.prove_wide.ensures
+    c.prove_response.ensures
 
 pub returns-clause-read : goal.returns-clause-read
 returns-clause-read g c = λ n block access t known to room.
@@ -19,4 +19,4 @@ returns-clause-read g c = λ n block access t known to room.
     let base = ap (base_of g.row.W) known.0 in
     c.allows_lanes.ensures (omega (arith, base, room))
     ∙ read-all e n block c.args.beats access t (lanes_of (beat.D c.args.x.now)) c.requires known to room
-    c.prove_wide.ensures
+    c.prove_response.ensures

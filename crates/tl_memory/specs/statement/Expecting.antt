@@ -1,0 +1,44 @@
+-- What a response may bring, and a link's that has begun.
+use Rattle.std.specs.Prelude.{ℕ, suc, ◌∷◌, ◌*◌, ◌≡◌, List, length, find, Option, Some, None, ⊤}
+use Rattle.tl_beat.specs.declared.beat.Beat.{Beat}
+use Rattle.tl_beat.specs.declared.beat.Beat.TheVariants as beat
+use Rattle.tl_beat.specs.declared.beat.BeatD.{BeatD}
+use Rattle.tl_beat.specs.declared.channel.Channel.TheVariants as channel
+use Rattle.tl_beat.specs.declared.opcode.OpD.{OpD}
+use Rattle.tl_beat.specs.declared.opcode.OpD.TheVariants as d
+use Rattle.tl_burst.specs.statement.Messages.{unfinished}
+use Rattle.tl_rules.specs.code.Open.{open_request}
+use Rattle.tl_rules.specs.declared.past.Request.{Request}
+use Rattle.tl_rules.specs.statement.Conformance.{Trace, on_link}
+use Rattle.tl_rules.specs.statement.History.{block_at}
+use Rattle.tl_bytes.specs.statement.Bytes.{Access, before_last, is_of, pending_accesses}
+use Rattle.tl_bytes.specs.statement.Known.{KnowsGrant}
+use Rattle.tl_memory.specs.declared.expected.Expected.{Expected}
+use Rattle.tl_memory.specs.statement.Known.{Expects}
+
+-- this is what a GrantData may bring that answers a request, and began after t
+abbrev pub ExpectsGrant : {w : ℕ} → Option Expected → ℕ → Option Request → Trace w → Type 0
+ExpectsGrant None n None t = ⊤
+ExpectsGrant (Some expected) n (Some asked) t =
+    (expected.address ≡ 64 * asked.block) × (expected.size ≡ 6) × KnowsGrant expected.bytes n asked.block t
+ExpectsGrant _ n _ t = ⊥
+
+-- this is what an AccessAckData may bring that answers an access, where one is pending, and began after t
+abbrev pub ExpectsRead : {w : ℕ} → Option Expected → ℕ → Option (Access w) → Trace w → Type 0
+ExpectsRead {w} expected n None t = Expects {w = w} expected n 0 None t
+ExpectsRead expected n (Some access) t = Expects expected n (block_at access.request.address) (Some access) t
+
+-- This is what a response with this opcode and source may bring, where the beats of all links are t, and it began
+-- after `begun`: of those that aren't judged by their bytes nothing is said.
+abbrev pub ExpectsResponse : {w : ℕ} → Option Expected → ℕ → ℕ → OpD → ℕ → Trace w → Trace w → Type 0
+ExpectsResponse expected n link d.GrantData source t begun =
+    ExpectsGrant expected n (open_request source (on_link link t)) begun
+ExpectsResponse expected n link d.AccessAckData source t begun =
+    ExpectsRead expected n (find (is_of link source) (pending_accesses t)) begun
+ExpectsResponse expected n link _ source t begun = ⊤
+
+-- this is what the response may bring that has begun on channel D of a link and isn't complete
+abbrev pub KnowsExpected : {w : ℕ} → Option Expected → ℕ → ℕ → Trace w → Type 0
+KnowsExpected {w} expected n link t = (y : BeatD w) (older : List (Beat w))
+    → unfinished channel.D (on_link link t) ≡ beat.D y ∷ older
+    → ExpectsResponse expected n link y.opcode y.source t (before_last link (suc (length older)) t)

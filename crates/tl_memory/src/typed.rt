@@ -1,0 +1,32 @@
+//! What the types of beats say.
+
+ghost use Rattle.std.specs.Prelude.{◌≤◌, ◌≡◌, length};
+ghost use Rattle.tl_beat.specs.declared.beat.Beat.TheVariants as beat;
+ghost use Rattle.tl_rules.specs.laws.Typed.{IsTyped};
+ghost use Rattle.tl_rules.specs.statement.Admission.{lanes_of};
+
+use tl_beat::beat::{BeatA, BeatD};
+
+/// There is a byte for each lane.
+fn prove_wide<const W: usize>(lanes: &[u8; W])
+    ensures { length lanes.now ≡ W }
+{}
+
+/// The mask of a request's beat has 16 bits, and its lanes a byte each.
+pub fn prove_request<const W: usize>(x: &BeatA<W>)
+    ensures { IsTyped (beat.A x.now) }
+{
+    let _mask = x.mask;
+    if let Some(lanes) = &x.lanes {
+        prove_wide(lanes);
+    }
+}
+
+/// A response's beat has a byte for each lane, where it has any.
+pub fn prove_response<const W: usize>(x: &BeatD<W>)
+    ensures { length (lanes_of (beat.D x.now)) ≤ W }
+{
+    if let Some(lanes) = &x.lanes {
+        prove_wide(lanes);
+    }
+}

@@ -3,7 +3,6 @@ use Rattle.std.proofs.Common.{◌≡◌, ◌⊎◌, ℕ, Bool, true, false, not,
 use Rattle.std.proofs.Common.{◌∷◌, List, [], refl, sym, ap, ◌∙◌, inl, inr}
 use Rattle.std.specs.Prelude.{if◌then◌else◌, filter, find, None, Option, Some, ◌==◌}
 use Rattle.std.proofs.lemmas.Bool.{cases_Bool, eq-eqb}
-use Rattle.tl_beat.specs.declared.beat.Beat.{Beat}
 use Rattle.tl_beat.specs.declared.beat.Beat.TheVariants as beat
 use Rattle.tl_beat.specs.declared.beat.BeatA.{BeatA}
 use Rattle.tl_beat.specs.declared.beat.BeatD.{BeatD}
@@ -19,11 +18,11 @@ use Rattle.tl_rules.specs.statement.Conformance.{Trace, answers, on_link}
 use Rattle.tl_rules.specs.statement.History.{asks_for, block_at, ends, grants, is_grant, is_release_ack, request_of}
 use Rattle.tl_rules.proofs.Open.{request-fields}
 use Rattle.tl_bytes.specs.statement.Bytes.{Access, ends_request, is_access, is_of}
-use Rattle.tl_bytes.specs.statement.Bytes.{is_perm_only, pending_accesses, tells}
+use Rattle.tl_bytes.specs.statement.Bytes.{pending_accesses, tells}
 use Rattle.tl_bytes.specs.statement.Bytes.{tells_granted}
 use Rattle.tl_memory.specs.code.Elsewhere.{IsElsewhere, NoneIsTo, PassesBy}
 use Rattle.tl_memory.specs.code.Taking.{AreAsked, IsResponse, tells_asked}
-use Rattle.tl_memory.specs.statement.Known.{AllWriteInside, AnyIsTo, is_to}
+use Rattle.tl_memory.specs.statement.Known.{AllWriteInside, AnyIsTo}
 use Rattle.tl_memory.proofs.Bearing.{none_of_both, none_of_three, response-elsewhere, response-passes}
 
 -- ---- the request

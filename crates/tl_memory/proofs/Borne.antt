@@ -11,8 +11,8 @@ use Rattle.tl_beat.specs.declared.opcode.OpD.{OpD}
 use Rattle.tl_beat.specs.declared.opcode.OpD.TheVariants as d
 use Rattle.tl_rules.specs.declared.past.Request.{Request}
 use Rattle.tl_rules.specs.statement.Conformance.{Trace, on_link}
-use Rattle.tl_rules.specs.statement.History.{block_at, ends, grants, is_grant, is_release_ack}
-use Rattle.tl_bytes.specs.statement.Bytes.{Access, ends_request, is_access, pending_accesses}
+use Rattle.tl_rules.specs.statement.History.{block_at, ends, is_grant, is_release_ack}
+use Rattle.tl_bytes.specs.statement.Bytes.{Access, is_access, pending_accesses}
 use Rattle.tl_memory.specs.code.Elsewhere.{block_asked, block_borne, PassesBy}
 use Rattle.tl_memory.specs.code.Taking.{IsLegalBeat, IsRequested, IsResponse}
 use Rattle.tl_memory.specs.statement.Known.{AllWriteInside, WritesInside}

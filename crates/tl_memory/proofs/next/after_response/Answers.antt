@@ -1,4 +1,4 @@
-use Rattle.std.proofs.Common.{rules, refl, arith, sym, ap, ◌∙◌, ◌≡◌, true, false}
+use Rattle.std.proofs.Common.{rules, refl, arith, sym, ◌∙◌, ◌≡◌, true, false}
 use Rattle.std.specs.Prelude.{length, ◌∷◌}
 use Rattle.tl_beat.specs.declared.beat.Beat.TheVariants as beat
 use Rattle.tl_beat.specs.declared.channel.Channel.TheVariants as channel

@@ -1,4 +1,4 @@
-use Rattle.std.proofs.Common.{rules, refl, sym, ap, ◌∙◌, ◌≡◌, ◌∷◌, ◌/◌}
+use Rattle.std.proofs.Common.{rules, refl, sym, ◌∙◌, ◌≡◌, ◌∷◌, ◌/◌}
 use Rattle.std.specs.Prelude.{None}
 use Rattle.std.proofs.lemmas.Bool.{eq-eqb}
 use Rattle.tl_beat.specs.declared.beat.Beat.TheVariants as beat

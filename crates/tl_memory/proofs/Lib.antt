@@ -2,6 +2,7 @@ pub mod Answering
 pub mod Apart
 pub mod Atomics
 pub mod Bearing
+pub mod Beginning
 pub mod BlockAnswers
 pub mod Borne
 pub mod Complete

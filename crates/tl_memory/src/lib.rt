@@ -3,6 +3,7 @@
 
 pub mod access;
 pub mod accesses;
+pub mod begun;
 pub mod block;
 pub mod blocks;
 pub mod expected;

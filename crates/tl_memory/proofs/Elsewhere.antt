@@ -1,23 +1,30 @@
 -- What is kept of a block, with a beat that bears on another.
-use Rattle.std.proofs.Common.{◌≡◌, ℕ, zero, suc, true, false, ◌+◌, ◌*◌, ◌/◌, ◌<◌, List, [], ◌∷◌}
-use Rattle.std.proofs.Common.{refl, sym, ◌∙◌, arith, inl, inr}
-use Rattle.std.specs.Prelude.{find, None, Option, Some}
-use Rattle.std.proofs.lemmas.Bool.{cases_Bool}
+use Rattle.std.proofs.Common.{◌≡◌, ℕ, zero, suc, Bool, true, false, not}
+use Rattle.std.proofs.Common.{◌||◌, ◌+◌, ◌*◌, ◌/◌, ◌<◌, ◌≤◌, List, [], ◌∷◌}
+use Rattle.std.proofs.Common.{length, refl, sym, ap, ◌∙◌, arith, inl, inr}
+use Rattle.std.specs.Prelude.{filter, find, None, Option, Some}
+use Rattle.std.proofs.lemmas.Bool.{cases_Bool, cases_eq, eq-eqb, le-leb, ne_eqb}
 use Rattle.tl_beat.specs.declared.beat.Beat.{Beat}
 use Rattle.tl_beat.specs.declared.beat.Beat.TheVariants as beat
 use Rattle.tl_beat.specs.declared.beat.Link.{Link}
 use Rattle.tl_beat.specs.declared.channel.Channel.TheVariants as channel
-use Rattle.tl_burst.specs.statement.Messages.{unfinished}
+use Rattle.tl_burst.specs.statement.Messages.{History, unfinished}
 use Rattle.tl_params.specs.declared.perm.Perm.TheVariants as perm
 use Rattle.tl_rules.specs.statement.Conformance.{Trace, on_link}
-use Rattle.tl_rules.specs.statement.History.{ends, held}
+use Rattle.tl_rules.specs.statement.History.{ends, held, says_held}
 use Rattle.tl_rules.specs.statement.Windows.{is_free}
 use Rattle.tl_bytes.specs.declared.block_bytes.BlockBytes.{BlockBytes}
 use Rattle.tl_bytes.specs.declared.telling.Telling.{Telling}
-use Rattle.tl_bytes.specs.statement.Bytes.{Access, after_answer, after_beat, ends_request, is_of, last_told}
-use Rattle.tl_bytes.specs.statement.Bytes.{may_be, pending_accesses, tells}
-use Rattle.tl_bytes.specs.statement.Known.{KnowsBlock}
-use Rattle.tl_memory.specs.code.Elsewhere.{KeepsByte, WritesNot}
+use Rattle.tl_bytes.specs.statement.Bytes.{Access, after_answer}
+use Rattle.tl_bytes.specs.statement.Bytes.{after_beat, ends_request, is_of, last_told}
+use Rattle.tl_bytes.specs.statement.Bytes.{last_window, may_be, may_read, pending_accesses, tells, told_as, written_as}
+use Rattle.tl_bytes.specs.statement.Known.{KnowsBlock, others}
+use Rattle.tl_bytes.proofs.Since.{same_after}
+use Rattle.tl_memory.specs.code.Elsewhere.{IsElsewhere, KeepsByte, WritesNot}
+use Rattle.tl_memory.specs.declared.block.BlockState.{BlockState}
+use Rattle.tl_memory.specs.declared.pending.PendingAccess.{PendingAccess}
+use Rattle.tl_memory.specs.statement.Known.{AllWriteInside, AreKnown, is_to, KnowsAccess, KnowsState}
+use Rattle.tl_memory.proofs.Writing.{written-here}
 
 -- ---- what a byte may be
 
@@ -58,6 +65,169 @@ bytes-kept n block b x t k quiet keeps = record {
   bytes_are = λ p lt. k.bytes_are p lt ∙ sym (byte-kept n block p x t lt quiet (keeps p lt));
   last_is = rw quiet k.last_is;
 }
+
+-- ---- what a read may bring
+
+again : (a b r : Bool) → (a || (b || (a || (b || r)))) ≡ (a || (b || r))
+again true b r = refl
+again false true r = refl
+again false false r = refl
+
+-- an access that had all that it may bring now
+same-read : {w : ℕ} (n : ℕ) (access : Access w) (x : Link × Beat w) (t : Trace w) (address v : ℕ)
+    → access.asked ≤ length t → 0 < length t
+    → may_be n address (x ∷ t) ≡ may_be n address t
+    → written_as address v (others access (x ∷ t)) ≡ written_as address v (others access t)
+    → may_read n access (x ∷ t) address v ≡ may_read n access t address v
+unfolding may_read
+same-read n access x [] address v le some same written = absurd (omega (arith, some))
+same-read n access x (y ∷ t) address v le some same written =
+    rw (
+      le-leb access.asked (suc (suc (length t))) (omega (arith, le)),
+      le-leb access.asked (suc (length t)) le,
+      same,
+      written,
+    )
+    (again (told_as v (may_be n address (y ∷ t))) (written_as address v (others access (y ∷ t)))
+    (may_read n access t address v))
+
+others-same : {w : ℕ} (block p v : ℕ) (access : Access w) (x : Link × Beat w) (t : Trace w) → p < 64
+    → AllWriteInside (pending_accesses t) → AllWriteInside (pending_accesses (x ∷ t))
+    → filter (is_to block) (pending_accesses (x ∷ t)) ≡ filter (is_to block) (pending_accesses t)
+    → written_as (64 * block + p) v (others access (x ∷ t)) ≡ written_as (64 * block + p) v (others access t)
+others-same block p v access x t lt before now same =
+    sym (written-here block p v (λ other. not (is_of access.link access.request.source other))
+    (pending_accesses (x ∷ t)) lt now)
+    ∙ ap (λ l. written_as (64 * block + p) v
+    (filter (λ other. not (is_of access.link access.request.source other)) l)) same
+    ∙ written-here block p v (λ other. not (is_of access.link access.request.source other)) (pending_accesses t) lt
+    before
+
+-- ---- the accesses to the block
+
+access-kept : {w : ℕ} (n block : ℕ) (pending : PendingAccess w) (access : Access w) (x : Link × Beat w) (t : Trace w)
+    → 0 < length t → IsElsewhere block x t → AllWriteInside (pending_accesses t)
+    → KnowsAccess pending n block access t t → KnowsAccess pending n block access t (x ∷ t)
+access-kept n block pending access x t some elsewhere inside k = record {
+  asked_is = k.asked_is;
+  lawful = k.lawful;
+  write_is = k.write_is;
+  before = k.before;
+  windows_are = k.windows_are;
+  read_is = λ p v lt. k.read_is p v lt
+      ∙ sym (same-read n access x t (64 * block + p) v k.before some
+      (byte-kept n block p x t lt elsewhere.quiet (elsewhere.keeps p lt))
+      (others-same block p v access x t lt inside elsewhere.inside elsewhere.pending_stay));
+}
+
+each-kept : {w : ℕ} (n block : ℕ) (pending : List (PendingAccess w)) (accesses : List (Access w)) (x : Link × Beat w)
+    (t : Trace w)
+    → 0 < length t → IsElsewhere block x t → AllWriteInside (pending_accesses t)
+    → AreKnown pending n block accesses t t → AreKnown pending n block accesses t (x ∷ t)
+each-kept n block [] [] x t some elsewhere inside are = tt
+each-kept n block [] (access ∷ accesses) x t some elsewhere inside are = absurd are
+each-kept n block (one ∷ pending) [] x t some elsewhere inside are = absurd are
+each-kept n block (one ∷ pending) (access ∷ accesses) x t some elsewhere inside are = (
+  access-kept n block one access x t some elsewhere inside are.0,
+  each-kept n block pending accesses x t some elsewhere inside are.1,
+)
+
+all-kept : {w : ℕ} (n block : ℕ) (pending : List (PendingAccess w)) (x : Link × Beat w) (t : Trace w)
+    → IsElsewhere block x t → AllWriteInside (pending_accesses t)
+    → AreKnown pending n block (filter (is_to block) (pending_accesses t)) t t
+    → AreKnown pending n block (filter (is_to block) (pending_accesses t)) t (x ∷ t)
+unfolding pending_accesses
+all-kept n block [] x [] elsewhere inside are = tt
+all-kept n block (one ∷ pending) x [] elsewhere inside are = absurd are
+all-kept n block pending x (y ∷ t) elsewhere inside are =
+    each-kept n block pending (filter (is_to block) (pending_accesses (y ∷ t))) x (y ∷ t) (omega arith) elsewhere inside
+    are
+
+-- a beat that bears on another block leaves what is kept of this one
+pub elsewhere-kept : {w : ℕ} (s : BlockState w) (n block : ℕ) (x : Link × Beat w) (t : Trace w) → IsElsewhere block x t
+    → KnowsState s n block t t → KnowsState s n block t (x ∷ t)
+elsewhere-kept s n block x t elsewhere k = record {
+  bytes_are = bytes-kept n block s.bytes x t k.bytes_are elsewhere.quiet elsewhere.keeps;
+  accesses_are = record {
+    accesses_are = rw elsewhere.pending_stay (all-kept n block s.accesses.items x t elsewhere k.accesses_are.inside
+        k.accesses_are.accesses_are);
+    inside = elsewhere.inside;
+  };
+  free_is = k.free_is;
+  last_is = k.last_is;
+}
+
+-- ---- what is seen of it where it is as free as it was
+
+pub windows-kept : {w : ℕ} (n block : ℕ) (pending : List (PendingAccess w)) (accesses : List (Access w))
+    (x : Link × Beat w) (t : Trace w)
+    → is_free n None perm.Trunk block (x ∷ t) ≡ is_free n None perm.Trunk block t
+    → AreKnown pending n block accesses t (x ∷ t) → AreKnown pending n block accesses (x ∷ t) (x ∷ t)
+windows-kept n block [] [] x t same are = tt
+windows-kept n block [] (access ∷ accesses) x t same are = absurd are
+windows-kept n block (one ∷ pending) [] x t same are = absurd are
+windows-kept n block (one ∷ pending) (access ∷ accesses) x t same are = (
+  record {
+    asked_is = are.0.asked_is;
+    lawful = are.0.lawful;
+    write_is = are.0.write_is;
+    before = omega (arith, are.0.before);
+    windows_are = same_after one.windows n block access.asked x t are.0.windows_are are.0.before same;
+    read_is = are.0.read_is;
+  },
+  windows-kept n block pending accesses x t same are.1,
+)
+
+pub last-kept : {w : ℕ} (n block : ℕ) (x : Link × Beat w) (t : Trace w)
+    → is_free n None perm.Trunk block (x ∷ t) ≡ is_free n None perm.Trunk block t
+    → is_free n None perm.Trunk block t ≡ false → last_window n block (x ∷ t) ≡ last_window n block t
+unfolding last_window
+last-kept n block x t same off = rw (same, off) refl
+
+-- where the block is as free as it was, that is seen
+pub freedom-kept : {w : ℕ} (s : BlockState w) (n block : ℕ) (x : Link × Beat w) (t : Trace w)
+    → is_free n None perm.Trunk block (x ∷ t) ≡ is_free n None perm.Trunk block t
+    → KnowsState s n block t (x ∷ t) → KnowsState s n block (x ∷ t) (x ∷ t)
+freedom-kept s n block x t same k = record {
+  bytes_are = k.bytes_are;
+  accesses_are = record {
+    accesses_are = windows-kept n block s.accesses.items (filter (is_to block) (pending_accesses (x ∷ t))) x t same
+        k.accesses_are.accesses_are;
+    inside = k.accesses_are.inside;
+  };
+  free_is = k.free_is ∙ sym same;
+  last_is = λ off. k.last_is off ∙ sym (last-kept n block x t same (sym k.free_is ∙ off));
+}
+
+-- ---- how free it is
+
+held-kept : {w : ℕ} (block : ℕ) (x : Beat w) (past : History w)
+    → (ends x past ≡ true → says_held block x past ≡ None) → held block (x ∷ past) ≡ held block past
+unfolding held
+held-kept block x past silent = elim (cases_Bool (ends x past)) [
+  | inl over ↦ rw (over, silent over) refl
+  | inr goes_on ↦ rw goes_on refl
+]
+
+link-kept : {w : ℕ} (block m : ℕ) (x : Link × Beat w) (t : Trace w)
+    → (ends x.1 (on_link x.0.0 t) ≡ true → says_held block x.1 (on_link x.0.0 t) ≡ None)
+    → held block (on_link m (x ∷ t)) ≡ held block (on_link m t)
+unfolding on_link
+link-kept block m x t silent = elim (cases_eq x.0.0 m) [
+  | inl own ↦
+      rw (eq-eqb x.0.0 m own) (held-kept block x.1 (on_link m t)
+      (rw own at silent))
+  | inr other ↦ rw (ne_eqb x.0.0 m other) refl
+]
+
+-- a beat that says nothing of what is held of a block leaves it as free as it was
+pub free-kept : {w : ℕ} (n block : ℕ) (x : Link × Beat w) (t : Trace w)
+    → (ends x.1 (on_link x.0.0 t) ≡ true → says_held block x.1 (on_link x.0.0 t) ≡ None)
+    → is_free n None perm.Trunk block (x ∷ t) ≡ is_free n None perm.Trunk block t
+unfolding is_free
+free-kept zero block x t silent = refl
+free-kept (suc n) block x t silent =
+    rw (free-kept n block x t silent, link-kept block n x t silent) refl
 
 -- where nothing was carried it is free
 pub free-first : (w n block : ℕ) → true ≡ is_free {w = w} n None perm.Trunk block []

@@ -1,25 +1,29 @@
 -- What is kept of a block, with one more beat.
-use Rattle.std.proofs.Common.{◌≡◌, ℕ, Bool, true, false, not, ◌+◌, ◌<◌, ◌≤◌}
+use Rattle.std.proofs.Common.{◌≡◌, ℕ, zero, suc, Bool, true, false, not, ◌+◌, ◌<◌, ◌≤◌}
 use Rattle.std.proofs.Common.{List, [], ◌∷◌, ◌++◌, length, refl, sym, ap, ◌∙◌, arith, inl, inr}
 use Rattle.std.specs.Prelude.{if◌then◌else◌, filter, find, None, Option, Some}
+use Rattle.std.specs.List.{AllZip}
 use Rattle.std.specs.Prelude.{⊤}
-use Rattle.std.proofs.Common.{drop, get_or, take}
+use Rattle.std.proofs.Common.{drop, get_or, set, take}
 use Rattle.std.proofs.lemmas.Bool.{cases_Bool}
 use Rattle.std.proofs.lemmas.List.{at_drop_more}
 use Rattle.std.proofs.lemmas.Slice.Zip.{all_zipped_more}
 use Rattle.std.proofs.Math.ListN.{drop_of_length-le}
 use Rattle.tl_beat.specs.declared.beat.Beat.{Beat}
 use Rattle.tl_beat.specs.declared.beat.Link.{Link}
+use Rattle.tl_params.specs.declared.perm.Perm.TheVariants as perm
 use Rattle.tl_rules.specs.statement.Conformance.{Trace}
+use Rattle.tl_rules.specs.statement.Windows.{is_free}
 use Rattle.tl_bytes.specs.declared.block_bytes.BlockBytes.{BlockBytes}
 use Rattle.tl_bytes.specs.statement.Bytes.{Access, is_of, pending_accesses}
 use Rattle.tl_bytes.specs.statement.Known.{KnowsBlock}
-use Rattle.tl_memory.specs.code.Writers.{AreRenewed, IsRenewed, is_named, picked, stays}
+use Rattle.tl_memory.specs.code.Writers.{AreRenewed, AreWatched, IsRenewed, is_named, picked, stays}
 use Rattle.tl_memory.specs.code.Writers.{staying, writers_staying}
 use Rattle.tl_memory.specs.declared.pending.PendingAccess.{PendingAccess}
 use Rattle.tl_memory.specs.declared.writer.Writer.{Writer}
 use Rattle.tl_memory.specs.statement.Known.{AllWriteInside, AreKnown, AreWriters, AreWritersOf, IsAsked, is_to}
-use Rattle.tl_memory.specs.statement.Known.{AnyIsTo, KnowsAccess, KnowsAccesses}
+use Rattle.tl_memory.specs.statement.Known.{AnyIsTo, IsPendingWrite, KnowsAccess, KnowsAccesses}
+use Rattle.tl_memory.specs.statement.Known.{WritesInside}
 use Rattle.tl_memory.proofs.Writing.{named, one_kept, one_left}
 
 -- ---- lists
@@ -82,6 +86,44 @@ module _ {X : Type 0} (p : X → Bool) where
   pub found-none : (i : ℕ) (xs : List X) → length xs ≤ i → None ≡ find p (drop i xs)
   found-none i xs le = rw (drop_of_length-le xs le) refl
 
+-- the first so many are as they should be, and the others as they were
+unfoldable pub IsDone : {X : Type 0} → (X → X → Type 0) → ℕ → List X → List X → Type 0
+IsDone R i [] [] = ⊤
+IsDone R i [] (y ∷ ys) = ⊥
+IsDone R i (x ∷ xs) [] = ⊥
+IsDone R zero (x ∷ xs) (y ∷ ys) = (y ≡ x) × IsDone R zero xs ys
+IsDone R (suc i) (x ∷ xs) (y ∷ ys) = R x y × IsDone R i xs ys
+
+module _ {X : Type 0} (R : X → X → Type 0) where
+  pub done-none : (xs : List X) → IsDone R 0 xs xs
+  unfolding IsDone
+  done-none [] = tt
+  done-none (x ∷ xs) = (refl, done-none xs)
+
+  done-one : (i : ℕ) (xs ys : List X) (item new : X) → IsDone R i xs ys → i < length xs → item ≡ get_or ys i item
+      → R item new → IsDone R (suc i) xs (set ys i new)
+  unfolding IsDone
+  done-one i [] [] item new done lt is r = absurd (omega (arith, lt))
+  done-one i [] (y ∷ ys) item new done lt is r = absurd done
+  done-one i (x ∷ xs) [] item new done lt is r = absurd done
+  done-one zero (x ∷ xs) (y ∷ ys) item new done lt is r = (rw (← (is ∙ done.0)) r, done.1)
+  done-one (suc i) (x ∷ xs) (y ∷ ys) item new done lt is r =
+      (done.0, done-one i xs ys item new done.1 (omega (arith, lt)) is r)
+
+  pub done-more : (i : ℕ) (xs ys : List X) (item new : X) → IsDone R i xs ys → i < length xs
+      → item ≡ get_or ys i item → R item new → IsDone R (i + 1) xs (set ys i new)
+  done-more i xs ys item new done lt is r =
+      let more : i + 1 ≡ suc i = omega arith in
+      rw more (done-one i xs ys item new done lt is r)
+
+  pub done-all : (i : ℕ) (xs ys : List X) → IsDone R i xs ys → length xs ≤ i → AllZip R xs ys
+  unfolding IsDone
+  done-all i [] [] done le = tt
+  done-all i [] (y ∷ ys) done le = absurd done
+  done-all i (x ∷ xs) [] done le = absurd done
+  done-all zero (x ∷ xs) (y ∷ ys) done le = absurd (omega (arith, le))
+  done-all (suc i) (x ∷ xs) (y ∷ ys) done le = (done.0, done-all i xs ys done.1 (omega (arith, le)))
+
 -- ---- the accesses that stay
 
 -- the access isn't the one that is gone, where one is
@@ -98,7 +140,7 @@ stays-as : {w : ℕ} (gone : Option (Link × ℕ)) (x : PendingAccess w) (access
 stays-as None x access k = refl
 stays-as (Some gone) x access k = ap not (named gone.0.0 gone.1 x.writer access k)
 
-inside-kept : {w : ℕ} (keep : Access w → Bool) (accesses : List (Access w)) → AllWriteInside accesses
+pub inside-kept : {w : ℕ} (keep : Access w → Bool) (accesses : List (Access w)) → AllWriteInside accesses
     → AllWriteInside (filter keep accesses)
 inside-kept keep [] inside = inside
 inside-kept keep (x ∷ accesses) inside = elim (cases_Bool (keep x)) [
@@ -106,7 +148,8 @@ inside-kept keep (x ∷ accesses) inside = elim (cases_Bool (keep x)) [
   | inr left ↦ rw left (inside-kept keep accesses inside.1)
 ]
 
-pub writers-known : {w : ℕ} (n block : ℕ) (gone : Option (Link × ℕ)) (seen t : Trace w) (pending : List (PendingAccess w))
+pub writers-known : {w : ℕ} (n block : ℕ) (gone : Option (Link × ℕ)) (seen t : Trace w)
+    (pending : List (PendingAccess w))
     (accesses : List (Access w))
     → AreKnown pending n block accesses seen t
     → AreWriters (writers_staying gone pending) block (filter (keeps gone) accesses)
@@ -246,3 +289,56 @@ finds link source n block seen t pending k to =
         (finds-known link source n block seen t pending (filter (is_to block) (pending_accesses t)) k.accesses_are)
     go (Some access) e to = rw (← find-keeps (is_of link source) (is_to block) (pending_accesses t) access e to)
         (finds-known link source n block seen t pending (filter (is_to block) (pending_accesses t)) k.accesses_are)
+
+-- ---- one access more
+
+pub asked-more : {w : ℕ} (n block : ℕ) (first : PendingAccess w) (more : List (PendingAccess w)) (access : Access w)
+    (x : Link × Beat w) (t : Trace w)
+    → pending_accesses (x ∷ t) ≡ access ∷ pending_accesses t → is_to block access ≡ true
+    → WritesInside access → AllWriteInside (pending_accesses t) → KnowsAccess first n block access (x ∷ t) (x ∷ t)
+    → AreKnown more n block (filter (is_to block) (pending_accesses t)) (x ∷ t) (x ∷ t)
+    → KnowsAccesses (first ∷ more) n block (x ∷ t) (x ∷ t)
+asked-more n block first more access x t pending to inside all k are = record {
+  accesses_are = rw (pending, to) (k, are);
+  inside = rw pending (inside, all);
+}
+
+-- they write this
+pub asked-writers : {w : ℕ} (n block : ℕ) (x : Link × Beat w) (t : Trace w) (writer : Writer w)
+    (pending : List (PendingAccess w)) (writers : List (Writer w)) (access : Access w)
+    → KnowsAccesses pending n block t t → pending_accesses (x ∷ t) ≡ access ∷ pending_accesses t
+    → is_to block access ≡ true → IsAsked writer.asked access → IsPendingWrite writer.write block access
+    → WritesInside access → writers ≡ writer ∷ writers_staying None pending → AreWritersOf writers block (x ∷ t)
+asked-writers n block x t writer pending writers access k more to asked write inside are = record {
+  writers_are = rw (are, more, to) (
+    asked,
+    write,
+    rw (keeps-all (filter (is_to block) (pending_accesses t)))
+        (writers-known n block None t t pending (filter (is_to block) (pending_accesses t)) k.accesses_are),
+  );
+  inside = rw more (inside, k.inside);
+}
+
+-- ---- seen whether the block is free
+
+pub watched-each : {w : ℕ} (n block : ℕ) (free : Bool) (moment : ℕ) (x : Link × Beat w) (t : Trace w)
+    (old new : List (PendingAccess w)) (accesses : List (Access w))
+    → AreKnown old n block accesses t (x ∷ t) → AreWatched free moment old new
+    → free ≡ is_free n None perm.Trunk block (x ∷ t) → moment ≡ length (x ∷ t)
+    → AreKnown new n block accesses (x ∷ t) (x ∷ t)
+watched-each n block free moment x t [] [] [] are watched is now = tt
+watched-each n block free moment x t [] (z ∷ new) accesses are watched is now = absurd watched
+watched-each n block free moment x t (z ∷ old) [] accesses are watched is now = absurd watched
+watched-each n block free moment x t [] [] (y ∷ accesses) are watched is now = absurd are
+watched-each n block free moment x t (z ∷ old) (v ∷ new) [] are watched is now = absurd are
+watched-each n block free moment x t (z ∷ old) (v ∷ new) (y ∷ accesses) are watched is now = (
+  record {
+    asked_is = rw watched.0.writer_is are.0.asked_is;
+    lawful = are.0.lawful;
+    write_is = rw watched.0.writer_is are.0.write_is;
+    before = omega (arith, are.0.before);
+    windows_are = watched.0.windows_are n block y.asked x t are.0.windows_are are.0.before is now;
+    read_is = rw watched.0.read_is are.0.read_is;
+  },
+  watched-each n block free moment x t old new accesses are.1 watched.1 is now,
+)

@@ -1,5 +1,10 @@
 pub mod Answering
+pub mod Apart
 pub mod Atomics
+pub mod Bearing
+pub mod Beginning
+pub mod BlockAnswers
+pub mod Borne
 pub mod Complete
 pub mod Elsewhere
 pub mod Expecting
@@ -7,6 +12,7 @@ pub mod Judging
 pub mod Keeping
 pub mod Lanes
 pub mod Lawful
+pub mod LegalBeats
 pub mod LinkBeats
 pub mod LinkStates
 pub mod Masks
@@ -16,5 +22,7 @@ pub mod Payloads
 pub mod Puts
 pub mod Responses
 pub mod States
+pub mod Tables
+pub mod Taken
 pub mod Unfinished
 pub mod Writing

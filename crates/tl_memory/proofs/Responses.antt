@@ -21,9 +21,10 @@ use Rattle.tl_rules.specs.declared.past.Request.{Request}
 use Rattle.tl_rules.specs.statement.Conformance.{Trace, answers, on_link}
 use Rattle.tl_rules.specs.statement.History.{asks_for, block_at, ends, is_grant, request_of}
 use Rattle.tl_rules.proofs.Open.{request-fields}
-use Rattle.tl_bytes.specs.statement.Bytes.{Access, access_writes, ends_request, is_access, is_of, is_perm_only}
+use Rattle.tl_bytes.specs.statement.Bytes.{Access, access_writes, ends_request, is_access, is_of}
 use Rattle.tl_bytes.specs.statement.Bytes.{pending_accesses, tells, tells_granted}
 use Rattle.tl_memory.specs.code.Elsewhere.{KeepsByte, WritesNot}
+use Rattle.tl_memory.specs.code.Taking.{tells_block}
 use Rattle.tl_memory.specs.statement.Known.{AllWriteInside, AnyIsTo, WritesInside}
 
 -- ---- what it tells of a block
@@ -50,12 +51,6 @@ access-untold block y asked t e access =
     never : (b : Bool) → (b && false) ≡ false
     never true = refl
     never false = refl
-
--- the response to a request of this opcode tells what its block has
-abbrev pub tells_block : OpD → OpA → Bool
-tells_block d.GrantData asked = true
-tells_block d.Grant asked = is_perm_only asked
-tells_block _ asked = false
 
 told_if : {w : ℕ} (block : ℕ) (opcode : OpD) (asked : Request) (o : Option (BeatA w)) → request_fields o ≡ Some asked
     → ((is_grant opcode && asks_for block o) && tells_granted opcode o)

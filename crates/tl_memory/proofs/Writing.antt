@@ -141,7 +141,8 @@ others-write link source block (x ∷ writers) (y ∷ accesses) are place byte l
     ]
 
 -- what is elsewhere writes nothing here
-apart : {w : ℕ} (block place : ℕ) (access : Access w) → place < 64 → WritesInside access → is_to block access ≡ false
+pub apart : {w : ℕ} (block place : ℕ) (access : Access w) → place < 64 → WritesInside access
+    → is_to block access ≡ false
     → access_writes (64 * block + place) access ≡ false
 apart block place access lt inside other = elim (cases_Bool (access_writes (64 * block + place) access)) [
   | inr none ↦ none

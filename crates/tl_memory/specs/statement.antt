@@ -1,3 +1,4 @@
+pub mod Blocks
 pub mod Expecting
 pub mod Known
 pub mod Links

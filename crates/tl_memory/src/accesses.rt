@@ -1,7 +1,7 @@
 //! The accesses to a block that are pending.
 
 ghost use Rattle.std.specs.Prelude.{ℕ, ◌++◌, ◌≡◌, List, find, IfOk, OnOk, option_copied};
-ghost use Rattle.tl_memory.specs.code.Writers.{AreRenewed, is_named, staying, writers_staying};
+ghost use Rattle.tl_memory.specs.code.Writers.{AreRenewed, AreWatched, is_named, staying, writers_staying};
 ghost use Rattle.tl_memory.specs.code.Writers as writers;
 ghost use Rattle.tl_memory.specs.declared.pending.PendingAccess.{PendingAccess};
 
@@ -72,4 +72,13 @@ pub fn append_renewed<const W: usize>(
         }
     }
     Ok(())
+}
+
+/// With one more beat, at this moment, with which the block is free for writing or isn't.
+pub fn watch<const W: usize>(accesses: &mut Vec<PendingAccess<W>>, free: bool, moment: u64)
+    ensures { AreWatched free moment accesses.old.items accesses.new.items }
+{
+    for n in 0..accesses.len() {
+        accesses[n].watch(free, moment);
+    }
 }

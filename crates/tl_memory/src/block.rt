@@ -1,27 +1,34 @@
 //! What is kept of a block.
 
-ghost use Rattle.std.specs.Prelude.{ℕ, true, false, [], ◌∷◌, ◌≡◌, length, find, IfOk};
+ghost use Rattle.std.specs.Prelude.{ℕ, suc, true, false, not, None, [], ◌∷◌, ◌≡◌, ◌&&◌, ◌-◌, length, find, IfOk};
+ghost use Rattle.std.specs.Prelude.{if◌then◌else◌, unwrap_or};
 ghost use Rattle.tl_beat.specs.declared.beat.Beat.{Beat};
 ghost use Rattle.tl_beat.specs.declared.beat.Beat.TheVariants as beat;
+ghost use Rattle.tl_beat.specs.declared.beat.BeatA.{BeatA};
 ghost use Rattle.tl_beat.specs.declared.beat.BeatD.{BeatD};
 ghost use Rattle.tl_beat.specs.declared.beat.Link.{Link};
 ghost use Rattle.tl_beat.specs.declared.channel.Channel.TheVariants as channel;
 ghost use Rattle.tl_beat.specs.statement.Width.{IsWidth};
 ghost use Rattle.tl_burst.specs.statement.Messages.{unfinished};
+ghost use Rattle.tl_params.specs.declared.perm.Perm.TheVariants as perm;
 ghost use Rattle.tl_rules.specs.statement.Conformance.{Trace, on_link};
-ghost use Rattle.tl_bytes.specs.statement.Bytes.{ends_request, is_of, pending_accesses, tells};
+ghost use Rattle.tl_rules.specs.statement.History.{block_at};
+ghost use Rattle.tl_rules.specs.statement.Windows.{is_free};
+ghost use Rattle.tl_bytes.specs.statement.Bytes.{Access, ends_request, is_of, pending_accesses, tells};
 ghost use Rattle.tl_bytes.specs.statement.Known.{AreCarried, KnowsBlock, KnowsGrant};
 
-use crate::accesses::{append_renewed, append_writers, find};
+use crate::access::Asked;
+use crate::accesses::{append_renewed, append_writers, find, watch};
 use crate::expected::Expected;
 use crate::granted::granted;
 use crate::message::CarriedMessage;
 use crate::pending::PendingAccess;
-use crate::writer::written;
+use crate::writer::{Writer, pending_write, written};
 use std::alloc::{AllocError, Global};
 use tl_beat::beat::Link;
 use tl_bytes::block_bytes::BlockBytes;
 use tl_bytes::read_bytes::ReadBytes;
+use tl_bytes::windows::WritingWindows;
 
 /// What is kept of a block: what its bytes may be, the accesses to it that are pending, the last first,
 /// and whether it is free for writing.
@@ -34,8 +41,21 @@ pub struct BlockState<const W: usize> {
     last_free: u64,
 }
 
+/// The last moment at which a block was free, where it isn't with one more beat, at this moment.
+fn last_free(was: bool, free: bool, last: u64, moment: u64) -> u64
+    ensures { result ≡ (if was && not free then moment - 1 else last) }
+{
+    if was && !free {
+        moment.saturating_sub(1)
+    } else {
+        last
+    }
+}
+
 impl<const W: usize> BlockState<W> {
-    ghost use Rattle.tl_memory.specs.statement.Known.{AnyIsTo, Expects, KnowsMessage, KnowsState};
+    ghost use Rattle.tl_memory.specs.code.Taking.{IsNext};
+    ghost use Rattle.tl_memory.specs.statement.Known.{AnyIsTo, Expects, IsAsked, IsLawful, KnowsMessage};
+    ghost use Rattle.tl_memory.specs.statement.Known.{KnowsState, WritesInside};
 
     /// A block of which nothing was told, and to which no access is pending: it is free.
     pub fn new(alloc: Global) -> Result<Self, AllocError>
@@ -175,5 +195,75 @@ impl<const W: usize> BlockState<W> {
             free: self.free,
             last_free: self.last_free,
         })
+    }
+
+    /// Sees whether it is free for writing with a beat, at this moment.
+    pub fn watch(&mut self, free: bool, moment: u64)
+        ensures { (n block : ℕ) (x : Link × Beat W) (t : Trace W) → KnowsState self.old n block t (x ∷ t) →
+            free ≡ is_free n None perm.Trunk block (x ∷ t) → moment ≡ suc (length t) →
+            KnowsState self.new n block (x ∷ t) (x ∷ t) }
+    {
+        self.last_free = last_free(self.free, free, self.last_free, moment);
+        self.free = free;
+        watch(&mut self.accesses, free, moment);
+    }
+
+    /// It with a beat that completes the request of an access to it.
+    pub fn asked(&self, alloc: Global, asked: Asked<W>) -> Result<Self, AllocError>
+        requires { IsWidth W }
+        ensures { IfOk result (λ s. (n block : ℕ) (link : Link) (y : BeatA W) (access : Access W) (t : Trace W) →
+            KnowsState self.now n block t t →
+            pending_accesses ((link, beat.A y) ∷ t) ≡ access ∷ pending_accesses t →
+            IsAsked asked.entry access → IsLawful access → WritesInside access →
+            block_at access.request.address ≡ block → access.asked ≡ suc (length t) →
+            KnowsState s n block ((link, beat.A y) ∷ t) ((link, beat.A y) ∷ t)) }
+    {
+        let bytes = self.bytes.copy(alloc)?;
+        let writer = Writer {
+            asked,
+            write: pending_write(&asked),
+        };
+        let mut writers = Vec::new(alloc);
+        writers.push(writer)?;
+        append_writers(&mut writers, self.accesses.as_slice(), None)?;
+        let windows = WritingWindows::new(self.free, asked.moment, self.last_free);
+        let first = PendingAccess::new(alloc, &writer, windows, &bytes, writers.as_slice())?;
+        let mut accesses = Vec::new(alloc);
+        accesses.push(first)?;
+        append_renewed(
+            alloc,
+            &mut accesses,
+            self.accesses.as_slice(),
+            None,
+            &bytes,
+            writers.as_slice(),
+        )?;
+        Ok(BlockState {
+            bytes,
+            accesses,
+            free: self.free,
+            last_free: self.last_free,
+        })
+    }
+    /// This state, or the one that was.
+    fn put(&mut self, next: Option<Self>)
+        ensures { self.new ≡ unwrap_or next.entry self.old }
+    {
+        if let Some(next) = next {
+            *self = next;
+        }
+    }
+
+    /// Takes a beat, at this moment: with it this is the state, or it stays as it was. Whether the block is free
+    /// for writing with the beat is told beside it, where that isn't in the state.
+    pub fn take(&mut self, next: Option<Self>, free: Option<bool>, moment: u64)
+        ensures { (n block : ℕ) (x : Link × Beat W) (t : Trace W) → KnowsState self.old n block t t →
+            moment ≡ suc (length t) → IsNext next.entry free n block x t →
+            KnowsState self.new n block (x ∷ t) (x ∷ t) }
+    {
+        self.put(next);
+        if let Some(free) = free {
+            self.watch(free, moment);
+        }
     }
 }

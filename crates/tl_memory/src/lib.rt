@@ -3,11 +3,14 @@
 
 pub mod access;
 pub mod accesses;
+pub mod begun;
 pub mod block;
+pub mod blocks;
 pub mod expected;
 pub mod granted;
 pub mod link;
 pub mod message;
+pub mod next;
 pub mod pending;
 pub mod performed;
 pub mod typed;

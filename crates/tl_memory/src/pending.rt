@@ -23,6 +23,8 @@ pub struct PendingAccess<const W: usize> {
 }
 
 impl<const W: usize> PendingAccess<W> {
+    ghost use Rattle.tl_memory.specs.code.Writers.{IsWatched};
+
     /// One whose request is complete with this beat, which had these windows; these are its block's bytes,
     /// and what the accesses may write that are pending there, itself among them.
     pub fn new(
@@ -73,5 +75,12 @@ impl<const W: usize> PendingAccess<W> {
             windows: self.windows,
             read,
         })
+    }
+
+    /// Sees whether its block is free for writing with one more beat, at this moment.
+    pub fn watch(&mut self, free: bool, moment: u64)
+        ensures { IsWatched free moment self.old self.new }
+    {
+        self.windows = self.windows.after(free, moment);
     }
 }

@@ -1,9 +1,16 @@
 -- Beats that bear on another block.
-use Rattle.std.specs.Prelude.{ℕ, true, false, ◌≡◌, Option, Some, None, find, ⊤}
+use Rattle.std.specs.Prelude.{ℕ, true, false, List, [], ◌∷◌, ◌+◌, ◌*◌, ◌<◌, ◌≡◌, Option, Some, None, filter, find, ⊤}
+use Rattle.std.specs.Prelude.{if◌then◌else◌}
 use Rattle.tl_beat.specs.declared.beat.Beat.{Beat}
 use Rattle.tl_beat.specs.declared.beat.Beat.TheVariants as beat
+use Rattle.tl_beat.specs.declared.beat.Link.{Link}
+use Rattle.tl_burst.specs.statement.Messages.{History}
+use Rattle.tl_rules.specs.code.Open.{open_request}
+use Rattle.tl_rules.specs.declared.past.Request.{Request}
 use Rattle.tl_rules.specs.statement.Conformance.{Trace, on_link}
-use Rattle.tl_bytes.specs.statement.Bytes.{Access, access_writes, ends_request, is_of, pending_accesses}
+use Rattle.tl_rules.specs.statement.History.{block_at, ends, is_release_ack, says_held}
+use Rattle.tl_bytes.specs.statement.Bytes.{Access, access_writes, ends_request, is_of, pending_accesses, tells}
+use Rattle.tl_memory.specs.statement.Known.{AllWriteInside, is_to}
 
 -- the access, where there is one, doesn't write the byte at an address
 abbrev pub WritesNot : {w : ℕ} → ℕ → Option (Access w) → Type 0
@@ -15,3 +22,38 @@ abbrev pub KeepsByte : {w : ℕ} → ℕ → ℕ → Beat w → Trace w → Type
 KeepsByte address link (beat.D y) t = ends_request y (on_link link t) ≡ true
     → WritesNot address (find (is_of link y.source) (pending_accesses t))
 KeepsByte address link _ t = ⊤
+
+-- each of these accesses that has this source on the link is to another block
+abbrev pub NoneIsTo : {w : ℕ} → ℕ → ℕ → ℕ → List (Access w) → Type 0
+NoneIsTo link source block [] = ⊤
+NoneIsTo link source block (access ∷ accesses) =
+    (is_of link source access ≡ true → is_to block access ≡ false) × NoneIsTo link source block accesses
+
+-- The beat tells nothing of the block and leaves its bytes, and the same accesses to the block are pending; each
+-- that is pending writes in its own block alone.
+pub record IsElsewhere {w : ℕ} (block : ℕ) (x : Link × Beat w) (t : Trace w) : Type 0 where
+  pub quiet : tells block x.1 (on_link x.0.0 t) ≡ false
+  pub keeps : (place : ℕ) → place < 64 → KeepsByte (64 * block + place) x.0.0 x.1 t
+  pub pending_stay : filter (is_to block) (pending_accesses (x ∷ t)) ≡ filter (is_to block) (pending_accesses t)
+  pub inside : AllWriteInside (pending_accesses (x ∷ t))
+
+-- no message that is complete with the beat says how much of the block its link holds
+abbrev pub IsSilent : {w : ℕ} → ℕ → Link × Beat w → Trace w → Type 0
+IsSilent block x t = ends x.1 (on_link x.0.0 t) ≡ true → says_held block x.1 (on_link x.0.0 t) ≡ None
+
+-- the beat changes nothing of what is kept of the block
+pub record PassesBy {w : ℕ} (block : ℕ) (x : Link × Beat w) (t : Trace w) : Type 0 where
+  pub elsewhere : IsElsewhere block x t
+  pub silent : IsSilent block x t
+
+-- the block of the request, where there is one
+abbrev pub block_asked : Option Request → Option ℕ
+block_asked None = None
+block_asked (Some asked) = Some asked.block
+
+-- the block that a beat bears on, where it does: that of its address, or of the request that it answers
+abbrev pub block_borne : {w : ℕ} → Beat w → History w → Option ℕ
+block_borne (beat.A y) past = Some (block_at y.address)
+block_borne (beat.C y) past = Some (block_at y.address)
+block_borne (beat.D y) past = if is_release_ack y.opcode then None else block_asked (open_request y.source past)
+block_borne _ past = None

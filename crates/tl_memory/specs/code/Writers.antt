@@ -4,13 +4,15 @@ use Rattle.std.specs.List.{AllZip}
 use Rattle.std.specs.Prelude.{length, Option, Some, None}
 use Rattle.tl_beat.specs.declared.beat.Beat.{Beat}
 use Rattle.tl_beat.specs.declared.beat.Link.{Link}
+use Rattle.tl_params.specs.declared.perm.Perm.TheVariants as perm
 use Rattle.tl_rules.specs.statement.Conformance.{Trace}
+use Rattle.tl_rules.specs.statement.Windows.{is_free}
 use Rattle.tl_bytes.specs.declared.block_bytes.BlockBytes.{BlockBytes}
 use Rattle.tl_bytes.specs.declared.windows.WindowCount.{WindowCount}
 use Rattle.tl_bytes.specs.declared.windows.WindowCount.TheVariants as count
 use Rattle.tl_bytes.specs.declared.write.Write.{Write}
 use Rattle.tl_bytes.specs.statement.Bytes.{Access}
-use Rattle.tl_bytes.specs.statement.Known.{KnowsBlock, KnowsRead}
+use Rattle.tl_bytes.specs.statement.Known.{KnowsBlock, KnowsRead, KnowsWindows}
 use Rattle.tl_memory.specs.declared.access.Asked.{Asked}
 use Rattle.tl_memory.specs.declared.pending.PendingAccess.{PendingAccess}
 use Rattle.tl_memory.specs.declared.writer.Writer.{Writer}
@@ -72,3 +74,16 @@ pub record IsRenewed {w : ℕ} (bytes : BlockBytes) (writers : List (Writer w)) 
 abbrev pub AreRenewed : {w : ℕ} → BlockBytes → List (Writer w) → List (PendingAccess w) → List (PendingAccess w)
     → Type 0
 AreRenewed bytes writers old new = AllZip (IsRenewed bytes writers) old new
+
+-- what is kept of an access whose block is free with one more beat, at this moment, or isn't
+pub record IsWatched {w : ℕ} (free : Bool) (moment : ℕ) (old new : PendingAccess w) : Type 0 where
+  pub writer_is : new.writer ≡ old.writer
+  pub read_is : new.read ≡ old.read
+  pub windows_are : (n block asked : ℕ) (x : Link × Beat w) (t : Trace w)
+      → KnowsWindows old.windows n block asked t → asked ≤ length t
+      → free ≡ is_free n None perm.Trunk block (x ∷ t) → moment ≡ length (x ∷ t)
+      → KnowsWindows new.windows n block asked (x ∷ t)
+
+-- of each of them
+abbrev pub AreWatched : {w : ℕ} → Bool → ℕ → List (PendingAccess w) → List (PendingAccess w) → Type 0
+AreWatched free moment old new = AllZip (IsWatched free moment) old new

@@ -1,0 +1,217 @@
+-- Beats that bear on another block leave what is kept of this one.
+use Rattle.std.proofs.Common.{◌≡◌, ℕ, suc, Bool, true, false, not, ◌&&◌, ◌||◌, ◌+◌, ◌*◌, ◌/◌, ◌<◌, List, [], ◌∷◌}
+use Rattle.std.proofs.Common.{length, refl, sym, ap, ◌∙◌, inl, inr}
+use Rattle.std.specs.Prelude.{if◌then◌else◌, filter, find, ◌==◌}
+use Rattle.std.proofs.lemmas.Bool.{cases_Bool, eq-eqb}
+use Rattle.tl_beat.specs.declared.beat.Beat.{Beat}
+use Rattle.tl_beat.specs.declared.beat.Beat.TheVariants as beat
+use Rattle.tl_beat.specs.declared.beat.BeatA.{BeatA}
+use Rattle.tl_beat.specs.declared.beat.BeatB.{BeatB}
+use Rattle.tl_beat.specs.declared.beat.BeatC.{BeatC}
+use Rattle.tl_beat.specs.declared.beat.BeatD.{BeatD}
+use Rattle.tl_beat.specs.declared.beat.BeatE.{BeatE}
+use Rattle.tl_beat.specs.declared.beat.Link.{Link}
+use Rattle.tl_beat.specs.statement.Opcode.{c_carries_data}
+use Rattle.tl_beat.specs.declared.channel.Channel.TheVariants as channel
+use Rattle.tl_burst.specs.statement.Messages.{unfinished}
+use Rattle.tl_rules.specs.statement.Conformance.{Trace, on_link}
+use Rattle.tl_rules.specs.statement.History.{block_at, ends, grants, is_probe_ack, is_release}
+use Rattle.tl_bytes.specs.statement.Bytes.{Access, asked_by, ends_request, is_access, is_of}
+use Rattle.tl_bytes.specs.statement.Bytes.{pending_accesses, tells}
+use Rattle.tl_memory.specs.code.Elsewhere.{IsElsewhere, IsSilent, NoneIsTo, PassesBy, WritesNot}
+use Rattle.tl_memory.specs.declared.block.BlockState.{BlockState}
+use Rattle.tl_memory.specs.statement.Known.{AllWriteInside, is_to, KnowsState}
+use Rattle.tl_memory.proofs.Elsewhere.{elsewhere-kept, free-kept, freedom-kept}
+use Rattle.tl_memory.proofs.Keeping.{inside-kept}
+use Rattle.tl_memory.proofs.Writing.{apart}
+
+-- what is kept of a block that a beat passes by
+pub stays : {w : ℕ} (s : BlockState w) (n block : ℕ) (x : Link × Beat w) (t : Trace w) → PassesBy block x t
+    → KnowsState s n block t t → KnowsState s n block (x ∷ t) (x ∷ t)
+stays s n block x t passes k = freedom-kept s n block x t (free-kept n block x t passes.silent)
+    (elsewhere-kept s n block x t passes.elsewhere k)
+
+-- ---- requests
+
+-- a request that is complete is among those that are pending
+asked-elsewhere : {w : ℕ} (c : Bool) (block : ℕ) (access : Access w) (before : List (Access w))
+    → (c ≡ true → is_to block access ≡ false)
+    → filter (is_to block) (if c then access ∷ before else before) ≡ filter (is_to block) before
+asked-elsewhere true block access before other = rw (other refl) refl
+asked-elsewhere false block access before other = refl
+
+-- a beat of channel A that completes no access to the block
+pub request-passes : {w : ℕ} (block : ℕ) (link : Link) (y : BeatA w) (t : Trace w)
+    → AllWriteInside (pending_accesses ((link, beat.A y) ∷ t))
+    → (is_access y.opcode && ends (beat.A y) (on_link link.0 t) ≡ true → (block_at y.address == block) ≡ false)
+    → PassesBy block (link, beat.A y) t
+unfolding pending_accesses
+request-passes block link y t inside other = record {
+  elsewhere = record {
+    quiet = refl;
+    keeps = λ place lt. tt;
+    pending_stay = asked-elsewhere (is_access y.opcode && ends (beat.A y) (on_link link.0 t)) block _
+        (pending_accesses t) other;
+    inside = inside;
+  };
+  silent = λ over. refl;
+}
+
+-- one with which no access is complete
+pub unasked-passes : {w : ℕ} (block : ℕ) (link : Link) (y : BeatA w) (t : Trace w)
+    → AllWriteInside (pending_accesses t) → is_access y.opcode && ends (beat.A y) (on_link link.0 t) ≡ false
+    → PassesBy block (link, beat.A y) t
+unfolding pending_accesses
+unasked-passes block link y t inside none =
+    request-passes block link y t (rw none inside) (λ complete. absurd (let e : true ≡ false = sym complete ∙ none in
+    cc))
+
+pub pending-asked : {w : ℕ} (link : Link) (y : BeatA w) (t : Trace w)
+    → is_access y.opcode && ends (beat.A y) (on_link link.0 t) ≡ true
+    → pending_accesses ((link, beat.A y) ∷ t)
+    ≡ asked_by link.0 y (beat.A y ∷ unfinished channel.A (on_link link.0 t)) (suc (length t)) ∷ pending_accesses t
+unfolding pending_accesses
+pending-asked link y t complete = rw complete refl
+
+-- ---- beats that neither ask nor answer
+
+pub probe-passes : {w : ℕ} (block : ℕ) (link : Link) (y : BeatB w) (t : Trace w)
+    → AllWriteInside (pending_accesses t) → PassesBy block (link, beat.B y) t
+unfolding pending_accesses
+probe-passes block link y t inside = record {
+  elsewhere = record { quiet = refl; keeps = λ place lt. tt; pending_stay = refl; inside = inside };
+  silent = λ over. refl;
+}
+
+pub ack-passes : {w : ℕ} (block : ℕ) (link : Link) (y : BeatE) (t : Trace w)
+    → AllWriteInside (pending_accesses t) → PassesBy block (link, beat.E y) t
+unfolding pending_accesses
+ack-passes block link y t inside = record {
+  elsewhere = record { quiet = refl; keeps = λ place lt. tt; pending_stay = refl; inside = inside };
+  silent = λ over. refl;
+}
+
+-- a beat of channel C that tells nothing of the block
+pub report-elsewhere : {w : ℕ} (block : ℕ) (link : Link) (y : BeatC w) (t : Trace w)
+    → AllWriteInside (pending_accesses t) → tells block (beat.C y) (on_link link.0 t) ≡ false
+    → IsElsewhere block (link, beat.C y) t
+unfolding pending_accesses
+report-elsewhere block link y t inside quiet =
+    record { quiet = quiet; keeps = λ place lt. tt; pending_stay = refl; inside = inside }
+
+pub none_of_both : (a b : Bool) → b ≡ false → a && b ≡ false
+none_of_both true b e = e
+none_of_both false b e = refl
+
+pub none_of_three : (a b c : Bool) → c ≡ false → a && (b && c) ≡ false
+none_of_three a b c e = none_of_both a (b && c) (none_of_both b c e)
+
+report-silent : {w : ℕ} (block : ℕ) (link : Link) (y : BeatC w) (t : Trace w) → (block_at y.address == block) ≡ false
+    → IsSilent block (link, beat.C y) t
+report-silent block link y t other over =
+    rw (none_of_both (is_probe_ack y.opcode || is_release y.opcode) (block_at y.address == block) other) refl
+
+-- one that completes data of the block tells what that has
+pub report-tells : {w : ℕ} (block : ℕ) (link : Link) (y : BeatC w) (t : Trace w)
+    → ends (beat.C y) (on_link link.0 t) ≡ true → c_carries_data y.opcode ≡ true → block_at y.address ≡ block
+    → tells block (beat.C y) (on_link link.0 t) ≡ true
+report-tells block link y t over carries here = rw (over, carries, eq-eqb (y.address / 64) block here) refl
+
+-- one that completes none tells nothing
+pub report-begun : {w : ℕ} (block : ℕ) (link : Link) (y : BeatC w) (t : Trace w)
+    → c_carries_data y.opcode && ends (beat.C y) (on_link link.0 t) ≡ false
+    → tells block (beat.C y) (on_link link.0 t) ≡ false
+report-begun block link y t none =
+    turned (c_carries_data y.opcode) (ends (beat.C y) (on_link link.0 t)) (block_at y.address == block) none
+  where
+    turned : (a b c : Bool) → a && b ≡ false → b && (a && c) ≡ false
+    turned true true c e = absurd cc
+    turned true false c e = refl
+    turned false true c e = refl
+    turned false false c e = refl
+
+-- a beat of channel C leaves the accesses that are pending
+pub report-stays : {w : ℕ} (link : Link) (y : BeatC w) (t : Trace w)
+    → pending_accesses ((link, beat.C y) ∷ t) ≡ pending_accesses t
+unfolding pending_accesses
+report-stays link y t = refl
+
+-- a beat of channel C for another block
+pub report-passes : {w : ℕ} (block : ℕ) (link : Link) (y : BeatC w) (t : Trace w)
+    → AllWriteInside (pending_accesses t) → (block_at y.address == block) ≡ false → PassesBy block (link, beat.C y) t
+report-passes block link y t inside other = record {
+  elsewhere = report-elsewhere block link y t inside
+      (none_of_three (ends (beat.C y) (on_link link.0 t)) (c_carries_data y.opcode) (block_at y.address == block)
+      other);
+  silent = report-silent block link y t other;
+}
+
+-- ---- responses
+
+found-not : {w : ℕ} (link source block place : ℕ) (accesses : List (Access w)) → place < 64
+    → AllWriteInside accesses → NoneIsTo link source block accesses
+    → WritesNot (64 * block + place) (find (is_of link source) accesses)
+found-not link source block place [] lt inside none = tt
+found-not link source block place (access ∷ accesses) lt inside none = elim (cases_Bool (is_of link source access)) [
+  | inl own ↦ rw own (apart block place access lt inside.0 (none.0 own))
+  | inr other ↦ rw other (found-not link source block place accesses lt inside.1 none.1)
+]
+
+none-gone : {w : ℕ} (link source block : ℕ) (accesses : List (Access w)) → NoneIsTo link source block accesses
+    → filter (is_to block) (filter (λ access. not (is_of link source access)) accesses) ≡ filter (is_to block) accesses
+none-gone link source block [] none = refl
+none-gone link source block (access ∷ accesses) none =
+    let more = none-gone link source block accesses none.1 in
+    elim (cases_Bool (is_of link source access)) [
+      | inl own ↦ rw (own, none.0 own) more
+      | inr other ↦ elim (cases_Bool (is_to block access)) [
+        | inl here ↦ rw (other, here) (ap (λ l. access ∷ l) more)
+        | inr there ↦ rw (other, there) more
+      ]
+    ]
+
+-- the accesses that are pending with a beat of channel D are so without it
+response-inside : {w : ℕ} (c : Bool) (keep : Access w → Bool) (accesses : List (Access w)) → AllWriteInside accesses
+    → AllWriteInside (if c then filter keep accesses else accesses)
+response-inside true keep accesses inside = inside-kept keep accesses inside
+response-inside false keep accesses inside = inside
+
+response-stays : {w : ℕ} (c : Bool) (link source block : ℕ) (accesses : List (Access w))
+    → (c ≡ true → NoneIsTo link source block accesses)
+    → filter (is_to block) (if c then filter (λ access. not (is_of link source access)) accesses else accesses)
+    ≡ filter (is_to block) accesses
+response-stays true link source block accesses none = none-gone link source block accesses (none refl)
+response-stays false link source block accesses none = refl
+
+-- a beat of channel D that tells nothing of the block, and answers no access to it
+pub response-elsewhere : {w : ℕ} (block : ℕ) (link : Link) (y : BeatD w) (t : Trace w)
+    → AllWriteInside (pending_accesses t) → tells block (beat.D y) (on_link link.0 t) ≡ false
+    → (ends_request y (on_link link.0 t) ≡ true → NoneIsTo link.0 y.source block (pending_accesses t))
+    → IsElsewhere block (link, beat.D y) t
+unfolding pending_accesses
+response-elsewhere block link y t inside quiet none = record {
+  quiet = quiet;
+  keeps = λ place lt over. found-not link.0 y.source block place (pending_accesses t) lt inside (none over);
+  pending_stay = response-stays (ends_request y (on_link link.0 t)) link.0 y.source block (pending_accesses t) none;
+  inside = response-inside (ends_request y (on_link link.0 t)) (λ access. not (is_of link.0 y.source access))
+      (pending_accesses t) inside;
+}
+
+response-silent : {w : ℕ} (block : ℕ) (link : Link) (y : BeatD w) (t : Trace w)
+    → grants block y (on_link link.0 t) ≡ false → IsSilent block (link, beat.D y) t
+response-silent block link y t other over = rw other refl
+
+-- a beat of channel D that answers no request of the block
+pub response-passes : {w : ℕ} (block : ℕ) (link : Link) (y : BeatD w) (t : Trace w)
+    → AllWriteInside (pending_accesses t) → grants block y (on_link link.0 t) ≡ false
+    → (ends_request y (on_link link.0 t) ≡ true → NoneIsTo link.0 y.source block (pending_accesses t))
+    → PassesBy block (link, beat.D y) t
+response-passes block link y t inside other none = record {
+  elsewhere = response-elsewhere block link y t inside
+      (quiet (ends (beat.D y) (on_link link.0 t)) (grants block y (on_link link.0 t)) _ other) none;
+  silent = response-silent block link y t other;
+}
+  where
+    quiet : (a b c : Bool) → b ≡ false → a && (b && c) ≡ false
+    quiet true b c e = rw e refl
+    quiet false b c e = refl

@@ -1,0 +1,190 @@
+-- What a response that breaks no rule tells of blocks, by the request that it answers.
+use Rattle.std.proofs.Common.{◌≡◌, ◌⊎◌, ℕ, Bool, true, false, not, ◌&&◌, ◌/◌}
+use Rattle.std.proofs.Common.{◌∷◌, List, [], refl, sym, ap, ◌∙◌, inl, inr}
+use Rattle.std.specs.Prelude.{find, None, Option, Some, ◌==◌}
+use Rattle.std.proofs.lemmas.Bool.{cases_Bool, eq-eqb}
+use Rattle.tl_beat.specs.declared.beat.Beat.TheVariants as beat
+use Rattle.tl_beat.specs.declared.beat.BeatA.{BeatA}
+use Rattle.tl_beat.specs.declared.beat.BeatD.{BeatD}
+use Rattle.tl_beat.specs.declared.beat.Link.{Link}
+use Rattle.tl_beat.specs.declared.opcode.OpA.{OpA}
+use Rattle.tl_beat.specs.declared.opcode.OpD.{OpD}
+use Rattle.tl_beat.specs.declared.opcode.OpD.TheVariants as d
+use Rattle.tl_burst.specs.statement.Messages.{History}
+use Rattle.tl_rules.specs.code.Open.{open_request, request_fields}
+use Rattle.tl_rules.specs.declared.past.Request.{Request}
+use Rattle.tl_rules.specs.statement.Conformance.{Trace, answers, on_link}
+use Rattle.tl_rules.specs.statement.History.{asks_for, block_at, ends, grants, is_grant, is_release_ack, request_of}
+use Rattle.tl_rules.proofs.Open.{request-fields}
+use Rattle.tl_bytes.specs.statement.Bytes.{Access, ends_request, is_access, is_of}
+use Rattle.tl_bytes.specs.statement.Bytes.{pending_accesses, tells}
+use Rattle.tl_memory.specs.code.Elsewhere.{IsElsewhere, NoneIsTo, PassesBy}
+use Rattle.tl_memory.specs.code.Taking.{AreAsked, IsResponse, tells_block}
+use Rattle.tl_memory.specs.statement.Known.{AllWriteInside, AnyIsTo}
+use Rattle.tl_memory.proofs.Responses.{grants_no_access, none-answered, response-tells}
+use Rattle.tl_memory.proofs.Bearing.{none_of_both, none_of_three, response-elsewhere, response-passes}
+
+-- ---- the request
+
+-- the first beat of the request that a response answers
+first-beat : {w : ℕ} (o : Option (BeatA w)) (asked : Request) → request_fields o ≡ Some asked
+    → (first : BeatA w) × (o ≡ Some first) × (block_at first.address ≡ asked.block) × (first.opcode ≡ asked.opcode)
+first-beat None asked e = absurd cc
+first-beat (Some first) asked e = (first, refl, ap (λ r. r.block) (same e), ap (λ r. r.opcode) (same e))
+  where
+    same : {x y : Request} → Some x ≡ Some y → x ≡ y
+    same e = cc
+
+pub asked-first : {w : ℕ} (s : ℕ) (past : History w) (asked : Request) → open_request s past ≡ Some asked
+    → (first : BeatA w) × (request_of s past ≡ Some first) × (block_at first.address ≡ asked.block)
+    × (first.opcode ≡ asked.opcode)
+asked-first s past asked e = first-beat (request_of s past) asked (request-fields s past asked (sym e))
+
+-- it grants its block alone
+pub grants-asked : {w : ℕ} (block : ℕ) (y : BeatD w) (past : History w) (asked : Request)
+    → open_request y.source past ≡ Some asked → grants block y past ≡ (is_grant y.opcode && (asked.block == block))
+grants-asked block y past asked e =
+    let first = asked-first y.source past asked e in
+    ap (λ o. is_grant y.opcode && asks_for block o) first.1
+    ∙ ap (λ k. is_grant y.opcode && (k == block)) first.2
+
+-- ---- the accesses that are pending
+
+none-there : {w : ℕ} (link source block : ℕ) (asked : Request) (accesses : List (Access w))
+    → AreAsked link source asked accesses → (asked.block == block) ≡ false → NoneIsTo link source block accesses
+none-there link source block asked [] are other = tt
+none-there link source block asked (access ∷ accesses) are other = (
+  λ own. ap (λ k. k == block) (are.0 own).2 ∙ other,
+  none-there link source block asked accesses are.1 other,
+)
+
+true_false : {X : Type 0} → true ≡ false → X
+true_false e = absurd cc
+
+-- where no access was asked for, none has its source
+none-asked : {w : ℕ} (link source : ℕ) (asked : Request) (access : Access w) → is_access asked.opcode ≡ false
+    → (is_of link source access ≡ true
+    → (is_access access.request.opcode ≡ true) × (access.request.opcode ≡ asked.opcode)
+    × (block_at access.request.address ≡ asked.block)) → is_of link source access ≡ false
+none-asked link source asked access bare is = elim (cases_Bool (is_of link source access)) [
+  | inl own ↦ true_false (sym (is own).0 ∙ ap is_access (is own).1 ∙ bare)
+  | inr other ↦ other
+]
+
+none-of : {w : ℕ} (link source block : ℕ) (asked : Request) (accesses : List (Access w))
+    → AreAsked link source asked accesses → is_access asked.opcode ≡ false → NoneIsTo link source block accesses
+none-of link source block asked [] are bare = tt
+none-of link source block asked (access ∷ accesses) are bare = (
+  λ own. true_false (sym own ∙ none-asked link source asked access bare are.0),
+  none-of link source block asked accesses are.1 bare,
+)
+
+none-found : {w : ℕ} (link source : ℕ) (asked : Request) (accesses : List (Access w))
+    → AreAsked link source asked accesses → is_access asked.opcode ≡ false
+    → find (is_of link source) accesses ≡ None
+none-found link source asked [] are bare = refl
+none-found link source asked (access ∷ accesses) are bare =
+    rw (none-asked link source asked access bare are.0) (none-found link source asked accesses are.1 bare)
+
+-- the access that is answered, where there is one, is to the block of the request
+pub answered-there : {w : ℕ} (link source block : ℕ) (asked : Request) (accesses : List (Access w))
+    → AreAsked link source asked accesses → asked.block ≡ block → AnyIsTo block (find (is_of link source) accesses)
+answered-there link source block asked [] are here = tt
+answered-there link source block asked (access ∷ accesses) are here = elim (cases_Bool (is_of link source access)) [
+  | inl own ↦ rw own (eq-eqb (access.request.address / 64) block ((are.0 own).2 ∙ here))
+  | inr other ↦ rw other (answered-there link source block asked accesses are.1 here)
+]
+
+-- ---- opcodes
+
+-- what answers a request ends no Release
+pub answer-ends : (opcode : OpD) (asked : OpA) → answers opcode asked ≡ true → is_release_ack opcode ≡ false
+answer-ends d.AccessAck asked e = refl
+answer-ends d.AccessAckData asked e = refl
+answer-ends d.HintAck asked e = refl
+answer-ends d.Grant asked e = refl
+answer-ends d.GrantData asked e = refl
+answer-ends d.ReleaseAck asked e = absurd cc
+
+-- what tells of a block is a Grant
+tells-grant : (opcode : OpD) (asked : OpA) → tells_block opcode asked ≡ true → is_grant opcode ≡ true
+tells-grant d.Grant asked e = refl
+tells-grant d.GrantData asked e = refl
+tells-grant d.AccessAck asked e = absurd cc
+tells-grant d.AccessAckData asked e = absurd cc
+tells-grant d.HintAck asked e = absurd cc
+tells-grant d.ReleaseAck asked e = absurd cc
+
+-- and answers no access
+tells-bare : (opcode : OpD) (asked : OpA) → answers opcode asked ≡ true → tells_block opcode asked ≡ true
+    → is_access asked ≡ false
+tells-bare opcode asked e told = elim (cases_Bool (is_access asked)) [
+  | inr bare ↦ bare
+  | inl access ↦ true_false (sym (tells-grant opcode asked told) ∙ grants_no_access opcode asked e access)
+]
+
+-- ---- blocks that a response leaves
+
+-- a response to a request of another block
+pub other-passes : {w : ℕ} (block : ℕ) (link : Link) (y : BeatD w) (asked : Request) (t : Trace w)
+    → AllWriteInside (pending_accesses t) → IsResponse link.0 y asked t → (asked.block == block) ≡ false
+    → PassesBy block (link, beat.D y) t
+other-passes block link y asked t inside is other =
+    response-passes block link y t inside
+    (grants-asked block y (on_link link.0 t) asked is.asked_is
+    ∙ none_of_both (is_grant y.opcode) (asked.block == block) other)
+    (λ over. none-there link.0 y.source block asked (pending_accesses t) is.are_asked other)
+
+tells-off : {w : ℕ} (block : ℕ) (y : BeatD w) (past : History w) (asked : Request)
+    → open_request y.source past ≡ Some asked
+    → (ends (beat.D y) past ≡ false) ⊎ (tells_block y.opcode asked.opcode ≡ false)
+    → tells block (beat.D y) past ≡ false
+tells-off block y past asked e off = response-tells block y asked past e ∙ elim off [
+  | inl goes_on ↦ rw goes_on refl
+  | inr silent ↦ none_of_three (ends (beat.D y) past) (asked.block == block)
+      (tells_block y.opcode asked.opcode) silent
+]
+
+not_both : (a b : Bool) → b ≡ false → not a && b ≡ true → ⊥
+not_both true b e f = absurd cc
+not_both false b e f = true_false (sym f ∙ e)
+
+-- a response with more to come
+pub begun-elsewhere : {w : ℕ} (block : ℕ) (link : Link) (y : BeatD w) (asked : Request) (t : Trace w)
+    → AllWriteInside (pending_accesses t) → IsResponse link.0 y asked t
+    → ends (beat.D y) (on_link link.0 t) ≡ false → IsElsewhere block (link, beat.D y) t
+begun-elsewhere block link y asked t inside is goes_on =
+    response-elsewhere block link y t inside
+    (tells-off block y (on_link link.0 t) asked is.asked_is (inl goes_on))
+    (λ over. absurd (not_both (is_release_ack y.opcode) (ends (beat.D y) (on_link link.0 t)) goes_on over))
+
+-- a response that tells nothing, to what is no access
+pub told-elsewhere : {w : ℕ} (block : ℕ) (link : Link) (y : BeatD w) (asked : Request) (t : Trace w)
+    → AllWriteInside (pending_accesses t) → IsResponse link.0 y asked t
+    → tells_block y.opcode asked.opcode ≡ false → is_access asked.opcode ≡ false
+    → IsElsewhere block (link, beat.D y) t
+told-elsewhere block link y asked t inside is silent bare =
+    response-elsewhere block link y t inside
+    (tells-off block y (on_link link.0 t) asked is.asked_is (inr silent))
+    (λ over. none-of link.0 y.source block asked (pending_accesses t) is.are_asked bare)
+
+-- ---- what it changes of its own block
+
+-- a Grant that tells what the block has
+pub grant-tells : {w : ℕ} (block : ℕ) (y : BeatD w) (past : History w) (asked : Request)
+    → open_request y.source past ≡ Some asked → asked.block ≡ block → ends (beat.D y) past ≡ true
+    → tells_block y.opcode asked.opcode ≡ true → tells block (beat.D y) past ≡ true
+grant-tells block y past asked e here over told = response-tells block y asked past e
+    ∙ rw (over, eq-eqb asked.block block here, told) refl
+
+-- with it the same accesses are pending
+pub grant-stays : {w : ℕ} (link : Link) (y : BeatD w) (asked : Request) (t : Trace w) → IsResponse link.0 y asked t
+    → tells_block y.opcode asked.opcode ≡ true → pending_accesses ((link, beat.D y) ∷ t) ≡ pending_accesses t
+grant-stays link y asked t is told =
+    none-answered link y t (none-found link.0 y.source asked (pending_accesses t) is.are_asked
+    (tells-bare y.opcode asked.opcode is.answers_it told))
+
+pub answer-over : {w : ℕ} (link : Link) (y : BeatD w) (asked : Request) (t : Trace w)
+    → IsResponse link.0 y asked t → ends (beat.D y) (on_link link.0 t) ≡ true
+    → ends_request y (on_link link.0 t) ≡ true
+answer-over link y asked t is over = rw (answer-ends y.opcode asked.opcode is.answers_it, over) refl

@@ -1,0 +1,86 @@
+-- What is known of the state of a block with a beat that bears on it.
+use Rattle.std.proofs.Common.{◌≡◌, ℕ, Bool, true, false, ◌∷◌, refl, sym, ap, ◌∙◌}
+use Rattle.std.specs.Prelude.{if◌then◌else◌, Option, Some, None}
+use Rattle.tl_beat.specs.declared.beat.Beat.{Beat}
+use Rattle.tl_beat.specs.declared.beat.Beat.TheVariants as beat
+use Rattle.tl_beat.specs.declared.beat.BeatA.{BeatA}
+use Rattle.tl_beat.specs.declared.beat.BeatC.{BeatC}
+use Rattle.tl_beat.specs.declared.beat.BeatD.{BeatD}
+use Rattle.tl_beat.specs.declared.beat.Link.{Link}
+use Rattle.tl_beat.specs.declared.channel.Channel.TheVariants as channel
+use Rattle.tl_burst.specs.statement.Messages.{History, on}
+use Rattle.tl_params.specs.declared.perm.Perm.TheVariants as perm
+use Rattle.tl_rules.specs.code.Open.{open_request}
+use Rattle.tl_rules.specs.declared.past.Request.{Request}
+use Rattle.tl_rules.specs.statement.Conformance.{Trace, on_link}
+use Rattle.tl_rules.specs.statement.History.{is_release_ack}
+use Rattle.tl_rules.specs.statement.Windows.{is_free}
+use Rattle.tl_memory.specs.code.Elsewhere.{block_asked, block_borne}
+use Rattle.tl_memory.specs.code.Taking.{IsLegalBeat, IsNext, IsResponse, IsSeen}
+use Rattle.tl_memory.specs.declared.block.BlockState.{BlockState}
+
+true_false : {X : Type 0} → true ≡ false → X
+true_false e = absurd cc
+
+-- with a beat of channel A nothing is told of how free it is
+pub seen-request : {w : ℕ} (next : Option (BlockState w)) (free : Option Bool) (n block : ℕ) (link : Link)
+    (y : BeatA w) (t : Trace w)
+    → IsSeen free n block (link, beat.A y) t → IsNext next None n block (link, beat.A y) t
+    → IsNext next free n block (link, beat.A y) t
+seen-request next None n block link y t seen is = is
+seen-request next (Some f) n block link y t seen is = true_false seen.0
+
+-- with one of another channel it is
+pub seen-other : {w : ℕ} (next : Option (BlockState w)) (free : Option Bool) (n block : ℕ) (x : Link × Beat w)
+    (t : Trace w)
+    → on channel.A x.1 ≡ false → IsSeen free n block x t
+    → ((f : Bool) → f ≡ is_free n None perm.Trunk block (x ∷ t) → IsNext next (Some f) n block x t)
+    → IsNext next free n block x t
+seen-other next None n block x t off seen is = true_false (sym seen ∙ off)
+seen-other next (Some f) n block x t off seen is = is f seen.1
+
+pub same-block : (k block : ℕ) → Some k ≡ Some block → k ≡ block
+same-block k block e = cc
+
+-- the request that a response answers which bears on a block
+pub response-borne : {w : ℕ} (link : ℕ) (y : BeatD w) (asked : Option Request) (block : ℕ) (t : Trace w)
+    → IsLegalBeat link (beat.D y) t → asked ≡ open_request y.source (on_link link t)
+    → block_borne (beat.D y) (on_link link t) ≡ Some block
+    → (one : Request) × (asked ≡ Some one) × IsResponse link y one t × (one.block ≡ block)
+response-borne {w} link y asked block t legal open' borne = go (is_release_ack y.opcode) refl borne
+  where
+    Found : Type 0
+    Found = (one : Request) × (asked ≡ Some one) × IsResponse link y one t × (one.block ≡ block)
+
+    go : (release : Bool) → is_release_ack y.opcode ≡ release
+        → (if release then None else block_asked (open_request y.source (on_link link t))) ≡ Some block → Found
+    go true e borne = absurd cc
+    go false e borne =
+        let one = legal e in (
+          one.0,
+          open' ∙ one.1.asked_is,
+          one.1,
+          same-block one.0.block block (ap block_asked (sym one.1.asked_is) ∙ borne),
+        )
+
+pub response-is : {w : ℕ} (link : ℕ) (y : BeatD w) (asked : Option Request) (a one : Request) (block : ℕ) (t : Trace w)
+    → asked ≡ Some a → asked ≡ Some one → IsResponse link y one t × (one.block ≡ block)
+    → IsResponse link y a t × (a.block ≡ block)
+response-is link y asked a one block t e f is = rw (same a one (sym e ∙ f)) is
+  where
+    same : (a one : Request) → Some a ≡ Some one → a ≡ one
+    same a one e = cc
+
+pub none-open : {X : Type 0} (asked : Option Request) (one : Request) → asked ≡ None → asked ≡ Some one → X
+none-open None one e f = absurd cc
+none-open (Some a) one e f = absurd cc
+
+-- beats of the other channels bear on none
+pub none-borne : {w : ℕ} {X : Type 0} (x : Beat w) (past : History w) (block : ℕ)
+    → ((y : BeatA w) → x ≡ beat.A y → ⊥) → ((y : BeatC w) → x ≡ beat.C y → ⊥)
+    → ((y : BeatD w) → x ≡ beat.D y → ⊥) → block_borne x past ≡ Some block → X
+none-borne (beat.A y) past block a c d borne = absurd (a y refl)
+none-borne (beat.C y) past block a c d borne = absurd (c y refl)
+none-borne (beat.D y) past block a c d borne = absurd (d y refl)
+none-borne (beat.B y) past block a c d borne = absurd cc
+none-borne (beat.E y) past block a c d borne = absurd cc

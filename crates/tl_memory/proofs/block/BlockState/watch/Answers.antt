@@ -1,0 +1,7 @@
+use Rattle.std.proofs.Common.{refl}
+use Rattle.tl_memory.proofs.States.{watched-state}
+use Rattle.tl_memory.proofs.block.BlockState.watch.Goals as goal
+
+pub returns : goal.returns
+returns g c = λ n block x t k free now. watched-state _ c.args.self.now n block c.args.moment x t k refl
+    c.watch.ensures free now c.last_free-self.ensures

@@ -1,0 +1,5 @@
+use Rattle.tl_memory.proofs.Tables.{blocks-first}
+use Rattle.tl_memory.proofs.blocks.Blocks.new.Goals as goal
+
+pub returns : goal.returns
+returns g c = λ n. blocks-first _ n c.new.ensures.empty

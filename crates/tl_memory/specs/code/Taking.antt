@@ -1,0 +1,84 @@
+-- What beats make of the states of blocks.
+use Rattle.std.specs.Prelude.{ℕ, suc, Bool, true, false, [], ◌∷◌, ◌&&◌, ◌≡◌, length, List, Option, Some, None, ⊤}
+use Rattle.tl_beat.specs.declared.beat.Beat.{Beat}
+use Rattle.tl_beat.specs.declared.beat.Beat.TheVariants as beat
+use Rattle.tl_beat.specs.declared.beat.BeatA.{BeatA}
+use Rattle.tl_beat.specs.declared.beat.BeatD.{BeatD}
+use Rattle.tl_beat.specs.declared.beat.Link.{Link}
+use Rattle.tl_beat.specs.declared.channel.Channel.TheVariants as channel
+use Rattle.tl_beat.specs.declared.opcode.OpA.{OpA}
+use Rattle.tl_beat.specs.declared.opcode.OpD.{OpD}
+use Rattle.tl_beat.specs.declared.opcode.OpD.TheVariants as d
+use Rattle.tl_beat.specs.statement.Opcode.{a_carries_data}
+use Rattle.tl_burst.specs.statement.Messages.{History, on, unfinished}
+use Rattle.tl_params.specs.declared.perm.Perm.TheVariants as perm
+use Rattle.tl_rules.specs.code.Open.{open_request}
+use Rattle.tl_rules.specs.declared.past.Request.{Request}
+use Rattle.tl_rules.specs.statement.Conformance.{Trace, answers, on_link}
+use Rattle.tl_rules.specs.statement.History.{block_at, ends, is_release_ack}
+use Rattle.tl_rules.specs.statement.Windows.{is_free}
+use Rattle.tl_bytes.specs.statement.Bytes.{Access, asked_by, is_access, is_of, is_perm_only, pending_accesses}
+use Rattle.tl_memory.specs.code.Elsewhere.{IsElsewhere, PassesBy}
+use Rattle.tl_memory.specs.declared.block.BlockState.{BlockState}
+use Rattle.tl_memory.specs.statement.Known.{AreWide, HasRoom, IsLawful, KnowsState, WritesInside}
+
+-- This is the state of the block with a beat, or that stays as it was. Whether the block is free for writing with
+-- the beat is told beside it, where that isn't in the state.
+abbrev pub IsNext : {w : ℕ} → Option (BlockState w) → Option Bool → ℕ → ℕ → Link × Beat w → Trace w → Type 0
+IsNext None None n block x t = PassesBy block x t
+IsNext None (Some free) n block x t = IsElsewhere block x t × (free ≡ is_free n None perm.Trunk block (x ∷ t))
+IsNext (Some s) None n block x t = KnowsState s n block (x ∷ t) (x ∷ t)
+IsNext (Some s) (Some free) n block x t =
+    KnowsState s n block t (x ∷ t) × (free ≡ is_free n None perm.Trunk block (x ∷ t))
+
+-- How free the block is for writing with a beat is told beside its state, but with a beat of channel A, which
+-- changes nothing of that.
+abbrev pub IsSeen : {w : ℕ} → Option Bool → ℕ → ℕ → Link × Beat w → Trace w → Type 0
+IsSeen None n block x t = on channel.A x.1 ≡ true
+IsSeen (Some free) n block x t = (on channel.A x.1 ≡ false) × (free ≡ is_free n None perm.Trunk block (x ∷ t))
+
+-- the request that is open with the source of a response
+abbrev pub request_answered : {w : ℕ} → Beat w → History w → Option Request
+request_answered (beat.D y) past = open_request y.source past
+request_answered _ past = None
+
+-- ---- beats that break no rule
+
+-- what is known of a beat of channel A, and of the access whose request it completes
+pub record IsRequested {w : ℕ} (link : ℕ) (y : BeatA w) (t : Trace w) : Type 0 where
+  pub room : HasRoom (beat.A y) (unfinished channel.A (on_link link t))
+  pub wide : ends (beat.A y) (on_link link t) ≡ true → a_carries_data y.opcode ≡ true
+      → AreWide (beat.A y ∷ unfinished channel.A (on_link link t))
+  pub lawful : is_access y.opcode && ends (beat.A y) (on_link link t) ≡ true
+      → IsLawful (asked_by link y (beat.A y ∷ unfinished channel.A (on_link link t)) (suc (length t)))
+  pub inside : is_access y.opcode && ends (beat.A y) (on_link link t) ≡ true
+      → WritesInside (asked_by link y (beat.A y ∷ unfinished channel.A (on_link link t)) (suc (length t)))
+
+-- each of these accesses with this source on the link is the request
+abbrev pub AreAsked : {w : ℕ} → ℕ → ℕ → Request → List (Access w) → Type 0
+AreAsked link source asked [] = ⊤
+AreAsked link source asked (access ∷ accesses) =
+    (is_of link source access ≡ true
+    → (is_access access.request.opcode ≡ true) × (access.request.opcode ≡ asked.opcode)
+    × (block_at access.request.address ≡ asked.block))
+    × AreAsked link source asked accesses
+
+-- the response to a request of this opcode tells what its block has
+abbrev pub tells_block : OpD → OpA → Bool
+tells_block d.GrantData asked = true
+tells_block d.Grant asked = is_perm_only asked
+tells_block _ asked = false
+
+-- what is known of a beat of channel D that answers this request
+pub record IsResponse {w : ℕ} (link : ℕ) (y : BeatD w) (asked : Request) (t : Trace w) : Type 0 where
+  pub asked_is : open_request y.source (on_link link t) ≡ Some asked
+  pub answers_it : answers y.opcode asked.opcode ≡ true
+  pub are_asked : AreAsked link y.source asked (pending_accesses t)
+  pub room : HasRoom (beat.D y) (unfinished channel.D (on_link link t))
+
+-- what is known of a beat that breaks no rule
+abbrev pub IsLegalBeat : {w : ℕ} → ℕ → Beat w → Trace w → Type 0
+IsLegalBeat link (beat.A y) t = IsRequested link y t
+IsLegalBeat link (beat.C y) t = HasRoom (beat.C y) (unfinished channel.C (on_link link t))
+IsLegalBeat link (beat.D y) t = is_release_ack y.opcode ≡ false → (asked : Request) × IsResponse link y asked t
+IsLegalBeat link _ t = ⊤

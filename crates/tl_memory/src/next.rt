@@ -1,0 +1,185 @@
+//! What a beat makes of the state of the block that it bears on.
+
+ghost use Rattle.std.specs.Prelude.{ℕ, suc, Bool, Option, Some, None, ◌∷◌, ◌≡◌, ◌≤◌, ◌&&◌, length, IfOk, IsTrue};
+ghost use Rattle.tl_beat.specs.declared.beat.Beat.{Beat};
+ghost use Rattle.tl_beat.specs.declared.beat.Beat.TheVariants as beat;
+ghost use Rattle.tl_beat.specs.declared.beat.Link.{Link};
+ghost use Rattle.tl_beat.specs.declared.channel.Channel.TheVariants as channel;
+ghost use Rattle.tl_beat.specs.statement.Opcode.{c_carries_data};
+ghost use Rattle.tl_beat.specs.statement.Width.{IsWidth};
+ghost use Rattle.tl_burst.specs.statement.Messages.{History, unfinished};
+ghost use Rattle.tl_burst.specs.statement.Part;
+ghost use Rattle.tl_params.specs.declared.perm.Perm.TheVariants as perm;
+ghost use Rattle.tl_rules.specs.statement.Conformance.{Trace, on_link};
+ghost use Rattle.tl_rules.specs.statement.History.{block_at, ends};
+ghost use Rattle.tl_rules.specs.statement.Windows.{is_free};
+ghost use Rattle.tl_bytes.specs.statement.Bytes as bytes;
+ghost use Rattle.tl_memory.specs.code.Elsewhere.{block_borne};
+ghost use Rattle.tl_memory.specs.code.Taking.{IsLegalBeat, IsNext, IsRequested, IsResponse, IsSeen, request_answered};
+ghost use Rattle.tl_memory.specs.code.Taking.{tells_block};
+ghost use Rattle.tl_memory.specs.statement.Known.{HasRoom, KnowsMessage, KnowsState};
+ghost use Rattle.tl_memory.specs.statement.Links.{KnowsMessages};
+
+use crate::access::{Asked, is_access};
+use crate::block::BlockState;
+use crate::link::LinkMessages;
+use crate::message::CarriedMessage;
+use std::alloc::{AllocError, Global};
+use tl_beat::beat::{Beat, BeatA, BeatC, BeatD, Link};
+use tl_beat::opcode::{OpA, OpD};
+use tl_rules::past::Request;
+
+/// Whether both are true.
+fn both(one: bool, other: bool) -> bool
+    ensures { result ≡ (one && other) }
+{
+    one && other
+}
+
+/// Whether an access is complete with a beat of channel A: this is what the beats before it of its message
+/// brought.
+fn completes_access<const W: usize>(y: &BeatA<W>, brought: &CarriedMessage) -> bool
+    requires width { IsWidth W }
+    requires small { y.now.size ≤ 6 }
+    ensures { (t : History W) → KnowsMessage brought.now (unfinished channel.A t) →
+        HasRoom (beat.A y.now) (unfinished channel.A t) →
+        result ≡ (bytes.is_access y.now.opcode && ends (beat.A y.now) t) }
+{
+    both(is_access(y.opcode), brought.completes(&Beat::A(*y)))
+}
+
+/// The state with a beat of channel A, at this moment, where an access is complete with it: this is what the beats
+/// before it of its message brought.
+pub fn after_request<const W: usize>(
+    alloc: Global,
+    state: &BlockState<W>,
+    link: Link,
+    y: &BeatA<W>,
+    brought: &CarriedMessage,
+    moment: u64,
+) -> Result<Option<BlockState<W>>, AllocError>
+    requires width { IsWidth W }
+    requires small { y.now.size ≤ 6 }
+    ensures { IfOk result (λ next. (n block : ℕ) (t : Trace W) → KnowsState state.now n block t t →
+        KnowsMessage brought.now (unfinished channel.A (on_link link.0 t)) → IsRequested link.0 y.now t →
+        block_at y.now.address ≡ block → moment ≡ suc (length t) →
+        IsNext next None n block (link, beat.A y.now) t) }
+{
+    if !completes_access(y, brought) {
+        return Ok(None);
+    }
+    let asked = Asked::new(link, y, &brought.with(&Beat::A(*y)), moment);
+    Ok(Some(state.asked(alloc, asked)?))
+}
+
+/// Whether data are complete with a beat of channel C.
+fn completes_data<const W: usize>(y: &BeatC<W>, brought: &CarriedMessage) -> bool
+    requires width { IsWidth W }
+    requires small { y.now.size ≤ 6 }
+    ensures { (t : History W) → KnowsMessage brought.now (unfinished channel.C t) →
+        HasRoom (beat.C y.now) (unfinished channel.C t) →
+        result ≡ (c_carries_data y.now.opcode && ends (beat.C y.now) t) }
+{
+    both(y.opcode.carries_data(), brought.completes(&Beat::C(*y)))
+}
+
+/// The state with a beat of channel C, before which so many were taken, where data are complete with it.
+pub fn after_report<const W: usize>(
+    alloc: Global,
+    state: &BlockState<W>,
+    y: &BeatC<W>,
+    brought: &CarriedMessage,
+    moment: u64,
+) -> Result<Option<BlockState<W>>, AllocError>
+    requires width { IsWidth W }
+    requires small { y.now.size ≤ 6 }
+    ensures { IfOk result (λ next. (n block : ℕ) (link : Link) (free : Bool) (t : Trace W) →
+        KnowsState state.now n block t t →
+        KnowsMessage brought.now (unfinished channel.C (on_link link.0 t)) →
+        HasRoom (beat.C y.now) (unfinished channel.C (on_link link.0 t)) →
+        block_at y.now.address ≡ block → moment ≡ length t →
+        free ≡ is_free n None perm.Trunk block ((link, beat.C y.now) ∷ t) →
+        IsNext next (Some free) n block (link, beat.C y.now) t) }
+{
+    if !completes_data(y, brought) {
+        return Ok(None);
+    }
+    let all = brought.with(&Beat::C(*y));
+    Ok(Some(state.told(alloc, all.bytes.bytes(), moment)?))
+}
+
+/// Whether a response tells of the block of such a request what it has.
+fn tells(opcode: OpD, asked: OpA) -> bool
+    ensures { result ≡ tells_block opcode asked }
+{
+    match opcode {
+        OpD::GrantData => true,
+        OpD::Grant => asked == OpA::AcquirePerm,
+        _ => false,
+    }
+}
+
+/// The state with a beat of channel D, before which so many were taken, where an answer to an access is complete
+/// with it, or a Grant that tells what the block has.
+pub fn after_response<const W: usize>(
+    alloc: Global,
+    state: &BlockState<W>,
+    link: Link,
+    y: &BeatD<W>,
+    asked: Request,
+    brought: &CarriedMessage,
+    moment: u64,
+) -> Result<Option<BlockState<W>>, AllocError>
+    requires width { IsWidth W }
+    requires small { y.now.size ≤ 6 }
+    ensures { IfOk result (λ next. (n block : ℕ) (free : Bool) (t : Trace W) →
+        KnowsState state.now n block t t →
+        KnowsMessage brought.now (unfinished channel.D (on_link link.0 t)) → IsResponse link.0 y.now asked t →
+        asked.block ≡ block → moment ≡ length t →
+        free ≡ is_free n None perm.Trunk block ((link, beat.D y.now) ∷ t) →
+        IsNext next (Some free) n block (link, beat.D y.now) t) }
+{
+    let beat = Beat::D(*y);
+    if !brought.completes(&beat) {
+        return Ok(None);
+    }
+    let all = brought.with(&beat);
+    if tells(y.opcode, asked.opcode) {
+        return Ok(Some(state.told(alloc, all.bytes.bytes(), moment)?));
+    }
+    if is_access(asked.opcode) {
+        return Ok(Some(state.answered(alloc, link, y.source, &all, moment)?));
+    }
+    Ok(None)
+}
+
+/// The state with a beat that bears on its block, at this moment, where that changes more of it than how free it
+/// is: this is the request that the beat answers, and these are the messages that aren't complete on its link.
+pub fn after_beat<const W: usize>(
+    alloc: Global,
+    state: &BlockState<W>,
+    link: Link,
+    beat: &Beat<W>,
+    asked: Option<Request>,
+    messages: &LinkMessages,
+    moment: u64,
+) -> Result<Option<BlockState<W>>, AllocError>
+    requires width { IsWidth W }
+    requires small { IsTrue (Part.is_small beat.now) }
+    ensures { IfOk result (λ next. (n block : ℕ) (free : Option Bool) (t : Trace W) →
+        KnowsState state.now n block t t → KnowsMessages messages.now (on_link link.0 t) →
+        IsLegalBeat link.0 beat.now t → asked ≡ request_answered beat.now (on_link link.0 t) →
+        block_borne beat.now (on_link link.0 t) ≡ Some block → moment ≡ suc (length t) →
+        IsSeen free n block (link, beat.now) t → IsNext next free n block (link, beat.now) t) }
+{
+    let before = moment.saturating_sub(1);
+    match beat {
+        Beat::A(y) => after_request(alloc, state, link, y, &messages.a, moment),
+        Beat::C(y) => after_report(alloc, state, y, &messages.c, before),
+        Beat::D(y) => match asked {
+            Some(asked) => after_response(alloc, state, link, y, asked, &messages.d, before),
+            None => Ok(None),
+        },
+        _ => Ok(None),
+    }
+}

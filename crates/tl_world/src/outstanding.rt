@@ -118,6 +118,15 @@ impl Outstanding {
         );
     }
 
+    /// A delivery has happened.
+    pub fn count_delivery<const W: usize>(&mut self, outcome: &Outcome<W>)
+        ensures requests { self.new.requests ≡ counted false (Load.ends_request outcome.now) self.old.requests }
+        ensures releases { self.new.releases ≡ counted false (Load.ends_release outcome.now) self.old.releases }
+    {
+        self.requests = after(self.requests, false, ends_request(outcome));
+        self.releases = after(self.releases, false, ends_release(outcome));
+    }
+
     /// How many deliveries they can still need.
     pub fn load<const W: usize>(&self) -> u64
         requires { IsWidth W }

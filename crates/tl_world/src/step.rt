@@ -154,14 +154,18 @@ impl<const W: usize, A: Agent<W>, D: Directory> Network<W, A, D> {
         }
     }
 
-    /// The first beat of a channel of a client's link is brought to the end that takes it.
-    fn deliver(&mut self, link: Link, channel: Channel, outcome: &mut Outcome<W>)
+    /// The first beat of a channel of a link is brought to the end that takes it. What comes of it is written where
+    /// it is to stand, as below.
+    pub fn deliver(&mut self, link: Link, channel: Channel, outcome: &mut Outcome<W>)
         requires width { IsWidth W }
-        requires inside { link.0 < length self.old.clients.items }
         ensures { (config : Config) (s : System W) → Holds A.represents A.terms D.perm_of config self.old s →
             HasRoom config (stepped config (Deliver link channel) s).after →
             IsStepped A.represents A.terms D.perm_of config self.old self.new (Deliver link channel) outcome.new s }
     {
+        if usize::from(link.0) >= self.clients.len() {
+            *outcome = Outcome::NoSuchClient;
+            return;
+        }
         if is_to_client(channel) {
             self.to_client(link, channel, outcome)
         } else {
@@ -184,13 +188,7 @@ impl<const W: usize, A: Agent<W>, D: Directory> Network<W, A, D> {
                 }
                 self.ask(client, operation, outcome)
             }
-            Event::Deliver { link, channel } => {
-                if usize::from(link.0) >= self.clients.len() {
-                    *outcome = Outcome::NoSuchClient;
-                    return;
-                }
-                self.deliver(link, channel, outcome)
-            }
+            Event::Deliver { link, channel } => self.deliver(link, channel, outcome),
         }
     }
 }

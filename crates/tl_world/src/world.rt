@@ -5,7 +5,7 @@ ghost use Rattle.tl_beat.specs.statement.Width.{IsWidth};
 ghost use Rattle.tl_params.specs.declared.config.Config.{Config};
 ghost use Rattle.tl_client.specs.statement.EndpointInvariant.{holds};
 ghost use Rattle.tl_client.specs.declared.operation.Op.TheVariants.{Load, Store};
-ghost use Rattle.tl_coherence.specs.declared.event.Event.TheVariants.{Ask};
+ghost use Rattle.tl_coherence.specs.declared.event.Event.TheVariants.{Ask, Deliver};
 ghost use Rattle.tl_coherence.specs.statement.Delivery.{capacity, sources_of};
 ghost use Rattle.tl_coherence.specs.statement.Load;
 ghost use Rattle.tl_coherence.specs.statement.Load.{IsBalanced};
@@ -115,6 +115,21 @@ impl<const W: usize, A: Agent<W>, D: Directory> World<W, A, D> {
         outcome
     }
 
+    /// The first beat of a channel of a link is brought to the end that takes it, as by `step`: what comes of it is
+    /// written where it is to stand.
+    pub fn deliver(&mut self, link: Link, channel: Channel, outcome: &mut Outcome<W>)
+        ensures world { IsWorld A.represents A.terms D.perm_of self.old }
+        ensures reached { (config : Config) (log : Log W) →
+            IsReached A.represents A.terms D.perm_of config self.old log →
+            IsReached A.represents A.terms D.perm_of config self.new ((Deliver link channel, outcome.new) ∷ log) }
+        ensures outcome { (config : Config) (log : Log W) →
+            IsReached A.represents A.terms D.perm_of config self.old log →
+            outcome.new ≡ (stepped config (Deliver link channel) (system_after config log)).outcome }
+    {
+        self.state.network.deliver(link, channel, outcome);
+        self.state.outstanding.count_delivery(outcome);
+    }
+
     /// A client is asked for a Load, as by `step`: its answer, or None where there is no such client.
     pub fn ask_load(&self, client: u8, address: u32, size: u8) -> Option<Reply>
         ensures world { IsWorld A.represents A.terms D.perm_of self.now }
@@ -204,12 +219,11 @@ impl<const W: usize, A: Agent<W>, D: Directory> World<W, A, D> {
         // A field is named so that the prover has the invariant of the world here.
         let _ = &self.state;
         let load = self.load();
+        let mut outcome = Outcome::Empty;
         for count in 0..load {
             match self.next_delivery() {
                 None => return count,
-                Some((link, channel)) => {
-                    self.step(Event::Deliver { link, channel });
-                }
+                Some((link, channel)) => self.deliver(link, channel, &mut outcome),
             }
         }
         load

@@ -15,16 +15,16 @@ loop-count-preserved g c = record {
       let next : Some (c.in-Some.link, c.in-Some.channel) ≡ next_delivery config
       (system_after config (drained config c.loop-count.count log)) =
       search (rules, c.in-Some.ensures.next config (drained config c.loop-count.count log) so_far) in
-      rw (drained-more config c.loop-count.count log c.in-Some.link c.in-Some.channel c.step.result next
-      (c.step.ensures.outcome config _ so_far)) (c.step.ensures.reached config _ so_far);
+      rw (drained-more config c.loop-count.count log c.in-Some.link c.in-Some.channel c.deliver.new.outcome next
+      (c.deliver.ensures.outcome config _ so_far)) (c.deliver.ensures.reached config _ so_far);
   number = λ config log r.
       let so_far = c.loop-count.invariant.reached config log r in
       let next : Some (c.in-Some.link, c.in-Some.channel) ≡ next_delivery config
       (system_after config (drained config c.loop-count.count log)) =
       search (rules, c.in-Some.ensures.next config (drained config c.loop-count.count log) so_far) in
       let before = c.loop-count.invariant.number config log r in
-      rw (drained-more config c.loop-count.count log c.in-Some.link c.in-Some.channel c.step.result next
-      (c.step.ensures.outcome config _ so_far)) (omega (arith, before));
+      rw (drained-more config c.loop-count.count log c.in-Some.link c.in-Some.channel c.deliver.new.outcome next
+      (c.deliver.ensures.outcome config _ so_far)) (omega (arith, before));
 }
 
 pub returns-in-None-clause-drained : goal.returns-in-None-clause-drained

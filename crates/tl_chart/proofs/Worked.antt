@@ -1,5 +1,5 @@
 -- Worked traces: their messages, and what is drawn of them.
-use Rattle.std.proofs.Common.{◌≡◌, ℕ, Bool, refl, true, false, List, [], ◌∷◌, map}
+use Rattle.std.proofs.Common.{◌≡◌, ℕ, Bool, refl, true, false, [], ◌∷◌, map}
 use Rattle.std.specs.Prelude.{replicate, Option, Some, None}
 use Rattle.tl_beat.specs.declared.beat.Beat.{Beat}
 use Rattle.tl_beat.specs.declared.beat.Beat.TheVariants as beat

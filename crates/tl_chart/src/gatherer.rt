@@ -1,6 +1,6 @@
 //! Gathers what is drawn of a trace, beat by beat.
 
-ghost use Rattle.std.specs.Prelude.{ℕ, [], ◌∷◌, ◌≡◌, ◌<◌, not, ◌==◌, IfOk, OnOk, length, map, filter};
+ghost use Rattle.std.specs.Prelude.{ℕ, [], ◌∷◌, ◌≡◌, ◌<◌, IfOk, OnOk, length};
 ghost use Rattle.std.specs.Prelude.{◌&&◌, false, true};
 ghost use Rattle.tl_beat.specs.declared.beat.Beat.{Beat};
 ghost use Rattle.tl_beat.specs.statement.Width.{IsWidth};

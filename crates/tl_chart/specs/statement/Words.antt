@@ -1,5 +1,5 @@
 -- A message in words, and text as it stands in SVG.
-use Rattle.std.specs.Prelude.{ℕ, ◌-◌, Bool, List, [], ◌∷◌, ◌++◌, ◌==◌, codes, if◌then◌else◌, nat_le, nat_lt, Option}
+use Rattle.std.specs.Prelude.{ℕ, Bool, List, [], ◌∷◌, ◌++◌, ◌==◌, codes, if◌then◌else◌, nat_le, nat_lt, Option}
 use Rattle.std.specs.Prelude.{Some, None}
 use Rattle.std.specs.Fmt.{decimal}
 use Rattle.std.specs.List.{flat_map}

@@ -113,13 +113,13 @@ abbrev pub Holds : (w : ℕ) → ClientPort w → ℕ → ℕ → Answer → Typ
 Holds w port block perm answer =
     (answer ≡ ok) × ((e : Endpoint w) → KnowsAny port.client e → perm ≡ perm_number (held_of block e))
 
-abbrev pub CopyTold : Option (List ℕ) → List ℕ → List ℕ → Answer → Type 0
-CopyTold None was bytes answer = (answer ≡ nothing) × (bytes ≡ was)
-CopyTold (Some copy) was bytes answer = (answer ≡ ok) × (bytes ≡ copy)
+abbrev pub BringsCopy : Option (List ℕ) → List ℕ → List ℕ → Answer → Type 0
+BringsCopy None was bytes answer = (answer ≡ nothing) × (bytes ≡ was)
+BringsCopy (Some copy) was bytes answer = (answer ≡ ok) × (bytes ≡ copy)
 
 abbrev pub Copies : (w : ℕ) → ClientPort w → ℕ → List ℕ → List ℕ → Answer → Type 0
 Copies w port block was bytes answer = (e : Endpoint w) → KnowsAny port.client e
-    → CopyTold (e.copies block) was bytes answer
+    → BringsCopy (e.copies block) was bytes answer
 
 abbrev pub Closed : (w : ℕ) → ClientPort w → ℕ → Answer → Type 0
 Closed w port closed answer = (answer ≡ ok) × ((e : Endpoint w) → KnowsAny port.client e → closed ≡ flag e.closed)

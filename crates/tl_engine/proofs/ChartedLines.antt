@@ -1,45 +1,37 @@
 -- What is gathered of a trace, line by line.
-use Rattle.std.proofs.Common.{◌≡◌, ◌<◌, ℕ, ◌+◌, ◌-◌, Bool, true, false, List, [], ◌∷◌, ◌++◌, length, refl, ap}
+use Rattle.std.proofs.Common.{◌≡◌, ◌<◌, ℕ, ◌+◌, ◌-◌, Bool, false, List, [], ◌∷◌, ◌++◌, length, refl, ap}
 use Rattle.std.proofs.Common.{◌∙◌, sym, arith, append_assoc, length-append, inl, inr, subst, take}
 use Rattle.std.specs.Fmt.{decimal}
 use Rattle.std.specs.Io.KnownBytes.{Consumes}
-use Rattle.std.specs.Prelude.{codes, ◌==◌, if◌then◌else◌, is_some, IfOk, Option, Some, None, Result, Ok, Err, option_map}
+use Rattle.std.specs.Prelude.{codes, IfOk, Option, Some, None, Result, Ok, Err, option_map}
 use Rattle.std.specs.declared.alloc.Global.{Global}
-use Rattle.std.proofs.lemmas.Bool.{lt-ltb}
 use Rattle.std.proofs.Math.Seq.{take-append_seam}
 use Rattle.std.proofs.lemmas.List.{append-nil}
 use Rattle.tl_beat.specs.declared.beat.Beat.{Beat}
-use Rattle.tl_beat.specs.declared.beat.Beat.TheVariants as beat
 use Rattle.tl_beat.specs.declared.beat.Link.{Link}
 use Rattle.tl_beat.specs.declared.fault.LineFault.{LineFault}
 use Rattle.tl_beat.specs.declared.fault.LineFault.TheVariants.{F1}
 use Rattle.tl_beat.specs.statement.Line.{Spells, line_fault}
-use Rattle.tl_burst.specs.statement.Messages.{History, channel_of, grown, on, unfinished}
-use Rattle.tl_burst.specs.statement.Part.{completes, is_empty}
 use Rattle.tl_params.specs.declared.level.Level.{Level}
 use Rattle.tl_params.specs.declared.perm.Perm.{Perm}
-use Rattle.tl_params.specs.declared.perm.Perm.TheVariants as perm
 use Rattle.tl_params.specs.declared.profile.Profile.{Profile}
 use Rattle.tl_params.specs.declared.rule.Rule.{Rule}
 use Rattle.tl_params.specs.declared.width.Width.{Width}
-use Rattle.tl_rules.specs.statement.Conformance.{Trace, broken_on_link, on_link, same_perm}
-use Rattle.tl_rules.specs.statement.History.{begins, ends, held}
+use Rattle.tl_rules.specs.statement.Conformance.{Trace, broken_on_link, on_link}
+use Rattle.tl_rules.specs.statement.History.{begins}
 use Rattle.tl_chart.specs.code.Gathered.{Gathers, drawn_of, watched}
-use Rattle.tl_chart.specs.code.Moment.{change_of}
 use Rattle.tl_chart.specs.declared.arrow.Arrow.{Arrow}
 use Rattle.tl_chart.specs.declared.gatherer.Gatherer.{Gatherer}
 use Rattle.tl_chart.specs.declared.window.Window.{Window}
 use Rattle.tl_chart.specs.statement.Chart.{IsChart}
-use Rattle.tl_chart.specs.statement.Drawn.{drawn, fault_drawn, holds, same_block}
-use Rattle.tl_explain.proofs.follows.Links.{on_own_link}
+use Rattle.tl_chart.specs.statement.Drawn.{drawn, fault_drawn}
 use Rattle.tl_explain.specs.statement.Evidence.{next_line}
 use Rattle.tl_monitor.proofs.Knowing.{broken_by, unbroken}
 use Rattle.tl_monitor.specs.declared.fault.MonitorFault.TheVariants as monitor
 use Rattle.tl_monitor.specs.declared.monitor.Monitor.{Monitor}
-use Rattle.tl_monitor.specs.code.LinkState.{is_block}
-use Rattle.tl_monitor.specs.statement.Knows.{Knows, LeavesOthers, begins_on, fault_of, held_on}
+use Rattle.tl_monitor.specs.statement.Knows.{Knows, begins_on, fault_of}
 use Rattle.tl_engine.specs.code.Charting.{EndsChart, EndsCharting, IsBegun, KnowsChart, KnowsCharting}
-use Rattle.tl_engine.specs.code.Charting.{ReadsLine, SaysBefore, fault_in, gatherer_in}
+use Rattle.tl_engine.specs.code.Charting.{GathersLine, SaysBefore, fault_of_chart, gatherer_in}
 use Rattle.tl_engine.specs.code.Judging.{Ends, Finishes, Judges, Stops}
 use Rattle.tl_engine.specs.code.Lines.{IsOpen, lines_of}
 use Rattle.tl_engine.specs.code.Progress.{HasAll}
@@ -61,81 +53,7 @@ use Rattle.tl_engine.specs.statement.Width.{bytes_of}
 use Rattle.tl_together.proofs.Noted.{in_levels}
 use Rattle.tl_engine.proofs.Decoded.{open_fault}
 use Rattle.tl_engine.proofs.Judged.{beat_bad, beats_end, unread}
-
--- ---- what the monitor says of a beat
-
-on_own : {w : ℕ} (x : Beat w) → on (channel_of x) x ≡ true
-on_own (beat.A x) = refl
-on_own (beat.B x) = refl
-on_own (beat.C x) = refl
-on_own (beat.D x) = refl
-on_own (beat.E x) = refl
-
-emptied : {w : ℕ} (x : Beat w) (burst : List (Beat w)) → is_empty (grown x burst) ≡ completes x burst
-emptied x burst = go (completes x burst)
-  where
-    go : (b : Bool) → is_empty (if b then [] else x ∷ burst) ≡ b
-    go true = refl
-    go false = refl
-
--- behind a beat one of its channel begins a message where that is complete with it
-begins_behind : {w : ℕ} (x : Beat w) (h : History w) → begins x (x ∷ h) ≡ ends x h
-unfolding unfinished
-begins_behind x h = rw (on_own x) (emptied x (unfinished (channel_of x) h))
-
-same_link : (n : ℕ) → (n == n) ≡ true
-same_link n = grind arith
-
-module _ {w : ℕ} (levels : List Level) (link : Link) (within : link.0 < length levels) where
-  pub begins_within : (x : Beat w) (t : Trace w) → begins_on levels link x t ≡ begins x (on_link link.0 t)
-  begins_within x t = rw (lt-ltb link.0 (length levels) within) refl
-
-  pub held_within : (block : ℕ) (t : Trace w) → held_on levels link block t ≡ held block (on_link link.0 t)
-  held_within block t = rw (lt-ltb link.0 (length levels) within) refl
-
-  -- a message is complete with a beat where the next of its channel begins one
-  pub ends_within : (x : Beat w) (t : Trace w) → begins_on levels link x ((link, x) ∷ t) ≡ ends x (on_link link.0 t)
-  ends_within x t =
-      begins_within x ((link, x) ∷ t)
-      ∙ ap (λ (h : History w). begins x h) (on_own_link link.0 (link, x) t (same_link link.0))
-      ∙ begins_behind x (on_link link.0 t)
-
--- ---- what is held
-
-same_self : (p : Perm) → same_perm p p ≡ true
-same_self perm.None = refl
-same_self perm.Branch = refl
-same_self perm.Trunk = refl
-
-other_block : (k : ℕ) (o : Option ℕ) → same_block (Some k) o ≡ false → is_block k o ≡ false
-other_block k None e = refl
-other_block k (Some b) e = e
-
-module _ {w : ℕ} (link : Link) (x : Beat w) (t : Trace w) where
-  -- of no block anything is held
-  pub says_none : (block : Option ℕ) → is_some block ≡ false → SaysBefore block (link, x) t None
-  says_none None e = refl
-  says_none (Some k) e = absurd cc
-
-  -- a beat that changes what is held of another block alone, or of none
-  pub says_nothing : (block o : Option ℕ) → same_block block o ≡ false → LeavesOthers o x (on_link link.0 t)
-      → SaysBefore block (link, x) t None
-  says_nothing None o other leaves = refl
-  says_nothing (Some k) o other leaves =
-      rw (on_own_link link.0 (link, x) t (same_link link.0), leaves k (other_block k o other))
-      (same_self (held k (on_link link.0 t)))
-
-  -- what is held is another permission than before, or it isn't
-  pub no_change : (block : Option ℕ) → SaysBefore block (link, x) t None → None ≡ change_of block (link, x) t
-  no_change block is = rw is refl
-
-  module _ (block : Option ℕ) (before now : Perm) (was : before ≡ holds block link t)
-      (is : now ≡ holds block link ((link, x) ∷ t)) where
-    pub same_change : same_perm before now ≡ true → None ≡ change_of block (link, x) t
-    same_change same = rw (← was, ← is, same) refl
-
-    pub other_change : same_perm before now ≡ false → Some now ≡ change_of block (link, x) t
-    other_change other = rw (← was, ← is, other) refl
+use Rattle.tl_engine.proofs.ChartedBeats.{begins_within}
 
 -- ---- a line that is read
 
@@ -170,7 +88,7 @@ module _ {w : ℕ} (old : Charting w) (mid : Monitor w) (link : Link) (x : Beat 
       → Gathers old.gatherer t → Gathers new.gatherer ((link, x) ∷ t))
       → new.monitor ≡ mid → new.gatherer.window ≡ old.gatherer.window
       → length new.gatherer.links.items ≡ length old.gatherer.links.items
-      → new.count ≡ number → new.fault ≡ old.fault → ReadsLine old new line None
+      → new.count ≡ number → new.fault ≡ old.fault → GathersLine old new line None
   unfolding JudgedAfter DrawsAfter
   reads_good new line number first said spells next fine knows begun holding gathered same window many count
       unfaulted = λ lines text k.
@@ -213,7 +131,7 @@ module _ {w : ℕ} (old : Charting w) (mid : Monitor w) (link : Link) (x : Beat 
       → fault_of levels p t false (link, x) ≡ Some (monitor.Broken rule))
       → ((t : Trace w) → number ≡ next_line t → Gathers old.gatherer t
       → new.fault ≡ fault_drawn old.gatherer.window (link, x) t)
-      → new.gatherer ≡ old.gatherer → fault ≡ Breaks rule → ReadsLine old new line (Some fault)
+      → new.gatherer ≡ old.gatherer → fault ≡ Breaks rule → GathersLine old new line (Some fault)
   unfolding DrawsAfter
   reads_bad new line number rule fault spells next broken drawn_so gatherer fault_is = λ lines before was k more.
       let bad : broken_on_link k.levels k.profile (link, x) k.trace ≡ Some rule =
@@ -234,7 +152,7 @@ module _ {w : ℕ} (old : Charting w) (mid : Monitor w) (link : Link) (x : Beat 
 
 -- the line spells no beat
 pub reads_none : {w : ℕ} (c : Charting w) (line : List ℕ) (fault : LineFault) → line_fault w line ≡ Some fault
-    → ReadsLine c c line (Some (Line fault))
+    → GathersLine c c line (Some (Line fault))
 unfolding DrawsAfter
 reads_none c line fault is = λ lines before was k more. (
   beat_bad false (OfLinks c.monitor) lines before was line (Line fault) (judged_in k) (inl (fault, is, refl)) more,
@@ -244,8 +162,8 @@ reads_none c line fault is = λ lines before was k more. (
 -- the line spells a beat
 pub at_line : {w : ℕ} {E : Type 0} (old new : Charting w) (line : List ℕ) (link : Link) (x : Beat w)
     (r : Result (Option Fault) E)
-    → IfOk r (λ fault. (line : List ℕ) → Spells line link x → ReadsLine old new line fault) → Spells line link x
-    → IfOk r (ReadsLine old new line)
+    → IfOk r (λ fault. (line : List ℕ) → Spells line link x → GathersLine old new line fault) → Spells line link x
+    → IfOk r (GathersLine old new line)
 at_line old new line link x (Ok fault) reads spells = reads line spells
 at_line old new line link x (Err e) reads spells = tt
 
@@ -258,7 +176,7 @@ module _ {w : ℕ} (wrap : Charting w → ChartLines)
     → KnowsChart (wrap c) lines text)
     (out_ends : (c : Charting w) (lines : List (List ℕ)) → EndsCharting c lines → EndsChart (wrap c) lines) where
   pub read_judged : {E : Type 0} (old new : Charting w) (line was : List ℕ) (r : Result (Option Fault) E)
-      → IfOk r (ReadsLine old new line) → IfOk r (Judges KnowsChart Judged (wrap old) (wrap new) line was was)
+      → IfOk r (GathersLine old new line) → IfOk r (Judges KnowsChart Judged (wrap old) (wrap new) line was was)
   read_judged old new line was (Err e) reads = tt
   read_judged old new line was (Ok None) reads = λ lines before known.
       out new (lines ++ line ∷ []) (before ++ was) (reads lines (before ++ was) (into old lines (before ++ was) known))
@@ -266,7 +184,7 @@ module _ {w : ℕ} (wrap : Charting w → ChartLines)
       (reads lines before was (into old lines (before ++ was) known) more).0
 
   pub read_ends : {E : Type 0} (old new : Charting w) (line : List ℕ) (r : Result (Option Fault) E)
-      → IfOk r (ReadsLine old new line) → (fault : Fault) → r ≡ Ok (Some fault)
+      → IfOk r (GathersLine old new line) → (fault : Fault) → r ≡ Ok (Some fault)
       → Ends KnowsChart EndsChart (wrap old) (wrap new) line
   read_ends old new line (Err e) reads fault is = absurd cc
   read_ends old new line (Ok None) reads fault is = absurd cc
@@ -421,7 +339,7 @@ said_of verdict said is =
 -- the chart of what was gathered is that of the lines
 pub charted : (win : Window) (h : ChartLines) (g : Gatherer) (fault : Option Arrow) (text said verdict : List ℕ)
     (broken : Bool) (status : Status) (trace : List (List ℕ)) (old chart : List ℕ) → g ≡ gatherer_in h → g.window ≡ win
-    → fault ≡ fault_in h → EndsChart h trace → verdict ≡ said ++ codes "\n" → text ≡ said
+    → fault ≡ fault_of_chart h → EndsChart h trace → verdict ≡ said ++ codes "\n" → text ≡ said
     → broken ≡ is_broken status → old ≡ [] → IsChart g.window (drawn_of g) fault text broken old chart
     → IsCharted win trace verdict status chart
 charted win h g fault text said verdict broken status trace old chart g_is win_is fault_is has ended text_is broken_is

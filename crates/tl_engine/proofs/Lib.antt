@@ -1,3 +1,4 @@
+pub mod ChartedBeats
 pub mod ChartedLines
 pub mod Explaining
 pub mod FirstLine

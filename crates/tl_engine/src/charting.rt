@@ -7,8 +7,8 @@ ghost use Rattle.tl_beat.specs.statement.Width.{IsWidth};
 ghost use Rattle.tl_chart.specs.code.Gathered.{Gathers, watched};
 ghost use Rattle.tl_chart.specs.code.Moment.{change_of};
 ghost use Rattle.tl_chart.specs.statement.Drawn.{fault_drawn, holds};
-ghost use Rattle.tl_engine.specs.code.Charting.{BeginsChart, EndsChart, IsBegun, KnowsChart, ReadsLine, SaysBefore};
-ghost use Rattle.tl_engine.specs.code.Charting.{fault_in, gatherer_in};
+ghost use Rattle.tl_engine.specs.code.Charting.{BeginsChart, EndsChart, IsBegun, KnowsChart, GathersLine, SaysBefore};
+ghost use Rattle.tl_engine.specs.code.Charting.{fault_of_chart, gatherer_in};
 ghost use Rattle.tl_engine.specs.declared.fault.Fault.TheVariants.{Rule as Breaks};
 ghost use Rattle.tl_engine.specs.statement.Judged.{Judged};
 ghost use Rattle.tl_explain.specs.statement.Evidence.{next_line};
@@ -191,7 +191,7 @@ impl<const W: usize> Charting<W> {
     fn take(&mut self, link: Link, beat: &Beat<W>) -> Result<Option<Fault>, AllocError>
         requires { IsWidth W }
         ensures { IfOk result (λ fault. (line : List ℕ) → Spells line link beat.now →
-            ReadsLine self.old self.new line fault) }
+            GathersLine self.old self.new line fault) }
     {
         let line = self.count.checked_add(1).ok_or(AllocError)?;
         let first = self.monitor.begins(link, beat);
@@ -210,7 +210,7 @@ impl<const W: usize> Charting<W> {
     #[inline(never)]
     fn read(&mut self, line: &[u8]) -> Result<Option<Fault>, AllocError>
         requires { IsWidth W }
-        ensures { IfOk result (ReadsLine self.old self.new line.now) }
+        ensures { IfOk result (GathersLine self.old self.new line.now) }
     {
         match read_line(line) {
             Ok((link, beat)) => self.take(link, &beat),
@@ -267,7 +267,7 @@ impl ChartLines {
 
     /// The beat at fault, where it is drawn.
     pub fn fault(&self) -> Option<Arrow>
-        ensures { result ≡ fault_in self.now }
+        ensures { result ≡ fault_of_chart self.now }
     {
         match self {
             ChartLines::Waiting(..) => None,

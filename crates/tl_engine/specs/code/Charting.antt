@@ -62,10 +62,10 @@ EndsCharting c lines = Draws c.gatherer.window lines (drawn_of c.gatherer) c.fau
 
 -- The line of the next beat was read: it isn't at fault, and one line more is known, or it is, whatever follows it, and
 -- what was gathered is drawn of these lines.
-abbrev pub ReadsLine : {w : ℕ} → Charting w → Charting w → List ℕ → Option Fault → Type 0
-ReadsLine old new line None =
+abbrev pub GathersLine : {w : ℕ} → Charting w → Charting w → List ℕ → Option Fault → Type 0
+GathersLine old new line None =
     (lines : List (List ℕ)) (text : List ℕ) → KnowsCharting old lines text → KnowsCharting new (lines ++ line ∷ []) text
-ReadsLine old new line (Some fault) =
+GathersLine old new line (Some fault) =
     (lines : List (List ℕ)) (before was : List ℕ) → KnowsCharting old lines (before ++ was) → (more : List (List ℕ))
     → Judged (lines ++ line ∷ more) (before ++ (was ++ fault_text (length lines + 1) fault)) Broken
     × EndsCharting new (lines ++ line ∷ more)
@@ -77,11 +77,11 @@ gatherer_in (Four c) = c.gatherer
 gatherer_in (Eight c) = c.gatherer
 gatherer_in (Sixteen c) = c.gatherer
 
-abbrev pub fault_in : ChartLines → Option Arrow
-fault_in (Waiting alloc gatherer) = None
-fault_in (Four c) = c.fault
-fault_in (Eight c) = c.fault
-fault_in (Sixteen c) = c.fault
+abbrev pub fault_of_chart : ChartLines → Option Arrow
+fault_of_chart (Waiting alloc gatherer) = None
+fault_of_chart (Four c) = c.fault
+fault_of_chart (Eight c) = c.fault
+fault_of_chart (Sixteen c) = c.fault
 
 -- these lines are known with this text
 abbrev pub KnowsChart : ChartLines → List (List ℕ) → List ℕ → Type 0
@@ -92,7 +92,7 @@ KnowsChart (Sixteen c) lines text = KnowsCharting c lines text
 
 -- what was gathered is drawn of these lines
 abbrev pub EndsChart : ChartLines → List (List ℕ) → Type 0
-EndsChart h lines = Draws (gatherer_in h).window lines (drawn_of (gatherer_in h)) (fault_in h)
+EndsChart h lines = Draws (gatherer_in h).window lines (drawn_of (gatherer_in h)) (fault_of_chart h)
 
 -- what the first line begins: a handler that knows the header, or none where it spells none
 abbrev pub BeginsChart : List ℕ → Option ChartLines → Type 0

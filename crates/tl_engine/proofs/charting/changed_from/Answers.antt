@@ -1,5 +1,5 @@
 use Rattle.std.proofs.Common.{sym, ◌∙◌}
-use Rattle.tl_engine.proofs.ChartedLines.{other_change, same_change}
+use Rattle.tl_engine.proofs.ChartedBeats.{other_change, same_change}
 use Rattle.tl_engine.proofs.charting.changed_from.Goals as goal
 
 pub returns-then-is_same : goal.returns-then-is_same

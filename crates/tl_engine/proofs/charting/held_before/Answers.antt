@@ -1,5 +1,5 @@
 use Rattle.std.proofs.Common.{Bool, ap, false, not, sym, ◌∙◌}
-use Rattle.tl_engine.proofs.ChartedLines.{says_none, says_nothing}
+use Rattle.tl_engine.proofs.ChartedBeats.{says_none, says_nothing}
 use Rattle.tl_engine.proofs.charting.held_before.Goals as goal
 
 pub returns-then-is_none : goal.returns-then-is_none

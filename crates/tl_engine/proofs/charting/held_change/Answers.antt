@@ -1,4 +1,4 @@
-use Rattle.tl_engine.proofs.ChartedLines.{no_change}
+use Rattle.tl_engine.proofs.ChartedBeats.{no_change}
 use Rattle.tl_engine.proofs.charting.held_change.Goals as goal
 
 pub returns-in-None : goal.returns-in-None

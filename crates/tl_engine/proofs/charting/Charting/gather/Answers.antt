@@ -2,7 +2,7 @@ use Rattle.std.proofs.Common.{false, ℕ, ◌≡◌, refl, subst, sym, ◌∙◌
 use Rattle.std.specs.Prelude.{Option}
 use Rattle.tl_chart.proofs.Gathering.{on_ok}
 use Rattle.tl_chart.specs.code.Moment.{change_of}
-use Rattle.tl_engine.proofs.ChartedLines.{ends_within}
+use Rattle.tl_engine.proofs.ChartedBeats.{ends_within}
 use Rattle.tl_engine.specs.code.Charting.{SaysBefore}
 use Rattle.tl_engine.proofs.charting.Charting.gather.Goals as goal
 

@@ -86,7 +86,7 @@ fn is_allowed<const W: usize>(expected: &Option<Expected>, beats: usize, x: &Bea
 /// on channel D.
 #[derive(Drop)]
 pub struct LinkState {
-    messages: LinkMessages,
+    pub messages: LinkMessages,
     expected: Option<Expected>,
 }
 

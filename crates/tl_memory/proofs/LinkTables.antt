@@ -68,8 +68,8 @@ pub link-there : {w : ℕ} (levels : List Level) (p : Profile) (x : Link × Beat
 link-there levels p x t fine =
     let f = is-fine levels p x t fine in slice_get_within levels x.0.0 f.level f.has_level
 
-pub links-taken : {w : ℕ} (levels : List Level) (p : Profile) (l new : Links) (old next : LinkState) (n : ℕ) (link : Link)
-    (x : Beat w) (t : Trace w)
+pub links-taken : {w : ℕ} (levels : List Level) (p : Profile) (l new : Links) (old next : LinkState) (n : ℕ)
+    (link : Link) (x : Beat w) (t : Trace w)
     → new.states.items ≡ slice_set l.states.items link.0 next → slice_get l.states.items link.0 ≡ Some old
     → AreLegal levels p t → broken_on_link levels p (link, x) t ≡ None → KnowsLinks l n t
     → (KnowsLink old n link.0 t → KnowsLink next n link.0 ((link, x) ∷ t)) → KnowsLinks new n ((link, x) ∷ t)

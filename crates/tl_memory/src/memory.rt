@@ -85,6 +85,7 @@ impl<const W: usize> Change<W> {
 /// What is kept of the bytes of memory: of all links of a manager, and of all blocks.
 #[derive(Drop)]
 pub struct Memory<const W: usize> {
+    alloc: Global,
     links: Links,
     blocks: Blocks<W>,
 }
@@ -100,6 +101,7 @@ impl<const W: usize> Memory<W> {
         ensures { IfOk result (λ m. KnowsMemory m count []) }
     {
         Ok(Memory {
+            alloc,
             links: Links::new(alloc, count)?,
             blocks: Blocks::new(alloc),
         })
@@ -108,7 +110,6 @@ impl<const W: usize> Memory<W> {
     /// What a beat changes that bears on this block, of which a state is kept.
     fn changed(
         &self,
-        alloc: Global,
         block: u32,
         link: Link,
         x: &Beat<W>,
@@ -131,8 +132,8 @@ impl<const W: usize> Memory<W> {
         let Some(known) = self.links.get(link) else {
             return Ok(Change::none());
         };
-        let next = after_beat(alloc, state, link, x, asked, &known.messages, moment)?;
-        let expected = begun_with(alloc, state, link, x, &known.messages.d, block)?;
+        let next = after_beat(self.alloc, state, link, x, asked, &known.messages, moment)?;
+        let expected = begun_with(self.alloc, state, link, x, &known.messages.d, block)?;
         Ok(Change {
             block: Some(block),
             next,
@@ -144,7 +145,6 @@ impl<const W: usize> Memory<W> {
     /// memory or without it, what is known stays so.
     pub fn change(
         &mut self,
-        alloc: Global,
         link: Link,
         x: &Beat<W>,
         asked: Option<Request>,
@@ -164,8 +164,8 @@ impl<const W: usize> Memory<W> {
         let Some(block) = block_borne(x, asked) else {
             return Ok(Change::none());
         };
-        self.blocks.meet(alloc, block)?;
-        self.changed(alloc, block, link, x, asked, moment)
+        self.blocks.meet(self.alloc, block)?;
+        self.changed(block, link, x, asked, moment)
     }
 
     /// Whether the bytes of a response's beat are true, where this is what the beat changes.

@@ -13,7 +13,8 @@ returns-in-Some g c = λ levels p t k legal fine begun.
     let there : slice_get items c.args.link.0 ≡ Some old =
     ap (slice_get items) (sym c.from.ensures)
     ∙ slice_get_read items (length items) c.from.result old refl below c.in-Some.ensures.value in
-    links-taken levels p c.args.self.now (record { states = with_item c.args.self.now.states c.from.result c.take.new.self }) old
+    links-taken levels p c.args.self.now
+    (record { states = with_item c.args.self.now.states c.from.result c.take.new.self }) old
     c.take.new.self (length levels) c.args.link c.args.x.now t
     (ap (λ i. slice_set items i c.take.new.self) c.from.ensures) there legal fine k
     (λ known. c.take.ensures levels p (length levels) c.args.link t known legal fine begun)

@@ -10,8 +10,7 @@ use Rattle.tl_params.specs.declared.profile.Profile.{Profile}
 use Rattle.tl_rules.specs.statement.Conformance.{Trace, broken_on_link}
 use Rattle.tl_memory.specs.declared.link.LinkState.{LinkState}
 use Rattle.tl_memory.specs.declared.links.Links.{Links}
-use Rattle.tl_memory.specs.statement.Links.{AreLegal, KnowsLink}
-use Rattle.tl_memory.specs.statement.Memory.{KnowsLinks}
+use Rattle.tl_memory.specs.statement.Links.{AreLegal, KnowsLink, KnowsLinks}
 use Rattle.tl_memory.proofs.LinkStates.{link-elsewhere}
 use Rattle.tl_memory.proofs.OpenAccesses.{is-fine}
 

@@ -30,8 +30,8 @@ use Rattle.tl_memory.specs.declared.memory.Change.{Change}
 use Rattle.tl_memory.specs.declared.memory.Memory.{Memory}
 use Rattle.tl_memory.specs.statement.Expecting.{ExpectsResponse}
 use Rattle.tl_memory.specs.statement.Known.{AllWriteInside}
-use Rattle.tl_memory.specs.statement.Links.{AreLegal, KnowsLink}
-use Rattle.tl_memory.specs.statement.Memory.{AreAddressed, IsAddressed, KnowsLinks}
+use Rattle.tl_memory.specs.statement.Links.{AreLegal, KnowsLink, KnowsLinks}
+use Rattle.tl_memory.specs.statement.Memory.{AreAddressed, IsAddressed}
 use Rattle.tl_memory.proofs.Beginning.{none-begun}
 use Rattle.tl_memory.proofs.Borne.{passes}
 use Rattle.tl_memory.proofs.LegalBeats.{legal-beat}

@@ -21,7 +21,7 @@ pub struct Links {
 }
 
 impl Links {
-    ghost use Rattle.tl_memory.specs.statement.Memory.{KnowsLinks};
+    ghost use Rattle.tl_memory.specs.statement.Links.{KnowsLinks};
 
     /// So many, on which nothing was carried.
     pub fn new(alloc: Global, count: u8) -> Result<Self, AllocError>

@@ -182,8 +182,8 @@ impl<const W: usize> Memory<W> {
         }
     }
 
-    /// Takes a beat, at this moment, where this is what the beat changes, and the block that it bears on is free
-    /// for writing with it or isn't, which a beat of channel A doesn't change.
+    /// Takes a beat, at this moment, where this is what the beat changes. Whether the block that it bears on is free
+    /// for writing with it is told beside that, but with a beat of channel A, which changes nothing of that.
     pub fn take(
         &mut self,
         change: Change<W>,

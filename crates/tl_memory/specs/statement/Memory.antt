@@ -1,18 +1,11 @@
--- What is known of the bytes of memory, after what all links of a manager have carried.
-use Rattle.std.specs.Prelude.{ℕ, [], ◌∷◌, ◌^◌, ◌<◌, ◌≡◌, length, slice_get, Some, ⊤}
+-- What is known of memory: of all links of a manager, and of all blocks.
+use Rattle.std.specs.Prelude.{ℕ, [], ◌∷◌, ◌^◌, ◌<◌, ⊤}
 use Rattle.tl_beat.specs.declared.beat.Beat.{Beat}
 use Rattle.tl_beat.specs.declared.beat.Beat.TheVariants as beat
 use Rattle.tl_rules.specs.statement.Conformance.{Trace}
-use Rattle.tl_memory.specs.declared.link.LinkState.{LinkState}
-use Rattle.tl_memory.specs.declared.links.Links.{Links}
 use Rattle.tl_memory.specs.declared.memory.Memory.{Memory}
 use Rattle.tl_memory.specs.statement.Blocks.{KnowsBlocks}
-use Rattle.tl_memory.specs.statement.Links.{KnowsLink}
-
--- this is kept of so many links, one by one
-pub record KnowsLinks {w : ℕ} (l : Links) (n : ℕ) (t : Trace w) : Type 0 where
-  pub count_is : length l.states.items ≡ n
-  pub states_are : (link : ℕ) (s : LinkState) → slice_get l.states.items link ≡ Some s → KnowsLink s n link t
+use Rattle.tl_memory.specs.statement.Links.{KnowsLinks}
 
 -- the address of a beat of channel A has 32 bits
 abbrev pub IsAddressed : {w : ℕ} → Beat w → Type 0

@@ -15,7 +15,9 @@ pub mod Lawful
 pub mod LegalBeats
 pub mod LinkBeats
 pub mod LinkStates
+pub mod LinkTables
 pub mod Masks
+pub mod Memories
 pub mod Open
 pub mod OpenAccesses
 pub mod Payloads

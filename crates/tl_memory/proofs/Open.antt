@@ -150,7 +150,8 @@ not_so true e = absurd cc
 not_so false e = refl
 
 pub begun-answering : {w : ℕ} (l : Level) (p : Profile) (y : BeatD w) (t : History w)
-    → broken_after l p (beat.D y) t ≡ None → begins (beat.D y) t ≡ true → is_release_ack y.opcode ≡ false → IsAnswering y t
+    → broken_after l p (beat.D y) t ≡ None → begins (beat.D y) t ≡ true → is_release_ack y.opcode ≡ false
+    → IsAnswering y t
 unfolding broken_order
 begun-answering {w} l p y t fine first other =
     let two = next_rule (not (has_request y t)) H2 _ (begun_in_order l p (beat.D y) t fine first) in

@@ -70,7 +70,7 @@ kept-stays : {w : ℕ} (o : Option (BlockState w)) (n block : ℕ) (x : Link × 
 kept-stays None n block x t passes known = λ s new. stays s n block x t passes (known s new)
 kept-stays (Some s) n block x t passes known = stays s n block x t passes known
 
-some-kept : {w : ℕ} (o : Option (BlockState w)) (s : BlockState w) (n block : ℕ) (t : Trace w) → o ≡ Some s
+pub some-kept : {w : ℕ} (o : Option (BlockState w)) (s : BlockState w) (n block : ℕ) (t : Trace w) → o ≡ Some s
     → KnowsKept o n block t → KnowsState s n block t t
 some-kept o s n block t is known = rw is at known
 

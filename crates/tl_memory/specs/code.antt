@@ -1,4 +1,5 @@
 pub mod Allowed
+pub mod Changing
 pub mod Elsewhere
 pub mod Expected
 pub mod Taking

@@ -1,16 +1,22 @@
 //! What a response may bring that begins.
 
-ghost use Rattle.std.specs.Prelude.{ℕ, ◌≡◌, ◌<◌, ◌^◌, IfOk};
+ghost use Rattle.std.specs.Prelude.{ℕ, ◌≡◌, ◌<◌, ◌^◌, IfOk, Some};
+ghost use Rattle.tl_beat.specs.declared.channel.Channel.TheVariants as channel;
+ghost use Rattle.tl_burst.specs.statement.Messages.{unfinished};
 ghost use Rattle.tl_rules.specs.declared.past.Request.{Request};
-ghost use Rattle.tl_rules.specs.statement.Conformance.{Trace};
-ghost use Rattle.tl_memory.specs.code.Taking.{IsResponse};
+ghost use Rattle.tl_rules.specs.statement.Conformance.{Trace, on_link};
+ghost use Rattle.tl_memory.specs.code.Changing.{ExpectsBegun};
+ghost use Rattle.tl_memory.specs.code.Elsewhere.{block_borne};
+ghost use Rattle.tl_memory.specs.code.Taking.{IsLegalBeat, IsResponse};
 ghost use Rattle.tl_memory.specs.statement.Expecting.{ExpectsResponse};
-ghost use Rattle.tl_memory.specs.statement.Known.{KnowsState};
+ghost use Rattle.tl_memory.specs.statement.Known.{KnowsMessage, KnowsState};
+ghost use Rattle.tl_memory.specs.statement.Memory.{AreAddressed};
 
 use crate::block::BlockState;
 use crate::expected::Expected;
+use crate::message::CarriedMessage;
 use std::alloc::{AllocError, Global};
-use tl_beat::beat::{BeatD, Link};
+use tl_beat::beat::{Beat, BeatD, Link};
 use tl_beat::opcode::OpD;
 
 /// What the response may bring that begins with a beat of channel D: to a request of this block, whose state
@@ -35,6 +41,33 @@ pub fn begun<const W: usize>(
         OpD::AccessAckData => {
             let read = state.read(alloc, link, y.source)?;
             Ok(read)
+        }
+        _ => Ok(None),
+    }
+}
+
+/// What the response may bring that begins with a beat which bears on this block, whose state this is, where one
+/// does: this is what the beats before it of its message brought.
+pub fn begun_with<const W: usize>(
+    alloc: Global,
+    state: &BlockState<W>,
+    link: Link,
+    x: &Beat<W>,
+    brought: &CarriedMessage,
+    block: u32,
+) -> Result<Option<Expected>, AllocError>
+    ensures { IfOk result (λ expected. (n : ℕ) (t : Trace W) → KnowsState state.now n block t t →
+        KnowsMessage brought.now (unfinished channel.D (on_link link.0 t)) → IsLegalBeat link.0 x.now t →
+        block_borne x.now (on_link link.0 t) ≡ Some block → AreAddressed t →
+        ExpectsBegun expected n (link, x.now) t) }
+{
+    match x {
+        Beat::D(y) => {
+            if brought.bytes.count() == 0 {
+                begun(alloc, state, link, y, block)
+            } else {
+                Ok(None)
+            }
         }
         _ => Ok(None),
     }

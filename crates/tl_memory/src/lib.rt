@@ -9,6 +9,8 @@ pub mod blocks;
 pub mod expected;
 pub mod granted;
 pub mod link;
+pub mod links;
+pub mod memory;
 pub mod message;
 pub mod next;
 pub mod pending;

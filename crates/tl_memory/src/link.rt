@@ -86,7 +86,7 @@ fn is_allowed<const W: usize>(expected: &Option<Expected>, beats: usize, x: &Bea
 /// on channel D.
 #[derive(Drop)]
 pub struct LinkState {
-    messages: LinkMessages,
+    pub messages: LinkMessages,
     expected: Option<Expected>,
 }
 
@@ -108,7 +108,8 @@ impl LinkState {
     pub fn is_true<const W: usize>(&self, begun: &Option<Expected>, x: &BeatD<W>) -> bool
         requires { IsWidth W }
         ensures { (levels : List Level) (p : Profile) (n : ℕ) (link : Link) (t : Trace W) →
-            KnowsLink self.now n link.0 t → AreLegal levels p t → broken_on_link levels p (link, beat.D x.now) t ≡ None →
+            KnowsLink self.now n link.0 t → AreLegal levels p t → broken_on_link levels p (link, beat.D x.now) t
+            ≡ None →
             (begins (beat.D x.now) (on_link link.0 t) ≡ true →
             ExpectsResponse begun.now n link.0 x.now.opcode x.now.source t t) →
             result ≡ bytes.is_true x.now.opcode n link.0 x.now t }

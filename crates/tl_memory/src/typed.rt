@@ -1,11 +1,13 @@
 //! What the types of beats say.
 
-ghost use Rattle.std.specs.Prelude.{◌≤◌, ◌≡◌, length};
+ghost use Rattle.std.specs.Prelude.{◌^◌, ◌<◌, ◌≤◌, ◌≡◌, length};
 ghost use Rattle.tl_beat.specs.declared.beat.Beat.TheVariants as beat;
+ghost use Rattle.tl_beat.specs.declared.beat.BeatA.{BeatA};
 ghost use Rattle.tl_rules.specs.laws.Typed.{IsTyped};
 ghost use Rattle.tl_rules.specs.statement.Admission.{lanes_of};
+ghost use Rattle.tl_memory.specs.statement.Memory.{IsAddressed};
 
-use tl_beat::beat::{BeatA, BeatD};
+use tl_beat::beat::{Beat, BeatA, BeatD};
 
 /// There is a byte for each lane.
 fn prove_wide<const W: usize>(lanes: &[u8; W])
@@ -19,6 +21,24 @@ pub fn prove_request<const W: usize>(x: &BeatA<W>)
     let _mask = x.mask;
     if let Some(lanes) = &x.lanes {
         prove_wide(lanes);
+    }
+}
+
+/// The address of a request's beat has 32 bits.
+fn prove_addressed<const W: usize>(x: &BeatA<W>)
+    ensures { x.now.address < 2 ^ 32 }
+{
+    let _address = x.address;
+}
+
+/// A beat of channel A is as wide as its type says, and its address has 32 bits.
+pub fn prove_typed<const W: usize>(x: &Beat<W>)
+    ensures typed { (y : BeatA W) → x.now ≡ beat.A y → IsTyped (beat.A y) }
+    ensures addressed { IsAddressed x.now }
+{
+    if let Beat::A(y) = x {
+        prove_request(y);
+        prove_addressed(y);
     }
 }
 

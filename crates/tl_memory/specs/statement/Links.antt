@@ -1,5 +1,5 @@
 -- What is known of links, where no beat broke a rule of its link.
-use Rattle.std.specs.Prelude.{ℕ, [], ◌∷◌, ◌≡◌, List, None, ⊤}
+use Rattle.std.specs.Prelude.{ℕ, [], ◌∷◌, ◌≡◌, List, length, slice_get, Some, None, ⊤}
 use Rattle.tl_beat.specs.declared.channel.Channel.TheVariants as channel
 use Rattle.tl_burst.specs.statement.Messages.{History, unfinished}
 use Rattle.tl_params.specs.declared.level.Level.{Level}
@@ -8,6 +8,7 @@ use Rattle.tl_rules.specs.laws.Typed.{AreTyped}
 use Rattle.tl_rules.specs.statement.Conformance.{Trace, broken_on_link, on_link}
 use Rattle.tl_memory.specs.declared.link.LinkMessages.{LinkMessages}
 use Rattle.tl_memory.specs.declared.link.LinkState.{LinkState}
+use Rattle.tl_memory.specs.declared.links.Links.{Links}
 use Rattle.tl_memory.specs.statement.Expecting.{KnowsExpected}
 use Rattle.tl_memory.specs.statement.Known.{KnowsMessage}
 
@@ -28,3 +29,8 @@ pub record KnowsMessages {w : ℕ} (m : LinkMessages) (t : History w) : Type 0 w
 pub record KnowsLink {w : ℕ} (s : LinkState) (n link : ℕ) (t : Trace w) : Type 0 where
   pub messages_are : KnowsMessages s.messages (on_link link t)
   pub expected_is : KnowsExpected s.expected n link t
+
+-- this is kept of so many links, one by one
+pub record KnowsLinks {w : ℕ} (l : Links) (n : ℕ) (t : Trace w) : Type 0 where
+  pub count_is : length l.states.items ≡ n
+  pub states_are : (link : ℕ) (s : LinkState) → slice_get l.states.items link ≡ Some s → KnowsLink s n link t

@@ -1,4 +1,4 @@
-use Rattle.std.proofs.Common.{rules, ap, append-nil, append_assoc, sym, true, false, ◌∙◌, ◌≡◌, ◌++◌, [], ◌∷◌}
+use Rattle.std.proofs.Common.{rules, ap, append-nil, append_assoc, sym, ◌∙◌, ◌≡◌, ◌++◌, [], ◌∷◌}
 use Rattle.std.proofs.lemmas.List.{take_all}
 use Rattle.tl_memory.proofs.Keeping.{renewed-left, renewed-more, renewed-none}
 use Rattle.tl_memory.proofs.accesses.append_renewed.Goals as goal

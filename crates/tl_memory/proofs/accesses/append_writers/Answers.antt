@@ -1,4 +1,4 @@
-use Rattle.std.proofs.Common.{rules, ap, append-nil, append_assoc, sym, take, true, false, ◌∙◌, ◌≡◌, ◌++◌, [], ◌∷◌}
+use Rattle.std.proofs.Common.{rules, ap, append-nil, append_assoc, sym, take, ◌∙◌, ◌≡◌, ◌++◌, [], ◌∷◌}
 use Rattle.std.proofs.lemmas.List.{take_all}
 use Rattle.tl_memory.specs.code.Writers.{stays, writers_staying}
 use Rattle.tl_memory.proofs.Writing.{none_yet, one_kept, one_left}

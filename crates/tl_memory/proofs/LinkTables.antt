@@ -1,0 +1,82 @@
+-- What is known of all links, with one more beat.
+use Rattle.std.proofs.Common.{◌≡◌, ℕ, suc, zero, pred, List, [], ◌∷◌, ◌++◌, ◌<◌, ◌⊎◌, length, inl, inr, refl, sym, ap}
+use Rattle.std.proofs.Common.{◌∙◌, Some, None, slice_get, slice_set, arith}
+use Rattle.std.proofs.lemmas.List.{length-set}
+use Rattle.std.proofs.lemmas.Option.{same_Some, slice_get_within}
+use Rattle.tl_beat.specs.declared.beat.Beat.{Beat}
+use Rattle.tl_beat.specs.declared.beat.Link.{Link}
+use Rattle.tl_params.specs.declared.level.Level.{Level}
+use Rattle.tl_params.specs.declared.profile.Profile.{Profile}
+use Rattle.tl_rules.specs.statement.Conformance.{Trace, broken_on_link}
+use Rattle.tl_memory.specs.declared.link.LinkState.{LinkState}
+use Rattle.tl_memory.specs.declared.links.Links.{Links}
+use Rattle.tl_memory.specs.statement.Links.{AreLegal, KnowsLink, KnowsLinks}
+use Rattle.tl_memory.proofs.LinkStates.{link-elsewhere}
+use Rattle.tl_memory.proofs.OpenAccesses.{is-fine}
+
+-- ---- elements of lists
+
+-- one that is found was put there, or was found before
+found-set : {X : Type 0} (xs : List X) (i k : ℕ) (y x : X) → slice_get (slice_set xs i y) k ≡ Some x
+    → ((k ≡ i) × (x ≡ y)) ⊎ ((k ≡ i → ⊥) × (slice_get xs k ≡ Some x))
+found-set [] i k y x e = absurd cc
+found-set (z ∷ xs) zero zero y x e = inl (refl, sym (same_Some y x e))
+found-set (z ∷ xs) zero (suc k) y x e = inr ((λ n. absurd (omega (arith, n))), e)
+found-set (z ∷ xs) (suc i) zero y x e = inr ((λ n. absurd (omega (arith, n))), e)
+found-set (z ∷ xs) (suc i) (suc k) y x e = elim (found-set xs i k y x e) [
+  | inl here ↦ inl (ap suc here.0, here.1)
+  | inr apart ↦ inr ((λ n. apart.0 (ap pred n)), apart.1)
+]
+
+found-append : {X : Type 0} (xs : List X) (k : ℕ) (y x : X) → slice_get (xs ++ y ∷ []) k ≡ Some x
+    → (slice_get xs k ≡ Some x) ⊎ (x ≡ y)
+found-append [] zero y x e = inr (sym (same_Some y x e))
+found-append [] (suc k) y x e = absurd cc
+found-append (z ∷ xs) zero y x e = inl e
+found-append (z ∷ xs) (suc k) y x e = found-append xs k y x e
+
+-- ---- links that have carried nothing
+
+-- of each of these nothing is known, of whichever link it is
+pub record AreNew (states : List LinkState) : Type 0 where
+  pub each : (k : ℕ) (s : LinkState) → slice_get states k ≡ Some s → (w n link : ℕ) → KnowsLink {w = w} s n link []
+
+pub none-new : AreNew []
+none-new = record { each = λ k s e. absurd cc }
+
+pub one-new : (states : List LinkState) (s : LinkState) → AreNew states
+    → ((w n link : ℕ) → KnowsLink {w = w} s n link []) → AreNew (states ++ s ∷ [])
+one-new states s are new = record {
+  each = λ k x e. elim (found-append states k s x e) [
+    | inl before ↦ are.each k x before
+    | inr same ↦ rw same new
+  ];
+}
+
+pub links-first : (l : Links) (w n : ℕ) → length l.states.items ≡ n → AreNew l.states.items → KnowsLinks {w = w} l n []
+links-first l w n count are = record {
+  count_is = count;
+  states_are = λ link s e. are.each link s e w n link;
+}
+
+-- ---- one more beat
+
+-- a beat that breaks no rule is of a link that there is
+pub link-there : {w : ℕ} (levels : List Level) (p : Profile) (x : Link × Beat w) (t : Trace w)
+    → broken_on_link levels p x t ≡ None → x.0.0 < length levels
+link-there levels p x t fine =
+    let f = is-fine levels p x t fine in slice_get_within levels x.0.0 f.level f.has_level
+
+pub links-taken : {w : ℕ} (levels : List Level) (p : Profile) (l new : Links) (old next : LinkState) (n : ℕ)
+    (link : Link) (x : Beat w) (t : Trace w)
+    → new.states.items ≡ slice_set l.states.items link.0 next → slice_get l.states.items link.0 ≡ Some old
+    → AreLegal levels p t → broken_on_link levels p (link, x) t ≡ None → KnowsLinks l n t
+    → (KnowsLink old n link.0 t → KnowsLink next n link.0 ((link, x) ∷ t)) → KnowsLinks new n ((link, x) ∷ t)
+links-taken levels p l new old next n link x t set there legal fine k taken = record {
+  count_is = ap length set ∙ length-set l.states.items link.0 next ∙ k.count_is;
+  states_are = λ c s e. elim (found-set l.states.items link.0 c next s (rw set at e)) [
+    | inl here ↦ rw (here.0, here.1) (taken (k.states_are link.0 old there))
+    | inr apart ↦ link-elsewhere levels p s n c (link, x) t legal fine (λ own. apart.0 (sym own))
+        (k.states_are c s apart.1)
+  ];
+}

@@ -1,0 +1,149 @@
+-- What is known of the bytes of memory, with one more beat.
+use Rattle.std.proofs.Common.{◌≡◌, ℕ, Bool, true, false, ◌&&◌, ◌∷◌, ◌^◌, ◌<◌, ◌/◌, List, [], Option, Some, None, length}
+use Rattle.std.proofs.Common.{refl, sym, ap, ◌∙◌, arith, inl, inr}
+use Rattle.std.specs.Prelude.{if◌then◌else◌, ◌==◌}
+use Rattle.std.proofs.lemmas.Bool.{eqb-false}
+use Rattle.std.proofs.lemmas.Option.{none-some, same_Some, slice_get_cases}
+use Rattle.tl_beat.specs.declared.beat.Beat.{Beat}
+use Rattle.tl_beat.specs.declared.beat.Beat.TheVariants as beat
+use Rattle.tl_beat.specs.declared.beat.BeatA.{BeatA}
+use Rattle.tl_beat.specs.declared.beat.BeatD.{BeatD}
+use Rattle.tl_beat.specs.declared.beat.Link.{Link}
+use Rattle.tl_beat.specs.declared.opcode.OpD.TheVariants as d
+use Rattle.tl_beat.specs.statement.Width.{IsWidth}
+use Rattle.tl_burst.specs.statement.Messages.{History}
+use Rattle.tl_params.specs.declared.level.Level.{Level}
+use Rattle.tl_params.specs.declared.profile.Profile.{Profile}
+use Rattle.tl_rules.specs.code.Open.{open_request, request_fields}
+use Rattle.tl_rules.specs.declared.past.Request.{Request}
+use Rattle.tl_rules.specs.laws.Typed.{IsTyped}
+use Rattle.tl_rules.specs.statement.Conformance.{Trace, broken_on_link, on_link}
+use Rattle.tl_rules.specs.statement.History.{begins, is_release_ack, request_of}
+use Rattle.tl_bytes.specs.statement.Bytes.{pending_accesses}
+use Rattle.tl_memory.specs.code.Changing.{ExpectsBegun, IsChange}
+use Rattle.tl_memory.specs.code.Elsewhere.{PassesBy, block_asked, block_borne}
+use Rattle.tl_memory.specs.code.Taking.{IsLegalBeat}
+use Rattle.tl_memory.specs.declared.expected.Expected.{Expected}
+use Rattle.tl_memory.specs.declared.link.LinkState.{LinkState}
+use Rattle.tl_memory.specs.declared.links.Links.{Links}
+use Rattle.tl_memory.specs.declared.memory.Change.{Change}
+use Rattle.tl_memory.specs.declared.memory.Memory.{Memory}
+use Rattle.tl_memory.specs.statement.Expecting.{ExpectsResponse}
+use Rattle.tl_memory.specs.statement.Known.{AllWriteInside}
+use Rattle.tl_memory.specs.statement.Links.{AreLegal, KnowsLink, KnowsLinks}
+use Rattle.tl_memory.specs.statement.Memory.{AreAddressed, IsAddressed}
+use Rattle.tl_memory.proofs.Beginning.{none-begun}
+use Rattle.tl_memory.proofs.Borne.{passes}
+use Rattle.tl_memory.proofs.LegalBeats.{legal-beat}
+use Rattle.tl_memory.proofs.LinkTables.{link-there}
+
+-- ---- the blocks of requests
+
+request_addressed : {w : ℕ} (s : ℕ) (x : Beat w) (past : History w) (y : BeatA w) → IsAddressed x
+    → (request_of s past ≡ Some y → y.address < 2 ^ 32) → request_of s (x ∷ past) ≡ Some y → y.address < 2 ^ 32
+unfolding request_of
+request_addressed {w} s (beat.A x) past y small before e =
+    go (begins (beat.A x) past && (x.source == s)) (request_of s past) before e
+  where
+    go : (own : Bool) (o : Option (BeatA w)) → (o ≡ Some y → y.address < 2 ^ 32)
+        → (if own then Some x else o) ≡ Some y → y.address < 2 ^ 32
+    go false o before e = before e
+    go true o before e = let same : x ≡ y = cc in rw (← same) small
+request_addressed s (beat.B x) past y small before e = before e
+request_addressed s (beat.C x) past y small before e = before e
+request_addressed s (beat.D x) past y small before e = before e
+request_addressed s (beat.E x) past y small before e = before e
+
+requests_addressed : {w : ℕ} (s link : ℕ) (t : Trace w) (y : BeatA w) → AreAddressed t
+    → request_of s (on_link link t) ≡ Some y → y.address < 2 ^ 32
+unfolding on_link request_of
+requests_addressed s link [] y all e = absurd cc
+requests_addressed {w} s link (x ∷ t) y all e =
+    go (x.0.0 == link) (requests_addressed s link t y all.1) e
+  where
+    go : (own : Bool) → (request_of s (on_link link t) ≡ Some y → y.address < 2 ^ 32)
+        → request_of s (if own then x.1 ∷ on_link link t else on_link link t) ≡ Some y → y.address < 2 ^ 32
+    go true before e = request_addressed s x.1 (on_link link t) y all.0 before e
+    go false before e = before e
+
+-- the block of an open request has a number of 26 bits
+pub block-small : {w : ℕ} (s link : ℕ) (asked : Request) (t : Trace w) → AreAddressed t
+    → open_request s (on_link link t) ≡ Some asked → asked.block < 2 ^ 26
+block-small {w} s link asked t all e =
+    go _ (request_of s (on_link link t)) (λ y is. requests_addressed s link t y all is) e
+  where
+    number : (address : ℕ) → address < 2 ^ 32 → address / 64 < 2 ^ 26
+    number address small = omega (arith, small)
+
+    go : (opened : Bool) (o : Option (BeatA w)) → ((y : BeatA w) → o ≡ Some y → y.address < 2 ^ 32)
+        → (if opened then request_fields o else None) ≡ Some asked → asked.block < 2 ^ 26
+    go false o small e = absurd cc
+    go true None small e = absurd cc
+    go true (Some y) small e =
+        let same : y.address / 64 ≡ asked.block = cc in rw (← same) (number y.address (small y refl))
+
+-- ---- beats that break no rule
+
+module _ {w : ℕ} (levels : List Level) (p : Profile) (link : Link) (x : Beat w) (t : Trace w) (is : IsWidth w)
+    (legal : AreLegal levels p t) (fine : broken_on_link levels p (link, x) t ≡ None) where
+  pub beat-legal : (s : LinkState) (n : ℕ) → KnowsLink s n link.0 t
+      → ((y : BeatA w) → x ≡ beat.A y → IsTyped (beat.A y)) → IsLegalBeat link.0 x t
+  beat-legal s n k typed = legal-beat levels p link t is legal x (λ y e. (typed y e, k.messages_are.typed)) fine
+
+  pub links-legal : (l : Links) → KnowsLinks l (length levels) t
+      → ((y : BeatA w) → x ≡ beat.A y → IsTyped (beat.A y)) → IsLegalBeat link.0 x t
+  links-legal l k typed = elim (slice_get_cases l.states.items link.0).1 [
+    | inl found ↦ beat-legal found.0 (length levels) (k.states_are link.0 found.0 found.2) typed
+    | inr past ↦ absurd (omega (arith, link-there levels p (link, x) t fine, past.0, k.count_is))
+  ]
+
+-- each block is left as it is but that on which the beat bears
+pub others-passed : {w : ℕ} (link : Link) (x : Beat w) (t : Trace w) (block other : ℕ)
+    → AllWriteInside (pending_accesses t) → IsLegalBeat link.0 x t
+    → block_borne x (on_link link.0 t) ≡ Some block → (other == block) ≡ false → PassesBy other (link, x) t
+others-passed link x t block other inside legal borne apart =
+    passes other link x t inside legal (λ e. eqb-false other block apart (same_Some other block (sym e ∙ borne)))
+
+-- where it bears on none each is
+pub all-passed : {w : ℕ} (link : Link) (x : Beat w) (t : Trace w) (block : ℕ)
+    → AllWriteInside (pending_accesses t) → IsLegalBeat link.0 x t
+    → block_borne x (on_link link.0 t) ≡ None → PassesBy block (link, x) t
+all-passed link x t block inside legal borne =
+    passes block link x t inside legal (λ e. none-some block (sym borne ∙ e))
+
+-- and nothing is expected
+pub none-expected : {w : ℕ} (link : Link) (x : Beat w) (n : ℕ) (t : Trace w) → IsLegalBeat link.0 x t
+    → block_borne x (on_link link.0 t) ≡ None → ExpectsBegun None n (link, x) t
+none-expected {w} link x n t legal borne y is first =
+    go (is_release_ack y.opcode) refl (rw is at legal) (rw is at borne)
+  where
+    go : (release : Bool) → is_release_ack y.opcode ≡ release → IsLegalBeat link.0 (beat.D y) t
+        → (if release then None else block_asked (open_request y.source (on_link link.0 t))) ≡ None
+        → ExpectsResponse None n link.0 y.opcode y.source t t
+    go true e legal borne = none-begun y.opcode n link.0 y.source t
+        (λ grant. absurd (let no : is_release_ack d.GrantData ≡ true = ap is_release_ack (sym grant) ∙ e in cc))
+        (λ read. absurd (let no : is_release_ack d.AccessAckData ≡ true = ap is_release_ack (sym read) ∙ e in cc))
+    go false e legal borne =
+        let one = legal e in
+        absurd (none-some one.0.block (sym borne ∙ ap block_asked one.1.asked_is))
+
+-- ---- what a beat changes
+
+pub begun-by : {w : ℕ} (expected : Option Expected) (n : ℕ) (link : Link) (x : Beat w) (z : BeatD w) (t : Trace w)
+    → x ≡ beat.D z → ExpectsResponse expected n link.0 z.opcode z.source t t → ExpectsBegun expected n (link, x) t
+begun-by {w} expected n link x z t is known y e first =
+    rw (← same z y (sym is ∙ e)) known
+  where
+    same : (a b : BeatD w) → beat.D a ≡ beat.D b → a ≡ b
+    same a b e = cc
+
+-- a beat that bears on no block changes nothing
+pub nothing-changed : {w : ℕ} (change : Change w) (m : Memory w) (n : ℕ) (link : Link) (x : Beat w) (t : Trace w)
+    → change.block ≡ None → change.expected ≡ None → IsLegalBeat link.0 x t
+    → block_borne x (on_link link.0 t) ≡ None → IsChange change m n (link, x) t
+nothing-changed change m n link x t unborne none legal borne = record {
+  block_is = unborne ∙ sym borne;
+  kept = λ block e. absurd (none-some block (sym unborne ∙ e));
+  next_is = λ block free e seen. absurd (none-some block (sym unborne ∙ e));
+  expected_is = rw none (none-expected link x n t legal borne);
+}

@@ -1,0 +1,52 @@
+use Rattle.std.proofs.Common.{rules, sym, ◌∙◌, ◌≡◌, false, length}
+use Rattle.std.proofs.lemmas.Result.{IfOk-weaker}
+use Rattle.tl_burst.specs.statement.Part.{is_small}
+use Rattle.tl_rules.specs.statement.Conformance.{on_link}
+use Rattle.tl_memory.proofs.LinkBeats.{large-breaks}
+use Rattle.tl_memory.proofs.Memories.{links-legal, nothing-changed}
+use Rattle.tl_memory.proofs.OpenAccesses.{is-fine, legal-on}
+use Rattle.tl_memory.proofs.memory.Memory.change.Goals as goal
+
+pub returns-then-not-is_small-clause-change : goal.returns-then-not-is_small-clause-change
+returns-then-not-is_small-clause-change g c = λ levels p t k legal fine asked now.
+    let link = c.args.link in
+    let x = c.args.x.now in
+    let f = is-fine levels p (link, x) t fine in
+    let large : is_small x ≡ false = search rules in
+    large-breaks f.level p x (on_link link.0 t) c.requires (legal-on levels p link.0 f.level t f.has_level legal) f.fine
+    large
+
+pub returns-in_default-clause-change : goal.returns-in_default-clause-change
+returns-in_default-clause-change g c = λ levels p t k legal fine asked now.
+    let link = c.args.link in
+    let x = c.args.x.now in
+    nothing-changed c.none-in_default.result c.args.self.now (length levels) link x t
+    c.none-in_default.ensures.block c.none-in_default.ensures.expected
+    (links-legal levels p link x t c.requires legal fine c.args.self.now.links k.links_are c.prove_typed.ensures.typed)
+    (sym (c.block_borne.ensures (on_link link.0 t) asked) ∙ c.in_default.is)
+
+pub returns-in_err-meet-clause-known : goal.returns-in_err-meet-clause-known
+returns-in_err-meet-clause-known g c = λ n t k. record {
+  links_are = k.links_are;
+  blocks_are = c.meet.ensures.known n t k.blocks_are;
+  addressed = k.addressed;
+}
+
+pub returns-clause-known : goal.returns-clause-known
+returns-clause-known g c = λ n t k. record {
+  links_are = k.links_are;
+  blocks_are = c.meet.ensures.known n t k.blocks_are;
+  addressed = k.addressed;
+}
+
+pub returns-clause-change : goal.returns-clause-change
+returns-clause-change g c = IfOk-weaker c.changed.result _ _
+    (λ change h levels p t k legal fine asked now.
+    h levels p t
+    (record {
+      links_are = k.links_are;
+      blocks_are = c.meet.ensures.known (length levels) t k.blocks_are;
+      addressed = k.addressed;
+    }) legal fine asked now (sym (c.block_borne.ensures (on_link c.args.link.0 t) asked) ∙ c.in-Some.is)
+    c.in_ok-meet.ensures.met)
+    c.changed.ensures

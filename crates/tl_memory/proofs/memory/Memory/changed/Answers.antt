@@ -1,0 +1,25 @@
+use Rattle.std.proofs.Common.{sym, length}
+use Rattle.tl_memory.proofs.Memories.{links-legal}
+use Rattle.tl_memory.proofs.Tables.{some-kept}
+use Rattle.tl_memory.proofs.Taken.{same-block}
+use Rattle.tl_memory.proofs.memory.Memory.changed.Goals as goal
+
+pub returns : goal.returns
+returns g c = λ levels p t k legal fine asked now borne there.
+    let n = length levels in
+    let link = c.args.link in
+    let x = c.args.x.now in
+    let block = c.args.block in
+    let messages = (k.links_are.states_are link.0 c.in-Some-get.known.now (sym c.in-Some-get.ensures)).messages_are in
+    let state = some-kept _ c.in-Some.state.now n block t (sym c.in-Some.ensures)
+    (k.blocks_are.states_are block) in
+    let its = links-legal levels p link x t c.requires.width legal fine c.args.self.now.links k.links_are
+    c.prove_typed.ensures.typed in
+    record {
+      block_is = sym borne;
+      kept = λ other e. rw (← same-block block other e) there;
+      next_is = λ other free e seen.
+          let same = same-block block other e in
+          rw (← same) (c.in_ok-next.ensures n block free t state messages its asked borne now (rw same seen));
+      expected_is = c.in_ok-expected.ensures n t state messages.d_is its borne k.addressed;
+    }

@@ -1,0 +1,29 @@
+-- What a beat changes of what is known of the bytes of memory.
+use Rattle.std.specs.Prelude.{ℕ, Bool, true, ◌≡◌, is_some, Option, Some}
+use Rattle.tl_beat.specs.declared.beat.Beat.{Beat}
+use Rattle.tl_beat.specs.declared.beat.Beat.TheVariants as beat
+use Rattle.tl_beat.specs.declared.beat.BeatD.{BeatD}
+use Rattle.tl_beat.specs.declared.beat.Link.{Link}
+use Rattle.tl_rules.specs.statement.Conformance.{Trace, on_link}
+use Rattle.tl_rules.specs.statement.History.{begins}
+use Rattle.tl_memory.specs.code.Elsewhere.{block_borne}
+use Rattle.tl_memory.specs.code.Taking.{IsNext, IsSeen}
+use Rattle.tl_memory.specs.declared.expected.Expected.{Expected}
+use Rattle.tl_memory.specs.declared.memory.Change.{Change}
+use Rattle.tl_memory.specs.declared.memory.Memory.{Memory}
+use Rattle.tl_memory.specs.statement.Blocks.{state_in}
+use Rattle.tl_memory.specs.statement.Expecting.{ExpectsResponse}
+
+-- this is what the response may bring that begins with the beat, where one does
+abbrev pub ExpectsBegun : {w : ℕ} → Option Expected → ℕ → Link × Beat w → Trace w → Type 0
+ExpectsBegun {w} expected n x t = (y : BeatD w) → x.1 ≡ beat.D y → begins (beat.D y) (on_link x.0.0 t) ≡ true
+    → ExpectsResponse expected n x.0.0 y.opcode y.source t t
+
+-- This is what the beat changes: the state of the block that it bears on, of which one is kept, and what the
+-- response may bring that begins with it.
+pub record IsChange {w : ℕ} (change : Change w) (m : Memory w) (n : ℕ) (x : Link × Beat w) (t : Trace w) : Type 0 where
+  pub block_is : change.block ≡ block_borne x.1 (on_link x.0.0 t)
+  pub kept : (block : ℕ) → change.block ≡ Some block → is_some (state_in m.blocks block) ≡ true
+  pub next_is : (block : ℕ) (free : Option Bool) → change.block ≡ Some block → IsSeen free n block x t
+      → IsNext change.next free n block x t
+  pub expected_is : ExpectsBegun change.expected n x t

@@ -1,0 +1,56 @@
+//! What is kept of all links of a manager.
+
+ghost use Rattle.std.specs.Prelude.{ℕ, [], ◌∷◌, ◌≡◌, List, length, None, IfOk, option_copied, slice_get};
+ghost use Rattle.tl_beat.specs.declared.beat.Link.{Link};
+ghost use Rattle.tl_beat.specs.statement.Width.{IsWidth};
+ghost use Rattle.tl_params.specs.declared.level.Level.{Level};
+ghost use Rattle.tl_params.specs.declared.profile.Profile.{Profile};
+ghost use Rattle.tl_rules.specs.statement.Conformance.{Trace, broken_on_link};
+ghost use Rattle.tl_memory.specs.code.Changing.{ExpectsBegun};
+ghost use Rattle.tl_memory.specs.statement.Links.{AreLegal};
+
+use crate::expected::Expected;
+use crate::link::LinkState;
+use std::alloc::{AllocError, Global};
+use tl_beat::beat::{Beat, Link};
+
+/// What is kept of links, one by one.
+#[derive(Drop)]
+pub struct Links {
+    states: Vec<LinkState>,
+}
+
+impl Links {
+    ghost use Rattle.tl_memory.specs.statement.Links.{KnowsLinks};
+
+    /// So many, on which nothing was carried.
+    pub fn new(alloc: Global, count: u8) -> Result<Self, AllocError>
+        ensures { IfOk result (λ l. (w : ℕ) → KnowsLinks {w = w} l count []) }
+    {
+        let mut states = Vec::new(alloc);
+        for _ in 0..count {
+            states.push(LinkState::new())?;
+        }
+        Ok(Links { states })
+    }
+
+    /// What is kept of a link, where there is one.
+    pub fn get(&self, link: Link) -> Option<&LinkState>
+        ensures { option_copied result ≡ slice_get self.now.states.items link.0 }
+    {
+        self.states.get(usize::from(link.0))
+    }
+
+    /// Takes a beat, where this is what the response may bring that begins with it.
+    pub fn take<const W: usize>(&mut self, begun: Option<Expected>, link: Link, x: &Beat<W>)
+        requires { IsWidth W }
+        ensures { (levels : List Level) (p : Profile) (t : Trace W) → KnowsLinks self.old (length levels) t →
+            AreLegal levels p t → broken_on_link levels p (link, x.now) t ≡ None →
+            ExpectsBegun begun (length levels) (link, x.now) t →
+            KnowsLinks self.new (length levels) ((link, x.now) ∷ t) }
+    {
+        if let Some(state) = self.states.get_mut(usize::from(link.0)) {
+            state.take(begun, x);
+        }
+    }
+}

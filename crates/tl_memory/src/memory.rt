@@ -1,0 +1,208 @@
+//! What is kept of the bytes of memory.
+
+ghost use Rattle.std.specs.Prelude.{ℕ, suc, true, [], ◌∷◌, ◌≡◌, List, length, is_some, None, Some, IfOk, IsTrue};
+ghost use Rattle.tl_beat.specs.declared.beat.Beat.TheVariants as beat;
+ghost use Rattle.tl_beat.specs.declared.beat.Link.{Link};
+ghost use Rattle.tl_beat.specs.statement.Width.{IsWidth};
+ghost use Rattle.tl_burst.specs.statement.Messages.{History};
+ghost use Rattle.tl_burst.specs.statement.Part;
+ghost use Rattle.tl_params.specs.declared.level.Level.{Level};
+ghost use Rattle.tl_params.specs.declared.profile.Profile.{Profile};
+ghost use Rattle.tl_rules.specs.statement.Conformance.{Trace, broken_on_link, on_link};
+ghost use Rattle.tl_bytes.specs.statement.Bytes as bytes;
+ghost use Rattle.tl_memory.specs.code.Elsewhere as elsewhere;
+ghost use Rattle.tl_memory.specs.code.Taking.{IsSeen, request_answered};
+
+use crate::begun::begun_with;
+use crate::block::BlockState;
+use crate::blocks::Blocks;
+use crate::expected::Expected;
+use crate::links::Links;
+use crate::message::is_small;
+use crate::next::after_beat;
+use crate::typed::prove_typed;
+use std::alloc::{AllocError, Global};
+use tl_beat::beat::{Beat, BeatD, Link};
+use tl_rules::key::block_at;
+use tl_rules::kind::is_release_ack;
+use tl_rules::past::Request;
+
+/// The block of a request, where there is one.
+fn block_asked(asked: Option<Request>) -> Option<u32>
+    ensures { result ≡ elsewhere.block_asked asked }
+{
+    match asked {
+        Some(asked) => Some(asked.block),
+        None => None,
+    }
+}
+
+/// The block that a beat bears on, which answers this request where it is a response: that of its address, or
+/// of the request.
+fn block_borne<const W: usize>(beat: &Beat<W>, asked: Option<Request>) -> Option<u32>
+    ensures { (past : History W) → asked ≡ request_answered beat.now past →
+        result ≡ elsewhere.block_borne beat.now past }
+{
+    match beat {
+        Beat::A(x) => Some(block_at(x.address)),
+        Beat::C(x) => Some(block_at(x.address)),
+        Beat::D(x) => {
+            if is_release_ack(x.opcode) {
+                None
+            } else {
+                block_asked(asked)
+            }
+        }
+        _ => None,
+    }
+}
+
+/// What a beat changes of what is kept.
+#[derive(Drop)]
+pub struct Change<const W: usize> {
+    /// The block that it bears on.
+    pub block: Option<u32>,
+    /// The state of that block with it, where more of it changes than how free it is.
+    next: Option<BlockState<W>>,
+    /// What the response may bring that begins with it.
+    expected: Option<Expected>,
+}
+
+impl<const W: usize> Change<W> {
+    /// That of a beat that bears on no block.
+    fn none() -> Self
+        ensures block { result.block ≡ None }
+        ensures expected { result.expected ≡ None }
+    {
+        Change {
+            block: None,
+            next: None,
+            expected: None,
+        }
+    }
+}
+
+/// What is kept of the bytes of memory: of all links of a manager, and of all blocks.
+#[derive(Drop)]
+pub struct Memory<const W: usize> {
+    alloc: Global,
+    links: Links,
+    blocks: Blocks<W>,
+}
+
+impl<const W: usize> Memory<W> {
+    ghost use Rattle.tl_memory.specs.code.Changing.{IsChange};
+    ghost use Rattle.tl_memory.specs.statement.Blocks.{state_in};
+    ghost use Rattle.tl_memory.specs.statement.Links.{AreLegal};
+    ghost use Rattle.tl_memory.specs.statement.Memory.{KnowsMemory};
+
+    /// That of so many links, which have carried nothing.
+    pub fn new(alloc: Global, count: u8) -> Result<Self, AllocError>
+        ensures { IfOk result (λ m. KnowsMemory m count []) }
+    {
+        Ok(Memory {
+            alloc,
+            links: Links::new(alloc, count)?,
+            blocks: Blocks::new(alloc),
+        })
+    }
+
+    /// What a beat changes that bears on this block, of which a state is kept.
+    fn changed(
+        &self,
+        block: u32,
+        link: Link,
+        x: &Beat<W>,
+        asked: Option<Request>,
+        moment: u64,
+    ) -> Result<Change<W>, AllocError>
+        requires width { IsWidth W }
+        requires small { IsTrue (Part.is_small x.now) }
+        ensures { IfOk result (λ change. (levels : List Level) (p : Profile) (t : Trace W) →
+            KnowsMemory self.now (length levels) t → AreLegal levels p t →
+            broken_on_link levels p (link, x.now) t ≡ None → asked ≡ request_answered x.now (on_link link.0 t) →
+            moment ≡ suc (length t) → elsewhere.block_borne x.now (on_link link.0 t) ≡ Some block →
+            is_some (state_in self.now.blocks block) ≡ true →
+            IsChange change self.now (length levels) (link, x.now) t) }
+    {
+        prove_typed(x);
+        let Some(state) = self.blocks.get(block) else {
+            return Ok(Change::none());
+        };
+        let Some(known) = self.links.get(link) else {
+            return Ok(Change::none());
+        };
+        let next = after_beat(self.alloc, state, link, x, asked, &known.messages, moment)?;
+        let expected = begun_with(self.alloc, state, link, x, &known.messages.d, block)?;
+        Ok(Change {
+            block: Some(block),
+            next,
+            expected,
+        })
+    }
+
+    /// What a beat changes, at this moment, which answers this request where it is a response to one. With
+    /// memory or without it, what is known stays so.
+    pub fn change(
+        &mut self,
+        link: Link,
+        x: &Beat<W>,
+        asked: Option<Request>,
+        moment: u64,
+    ) -> Result<Change<W>, AllocError>
+        requires { IsWidth W }
+        ensures known { (n : ℕ) (t : Trace W) → KnowsMemory self.old n t → KnowsMemory self.new n t }
+        ensures change { IfOk result (λ change. (levels : List Level) (p : Profile) (t : Trace W) →
+            KnowsMemory self.old (length levels) t → AreLegal levels p t →
+            broken_on_link levels p (link, x.now) t ≡ None → asked ≡ request_answered x.now (on_link link.0 t) →
+            moment ≡ suc (length t) → IsChange change self.new (length levels) (link, x.now) t) }
+    {
+        prove_typed(x);
+        if !is_small(x) {
+            return Ok(Change::none());
+        }
+        let Some(block) = block_borne(x, asked) else {
+            return Ok(Change::none());
+        };
+        self.blocks.meet(self.alloc, block)?;
+        self.changed(block, link, x, asked, moment)
+    }
+
+    /// Whether the bytes of a response's beat are true, where this is what the beat changes.
+    pub fn is_true(&self, change: &Change<W>, link: Link, x: &BeatD<W>) -> bool
+        requires { IsWidth W }
+        ensures { (levels : List Level) (p : Profile) (t : Trace W) → KnowsMemory self.now (length levels) t →
+            AreLegal levels p t → broken_on_link levels p (link, beat.D x.now) t ≡ None →
+            IsChange change.now self.now (length levels) (link, beat.D x.now) t →
+            result ≡ bytes.is_true x.now.opcode (length levels) link.0 x.now t }
+    {
+        match self.links.get(link) {
+            Some(state) => state.is_true(&change.expected, x),
+            None => true,
+        }
+    }
+
+    /// Takes a beat, at this moment, where this is what the beat changes. Whether the block that it bears on is free
+    /// for writing with it is told beside that, but with a beat of channel A, which changes nothing of that.
+    pub fn take(
+        &mut self,
+        change: Change<W>,
+        link: Link,
+        x: &Beat<W>,
+        free: Option<bool>,
+        moment: u64,
+    )
+        requires { IsWidth W }
+        ensures { (levels : List Level) (p : Profile) (t : Trace W) → KnowsMemory self.old (length levels) t →
+            AreLegal levels p t → broken_on_link levels p (link, x.now) t ≡ None → moment ≡ suc (length t) →
+            IsChange change.entry self.old (length levels) (link, x.now) t →
+            ((block : ℕ) → change.entry.block ≡ Some block → IsSeen free (length levels) block (link, x.now) t) →
+            KnowsMemory self.new (length levels) ((link, x.now) ∷ t) }
+    {
+        prove_typed(x);
+        self.links.take(change.expected, link, x);
+        if let Some(block) = change.block {
+            self.blocks.take(block, change.next, free, moment);
+        }
+    }
+}

@@ -3,7 +3,7 @@
 ghost use Rattle.std.specs.Prelude.{◌≡◌, ◌++◌, [], IfOk, OnOk};
 ghost use Rattle.tl_beat.specs.statement.Width.{IsWidth};
 ghost use Rattle.tl_client.specs.declared.operation.Op.TheVariants.{Load, Store};
-ghost use Rattle.tl_coherence.specs.declared.event.Event.TheVariants.{Ask};
+ghost use Rattle.tl_coherence.specs.declared.event.Event.TheVariants.{Ask, Deliver};
 ghost use Rattle.tl_schedule.specs.statement.CommonLine.{common_event};
 ghost use Rattle.tl_schedule.specs.statement.OutcomeLine.{HasLine};
 ghost use Rattle.tl_engine.specs.statement.Played.{event_text};
@@ -11,6 +11,8 @@ ghost use Rattle.tl_engine.specs.code.Playing.{Drains, Happens, PlaysLine, Plays
 
 use crate::fault::Fault;
 use std::alloc::AllocError;
+use tl_beat::beat::Link;
+use tl_beat::channel::Channel;
 use tl_client::any::AnyClient;
 use tl_client::reply::Reply;
 use tl_coherence::event::{Event, Outcome};
@@ -52,6 +54,22 @@ fn play_event<const W: usize>(
     append_event(trace, &event, &outcome, out)
 }
 
+/// A delivery happens, and what comes of it is appended.
+fn play_delivery<const W: usize>(
+    trace: bool,
+    world: &mut World<W, AnyClient<W>, BitDirectory>,
+    link: Link,
+    channel: Channel,
+    outcome: &mut Outcome<W>,
+    out: &mut Vec<u8>,
+) -> Result<(), AllocError>
+    requires width { IsWidth W }
+    ensures { OnOk result (Happens trace world.old world.new (Deliver link channel) out.old.items out.new.items) }
+{
+    world.deliver(link, channel, outcome);
+    append_event(trace, &Event::Deliver { link, channel }, outcome, out)
+}
+
 /// What is next is delivered until nothing is, and what comes of each delivery is appended: the number
 /// of deliveries.
 fn deliver_all<const W: usize>(
@@ -63,11 +81,12 @@ fn deliver_all<const W: usize>(
     ensures { IfOk result (Drains trace world.old world.new out.old.items out.new.items) }
 {
     let load = world.load();
+    let mut outcome = Outcome::Empty;
     for count in 0..load {
         match world.next_delivery() {
             None => return Ok(count),
             Some((link, channel)) => {
-                play_event(trace, world, Event::Deliver { link, channel }, out)?;
+                play_delivery(trace, world, link, channel, &mut outcome, out)?;
             }
         }
     }
@@ -194,7 +213,7 @@ fn play_common<const W: usize>(
             value,
         } => play_store(trace, world, client, address, size, value, out),
         Common::Deliver { link, channel } => {
-            play_event(trace, world, Event::Deliver { link, channel }, out)
+            play_delivery(trace, world, link, channel, &mut Outcome::Empty, out)
         }
     }
 }

@@ -11,7 +11,7 @@ loop-count-preserved g c = λ config log r.
     let so_far = c.loop-count.invariant config log r in
     delivered-more c.args.trace config log c.loop-count.world _ _ c.loop-count.out.items _ c.loop-count.count
     c.in-Some.link c.in-Some.channel so_far
-    (search (rules, c.in-Some.ensures.next config _ so_far.reached)) c.in_ok-play_event-in-Some.ensures
+    (search (rules, c.in-Some.ensures.next config _ so_far.reached)) c.in_ok-play_delivery-in-Some.ensures
 
 pub returns-in-None : goal.returns-in-None
 returns-in-None g c = λ config log r.

@@ -7,4 +7,4 @@ pub returns-in-Store : goal.returns-in-Store
 returns-in-Store g c = rw c.in-Store.is c.play_store.ensures
 
 pub returns-in-Deliver : goal.returns-in-Deliver
-returns-in-Deliver g c = rw c.in-Deliver.is c.play_event.ensures
+returns-in-Deliver g c = rw c.in-Deliver.is c.play_delivery.ensures

@@ -3,7 +3,8 @@ use Rattle.tl_manager.proofs.Imports.{IsWidth, Beat, Link, Channel, Config, Perm
 use Rattle.tl_manager.proofs.Imports.{is_outside, is_spoiled, on_link, broken_in_order, ends, illegal, Trace, IsTyped}
 use Rattle.tl_manager.proofs.Imports.{Knows, reaction, End, Sent, Passes, is_from_client, must_wait, judged}
 use Rattle.tl_manager.proofs.Imports.{taken, offered_as, offered, IsLinkState, IsBlockState, ManagerState, LinkState}
-use Rattle.std.proofs.Common.{◌≡◌, ℕ, Bool, true, false, List, [], length, Some, None, refl, sym, ap, ◌∙◌, subst}
+use Rattle.tl_manager.proofs.Imports.{BlockState, with_handed}
+use Rattle.std.proofs.Common.{◌≡◌, ℕ, Bool, true, false, List, [], ◌∷◌, length, Some, None, refl, sym, ap, ◌∙◌, subst}
 use Rattle.std.specs.Bool.{OnTrue, OnFalse}
 use Rattle.std.specs.Prelude.{slice_get, slice_set}
 use Rattle.tl_beat.specs.declared.beat.Beat.TheVariants.{A, B, C, D, E}
@@ -39,8 +40,8 @@ pub record IsMiddle {w : ℕ} (config : Config) (ch : Channel) (link_state : Lin
 passes-middle : {w : ℕ} (config : Config) (link : Link) (ch : Channel) (link_state : LinkState w) (x : Beat w)
     (e : End w) → IsLinkState config link_state link.0 e → IsMiddle config ch link_state x
     → judged config link ch x e ≡ Passes
-passes-middle config link ch link_state x e is middle =
-    let here = subst (λ b. GoesOn x b) (burst-is link_state link.0 x e.trace middle.theirs is.carried) middle.goes in
+passes-middle {w} config link ch link_state x e is middle =
+    let here = subst (λ (b : List (Beat w)). GoesOn x b) (burst-is link_state link.0 x e.trace middle.theirs is.carried) middle.goes in
     let lawful : unlawful link_state.level ch x ≡ None = rw (middle.theirs) middle.lawful in
     let order : broken_in_order config.profile x (on_link link.0 e.trace) ≡ None =
     rw (here.begun_before, here.continues) refl in
@@ -78,8 +79,8 @@ pub follows-middle : {w : ℕ} {M : Type 0} (perm_of : M → ℕ → ℕ → Per
     → after.requests ≡ burst_more channel.A x before.requests
     → after.reports ≡ burst_more channel.C x before.reports → new.block_state ≡ old.block_state
     → Knows perm_of old config e → Follows perm_of old new config link ch x e
-follows-middle perm_of old new config link ch before after x e width typed middle link_states found level closed
-    requests reports same k =
+follows-middle {w} {M} perm_of old new config link ch before after x e width typed middle link_states found level
+    closed requests reports same k =
     let here = k.link_states link.0 before found in
     let passes = passes-middle config link ch before x e here middle in
     let ok = passed config link ch x e typed passes in
@@ -90,8 +91,8 @@ follows-middle perm_of old new config link ch before after x e width typed middl
       knows-taken perm_of old new config link before after x e width ok link_states found level closed
           (requests ∙ requests-more x before.requests before.reports middle.goes)
           (reports ∙ reports-more x before.requests before.reports middle.goes)
-          (ap (λ b. length b.blocks.bytes.items) same)
-          (subst (λ b. IsBlockState perm_of config b _ _) (sym same) done.1) k,
+          (ap (λ (b : BlockState w M). length b.blocks.bytes.items) same)
+          (subst (λ (b : BlockState w M). IsBlockState perm_of config b (with_handed (reaction config link x e).handed ((link, x) ∷ e.trace)) (reaction config link x e).memory) (sym same) done.1) k,
     )
 
 -- where a beat was taken so, of any end that was known
@@ -119,7 +120,7 @@ follows-any perm_of old new link ch before after x true width typed within their
       live = live;
       lawful = lawful;
       clean = clean;
-      inside = subst (λ n. is_outside n x ≡ false) k.size within;
+      inside = subst (λ (n : ℕ). is_outside n x ≡ false) k.size within;
       goes = middle-goes_on x (burst_for before.requests before.reports x) middle;
     } in
     follows-middle perm_of old new config link ch before after x e width typed middle_is link_states found level closed
@@ -157,8 +158,9 @@ pub manager-middle : {w : ℕ} {M : Type 0} (perm_of : M → ℕ → ℕ → Per
     (old new : ManagerState w M) (link : Link) (ch : Channel) (x : Beat w) (b : Bool)
     → OnTrue b (FollowsAny perm_of old new link ch x) → OnFalse b (new ≡ old) → new.block_state ≡ old.block_state
     → IsManager perm_of blocks_of clients_of old → IsManager perm_of blocks_of clients_of new
-manager-middle perm_of blocks_of clients_of old new link ch x true follows unchanged same known =
+manager-middle {w} {M} perm_of blocks_of clients_of old new link ch x true follows unchanged same known =
     manager-after perm_of blocks_of clients_of old new _ known (follows known.config known.end known.knows).2
-    (ap (λ s. blocks_of s.directory) same) (ap (λ s. clients_of s.directory) same)
-manager-middle perm_of blocks_of clients_of old new link ch x false follows unchanged same known =
-    subst (λ s. IsManager perm_of blocks_of clients_of s) (sym unchanged) known
+    (ap (λ (s : BlockState w M). blocks_of s.directory) same)
+    (ap (λ (s : BlockState w M). clients_of s.directory) same)
+manager-middle {w} {M} perm_of blocks_of clients_of old new link ch x false follows unchanged same known =
+    subst (λ (s : ManagerState w M). IsManager perm_of blocks_of clients_of s) (sym unchanged) known

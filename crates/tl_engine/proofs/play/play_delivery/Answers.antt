@@ -14,6 +14,6 @@ append_event-requires g c =
     search (rules, line)
 
 pub returns : goal.returns
-returns g c = happened c.args.trace c.args.world.now c.deliver.new.world (Deliver c.args.link c.args.channel)
+returns g c = happened c.args.trace c.args.world.now c.deliver.new.self (Deliver c.args.link c.args.channel)
     c.deliver.new.outcome c.args.out.now.items c.append_event.new.out.items c.append_event.result
     c.append_event.ensures c.deliver.ensures.outcome c.deliver.ensures.reached

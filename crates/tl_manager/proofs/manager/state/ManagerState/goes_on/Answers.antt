@@ -1,9 +1,12 @@
-use Rattle.std.proofs.Common.{refl, sym, ◌∙◌, ◌≡◌, ◌<◌, length, Some, false, arith}
+use Rattle.std.proofs.Common.{refl, sym, ◌∙◌, ◌≡◌, ◌<◌, length, Some, false, arith, rules}
 use Rattle.std.specs.Prelude.{slice_get}
 use Rattle.std.proofs.lemmas.Option.{slice_get_read}
 use Rattle.tl_rules.specs.statement.Admission.{is_outside}
 use Rattle.tl_manager.proofs.calls.Middle.{follows-any}
 use Rattle.tl_manager.proofs.manager.state.ManagerState.goes_on.Goals as goal
+
+pub prove_typed-requires : goal.prove_typed-requires
+prove_typed-requires g c = let width = c.requires.known.width in search (rules, width)
 
 pub returns-clause-passes : goal.returns-clause-passes
 returns-clause-passes g c =

@@ -6,3 +6,4 @@ pub mod Middle
 pub mod Offered
 pub mod Reactions
 pub mod Rows
+pub mod Unchanged

@@ -102,8 +102,9 @@ FollowsAny {w} perm_of old new link ch x = (config : Config) (e : End w) → Kno
     → Follows perm_of old new config link ch x e
 
 pub follows-any : {w : ℕ} {M : Type 0} (perm_of : M → ℕ → ℕ → Perm) (old new : ManagerState w M) (link : Link)
-    (ch : Channel) (before after : LinkState w) (x : Beat w) (b : Bool) → IsWidth w → IsTyped x
+    (ch : Channel) (before after : LinkState w) (x : Beat w) (b : Bool) → IsWidth w
     → is_outside (length old.block_state.blocks.bytes.items) x ≡ false → OnTrue b (is_from_client x ≡ true)
+    → OnTrue b (IsTyped x)
     → OnTrue b (before.closed ≡ false) → OnTrue b (illegal before.level ch x ≡ None)
     → OnTrue b (is_spoiled x ≡ false)
     → OnTrue b (is_middle (part_of x (burst_for before.requests before.reports x)) ≡ true)
@@ -113,7 +114,7 @@ pub follows-any : {w : ℕ} {M : Type 0} (perm_of : M → ℕ → ℕ → Perm) 
     → new.link_states.items ≡ slice_set old.link_states.items link.0 after
     → slice_get old.link_states.items link.0 ≡ Some before → new.block_state ≡ old.block_state
     → OnTrue b (FollowsAny perm_of old new link ch x)
-follows-any perm_of old new link ch before after x true width typed within theirs live lawful clean middle requests
+follows-any perm_of old new link ch before after x true width within theirs typed live lawful clean middle requests
     reports level closed link_states found same = λ config e k.
     let middle_is : IsMiddle config ch before x = record {
       theirs = theirs;
@@ -125,7 +126,7 @@ follows-any perm_of old new link ch before after x true width typed within their
     } in
     follows-middle perm_of old new config link ch before after x e width typed middle_is link_states found level closed
     requests reports same k
-follows-any perm_of old new link ch before after x false width typed within theirs live lawful clean middle requests
+follows-any perm_of old new link ch before after x false width within theirs typed live lawful clean middle requests
     reports level closed link_states found same = tt
 
 -- ---- the answer

@@ -12,6 +12,7 @@ ghost use Rattle.tl_rules.specs.statement.Legality.{illegal};
 ghost use Rattle.tl_rules.specs.statement.Conformance.{comes_in_release, comes_in_request};
 ghost use Rattle.tl_manager.specs.code.BurstFor.{burst_for, burst_more, burst_with};
 ghost use Rattle.tl_manager.specs.statement.Offer.{is_from_client};
+ghost use Rattle.tl_manager.specs.code.Kept.{IsTyped};
 ghost use Rattle.tl_manager.specs.code.Releases.{comes_of};
 ghost use Rattle.tl_manager.specs.code.Probed.{probe_in};
 ghost use Rattle.tl_manager.specs.code.Tracking.{request_in};
@@ -19,6 +20,7 @@ ghost use Rattle.tl_manager.specs.code.Tracking.{request_in};
 use crate::directory::Directory;
 use crate::manager::block_state::{BlockState, cap_probed};
 use crate::manager::tracker::Tracker;
+use crate::manager::types::prove_typed;
 use tl_beat::beat::{Beat, Link};
 use tl_beat::channel::Channel;
 use tl_beat::opcode::OpB;
@@ -134,6 +136,7 @@ impl<const W: usize> LinkState<W> {
     pub fn goes_on(&mut self, channel: Channel, beat: &Beat<W>) -> bool
         requires width { IsWidth W }
         ensures theirs { OnTrue result (is_from_client beat.now ≡ true) }
+        ensures typed { OnTrue result (IsTyped beat.now) }
         ensures live { OnTrue result (self.old.closed ≡ false) }
         ensures lawful { OnTrue result (illegal self.old.level channel beat.now ≡ None) }
         ensures clean { OnTrue result (Admission.is_spoiled beat.now ≡ false) }
@@ -150,7 +153,10 @@ impl<const W: usize> LinkState<W> {
         }
         match check_beat(self.level, channel, beat) {
             Err(_) => false,
-            Ok(()) => self.grows(beat),
+            Ok(()) => {
+                prove_typed(beat);
+                self.grows(beat)
+            }
         }
     }
 

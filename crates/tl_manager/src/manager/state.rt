@@ -265,7 +265,6 @@ impl<const W: usize, D: Directory> ManagerState<W, D> {
         ensures block_state { self.new.block_state ≡ self.old.block_state }
         ensures unchanged { OnFalse result (self.new ≡ self.old) }
     {
-        prove_typed(beat);
         let number = usize::from(link.0);
         if number >= self.link_states.len() {
             return false;

@@ -1,4 +1,3 @@
-use Rattle.std.proofs.Common.{refl}
 use Rattle.tl_manager.proofs.calls.Middle.{answer-middle, after-middle, manager-middle}
 use Rattle.tl_manager.proofs.manager.Manager.goes_on.Goals as goal
 

@@ -40,7 +40,8 @@ module _ {w : ℕ} {A M : Type 0} (knows : A → Endpoint w → Type 0) (terms :
     (config : Config) (old new : Network w A M) (s : System w) (link : Link) (ch : Channel) (x : Beat w)
     (rest : List (Beat w)) (h : Holds knows terms perm_of config old s) (inside : link.0 < length old.clients.items)
     (first : s.channels link.0 ch ≡ x ∷ rest) (kept : AreKept old.rings new.rings)
-    (drops : Drops link.0 ch old.rings new.rings) (room : HasRoom config (stepped config (Deliver link ch) s).after) where
+    (drops : Drops link.0 ch old.rings new.rings)
+    (room : HasRoom config (stepped config (Deliver link ch) s).after) where
   -- by a client
   pub client-moved : is_to_client ch ≡ true
       → IsOffered knows terms old.clients.items new.clients.items link.0 ch x (Ok (verdict.Taken, None))

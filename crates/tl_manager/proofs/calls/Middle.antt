@@ -41,7 +41,8 @@ passes-middle : {w : ℕ} (config : Config) (link : Link) (ch : Channel) (link_s
     (e : End w) → IsLinkState config link_state link.0 e → IsMiddle config ch link_state x
     → judged config link ch x e ≡ Passes
 passes-middle {w} config link ch link_state x e is middle =
-    let here = subst (λ (b : List (Beat w)). GoesOn x b) (burst-is link_state link.0 x e.trace middle.theirs is.carried) middle.goes in
+    let here = subst (λ (b : List (Beat w)). GoesOn x b)
+    (burst-is link_state link.0 x e.trace middle.theirs is.carried) middle.goes in
     let lawful : unlawful link_state.level ch x ≡ None = rw (middle.theirs) middle.lawful in
     let order : broken_in_order config.profile x (on_link link.0 e.trace) ≡ None =
     rw (here.begun_before, here.continues) refl in
@@ -92,7 +93,9 @@ follows-middle {w} {M} perm_of old new config link ch before after x e width typ
           (requests ∙ requests-more x before.requests before.reports middle.goes)
           (reports ∙ reports-more x before.requests before.reports middle.goes)
           (ap (λ (b : BlockState w M). length b.blocks.bytes.items) same)
-          (subst (λ (b : BlockState w M). IsBlockState perm_of config b (with_handed (reaction config link x e).handed ((link, x) ∷ e.trace)) (reaction config link x e).memory) (sym same) done.1) k,
+          (subst (λ (b : BlockState w M). IsBlockState perm_of config b
+          (with_handed (reaction config link x e).handed ((link, x) ∷ e.trace)) (reaction config link x e).memory)
+          (sym same) done.1) k,
     )
 
 -- where a beat was taken so, of any end that was known

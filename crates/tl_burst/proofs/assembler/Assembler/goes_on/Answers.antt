@@ -20,8 +20,8 @@ returns-then-not-continues-clause-part g c =
 pub returns-then-self-burst_length-clause-part : goal.returns-then-self-burst_length-clause-part
 returns-then-self-burst_length-clause-part g c =
     ap is_middle (sym (part-later c.self.inside.message c.args.self.now c.args.beat.now c.self.inside.taken
-    c.burst_length.result true c.self.view_is (omega arith) c.burst_length.ensures (eq-eqb _ _ c.if-self-burst_length.true)
-    (sym c.continues.ensures ∙ c.if-not-continues.false)))
+    c.burst_length.result true c.self.view_is (omega arith) c.burst_length.ensures
+    (eq-eqb _ _ c.if-self-burst_length.true) (sym c.continues.ensures ∙ c.if-not-continues.false)))
 
 pub write_beat-requires : goal.write_beat-requires
 write_beat-requires g c =

@@ -2,7 +2,8 @@
 use Rattle.std.proofs.Common.{◌≡◌, ℕ, zero, suc, Bool, true, false, not, List, [], ◌∷◌, length, ◌+◌, ◌<◌, refl, sym, ap}
 use Rattle.std.proofs.Common.{ap₂, ◌∙◌, subst, arith, IsTrue, add-one}
 use Rattle.std.proofs.lemmas.Bool.{ne_eqb, eq-eqb}
-use Rattle.std.specs.Prelude.{Ok, Err, ◌==◌}
+use Rattle.std.proofs.lemmas.Bool.Decides.{nat_tests}
+use Rattle.std.specs.Prelude.{Ok, Err, ◌==◌, if◌then◌else◌, nat_lt}
 use Rattle.tl_beat.specs.declared.beat.Beat.{Beat}
 use Rattle.tl_beat.specs.declared.beat.Beat.TheVariants as beat
 use Rattle.tl_burst.specs.declared.message.Message.{Message}
@@ -10,7 +11,7 @@ use Rattle.tl_burst.specs.declared.message.Message.TheVariants.{A, B, C, D, E}
 use Rattle.tl_burst.specs.statement.Burst.{beats_of, beat_of, begun, IsBlankAfter, IsBurst, a_beat_of, b_beat_of}
 use Rattle.tl_burst.specs.statement.Burst.{c_beat_of, d_beat_of}
 use Rattle.tl_burst.specs.statement.Messages.{same_control, breaks_burst, burst_length, grown}
-use Rattle.tl_burst.specs.statement.Part.{completes, part_of, place}
+use Rattle.tl_burst.specs.statement.Part.{completes, is_empty, is_middle, part_of, place}
 use Rattle.tl_burst.specs.declared.part.Broken.TheVariants.{S1}
 use Rattle.tl_burst.proofs.ControlFields.{control_a, control_b, control_c, control_d}
 
@@ -99,6 +100,24 @@ part-later m burst x (suc n) k last view some length_is e same =
     let ends : completes x (begun m (suc n)) ≡ last = rw (length-begun m (suc n), ← length_is) e in
     rw (← view, follows, ends) refl
 
+-- a beat before which no burst has begun is the first of its own
+pub part-first : {w : ℕ} (m : Message w) (burst : List (Beat w)) (x : Beat w) (n : ℕ) → begun m n ≡ burst → n ≡ 0
+    → is_middle (part_of x burst) ≡ false
+part-first m burst x n view none =
+    let nothing : [] ≡ burst = ap (begun m) (sym none) ∙ view in
+    rw (← nothing) (go (completes x []))
+  where
+    go : (last : Bool) → is_middle (Ok (place true last)) ≡ false
+    go true = refl
+    go false = refl
+
+pub has-begun : {w : ℕ} (m : Message w) (burst : List (Beat w)) (n : ℕ) → begun m n ≡ burst
+    → nat_lt 0 n ≡ not (is_empty burst)
+has-begun m burst zero view = rw (← view) refl
+has-begun m burst (suc n) view =
+    let some : nat_lt 0 (suc n) ≡ true = grind (arith, nat_tests) in
+    rw (← view, some) refl
+
 pub part-refused : {w : ℕ} (m : Message w) (burst : List (Beat w)) (x : Beat w) (n : ℕ) → begun m n ≡ burst → 0 < n
     → same_control x (beat_of m 0) ≡ false → part_of x burst ≡ Err S1
 part-refused m burst x zero view some differs = absurd (omega arith)
@@ -118,3 +137,20 @@ is_broken m burst n x view negated = rw (← view) (go (breaks_burst x (begun m 
     go : (b : Bool) → false ≡ not b → b ≡ true
     go true e = refl
     go false e = e
+
+-- a beat that goes on with a burst continues it, and doesn't complete it
+pub record GoesOn {w : ℕ} (x : Beat w) (burst : List (Beat w)) : Type 0 where
+  pub begun_before : is_empty burst ≡ false
+  pub continues : breaks_burst x burst ≡ false
+  pub leaves_more : completes x burst ≡ false
+
+pub middle-goes_on : {w : ℕ} (x : Beat w) (burst : List (Beat w)) → is_middle (part_of x burst) ≡ true → GoesOn x burst
+middle-goes_on {w} x burst is = go (breaks_burst x burst) refl (is_empty burst) refl (completes x burst) refl is
+  where
+    go : (b : Bool) → breaks_burst x burst ≡ b → (m : Bool) → is_empty burst ≡ m → (l : Bool) → completes x burst ≡ l
+        → is_middle (if b then Err S1 else Ok (place m l)) ≡ true → GoesOn x burst
+    go true broken m begins l last e = absurd cc
+    go false broken true begins true last e = absurd cc
+    go false broken true begins false last e = absurd cc
+    go false broken false begins true last e = absurd cc
+    go false broken false begins false last e = record { begun_before = begins; continues = broken; leaves_more = last }

@@ -9,7 +9,7 @@ ghost use Rattle.tl_burst.specs.declared.message.Message.{Message};
 ghost use Rattle.tl_burst.specs.statement.Burst;
 ghost use Rattle.tl_burst.specs.statement.Burst.{begun, beat_of, IsBlankAfter, IsBurst};
 ghost use Rattle.tl_burst.specs.statement.Messages.{breaks_burst, same_control, grown, Splits};
-ghost use Rattle.tl_burst.specs.statement.Part.{IsTakeable, completes, part_of};
+ghost use Rattle.tl_burst.specs.statement.Part.{IsTakeable, completes, is_empty, is_middle, part_of};
 
 use crate::burst::{beat_at, beats_of, burst_length};
 use crate::gather::{blank_for, continues, write_beat};
@@ -69,6 +69,13 @@ impl<const W: usize> Assembler<W> {
         }
     }
 
+    /// Whether a burst has begun and isn't complete.
+    pub fn has_begun(&self) -> bool
+        ensures { result ≡ not (is_empty self.now) }
+    {
+        self.taken > 0
+    }
+
     /// The newest beat of the burst that has begun and isn't complete.
     pub fn newest(&self) -> Option<Beat<W>>
         requires { IsWidth W }
@@ -95,6 +102,29 @@ impl<const W: usize> Assembler<W> {
             return Err(Broken::S1);
         }
         Ok(if last { Part::Last } else { Part::Middle })
+    }
+
+    /// Takes a beat that goes on with the burst that has begun and doesn't complete it: whether it is one.
+    /// Where it isn't, nothing changes.
+    pub fn goes_on(&mut self, beat: &Beat<W>) -> bool
+        requires width { IsWidth W }
+        requires takeable { IsTakeable beat.now }
+        ensures part { result ≡ is_middle (part_of beat.now self.old) }
+        ensures grows { OnTrue result (self.new ≡ beat.now ∷ self.old) }
+        ensures unchanged { OnFalse result (self.new ≡ self.old) }
+    {
+        if self.taken == 0 {
+            return false;
+        }
+        if !continues(&self.message, beat) {
+            return false;
+        }
+        if self.taken + 1 == burst_length(beat) {
+            return false;
+        }
+        write_beat(&mut self.message, self.taken, beat);
+        self.taken += 1;
+        true
     }
 
     /// Takes a beat, and answers the message that it completes. Where it differs in a control field

@@ -1,9 +1,11 @@
 //! What a client is, by its end of the link (SiFive TileLink Specification 1.8, the master's side of
 //! a link).
 
-ghost use Rattle.std.specs.Prelude.{◌≡◌, None};
+ghost use Rattle.std.specs.Prelude.{◌≡◌, None, Ok};
+ghost use Rattle.std.specs.Bool.{OnTrue, OnFalse};
 ghost use Rattle.tl_rules.specs.statement.History;
 ghost use Rattle.tl_client.specs.declared.operation.Op.TheVariants.{Load, Store};
+ghost use Rattle.tl_client.specs.declared.verdict.Verdict.TheVariants.{Taken};
 ghost use Rattle.tl_client.specs.statement.Ask.{asked};
 ghost use Rattle.tl_client.specs.statement.Endpoint.{EndConfig, Endpoint};
 ghost use Rattle.tl_client.specs.statement.Offer;
@@ -65,6 +67,16 @@ pub trait Agent<const W: usize>: Drop {
         ensures after { (e : Endpoint W) → represents self.old e →
             represents self.new (offered (terms self.old) channel beat.now e).after }
         ensures terms { terms self.new ≡ terms self.old };
+
+    /// Takes a beat that goes on with a message and doesn't complete it, as `offer` does, where that can be told
+    /// at once: whether it was taken. Otherwise nothing changes, and `offer` says what becomes of the beat.
+    fn goes_on(&mut self, channel: Channel, beat: &Beat<W>) -> bool
+        ensures answer { OnTrue result ((e : Endpoint W) → represents self.old e →
+            Ok (Taken, None) ≡ (offered (terms self.old) channel beat.now e).answer) }
+        ensures after { OnTrue result ((e : Endpoint W) → represents self.old e →
+            represents self.new (offered (terms self.old) channel beat.now e).after) }
+        ensures terms { terms self.new ≡ terms self.old }
+        ensures unchanged { OnFalse result (self.new ≡ self.old) };
 
     /// Whether `offer` of the same would answer `Stalled`.
     fn stalls(&self, channel: Channel, beat: &Beat<W>) -> bool

@@ -103,6 +103,13 @@ impl<const W: usize> Agent<W> for AnyClient<W> {
         }
     }
 
+    fn goes_on(&mut self, channel: Channel, beat: &Beat<W>) -> bool {
+        match self {
+            AnyClient::Caching(client) => client.goes_on(channel, beat),
+            AnyClient::Plain(client) => client.goes_on(channel, beat),
+        }
+    }
+
     fn stalls(&self, channel: Channel, beat: &Beat<W>) -> bool {
         match self {
             AnyClient::Caching(client) => client.stalls(channel, beat),

@@ -142,6 +142,13 @@ impl<const W: usize> Agent<W> for Caching<W> {
         }
     }
 
+    fn goes_on(&mut self, channel: Channel, beat: &Beat<W>) -> bool {
+        match (channel, beat) {
+            (Channel::D, Beat::D(response)) => self.grows(beat, response),
+            _ => false,
+        }
+    }
+
     fn stalls(&self, channel: Channel, beat: &Beat<W>) -> bool {
         self.waits(beat) && check_alone(self.closed, self.config.level, channel, beat).is_ok()
     }

@@ -19,7 +19,7 @@ use crate::operation::Op;
 use crate::order::broken_in_order;
 use crate::reply::Reply;
 use crate::request::{Request, start};
-use crate::response::{close, complete};
+use crate::response::{close, complete, goes_on};
 use crate::sources::Sources;
 use crate::verdict::Verdict;
 use std::alloc::Global;
@@ -182,6 +182,15 @@ impl<const W: usize> Agent<W> for Plain<W> {
                 Err(rule)
             }
             Ok(()) => Ok((self.take(beat), None)),
+        }
+    }
+
+    fn goes_on(&mut self, channel: Channel, beat: &Beat<W>) -> bool {
+        match (channel, beat) {
+            (Channel::D, Beat::D(_)) => {
+                goes_on(self.closed, self.config.level, &mut self.responses, beat)
+            }
+            _ => false,
         }
     }
 

@@ -1,9 +1,12 @@
 //! How an operation ends, by the response to it.
 
-ghost use Rattle.std.specs.Prelude.{ℕ, ◌≡◌, ◌≤◌, ◌==◌, false, length, take, IfSome, if◌then◌else◌};
+ghost use Rattle.std.specs.Prelude.{ℕ, ◌≡◌, ◌≤◌, ◌==◌, ◌∷◌, true, false, length, take, IfSome, None, if◌then◌else◌};
+ghost use Rattle.std.specs.Bool.{OnTrue, OnFalse};
 ghost use Rattle.tl_beat.specs.statement.Width.{IsWidth};
 ghost use Rattle.tl_burst.specs.statement.Messages.{breaks_burst, grown};
-ghost use Rattle.tl_burst.specs.statement.Part.{IsTakeable};
+ghost use Rattle.tl_burst.specs.statement.Part.{IsTakeable, is_middle, part_of};
+ghost use Rattle.tl_rules.specs.statement.Admission;
+ghost use Rattle.tl_rules.specs.statement.Legality.{illegal};
 ghost use Rattle.tl_client.specs.code.Response.{Completes, d_of, done_with, in_message};
 ghost use Rattle.tl_client.specs.code.Sources.{open_at};
 ghost use Rattle.tl_client.specs.statement.Offer;
@@ -12,10 +15,14 @@ use crate::request::Request;
 use crate::sources::Sources;
 use crate::verdict::{Finish, Verdict};
 use tl_beat::beat::Beat;
+use tl_beat::channel::Channel;
 use tl_beat::opcode::OpD;
 use tl_burst::assembler::Assembler;
 use tl_burst::message::{Message, MessageD};
+use tl_rules::admission::is_spoiled;
 use tl_rules::kind::capped;
+use tl_rules::legality::beat::check_beat;
+use tl_rules::level::Level;
 
 /// The first `count` bytes, or all where there are fewer.
 fn first(bytes: &[u8], count: usize) -> &[u8]
@@ -94,6 +101,32 @@ pub fn complete<const W: usize>(responses: &mut Assembler<W>, beat: &Beat<W>) ->
     match complete {
         Some(message) => response_in(message),
         None => None,
+    }
+}
+
+/// Takes a beat of channel D that goes on with a response and doesn't complete it, where the link isn't closed, the
+/// beat breaks no rule by itself, and neither corrupt nor denied is set: whether it was taken. Otherwise nothing
+/// changes.
+pub fn goes_on<const W: usize>(
+    closed: bool,
+    level: Level,
+    responses: &mut Assembler<W>,
+    beat: &Beat<W>,
+) -> bool
+    requires { IsWidth W }
+    ensures live { OnTrue result (closed ≡ false) }
+    ensures lawful { OnTrue result (illegal level Channel.D beat.now ≡ None) }
+    ensures clean { OnTrue result (Admission.is_spoiled beat.now ≡ false) }
+    ensures middle { OnTrue result (is_middle (part_of beat.now responses.old) ≡ true) }
+    ensures grows { OnTrue result (responses.new ≡ beat.now ∷ responses.old) }
+    ensures unchanged { OnFalse result (responses.new ≡ responses.old) }
+{
+    if closed || !responses.has_begun() || is_spoiled(beat) {
+        return false;
+    }
+    match check_beat(level, Channel::D, beat) {
+        Err(_) => false,
+        Ok(()) => responses.goes_on(beat),
     }
 }
 

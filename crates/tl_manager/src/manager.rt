@@ -9,13 +9,14 @@ pub mod state;
 pub mod tracker;
 pub mod types;
 
-ghost use Rattle.std.specs.Prelude.{ℕ, ◌≡◌, ◌≤◌, length, is_none};
+ghost use Rattle.std.specs.Prelude.{ℕ, ◌≡◌, ◌≤◌, length, is_none, []};
+ghost use Rattle.std.specs.Bool.{OnTrue, OnFalse};
 ghost use Rattle.tl_beat.specs.statement.Width.{IsWidth};
 ghost use Rattle.tl_params.specs.declared.config.Config.{Config};
 ghost use Rattle.tl_params.specs.declared.perm.Perm.TheVariants as perm;
 ghost use Rattle.tl_manager.specs.statement.Offer;
 ghost use Rattle.tl_manager.specs.statement.End.{End};
-ghost use Rattle.tl_manager.specs.statement.Offer.{offered, open_level};
+ghost use Rattle.tl_manager.specs.statement.Offer.{Sent, offered, open_level};
 
 use crate::directory::Directory;
 use crate::manager::admission::Admission;
@@ -107,6 +108,18 @@ impl<const W: usize, D: Directory> Manager<W, D> {
             Ok(Admission::Waits) => Ok(None),
             Ok(Admission::Passes) => Ok(Some(self.state.take(link, beat))),
         }
+    }
+
+    /// Takes a beat that goes on with a message and doesn't complete it, as `offer` does, where that can be told at
+    /// once: whether it was taken. Otherwise nothing changes, and `offer` says what becomes of the beat.
+    pub fn goes_on(&mut self, link: Link, channel: Channel, beat: &Beat<W>) -> bool
+        ensures answer { OnTrue result ((config : Config) (e : End W) → Knows D.perm_of self.old config e →
+            Sent [] ≡ (offered config link channel beat.now e).0) }
+        ensures after { OnTrue result ((config : Config) (e : End W) → Knows D.perm_of self.old config e →
+            Knows D.perm_of self.new config (offered config link channel beat.now e).1) }
+        ensures unchanged { OnFalse result (self.new ≡ self.old) }
+    {
+        self.state.goes_on(link, channel, beat)
     }
 
     /// Whether a beat would be stalled.

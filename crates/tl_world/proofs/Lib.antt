@@ -5,6 +5,7 @@ pub mod Holding
 pub mod Loads
 pub mod Made
 pub mod Movables
+pub mod Moving
 pub mod Queues
 pub mod Sending
 pub mod SentProbes

@@ -1,6 +1,8 @@
 //! Calls on one of several clients.
 
-ghost use Rattle.std.specs.Prelude.{◌≡◌, ◌<◌, ◌≤◌, length, slice_index_or, true, None};
+ghost use Rattle.std.specs.Prelude.{◌≡◌, ◌<◌, ◌≤◌, length, slice_index_or, true, None, Ok};
+ghost use Rattle.std.specs.Bool.{OnTrue, OnFalse};
+ghost use Rattle.tl_client.specs.declared.verdict.Verdict.TheVariants.{Taken};
 ghost use Rattle.tl_client.specs.declared.operation.Op.TheVariants.{Load, Store};
 ghost use Rattle.tl_client.specs.statement.Ask.{asked};
 ghost use Rattle.tl_client.specs.statement.Endpoint;
@@ -71,6 +73,24 @@ pub fn offer_at<const W: usize, A: Agent<W>>(
     ensures { IsOffered A.represents A.terms clients.old.items clients.new.items i channel beat.now result }
 {
     clients[i].offer(channel, beat)
+}
+
+/// Lets one client take a beat that goes on with a message, and leaves the others: whether it took it.
+pub fn goes_on_at<const W: usize, A: Agent<W>>(
+    clients: &mut Vec<A>,
+    i: usize,
+    channel: Channel,
+    beat: &Beat<W>,
+) -> bool
+    requires { i < length clients.old.items }
+    ensures taken { OnTrue result (IsOffered A.represents A.terms clients.old.items clients.new.items i channel beat.now
+        (Ok (Taken, None))) }
+    ensures unchanged { OnFalse result (clients.new ≡ clients.old) }
+{
+    if !clients[i].goes_on(channel, beat) {
+        return false;
+    }
+    true
 }
 
 /// What one client holds of a block: None where there is no such client.

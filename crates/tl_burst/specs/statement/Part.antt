@@ -44,3 +44,8 @@ completes x burst = length burst + 1 == burst_length x
 -- what a beat is to the unfinished burst, whose newest beat is first
 abbrev pub part_of : {w : ℕ} → Beat w → List (Beat w) → Result Part Broken
 part_of x burst = if breaks_burst x burst then Err S1 else Ok (place (is_empty burst) (completes x burst))
+
+-- the beat goes on with a burst that has begun, and doesn't complete it
+abbrev pub is_middle : Result Part Broken → Bool
+is_middle (Ok Middle) = true
+is_middle _ = false

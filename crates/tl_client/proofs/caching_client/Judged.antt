@@ -1,14 +1,20 @@
 -- What a caching client judges of a beat is what its end of the link says.
-use Rattle.tl_client.proofs.Imports.{Beat, Channel, first_if, Message, completes, Rule, A3, L1, ok_unless}
+use Rattle.tl_client.proofs.Imports.{Beat, BeatD, Channel, first_if, Message, completes, Rule, A3, L1, ok_unless}
 use Rattle.tl_client.proofs.Imports.{broken_in_order, ends, illegal, both_none, Caching, Verdict, Stalled, EndConfig}
 use Rattle.tl_client.proofs.Imports.{Endpoint, KnowsCaching, caching_terms}
 use Rattle.tl_client.proofs.Imports.{offered, refused, silent, is_sent_on, stalls}
 use Rattle.tl_client.proofs.Imports.{waits, broken_before, broken_later}
 use Rattle.std.proofs.Common.{◌≡◌, ℕ, Bool, true, false, Option, Some, None, refl, sym, ◌∙◌, ap, subst}
+use Rattle.std.specs.Bool.{OnTrue}
 use Rattle.std.specs.Prelude.{Result, Ok, Err, ◌&&◌, is_none, is_ok}
 use Rattle.tl_beat.specs.declared.beat.Beat.TheVariants as beat
+use Rattle.tl_beat.specs.declared.channel.Channel.TheVariants as channel
+use Rattle.tl_burst.specs.statement.Part.{is_middle, part_of}
+use Rattle.tl_burst.proofs.Begun.{GoesOn, middle-goes_on}
 use Rattle.tl_params.proofs.Refusals.{some_broken, none_broken}
-use Rattle.tl_client.specs.code.Takes.{Takes, IsJudged}
+use Rattle.tl_rules.specs.statement.Admission.{is_spoiled}
+use Rattle.tl_client.specs.declared.verdict.Verdict.TheVariants.{Taken}
+use Rattle.tl_client.specs.code.Takes.{Goes, Takes, IsJudged}
 use Rattle.tl_client.proofs.pending.AccountedTaken.{fit}
 use Rattle.tl_client.proofs.caching_client.Probed.{answer-probed, knows-probed}
 use Rattle.tl_client.proofs.caching_client.Responded.{grants_inside, knows-goes, knows-ends}
@@ -105,3 +111,43 @@ stalls-moving c ch x e b is moving = moving ∙ sym (never_if _ _ (sym is ∙ mo
 pub lawful : {w : ℕ} (terms : EndConfig) (ch : Channel) (x : Beat w) (e : Endpoint w) (o : Result Bool Rule)
     → IsJudged terms ch x e o → o ≡ Ok false → IsJudged terms ch x e (Ok false)
 lawful terms ch x e o judged is = subst (λ (r : Result Bool Rule). IsJudged terms ch x e r) is judged
+
+-- ---- a beat that goes on with a response, and doesn't complete it
+
+judged-middle : {w : ℕ} (c : Caching w) (x : BeatD w) (e : Endpoint w) → KnowsCaching c e → c.closed ≡ false
+    → illegal c.config.level channel.D (beat.D x) ≡ None → is_spoiled (beat.D x) ≡ false
+    → GoesOn (beat.D x) c.responses → IsJudged (caching_terms c) channel.D (beat.D x) e (Ok false)
+judged-middle c x e knows live lawful clean goes =
+    let here = subst (λ b. GoesOn (beat.D x) b) knows.response_is goes in (
+      before-known c channel.D (beat.D x) e knows ∙ rw (live, lawful) refl,
+      refl,
+      rw (here.begun_before, here.continues, clean) refl,
+    )
+
+knows-middle : {w : ℕ} (c d : Caching w) (x : BeatD w) (e : Endpoint w) → KnowsCaching c e → c.closed ≡ false
+    → illegal c.config.level channel.D (beat.D x) ≡ None → is_spoiled (beat.D x) ≡ false
+    → is_middle (part_of (beat.D x) c.responses) ≡ true → Goes c d x (Taken, None)
+    → ((offered (caching_terms c) channel.D (beat.D x) e).answer ≡ Ok (Taken, None))
+    × KnowsCaching d (offered (caching_terms c) channel.D (beat.D x) e).after
+knows-middle c d x e knows live lawful clean middle grew =
+    let goes = middle-goes_on (beat.D x) c.responses middle in
+    knows-took c d channel.D (beat.D x) e (Taken, None) knows (judged-middle c x e knows live lawful clean goes)
+    (λ more. grew, λ last fits. absurd (let no : true ≡ false = sym last ∙ goes.leaves_more in cc))
+
+pub answer-middle : {w : ℕ} (c d : Caching w) (ch : Channel) (x : Beat w) (y : BeatD w) (b : Bool) → ch ≡ channel.D
+    → x ≡ beat.D y → OnTrue b (c.closed ≡ false) → OnTrue b (illegal c.config.level channel.D x ≡ None)
+    → OnTrue b (is_spoiled x ≡ false) → OnTrue b (is_middle (part_of x c.responses) ≡ true)
+    → OnTrue b (Goes c d y (Taken, None))
+    → OnTrue b ((e : Endpoint w) → KnowsCaching c e → Ok (Taken, None) ≡ (offered (caching_terms c) ch x e).answer)
+answer-middle c d ch x y true on_d is live lawful clean middle grew = λ e knows.
+    rw (on_d, is) (sym (knows-middle c d y e knows live (rw is at lawful) (rw is at clean) (rw is at middle) grew).0)
+answer-middle c d ch x y false on_d is live lawful clean middle grew = tt
+
+pub after-middle : {w : ℕ} (c d : Caching w) (ch : Channel) (x : Beat w) (y : BeatD w) (b : Bool) → ch ≡ channel.D
+    → x ≡ beat.D y → OnTrue b (c.closed ≡ false) → OnTrue b (illegal c.config.level channel.D x ≡ None)
+    → OnTrue b (is_spoiled x ≡ false) → OnTrue b (is_middle (part_of x c.responses) ≡ true)
+    → OnTrue b (Goes c d y (Taken, None))
+    → OnTrue b ((e : Endpoint w) → KnowsCaching c e → KnowsCaching d (offered (caching_terms c) ch x e).after)
+after-middle c d ch x y true on_d is live lawful clean middle grew = λ e knows.
+    rw (on_d, is) (knows-middle c d y e knows live (rw is at lawful) (rw is at clean) (rw is at middle) grew).1
+after-middle c d ch x y false on_d is live lawful clean middle grew = tt

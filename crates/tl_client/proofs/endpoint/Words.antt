@@ -1,5 +1,5 @@
 -- A Load or a Store hands out nothing and starts nothing, and a Load changes nothing.
-use Rattle.tl_client.proofs.Imports.{Perm, Busy, Op, Load, Store, Reply, asked, busy, load, store, EndConfig, Endpoint}
+use Rattle.tl_client.proofs.Imports.{Perm, Busy, Load, Store, Reply, asked, busy, load, store, EndConfig, Endpoint}
 use Rattle.tl_client.proofs.Imports.{held_at}
 use Rattle.std.proofs.Common.{◌≡◌, ℕ, Bool, true, false, Option, Some, None, refl}
 use Rattle.tl_rules.specs.statement.History.{block_at}

@@ -8,13 +8,17 @@ use Rattle.tl_client.proofs.Imports.{KnowsPlain, offered, judged_later, refused,
 use Rattle.tl_client.proofs.Imports.{responded, stalls, is_sent_on, response_rule, open_at, fields_of, open_beat}
 use Rattle.tl_client.proofs.Imports.{open_request, held_unsaid, pending-closed}
 use Rattle.std.proofs.Common.{◌≡◌, ℕ, Bool, true, false, cond, ◌&&◌, List, [], ◌∷◌, Option, Some, None, Ok, Err, refl}
-use Rattle.std.proofs.Common.{sym, ◌∙◌}
+use Rattle.std.proofs.Common.{sym, ◌∙◌, ap}
+use Rattle.std.specs.Bool.{OnTrue}
 use Rattle.std.specs.Prelude.{◌==◌, is_none}
 use Rattle.std.proofs.lemmas.Bool.{and_parts, and_left, and_right, eqb-true, not-false}
 use Rattle.tl_beat.specs.declared.beat.Beat.TheVariants.{A, B, C, D, E}
 use Rattle.tl_beat.specs.declared.channel.Channel.TheVariants as channel
 use Rattle.tl_beat.specs.declared.opcode.OpD.TheVariants as d
 use Rattle.tl_beat.specs.statement.Opcode.{d_code}
+use Rattle.tl_burst.specs.statement.Part.{is_middle, part_of}
+use Rattle.tl_burst.proofs.Begun.{GoesOn, middle-goes_on}
+use Rattle.tl_rules.specs.statement.Admission.{is_spoiled}
 use Rattle.tl_params.proofs.Refusals.{some_broken, none_broken}
 use Rattle.tl_rules.specs.statement.History.{closes, says_held}
 use Rattle.tl_client.specs.code.KnowsPlain.{plain_terms, answers_pending}
@@ -249,6 +253,46 @@ knows-taken {w} p q e ch x k none closed responses requests =
         → KnowsPlain q (with_past (x ∷ e.past) e)
     go (y, is, good) = rw is (response_known p q e y k (good_answer p y good) (good_source p e y k good) closed
         (rw is at responses) (λ s. rw is at requests s))
+
+-- ---- a beat that goes on with a response, and doesn't complete it
+
+rule-middle : {w : ℕ} (p : Plain w) (x : BeatD w) → p.closed ≡ false → illegal p.config.level channel.D (D x) ≡ None
+    → is_spoiled (D x) ≡ false → GoesOn (D x) p.responses → Ok tt ≡ ok_unless (rule_at p channel.D (D x))
+rule-middle p x live lawful clean goes = rw (live, lawful, goes.begun_before, goes.continues, clean) refl
+
+answers-middle : {w : ℕ} (p : Plain w) (x : BeatD w) (e : Endpoint w) → KnowsPlain p e → p.closed ≡ false
+    → illegal p.config.level channel.D (D x) ≡ None → is_spoiled (D x) ≡ false → GoesOn (D x) p.responses
+    → Ok (Taken, None) ≡ (offered (plain_terms p) channel.D (D x) e).answer
+answers-middle p x e k live lawful clean goes =
+    rw (offered-taken p e channel.D (D x) k (rule-middle p x live lawful clean goes)) (rw (goes.leaves_more) refl)
+
+knows-middle : {w : ℕ} (p q : Plain w) (x : BeatD w) (e : Endpoint w) → KnowsPlain p e → p.closed ≡ false
+    → illegal p.config.level channel.D (D x) ≡ None → is_spoiled (D x) ≡ false → GoesOn (D x) p.responses
+    → q.responses ≡ D x ∷ p.responses → q.closed ≡ p.closed → q.requests ≡ p.requests
+    → KnowsPlain q (offered (plain_terms p) channel.D (D x) e).after
+knows-middle p q x e k live lawful clean goes grows closed requests =
+    knows-taken p q e channel.D (D x) k (rule-middle p x live lawful clean goes) closed
+    (grows ∙ rw (goes.leaves_more) refl)
+    (λ s. ap (λ r. open_at r s) requests ∙ rw (goes.leaves_more) refl)
+
+pub answer-middle : {w : ℕ} (p : Plain w) (ch : Channel) (x : Beat w) (y : BeatD w) (b : Bool) → ch ≡ channel.D
+    → x ≡ D y → OnTrue b (p.closed ≡ false) → OnTrue b (illegal p.config.level channel.D x ≡ None)
+    → OnTrue b (is_spoiled x ≡ false) → OnTrue b (is_middle (part_of x p.responses) ≡ true)
+    → OnTrue b ((e : Endpoint w) → KnowsPlain p e → Ok (Taken, None) ≡ (offered (plain_terms p) ch x e).answer)
+answer-middle p ch x y true on_d is live lawful clean middle = λ e k.
+    rw (on_d, is) (answers-middle p y e k live (rw is at lawful) (rw is at clean)
+    (middle-goes_on (D y) p.responses (rw is at middle)))
+answer-middle p ch x y false on_d is live lawful clean middle = tt
+
+pub after-middle : {w : ℕ} (p q : Plain w) (ch : Channel) (x : Beat w) (y : BeatD w) (b : Bool) → ch ≡ channel.D
+    → x ≡ D y → OnTrue b (p.closed ≡ false) → OnTrue b (illegal p.config.level channel.D x ≡ None)
+    → OnTrue b (is_spoiled x ≡ false) → OnTrue b (is_middle (part_of x p.responses) ≡ true)
+    → OnTrue b (q.responses ≡ x ∷ p.responses) → q.closed ≡ p.closed → q.requests ≡ p.requests
+    → OnTrue b ((e : Endpoint w) → KnowsPlain p e → KnowsPlain q (offered (plain_terms p) ch x e).after)
+after-middle p q ch x y true on_d is live lawful clean middle grows closed requests = λ e k.
+    rw (on_d, is) (knows-middle p q y e k live (rw is at lawful) (rw is at clean)
+    (middle-goes_on (D y) p.responses (rw is at middle)) (rw is at grows) closed requests)
+after-middle p q ch x y false on_d is live lawful clean middle grows closed requests = tt
 
 -- ---- stalls
 

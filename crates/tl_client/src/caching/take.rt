@@ -1,19 +1,24 @@
 //! What a caching client makes of a beat that it takes.
 
-ghost use Rattle.std.specs.Prelude.{◌≡◌, ◌<◌, ◌/◌, true, false};
+ghost use Rattle.std.specs.Prelude.{◌≡◌, ◌<◌, ◌/◌, true, false, None};
+ghost use Rattle.std.specs.Bool.{OnTrue, OnFalse};
+ghost use Rattle.tl_beat.specs.declared.channel.Channel.TheVariants as channel;
 ghost use Rattle.tl_burst.specs.declared.message.Message.TheVariants as message;
 ghost use Rattle.tl_burst.specs.statement.Messages.{breaks_burst};
-ghost use Rattle.tl_burst.specs.statement.Part.{IsTakeable, completes};
+ghost use Rattle.tl_burst.specs.statement.Part.{IsTakeable, completes, is_middle, part_of};
+ghost use Rattle.tl_client.specs.declared.verdict.Verdict.TheVariants.{Taken};
 ghost use Rattle.tl_client.specs.code.KnowsCaching.{caching_terms};
 ghost use Rattle.tl_client.specs.statement.Offer;
 ghost use Rattle.tl_client.specs.code.Takes.{Probes, Grants, Finishes, GrantsInside};
 ghost use Rattle.tl_client.specs.code.Takes.{Goes, Ends, ack_after, granting_by};
 ghost use Rattle.tl_client.specs.code.Response.{in_message, in_beats};
+ghost use Rattle.tl_rules.specs.statement.Admission;
 ghost use Rattle.tl_rules.specs.statement.History.{is_grant};
+ghost use Rattle.tl_rules.specs.statement.Legality.{illegal};
 
 use super::{Caching, Granting};
 use crate::request::Request;
-use crate::response::{close, complete};
+use crate::response::{close, complete, goes_on};
 use crate::send::probe_ack;
 use crate::verdict::{Finish, Verdict};
 use tl_beat::beat::{Beat, BeatB, BeatD};
@@ -139,5 +144,23 @@ impl<const W: usize> Caching<W> {
                 self.finish(&message)
             }
         }
+    }
+
+    /// Takes a beat of a response that goes on with it, breaks no rule by itself and isn't spoiled: whether it
+    /// was taken.
+    pub(super) fn grows(&mut self, beat: &Beat<W>, response: &BeatD<W>) -> bool
+        requires response { beat.now ≡ Beat.D response.now }
+        ensures live { OnTrue result (self.old.closed ≡ false) }
+        ensures lawful { OnTrue result (illegal self.old.config.level channel.D beat.now ≡ None) }
+        ensures clean { OnTrue result (Admission.is_spoiled beat.now ≡ false) }
+        ensures middle { OnTrue result (is_middle (part_of beat.now self.old.responses) ≡ true) }
+        ensures goes { OnTrue result (Goes self.old self.new response.now (Taken, None)) }
+        ensures unchanged { OnFalse result (self.new ≡ self.old) }
+    {
+        if !goes_on(self.closed, self.config.level, &mut self.responses, beat) {
+            return false;
+        }
+        self.granting = self.granting_by(response);
+        true
     }
 }

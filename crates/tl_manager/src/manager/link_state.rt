@@ -1,13 +1,18 @@
 //! One link: the bursts that come on it, and what its messages are judged by.
 
 ghost use Rattle.std.specs.Prelude.{ℕ, ◌≡◌, ◌<◌, ◌≤◌, ◌==◌, ◌&&◌, length, false, true, is_some, IfSome, List, [], ◌∷◌};
+ghost use Rattle.std.specs.Prelude.{None, not};
+ghost use Rattle.std.specs.Bool.{OnTrue, OnFalse};
 ghost use Rattle.tl_beat.specs.statement.Width.{IsWidth, IsWidth-prop};
 ghost use Rattle.tl_burst.specs.statement.Burst.{IsBurst};
 ghost use Rattle.tl_burst.specs.statement.Messages.{breaks_burst};
-ghost use Rattle.tl_burst.specs.statement.Part.{IsTakeable, part_of, completes};
+ghost use Rattle.tl_burst.specs.statement.Part.{IsTakeable, part_of, completes, is_empty, is_middle};
+ghost use Rattle.tl_rules.specs.statement.Admission;
+ghost use Rattle.tl_rules.specs.statement.Legality.{illegal};
 ghost use Rattle.tl_rules.specs.statement.Conformance.{comes_in_release, comes_in_request};
-ghost use Rattle.tl_manager.specs.code.BurstFor.{burst_for, burst_with};
+ghost use Rattle.tl_manager.specs.code.BurstFor.{burst_for, burst_more, burst_with};
 ghost use Rattle.tl_manager.specs.statement.Offer.{is_from_client};
+ghost use Rattle.tl_manager.specs.code.Kept.{IsTyped};
 ghost use Rattle.tl_manager.specs.code.Releases.{comes_of};
 ghost use Rattle.tl_manager.specs.code.Probed.{probe_in};
 ghost use Rattle.tl_manager.specs.code.Tracking.{request_in};
@@ -15,14 +20,17 @@ ghost use Rattle.tl_manager.specs.code.Tracking.{request_in};
 use crate::directory::Directory;
 use crate::manager::block_state::{BlockState, cap_probed};
 use crate::manager::tracker::Tracker;
+use crate::manager::types::prove_typed;
 use tl_beat::beat::{Beat, Link};
 use tl_beat::channel::Channel;
 use tl_beat::opcode::OpB;
 use tl_burst::assembler::Assembler;
 use tl_burst::message::{Message, MessageE};
 use tl_burst::part::{Broken, Part};
+use tl_rules::admission::is_spoiled;
 use tl_rules::key::{Key, block_at};
 use tl_rules::kind::is_release;
+use tl_rules::legality::beat::check_beat;
 use tl_rules::level::Level;
 use tl_rules::past::{Past, Probe, Request};
 use tl_rules::perm::Perm;
@@ -88,6 +96,67 @@ impl<const W: usize> LinkState<W> {
             Beat::C(_) => self.reports.take(beat).unwrap_or(None),
             Beat::E(x) => Some(Message::E(MessageE { sink: x.sink })),
             Beat::B(_) | Beat::D(_) => None,
+        }
+    }
+
+    /// Whether the burst has begun that a client's beat would be of.
+    fn has_begun(&self, beat: &Beat<W>) -> bool
+        ensures { result ≡ not (is_empty (burst_for self.now.requests self.now.reports beat.now)) }
+    {
+        match beat {
+            Beat::A(_) => self.requests.has_begun(),
+            Beat::C(_) => self.reports.has_begun(),
+            Beat::B(_) | Beat::D(_) | Beat::E(_) => false,
+        }
+    }
+
+    /// Takes a beat that goes on with its message and doesn't complete it: whether it was taken. Otherwise nothing
+    /// changes.
+    fn grows(&mut self, beat: &Beat<W>) -> bool
+        requires width { IsWidth W }
+        requires takeable { IsTakeable beat.now }
+        ensures theirs { OnTrue result (is_from_client beat.now ≡ true) }
+        ensures middle { OnTrue result
+            (is_middle (part_of beat.now (burst_for self.old.requests self.old.reports beat.now)) ≡ true) }
+        ensures requests { OnTrue result (self.new.requests ≡ burst_more Channel.A beat.now self.old.requests) }
+        ensures reports { OnTrue result (self.new.reports ≡ burst_more Channel.C beat.now self.old.reports) }
+        ensures level { self.new.level ≡ self.old.level }
+        ensures closed { self.new.closed ≡ self.old.closed }
+        ensures unchanged { OnFalse result (self.new ≡ self.old) }
+    {
+        match beat {
+            Beat::A(_) => self.requests.goes_on(beat),
+            Beat::C(_) => self.reports.goes_on(beat),
+            Beat::B(_) | Beat::D(_) | Beat::E(_) => false,
+        }
+    }
+
+    /// Takes a beat that goes on with its message and doesn't complete it, where the link isn't closed, and the
+    /// beat breaks no rule by itself and isn't corrupt: whether it was taken. Otherwise nothing changes.
+    pub fn goes_on(&mut self, channel: Channel, beat: &Beat<W>) -> bool
+        requires width { IsWidth W }
+        ensures theirs { OnTrue result (is_from_client beat.now ≡ true) }
+        ensures typed { OnTrue result (IsTyped beat.now) }
+        ensures live { OnTrue result (self.old.closed ≡ false) }
+        ensures lawful { OnTrue result (illegal self.old.level channel beat.now ≡ None) }
+        ensures clean { OnTrue result (Admission.is_spoiled beat.now ≡ false) }
+        ensures middle { OnTrue result
+            (is_middle (part_of beat.now (burst_for self.old.requests self.old.reports beat.now)) ≡ true) }
+        ensures requests { OnTrue result (self.new.requests ≡ burst_more Channel.A beat.now self.old.requests) }
+        ensures reports { OnTrue result (self.new.reports ≡ burst_more Channel.C beat.now self.old.reports) }
+        ensures level { self.new.level ≡ self.old.level }
+        ensures closed { self.new.closed ≡ self.old.closed }
+        ensures unchanged { OnFalse result (self.new ≡ self.old) }
+    {
+        if self.closed || !self.has_begun(beat) || is_spoiled(beat) {
+            return false;
+        }
+        match check_beat(self.level, channel, beat) {
+            Err(_) => false,
+            Ok(()) => {
+                prove_typed(beat);
+                self.grows(beat)
+            }
         }
     }
 

@@ -1,7 +1,8 @@
 //! The links of a manager, and its blocks.
 
 ghost use Rattle.std.specs.Prelude.{ℕ, ◌≡◌, ◌<◌, ◌≤◌, ◌||◌, nat_le, is_none, IfOk};
-ghost use Rattle.std.specs.Prelude.{map, OnOk, Ok, Err, true, false, length};
+ghost use Rattle.std.specs.Prelude.{map, OnOk, Ok, Err, true, false, length, []};
+ghost use Rattle.std.specs.Bool.{OnTrue, OnFalse};
 ghost use Rattle.tl_beat.specs.statement.Width.{IsWidth};
 ghost use Rattle.tl_burst.specs.statement.Part.{IsTakeable};
 ghost use Rattle.tl_beat.specs.declared.beat.Link.{Link};
@@ -252,6 +253,26 @@ impl<const W: usize, D: Directory> ManagerState<W, D> {
         if number < self.link_states.len() {
             self.link_states[number].closed = true;
         }
+    }
+
+    /// Takes a beat that goes on with its message and doesn't complete it, where it passes: whether it was taken.
+    /// Otherwise nothing changes.
+    pub fn goes_on(&mut self, link: Link, channel: Channel, beat: &Beat<W>) -> bool
+        requires known { IsManager D.perm_of D.blocks D.clients self.old }
+        ensures passes { OnTrue result ((config : Config) (e : End W) → Knows D.perm_of self.old config e →
+            (judged config link channel beat.now e ≡ Offer.Passes) × ([] ≡ (reaction config link beat.now e).handed)
+            × Knows D.perm_of self.new config (taken link beat.now (reaction config link beat.now e) e)) }
+        ensures block_state { self.new.block_state ≡ self.old.block_state }
+        ensures unchanged { OnFalse result (self.new ≡ self.old) }
+    {
+        let number = usize::from(link.0);
+        if number >= self.link_states.len() {
+            return false;
+        }
+        if is_outside(self.block_state.blocks.count(), beat) {
+            return false;
+        }
+        self.link_states[number].goes_on(channel, beat)
     }
 
     /// Takes a beat that passes: the messages that are handed out for it.

@@ -19,6 +19,8 @@ use Rattle.tl_monitor.specs.statement.Knows.{held_on, begins_on, request_on}
 use Rattle.tl_rules.specs.statement.Windows.{is_free, is_spared, leaves, needs, has_window}
 use Rattle.tl_together.specs.statement.Coherence.{is_performed}
 use Rattle.tl_together.specs.statement.Coherence.{broken_grant, broken_access, broken_response, broken_memory}
+use Rattle.tl_together.specs.statement.Coherence.{broken_beginning, broken_bytes, memory_rule_or}
+use Rattle.tl_memory.specs.code.Taking.{request_answered}
 use Rattle.tl_together.specs.declared.breach.MemoryRule.{MemoryRule}
 use Rattle.tl_together.specs.declared.breach.MemoryRule.TheVariants.{M1, M4}
 use Rattle.tl_together.specs.declared.windows.Window.{Window}
@@ -124,22 +126,47 @@ pub another : {w : ℕ} (n link : ℕ) (x : BeatD w) (t : Trace w) (g a : Bool) 
     → None ≡ broken_response n link x t
 another n link x t g a g_is no' a_is none = rw (sym g_is ∙ no', sym a_is ∙ none) refl
 
-pub begun : {w : ℕ} (levels : List Level) (link : Link) (beat : Beat w) (x : BeatD w) (t : Trace w) (b : Bool)
-    (o : Option MemoryRule) → link.0 < length levels → beat ≡ D x
-    → b ≡ begins_on levels link beat t → b ≡ true → o ≡ broken_response (length levels) link.0 x t
-    → o ≡ broken_memory (length levels) link.0 beat t
-begun levels link beat x t b o lt is b_is yes' o_is =
+pub begun : {w : ℕ} (levels : List Level) (link : Link) (x : BeatD w) (t : Trace w) (b : Bool) (o : Option MemoryRule)
+    → link.0 < length levels → b ≡ begins_on levels link (D x) t → b ≡ true
+    → o ≡ broken_response (length levels) link.0 x t → o ≡ broken_beginning (length levels) link.0 x t
+begun levels link x t b o lt b_is yes' o_is =
     let first : begins (D x) (on_link link.0 t) ≡ true =
-    ap (λ y. begins y (on_link link.0 t)) (sym is) ∙ sym (b_is ∙ rw (lt-ltb link.0 (length levels) lt) refl) ∙ yes' in
-    o_is ∙ rw (is, first) refl
+    sym (b_is ∙ rw (lt-ltb link.0 (length levels) lt) refl) ∙ yes' in
+    o_is ∙ rw first refl
 
-pub not_begun : {w : ℕ} (levels : List Level) (link : Link) (beat : Beat w) (x : BeatD w) (t : Trace w) (b : Bool)
-    → link.0 < length levels → beat ≡ D x
-    → b ≡ begins_on levels link beat t → b ≡ false → None ≡ broken_memory (length levels) link.0 beat t
-not_begun levels link beat x t b lt is b_is no' =
+pub not_begun : {w : ℕ} (levels : List Level) (link : Link) (x : BeatD w) (t : Trace w) (b : Bool)
+    → link.0 < length levels → b ≡ begins_on levels link (D x) t → b ≡ false
+    → None ≡ broken_beginning (length levels) link.0 x t
+not_begun levels link x t b lt b_is no' =
     let first : begins (D x) (on_link link.0 t) ≡ false =
-    ap (λ y. begins y (on_link link.0 t)) (sym is) ∙ sym (b_is ∙ rw (lt-ltb link.0 (length levels) lt) refl) ∙ no' in
-    rw (is, first) refl
+    sym (b_is ∙ rw (lt-ltb link.0 (length levels) lt) refl) ∙ no' in
+    ap (λ c. if c then broken_response (length levels) link.0 x t else None) (sym first)
+
+-- a response that breaks this rule where it begins, or none there
+beginning_is : {w : ℕ} (n link : ℕ) (beat : Beat w) (x : BeatD w) (t : Trace w) (first other : Option MemoryRule)
+    → beat ≡ D x → first ≡ other → first ≡ broken_beginning n link x t
+    → memory_rule_or other (broken_bytes n link x t) ≡ broken_memory n link beat t
+beginning_is n link beat x t first other is same first_is =
+    ap (λ r. memory_rule_or r (broken_bytes n link x t)) (sym same ∙ first_is)
+    ∙ ap (λ y. broken_memory n link y t) (sym is)
+
+pub broken_beginning_is : {w : ℕ} (n link : ℕ) (beat : Beat w) (x : BeatD w) (t : Trace w) (first : Option MemoryRule)
+    (rule : MemoryRule) → beat ≡ D x → first ≡ Some rule → first ≡ broken_beginning n link x t
+    → Some rule ≡ broken_memory n link beat t
+broken_beginning_is n link beat x t first rule is some first_is =
+    beginning_is n link beat x t first (Some rule) is some first_is
+
+pub broken_bytes_are : {w : ℕ} (n link : ℕ) (beat : Beat w) (x : BeatD w) (t : Trace w) (first o : Option MemoryRule)
+    → beat ≡ D x → first ≡ None → first ≡ broken_beginning n link x t → o ≡ broken_bytes n link x t
+    → o ≡ broken_memory n link beat t
+broken_bytes_are n link beat x t first o is none first_is o_is =
+    o_is ∙ beginning_is n link beat x t first None is none first_is
+
+pub answered_is : {w : ℕ} (levels : List Level) (link : Link) (beat : Beat w) (x : BeatD w) (t : Trace w)
+    (r : Option Request) → link.0 < length levels → beat ≡ D x → r ≡ request_on levels link x.source t
+    → r ≡ request_answered beat (on_link link.0 t)
+answered_is levels link beat x t r lt is r_is =
+    r_is ∙ rw (lt-ltb link.0 (length levels) lt) (ap (λ y. request_answered y (on_link link.0 t)) (sym is))
 
 pub no_d : {w : ℕ} (n link : ℕ) (beat : Beat w) (t : Trace w) → ((x : BeatD w) → beat ≡ D x → ⊥)
     → None ≡ broken_memory n link beat t

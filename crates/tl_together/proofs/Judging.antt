@@ -1,5 +1,5 @@
 -- A judge that knows one more beat.
-use Rattle.std.proofs.Common.{◌≡◌, subst, ℕ, suc, Bool, true, false, ◌<◌, ◌+◌, List, [], ◌∷◌, length}
+use Rattle.std.proofs.Common.{◌≡◌, subst, ℕ, suc, Bool, true, false, ◌+◌, List, [], ◌∷◌, length}
 use Rattle.std.proofs.Common.{refl, sym, ap, ◌∙◌}
 use Rattle.std.specs.Prelude.{Option, Some, None, Err}
 use Rattle.std.proofs.Math.Numerals.{add-one}
@@ -20,15 +20,45 @@ use Rattle.tl_together.specs.declared.breach.MemoryRule.{MemoryRule}
 use Rattle.tl_together.specs.declared.fault.JudgeFault.{JudgeFault}
 use Rattle.tl_together.specs.declared.fault.JudgeFault.TheVariants as judge
 use Rattle.tl_together.specs.declared.judge.Judge.{Judge}
+use Rattle.tl_memory.specs.statement.Memory.{KnowsMemory}
 use Rattle.tl_together.specs.statement.Coherence.{broken_memory, first_broken}
 use Rattle.tl_together.specs.statement.Knows.{Knows, KnowsTrace, Answers, fault_of, broken, closed_after}
 use Rattle.tl_together.specs.code.Windows.{NotesRequest, NotesWindow, KnowsAsked, KnowsWindows, closes}
 use Rattle.tl_together.specs.code.Windows.{fault_of_monitor, last_free}
-use Rattle.tl_together.proofs.Noted.{in_levels}
 
 pub open_still : {w : ℕ} (j : Judge w) (levels : List Level) (p : Profile) (t : Trace w) (closed : Bool)
     → Knows j levels p t closed → j.closed ≡ false → KnowsTrace j levels p t
 open_still j levels p t closed k e = k.open_knows (sym k.closed_is ∙ e)
+
+pub next_moment : {w : ℕ} (next moment : ℕ) (t : Trace w) → next ≡ moment + 1 → moment ≡ length t
+    → next ≡ suc (length t)
+next_moment next moment t next_is moment_is = next_is ∙ add-one moment ∙ ap suc moment_is
+
+-- the same is known where what is kept of memory alone changes, and what is known of that stays
+pub remembered : {w : ℕ} (j j' : Judge w) (levels : List Level) (p : Profile) (t : Trace w) → KnowsTrace j levels p t
+    → j'.links ≡ j.links → j'.moment ≡ j.moment → j'.monitor ≡ j.monitor → j'.asked.items ≡ j.asked.items
+    → j'.windows ≡ j.windows
+    → ((n : ℕ) (t : Trace w) → KnowsMemory j.memory n t → KnowsMemory j'.memory n t) → KnowsTrace j' levels p t
+remembered j j' levels p t k links moment m asked windows memory = record {
+  links_are = links ∙ k.links_are;
+  moment_is = moment ∙ k.moment_is;
+  monitor_is = subst (λ m. of_link.Knows m levels p t false) (sym m) k.monitor_is;
+  tables_are = ap length asked ∙ k.tables_are;
+  asked_are = subst (λ a. KnowsAsked a (length levels) t) (sym asked) k.asked_are;
+  windows_are = subst (λ v. KnowsWindows v (length levels) t) (sym windows) k.windows_are;
+  memory_is = memory (length levels) t k.memory_is;
+  legal = k.legal;
+}
+
+-- a beat was refused for want of memory before it was noted
+pub unnoted : {w : ℕ} (j j' : Judge w) (levels : List Level) (p : Profile) (t : Trace w) (closed : Bool)
+    → Knows j levels p t closed → j'.closed ≡ j.closed → j'.links ≡ j.links → j'.moment ≡ j.moment
+    → j'.monitor ≡ j.monitor → j'.asked.items ≡ j.asked.items → j'.windows ≡ j.windows
+    → ((n : ℕ) (t : Trace w) → KnowsMemory j.memory n t → KnowsMemory j'.memory n t) → Knows j' levels p t closed
+unnoted j j' levels p t closed k e links moment m asked windows memory = record {
+  closed_is = e ∙ k.closed_is;
+  open_knows = λ o. remembered j j' levels p t (k.open_knows o) links moment m asked windows memory;
+}
 
 -- a beat was noted, and refused for want of memory
 pub still : {w : ℕ} (j j' : Judge w) (levels : List Level) (p : Profile) (t : Trace w) (closed : Bool) (link : Link)
@@ -37,8 +67,9 @@ pub still : {w : ℕ} (j j' : Judge w) (levels : List Level) (p : Profile) (t : 
     → of_link.Knows j'.monitor levels p t false
     → NotesRequest j.monitor j.asked.items j'.asked.items link x next
     → NotesWindow j.monitor j.links j.moment j.windows j'.windows link x
+    → ((n : ℕ) (t : Trace w) → KnowsMemory j.memory n t → KnowsMemory j'.memory n t)
     → Knows j' levels p t closed
-still j j' levels p t closed link x next k e e' links moment m asked windows =
+still j j' levels p t closed link x next k e e' links moment m asked windows memory =
     let o = open_still j levels p t closed k e in
     let known = asked.1 levels p t o.monitor_is o.tables_are o.asked_are in
     let seen = windows levels p t o.monitor_is o.links_are o.moment_is o.windows_are in
@@ -51,6 +82,8 @@ still j j' levels p t closed link x next k e e' links moment m asked windows =
         tables_are = asked.0 ∙ o.tables_are;
         asked_are = known.0;
         windows_are = seen.0;
+        memory_is = memory (length levels) t o.memory_is;
+        legal = o.legal;
       };
     }
 
@@ -62,12 +95,13 @@ pub taken : {w : ℕ} (j j' : Judge w) (levels : List Level) (p : Profile) (t : 
     → of_link.Knows j'.monitor levels p ((link, x) ∷ t) false
     → NotesRequest j.monitor j.asked.items j'.asked.items link x next
     → NotesWindow j.monitor j.links j.moment j.windows j'.windows link x
+    → KnowsMemory j'.memory (length levels) ((link, x) ∷ t)
     → Knows j' levels p ((link, x) ∷ t) false
-taken j j' levels p t closed link x next k e e' links next_is moment fine m asked windows =
+taken j j' levels p t closed link x next k e e' links next_is moment fine m asked windows memory =
     let o = open_still j levels p t closed k e in
     let known = asked.1 levels p t o.monitor_is o.tables_are o.asked_are in
     let seen = windows levels p t o.monitor_is o.links_are o.moment_is o.windows_are in
-    let more : next ≡ suc (length t) = next_is ∙ add-one j.moment ∙ ap suc o.moment_is in
+    let more = next_moment next j.moment t next_is o.moment_is in
     record {
       closed_is = e';
       open_knows = λ _. record {
@@ -77,6 +111,8 @@ taken j j' levels p t closed link x next k e e' links next_is moment fine m aske
         tables_are = asked.0 ∙ o.tables_are;
         asked_are = known.1 more fine;
         windows_are = seen.1 fine;
+        memory_is = memory;
+        legal = (fine, o.legal);
       };
     }
 
@@ -99,13 +135,9 @@ fine_on_link levels p t x e = link_fine (broken_on_link levels p x t) e
 
 pub judged_fault : {w : ℕ} (j : Judge w) (levels : List Level) (p : Profile) (t : Trace w) (closed : Bool) (link : Link)
     (x : Beat w) (o : Option MemoryRule) → Knows j levels p t closed
-    → j.closed ≡ false → broken_on_link levels p (link, x) t ≡ None
-    → ((levels : List Level) (p : Profile) (t : Trace w) → KnowsTrace j levels p t → link.0 < length levels
-    → o ≡ broken_memory (length levels) link.0 x t)
+    → j.closed ≡ false → broken_on_link levels p (link, x) t ≡ None → o ≡ broken_memory (length levels) link.0 x t
     → fault_of levels p t closed (link, x) ≡ broken (first_broken None o)
-judged_fault j levels p t closed link x o k e fine memory =
-    let here = memory levels p t (open_still j levels p t closed k e) (in_levels levels p link x t fine) in
-    rw (sym k.closed_is ∙ e, fine, here) refl
+judged_fault j levels p t closed link x o k e fine here = rw (sym k.closed_is ∙ e, fine, here) refl
 
 of_link_rule : (o : Option Rule) (m : Option MemoryRule) (fault : MonitorFault)
     → of_link.Answers (of_link.broken o) (Err fault)
@@ -139,14 +171,15 @@ pub refused_knows : {w : ℕ} (j j' : Judge w) (levels : List Level) (p : Profil
     (of_link.closed_after (Err fault))
     → NotesRequest j.monitor j.asked.items j'.asked.items link x next
     → NotesWindow j.monitor j.links j.moment j.windows j'.windows link x
+    → ((n : ℕ) (t : Trace w) → KnowsMemory j.memory n t → KnowsMemory j'.memory n t)
     → Knows j' levels p t (closed_after closed (Err f))
-refused_knows j j' levels p t closed link x next monitor.Memory f k e f_is e' links moment m asked windows =
-    rw f_is (still j j' levels p t closed link x next k e e' links moment m asked windows)
-refused_knows j j' levels p t closed link x next monitor.Levels f k e f_is e' links moment m asked windows =
+refused_knows j j' levels p t closed link x next monitor.Memory f k e f_is e' links moment m asked windows memory =
+    rw f_is (still j j' levels p t closed link x next k e e' links moment m asked windows memory)
+refused_knows j j' levels p t closed link x next monitor.Levels f k e f_is e' links moment m asked windows memory =
     rw f_is (shut j' levels p t e')
-refused_knows j j' levels p t closed link x next monitor.Closed f k e f_is e' links moment m asked windows =
+refused_knows j j' levels p t closed link x next monitor.Closed f k e f_is e' links moment m asked windows memory =
     rw f_is (shut j' levels p t e')
-refused_knows j j' levels p t closed link x next (monitor.Broken r) f k e f_is e' links moment m asked windows =
+refused_knows j j' levels p t closed link x next (monitor.Broken r) f k e f_is e' links moment m asked windows memory =
     rw f_is (shut j' levels p t e')
 
 none_yet : (w : ℕ) (entries : List (ℕ × Window)) (n : ℕ) → entries ≡ [] → KnowsWindows {w = w} entries n []
@@ -161,8 +194,9 @@ none_asked w tables n link source lt some = absurd cc
 
 pub new_knows : {w : ℕ} (j : Judge w) (levels : List Level) (p : Profile) → j.closed ≡ false → j.links ≡ length levels
     → j.moment ≡ 0 → of_link.Knows j.monitor levels p [] false
-    → length j.asked.items ≡ length levels → j.windows ≡ [] → Knows j levels p [] false
-new_knows {w} j levels p e links moment m tables entries = record {
+    → length j.asked.items ≡ length levels → j.windows ≡ [] → KnowsMemory {w = w} j.memory (length levels) []
+    → Knows j levels p [] false
+new_knows {w} j levels p e links moment m tables entries memory = record {
   closed_is = e;
   open_knows = λ _. record {
     links_are = links;
@@ -171,5 +205,7 @@ new_knows {w} j levels p e links moment m tables entries = record {
     tables_are = tables;
     asked_are = none_asked w j.asked.items (length levels);
     windows_are = none_yet w j.windows (length levels) entries;
+    memory_is = memory;
+    legal = tt;
   };
 }

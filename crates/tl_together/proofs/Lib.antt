@@ -2,5 +2,6 @@ pub mod Answered
 pub mod Examples
 pub mod Judging
 pub mod Noted
+pub mod Stale
 pub mod Tracing
 pub mod Windowed

@@ -10,6 +10,10 @@ use tl_rules::rule::Rule;
 pub enum MemoryRule {
     /// A Grant toT while another link holds something of the block, or toB while another holds Trunk.
     M1,
+    /// A GrantData with a byte that memory can't have had then.
+    M2,
+    /// An AccessAckData with a byte that the access can't have found.
+    M3,
     /// An answer to an access that had no moment, since it was asked, at which nobody held what excludes it.
     M4,
 }
@@ -28,6 +32,8 @@ impl MemoryRule {
     {
         match self {
             Self::M1 => "M1",
+            Self::M2 => "M2",
+            Self::M3 => "M3",
             Self::M4 => "M4",
         }
     }

@@ -1,26 +1,30 @@
 //! A judge of the links of a manager: what it answers to each beat.
 
-ghost use Rattle.std.specs.Prelude.{ℕ, Bool, true, false, Some, List, OnOk, OnErr, IfOk};
-ghost use Rattle.std.specs.Prelude.{length, nat_lt, if◌then◌else◌, ◌&&◌, ◌==◌, ◌≡◌, ◌<◌, is_some};
+ghost use Rattle.std.specs.Prelude.{Bool, true, false, None, Some, List, IfOk};
+ghost use Rattle.std.specs.Prelude.{length, ◌≡◌, ◌<◌, is_some};
 ghost use Rattle.tl_beat.specs.declared.beat.Beat.{Beat};
+ghost use Rattle.tl_beat.specs.declared.beat.Beat.TheVariants as beat;
 ghost use Rattle.tl_beat.specs.statement.Width.{IsWidth};
 ghost use Rattle.tl_params.specs.declared.level.Level.{Level};
 ghost use Rattle.tl_params.specs.declared.profile.Profile.{Profile};
 ghost use Rattle.tl_rules.specs.code.Open.{open_request};
-ghost use Rattle.tl_rules.specs.statement.Conformance.{Trace, on_link};
+ghost use Rattle.tl_rules.specs.statement.Conformance.{Trace, broken_on_link, on_link};
 ghost use Rattle.tl_rules.specs.statement.Windows as window;
+ghost use Rattle.tl_memory.specs.code.Changing.{IsChange};
+ghost use Rattle.tl_memory.specs.code.Taking.{request_answered};
 ghost use Rattle.tl_monitor.specs.statement.Knows as of_link;
 ghost use Rattle.tl_together.specs.statement.Coherence;
-ghost use Rattle.tl_together.specs.code.Windows.{asked_in, last_in, closes};
-ghost use Rattle.tl_together.specs.code.Windows.{fault_of_monitor, NotesRequest, NotesWindow};
+ghost use Rattle.tl_together.specs.code.Windows.{asked_in, last_in, closes, fault_of_monitor};
 
 use crate::breach::{Breach, MemoryRule};
 use crate::fault::JudgeFault;
-use crate::free::{freedom_of, is_free};
+use crate::free::{freed, is_free};
+use crate::notes::{note_request, note_window};
 use crate::windows::{Window, Windows};
 use std::alloc::{AllocError, Global};
 use tl_beat::beat::{Beat, BeatD, Link};
 use tl_beat::opcode::{OpA, OpD};
+use tl_memory::memory::{Change, Memory};
 use tl_monitor::byte_table::ByteTable;
 use tl_monitor::fault::MonitorFault;
 use tl_monitor::monitor::Monitor;
@@ -55,6 +59,27 @@ fn is_performed<const W: usize>(x: &BeatD<W>) -> bool
     is_access_ack(x.opcode) && !x.denied
 }
 
+/// The rule of what a response with this opcode brings.
+fn rule_of_bytes(opcode: OpD) -> MemoryRule
+    ensures { result ≡ Coherence.rule_of_bytes opcode }
+{
+    match opcode {
+        OpD::GrantData => MemoryRule::M2,
+        _ => MemoryRule::M3,
+    }
+}
+
+/// The request that a beat answers, where it is a response to one.
+fn answered<const W: usize>(monitor: &Monitor<W>, link: Link, beat: &Beat<W>) -> Option<Request>
+    ensures { (levels : List Level) (p : Profile) (t : Trace W) → of_link.Knows monitor.now levels p t false →
+        link.0 < length levels → result ≡ request_answered beat.now (on_link link.0 t) }
+{
+    match beat {
+        Beat::D(x) => monitor.request(link, x.source),
+        _ => None,
+    }
+}
+
 /// When the request with this source was complete on a link, where that was noted.
 fn asked_in(asked: &Vec<ByteTable<u64>>, link: usize, source: u8) -> Option<u64>
     ensures { result ≡ asked_in asked.now.items link source }
@@ -63,18 +88,6 @@ fn asked_in(asked: &Vec<ByteTable<u64>>, link: usize, source: u8) -> Option<u64>
         return None;
     }
     asked[link].get(source)
-}
-
-/// Notes when the request with a source is complete, on a link that there is.
-fn note_asked(asked: &mut Vec<ByteTable<u64>>, link: usize, source: u8, moment: u64)
-    ensures noted { (n s : ℕ) → asked_in asked.new.items n s ≡
-        (if nat_lt link (length asked.old.items) && ((n == link) && (s == source)) then Some moment else asked_in
-        asked.old.items n s) }
-    ensures length { length asked.new.items ≡ length asked.old.items }
-{
-    if link < asked.len() {
-        asked[link].set(source, Some(moment));
-    }
 }
 
 /// The last moment at which a block was free for one who needs so much of it.
@@ -99,57 +112,7 @@ pub struct Judge<const W: usize> {
     /// How many had been when the request with each source was complete, by link.
     asked: Vec<ByteTable<u64>>,
     windows: Windows,
-}
-
-/// This moment where a block is free now, or else the one before.
-fn latest(free: bool, moment: u64, before: u64) -> u64
-    ensures { result ≡ (if free then moment else before) }
-{
-    if free { moment } else { before }
-}
-
-/// Notes at which moment a request is complete that may be so with this beat. What is known of the beats
-/// so far stays known.
-fn note_request<const W: usize>(
-    asked: &mut Vec<ByteTable<u64>>,
-    monitor: &Monitor<W>,
-    link: Link,
-    beat: &Beat<W>,
-    next: u64,
-)
-    ensures { NotesRequest monitor.now asked.old.items asked.new.items link beat.now next }
-{
-    if let Beat::A(x) = beat {
-        if monitor.request(link, x.source).is_none() {
-            note_asked(asked, usize::from(link.0), x.source, next);
-        }
-    }
-}
-
-/// Notes that the block of which a beat may change what is held is free, where it is. What is known of
-/// the beats so far stays known.
-fn note_window<const W: usize>(
-    windows: &mut Windows,
-    monitor: &Monitor<W>,
-    links: u8,
-    moment: u64,
-    link: Link,
-    beat: &Beat<W>,
-) -> Result<(), AllocError>
-    ensures noted { OnOk result (NotesWindow monitor.now links moment
-        windows.old windows.new link beat.now) }
-    ensures unchanged { OnErr result (windows.new ≡ windows.old) }
-{
-    let Some(block) = monitor.block_of(link, beat) else {
-        return Ok(());
-    };
-    let old = windows.get(block);
-    let free = freedom_of(monitor, links, block);
-    let window = Window {
-        reading: latest(free.reading, moment, old.reading),
-        writing: latest(free.writing, moment, old.writing),
-    };
-    windows.set(block, window)
+    memory: Memory<W>,
 }
 
 /// Tables of no requests, for so many links.
@@ -200,6 +163,9 @@ impl<const W: usize> Judge<W> {
         let Ok(asked) = empty_tables(alloc, links) else {
             return Err(JudgeFault::Memory);
         };
+        let Ok(memory) = Memory::new(alloc, links) else {
+            return Err(JudgeFault::Memory);
+        };
         Ok(Judge {
             monitor,
             links,
@@ -207,6 +173,7 @@ impl<const W: usize> Judge<W> {
             moment: 0,
             asked,
             windows: Windows::new(alloc),
+            memory,
         })
     }
 
@@ -278,22 +245,53 @@ impl<const W: usize> Judge<W> {
         self.broken_access(link, x, asked)
     }
 
-    /// The rule of memory that a beat breaks.
-    fn broken_memory(&self, link: Link, beat: &Beat<W>) -> Option<MemoryRule>
+    /// M1 or M4, where a beat of a response breaks it: none where it begins none.
+    fn broken_beginning(&self, link: Link, x: &BeatD<W>) -> Option<MemoryRule>
+        requires { IsWidth W }
         ensures { (levels : List Level) (p : Profile) (t : Trace W) →
             KnowsTrace self.now levels p t →
             link.0 < length levels →
+            result ≡ Coherence.broken_beginning (length levels) link.0 x.now t }
+    {
+        if self.monitor.begins(link, &Beat::D(*x)) {
+            self.broken_response(link, x)
+        } else {
+            None
+        }
+    }
+
+    /// M2 or M3, where a beat of a response breaks it, which changes this of what is kept of memory.
+    fn broken_bytes(&self, change: &Change<W>, link: Link, x: &BeatD<W>) -> Option<MemoryRule>
+        requires { IsWidth W }
+        ensures { (levels : List Level) (p : Profile) (t : Trace W) →
+            KnowsTrace self.now levels p t →
+            broken_on_link levels p (link, beat.D x.now) t ≡ None →
+            IsChange change.now self.now.memory (length levels) (link, beat.D x.now) t →
+            result ≡ Coherence.broken_bytes (length levels) link.0 x.now t }
+    {
+        if self.memory.is_true(change, link, x) {
+            None
+        } else {
+            Some(rule_of_bytes(x.opcode))
+        }
+    }
+
+    /// The rule of memory that a beat breaks which breaks none of its link, and changes this of what is kept
+    /// of memory.
+    fn broken_memory(&self, change: &Change<W>, link: Link, beat: &Beat<W>) -> Option<MemoryRule>
+        requires { IsWidth W }
+        ensures { (levels : List Level) (p : Profile) (t : Trace W) →
+            KnowsTrace self.now levels p t →
+            broken_on_link levels p (link, beat.now) t ≡ None →
+            IsChange change.now self.now.memory (length levels) (link, beat.now) t →
             result ≡ Coherence.broken_memory (length levels) link.0 beat.now t }
     {
-        match beat {
-            Beat::D(x) => {
-                if self.monitor.begins(link, beat) {
-                    self.broken_response(link, x)
-                } else {
-                    None
-                }
-            }
-            _ => None,
+        let Beat::D(x) = beat else {
+            return None;
+        };
+        match self.broken_beginning(link, x) {
+            None => self.broken_bytes(change, link, x),
+            Some(rule) => Some(rule),
         }
     }
 
@@ -314,7 +312,11 @@ impl<const W: usize> Judge<W> {
         let Some(next) = self.moment.checked_add(1) else {
             return Err(JudgeFault::Memory);
         };
-        let broken = self.broken_memory(link, beat);
+        let asked = answered(&self.monitor, link, beat);
+        let Ok(change) = self.memory.change(link, beat, asked, next) else {
+            return Err(JudgeFault::Memory);
+        };
+        let broken = self.broken_memory(&change, link, beat);
         let noted = note_window(
             &mut self.windows,
             &self.monitor,
@@ -334,13 +336,13 @@ impl<const W: usize> Judge<W> {
                 return Err(of_monitor(fault));
             }
         }
+        let free = freed(&self.monitor, self.links, change.block, beat);
+        self.memory.take(change, link, beat, free, next);
         self.moment = next;
-        match broken {
-            None => Ok(()),
-            Some(rule) => {
-                self.closed = true;
-                Err(JudgeFault::Broken(Breach::OfMemory(rule)))
-            }
+        if let Some(rule) = broken {
+            self.closed = true;
+            return Err(JudgeFault::Broken(Breach::OfMemory(rule)));
         }
+        Ok(())
     }
 }

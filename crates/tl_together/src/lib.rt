@@ -5,5 +5,6 @@ pub mod breach;
 pub mod fault;
 mod free;
 pub mod judge;
+mod notes;
 pub mod trace;
 pub mod windows;

@@ -14,8 +14,9 @@ use Rattle.tl_rules.specs.declared.past.Request.{Request}
 use Rattle.tl_rules.specs.statement.Conformance.{Trace, on_link, broken_on_link}
 use Rattle.tl_rules.specs.statement.History.{begins, is_grant, capped}
 use Rattle.tl_rules.specs.statement.Windows.{is_free, needs, has_window}
+use Rattle.tl_bytes.specs.statement.Bytes.{is_true}
 use Rattle.tl_together.specs.declared.breach.MemoryRule.{MemoryRule}
-use Rattle.tl_together.specs.declared.breach.MemoryRule.TheVariants.{M1, M4}
+use Rattle.tl_together.specs.declared.breach.MemoryRule.TheVariants.{M1, M2, M3, M4}
 use Rattle.tl_together.specs.declared.breach.Breach.{Breach}
 use Rattle.tl_together.specs.declared.breach.Breach.TheVariants.{OfLink, OfMemory}
 
@@ -48,9 +49,28 @@ broken_response n link x t =
     if is_grant x.opcode then broken_grant n link x (open_request x.source (on_link link t)) t else
     if is_performed x then broken_access n link x (open_request x.source (on_link link t)) t else None
 
--- the rule of memory that a beat breaks after t, on one of n links
+-- the same of a beat of a response: none where it begins none
+abbrev pub broken_beginning : {w : ℕ} → ℕ → ℕ → BeatD w → Trace w → Option MemoryRule
+broken_beginning n link x t = if begins (beat.D x) (on_link link t) then broken_response n link x t else None
+
+-- the rule of what a response with this opcode brings
+abbrev pub rule_of_bytes : OpD → MemoryRule
+rule_of_bytes d.GrantData = M2
+rule_of_bytes _ = M3
+
+-- M2 and M3, at each beat of a response that brings data: its bytes aren't true
+abbrev pub broken_bytes : {w : ℕ} → ℕ → ℕ → BeatD w → Trace w → Option MemoryRule
+broken_bytes n link x t = if is_true x.opcode n link x t then None else Some (rule_of_bytes x.opcode)
+
+-- this rule, where there is one, or else the other
+abbrev pub memory_rule_or : Option MemoryRule → Option MemoryRule → Option MemoryRule
+memory_rule_or None other = other
+memory_rule_or (Some rule) other = Some rule
+
+-- the rule of memory that a beat breaks after t, on one of n links: one at its beginning comes before one
+-- of its bytes
 abbrev pub broken_memory : {w : ℕ} → ℕ → ℕ → Beat w → Trace w → Option MemoryRule
-broken_memory n link (beat.D x) t = if begins (beat.D x) (on_link link t) then broken_response n link x t else None
+broken_memory n link (beat.D x) t = memory_rule_or (broken_beginning n link x t) (broken_bytes n link x t)
 broken_memory n link _ t = None
 
 -- ---- all rules together

@@ -7,6 +7,8 @@ use Rattle.tl_params.specs.declared.profile.Profile.{Profile}
 use Rattle.tl_params.specs.statement.Config.{IsCount}
 use Rattle.tl_rules.specs.statement.Conformance.{Trace}
 use Rattle.tl_monitor.specs.statement.Knows as monitor
+use Rattle.tl_memory.specs.statement.Links.{AreLegal}
+use Rattle.tl_memory.specs.statement.Memory.{KnowsMemory}
 use Rattle.tl_together.specs.code.Windows.{KnowsAsked, KnowsWindows}
 use Rattle.tl_together.specs.declared.breach.Breach.{Breach}
 use Rattle.tl_together.specs.declared.fault.JudgeFault.{JudgeFault}
@@ -25,6 +27,8 @@ pub record KnowsTrace {w : ℕ} (j : Judge w) (levels : List Level) (p : Profile
   pub tables_are : length j.asked.items ≡ length levels
   pub asked_are : KnowsAsked j.asked.items (length levels) t
   pub windows_are : KnowsWindows j.windows (length levels) t
+  pub memory_is : KnowsMemory j.memory (length levels) t
+  pub legal : AreLegal levels p t
 
 -- the same, where no beat was refused by a rule; it is closed where one was
 pub record Knows {w : ℕ} (j : Judge w) (levels : List Level) (p : Profile) (t : Trace w) (closed : Bool) : Type 0 where

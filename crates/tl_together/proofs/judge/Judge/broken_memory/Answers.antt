@@ -1,17 +1,26 @@
-use Rattle.std.proofs.Common.{length}
-use Rattle.tl_together.proofs.Answered.{begun, not_begun, no_d}
+use Rattle.std.proofs.Common.{◌≡◌, length, subst}
+use Rattle.std.specs.Prelude.{None}
+use Rattle.tl_memory.specs.code.Changing.{IsChange}
+use Rattle.tl_rules.specs.statement.Conformance.{broken_on_link}
+use Rattle.tl_together.proofs.Answered.{broken_beginning_is, broken_bytes_are, no_d}
+use Rattle.tl_together.proofs.Noted.{in_levels}
 use Rattle.tl_together.proofs.judge.Judge.broken_memory.Goals as goal
 
-pub returns-then-begins : goal.returns-then-begins
-returns-then-begins g c = λ levels p t k lt.
-    begun levels c.args.link c.args.beat.now c.in-D.x t c.begins.result c.broken_response.result lt c.in-D.is
-    (c.begins.ensures levels p t _ k.monitor_is) c.if-begins.true
-    (c.broken_response.ensures levels p t k lt)
-
-pub returns-else-begins : goal.returns-else-begins
-returns-else-begins g c = λ levels p t k lt.
-    not_begun levels c.args.link c.args.beat.now c.in-D.x t c.begins.result lt c.in-D.is
-    (c.begins.ensures levels p t _ k.monitor_is) c.if-begins.false
-
 pub returns-in_default : goal.returns-in_default
-returns-in_default g c = λ levels p t k lt. no_d (length levels) c.args.link.0 c.args.beat.now t c.in_default.not-D
+returns-in_default g c = λ levels p t k fine change.
+    no_d (length levels) c.args.link.0 c.args.beat.now t c.in_default.not-D
+
+pub returns-in-None : goal.returns-in-None
+returns-in-None g c = λ levels p t k fine change.
+    let link = c.args.link in
+    let lt = in_levels levels p link c.args.beat.now t fine in
+    broken_bytes_are (length levels) link.0 c.args.beat.now c.in-D.x t c.broken_beginning.result c.broken_bytes.result
+    c.in-D.is c.in-None.is (c.broken_beginning.ensures levels p t k lt)
+    (c.broken_bytes.ensures levels p t k (subst (λ y. broken_on_link levels p (link, y) t ≡ None) c.in-D.is fine)
+    (subst (λ y. IsChange c.args.change.now c.args.self.now.memory (length levels) (link, y) t) c.in-D.is change))
+
+pub returns-in-Some : goal.returns-in-Some
+returns-in-Some g c = λ levels p t k fine change.
+    let lt = in_levels levels p c.args.link c.args.beat.now t fine in
+    broken_beginning_is (length levels) c.args.link.0 c.args.beat.now c.in-D.x t c.broken_beginning.result
+    c.in-Some.rule c.in-D.is c.in-Some.is (c.broken_beginning.ensures levels p t k lt)

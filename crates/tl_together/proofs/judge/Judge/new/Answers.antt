@@ -6,5 +6,5 @@ pub returns : goal.returns
 returns g c = (
   c.in-Ok.ensures.0,
   new_knows _ c.args.levels.now c.args.profile refl refl refl c.in-Ok.ensures.1
-      (search rules) c.new-2.ensures,
+      (search rules) c.new-3.ensures c.in-Ok-new.ensures,
 )

@@ -1,7 +1,7 @@
 use Rattle.std.proofs.Common.{sym, ap, ◌∙◌}
 use Rattle.std.specs.Prelude.{is_some, not}
 use Rattle.tl_together.proofs.Noted.{notes_kept, notes_set, its_source}
-use Rattle.tl_together.proofs.judge.note_request.Goals as goal
+use Rattle.tl_together.proofs.notes.note_request.Goals as goal
 
 pub returns-then-is_none : goal.returns-then-is_none
 returns-then-is_none g c =

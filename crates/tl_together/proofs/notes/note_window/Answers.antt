@@ -4,7 +4,7 @@ use Rattle.std.proofs.lemmas.Result.{on_ok_weaker}
 use Rattle.tl_monitor.specs.statement.Knows.{LeavesOthers}
 use Rattle.tl_rules.specs.statement.Conformance.{on_link}
 use Rattle.tl_together.proofs.Noted.{notes_window, notes_no_window}
-use Rattle.tl_together.proofs.judge.note_window.Goals as goal
+use Rattle.tl_together.proofs.notes.note_window.Goals as goal
 
 pub returns-in_default-clause-noted : goal.returns-in_default-clause-noted
 returns-in_default-clause-noted g c =

@@ -1,0 +1,74 @@
+//! What a judge notes of a beat before it is taken.
+
+ghost use Rattle.std.specs.Prelude.{ℕ, Some, OnOk, OnErr, length, nat_lt, if◌then◌else◌, ◌&&◌, ◌==◌, ◌≡◌};
+ghost use Rattle.tl_together.specs.code.Windows.{asked_in, NotesRequest, NotesWindow};
+
+use crate::free::freedom_of;
+use crate::windows::{Window, Windows};
+use std::alloc::AllocError;
+use tl_beat::beat::{Beat, Link};
+use tl_monitor::byte_table::ByteTable;
+use tl_monitor::monitor::Monitor;
+
+/// Notes when the request with a source is complete, on a link that there is.
+fn note_asked(asked: &mut Vec<ByteTable<u64>>, link: usize, source: u8, moment: u64)
+    ensures noted { (n s : ℕ) → asked_in asked.new.items n s ≡
+        (if nat_lt link (length asked.old.items) && ((n == link) && (s == source)) then Some moment else asked_in
+        asked.old.items n s) }
+    ensures length { length asked.new.items ≡ length asked.old.items }
+{
+    if link < asked.len() {
+        asked[link].set(source, Some(moment));
+    }
+}
+
+/// This moment where a block is free now, or else the one before.
+fn latest(free: bool, moment: u64, before: u64) -> u64
+    ensures { result ≡ (if free then moment else before) }
+{
+    if free { moment } else { before }
+}
+
+/// Notes at which moment a request is complete that may be so with this beat. What is known of the beats
+/// so far stays known.
+pub fn note_request<const W: usize>(
+    asked: &mut Vec<ByteTable<u64>>,
+    monitor: &Monitor<W>,
+    link: Link,
+    beat: &Beat<W>,
+    next: u64,
+)
+    ensures { NotesRequest monitor.now asked.old.items asked.new.items link beat.now next }
+{
+    if let Beat::A(x) = beat {
+        if monitor.request(link, x.source).is_none() {
+            note_asked(asked, usize::from(link.0), x.source, next);
+        }
+    }
+}
+
+/// Notes that the block of which a beat may change what is held is free, where it is. What is known of
+/// the beats so far stays known.
+pub fn note_window<const W: usize>(
+    windows: &mut Windows,
+    monitor: &Monitor<W>,
+    links: u8,
+    moment: u64,
+    link: Link,
+    beat: &Beat<W>,
+) -> Result<(), AllocError>
+    ensures noted { OnOk result (NotesWindow monitor.now links moment
+        windows.old windows.new link beat.now) }
+    ensures unchanged { OnErr result (windows.new ≡ windows.old) }
+{
+    let Some(block) = monitor.block_of(link, beat) else {
+        return Ok(());
+    };
+    let old = windows.get(block);
+    let free = freedom_of(monitor, links, block);
+    let window = Window {
+        reading: latest(free.reading, moment, old.reading),
+        writing: latest(free.writing, moment, old.writing),
+    };
+    windows.set(block, window)
+}

@@ -1,10 +1,7 @@
--- No beat of a world breaks a rule of memory, and so none breaks a rule.
-use Rattle.std.proofs.Common.{◌≡◌, ℕ, Bool, true, false, not, ◌&&◌, List, [], ◌∷◌, ◌++◌, length, refl, sym, ◌∙◌, ap}
-use Rattle.std.proofs.Common.{subst}
-use Rattle.std.proofs.Common.{append_assoc}
-use Rattle.std.specs.Prelude.{if◌then◌else◌, Option, Some, None, reverse, ⊤}
+-- No response of a world begins that breaks M1 or M4.
+use Rattle.std.proofs.Common.{◌≡◌, ℕ, Bool, true, false, not, ◌&&◌, [], ◌∷◌, length, refl, sym, ◌∙◌, ap}
+use Rattle.std.specs.Prelude.{if◌then◌else◌, Option, Some, None}
 use Rattle.std.proofs.lemmas.Bool.{and_from, eq-eqb}
-use Rattle.std.proofs.lemmas.List.{append-nil, reverse-append, reverse-reverse}
 use Rattle.tl_beat.specs.declared.beat.Beat.{Beat}
 use Rattle.tl_beat.specs.declared.beat.Beat.TheVariants as beat
 use Rattle.tl_beat.specs.declared.beat.BeatA.{BeatA}
@@ -15,30 +12,25 @@ use Rattle.tl_beat.specs.declared.opcode.OpD.{OpD}
 use Rattle.tl_beat.specs.declared.opcode.OpD.TheVariants as d
 use Rattle.tl_burst.specs.statement.Messages.{History, unfinished}
 use Rattle.tl_params.specs.declared.key.Key.TheVariants.{RequestSource}
-use Rattle.tl_params.specs.declared.level.Level.{Level}
-use Rattle.tl_params.specs.declared.profile.Profile.{Profile}
-use Rattle.tl_params.specs.declared.rule.Rule.{Rule}
 use Rattle.tl_rules.specs.code.Open.{open_request, request_fields}
 use Rattle.tl_rules.specs.declared.past.Request.{Request}
-use Rattle.tl_rules.specs.statement.Conformance.{Trace, on_link, broken_on_link, comes_in_request, fault_from, fault_or}
+use Rattle.tl_rules.specs.statement.Conformance.{Trace, on_link, comes_in_request}
 use Rattle.tl_rules.specs.statement.History.{asks_for, begins, block_at, grants, is_grant, pending, request_of}
 use Rattle.tl_rules.specs.statement.Windows.{has_window, needs}
 use Rattle.tl_manager.specs.statement.Service.{is_access_answer}
 use Rattle.tl_coherence.specs.declared.event.Event.TheVariants.{Ask, Deliver}
 use Rattle.tl_coherence.specs.declared.event.Outcome.TheVariants as outcome
 use Rattle.tl_coherence.specs.statement.AnsweredInTime.{IsAnsweredInTime}
-use Rattle.tl_coherence.specs.statement.Delivery.{levels_of}
 use Rattle.tl_coherence.specs.statement.Flow.{EachTaken, trace_of}
 use Rattle.tl_coherence.specs.statement.Log.{Log}
 use Rattle.tl_coherence.specs.statement.OneWriter.{IsGivenAlone}
-use Rattle.tl_coherence.proofs.flow.FlowTraces.{faultless}
 use Rattle.tl_coherence.proofs.flow.GivenAlone.{apart}
 use Rattle.tl_coherence.proofs.flow.Windowed.{in_time}
 use Rattle.tl_coherence.proofs.queues.Phases.{and_left}
 use Rattle.tl_together.specs.declared.breach.MemoryRule.TheVariants.{M1, M4}
-use Rattle.tl_together.specs.statement.Coherence.{broken_access, broken_grant, broken_memory, broken_response}
-use Rattle.tl_together.specs.statement.Coherence.{breach_from, is_access_ack, is_performed}
-use Rattle.tl_concord.specs.statement.Concord.{Concord}
+use Rattle.tl_together.specs.statement.Coherence.{broken_access, broken_grant, broken_response}
+use Rattle.tl_together.specs.statement.Coherence.{is_access_ack, is_performed}
+use Rattle.tl_concord.specs.statement.Beginnings.{Beginnings, BeginsUnbroken}
 
 -- ---- a response that begins
 
@@ -112,74 +104,39 @@ module _ {w : ℕ} (n link : ℕ) (y : BeatD w) (t : Trace w) (begun : begins (b
           (open_request y.source past) refl
       go false e false f = refl
 
--- ---- a beat
+-- ---- all that is taken
 
-memory-quiet : {w : ℕ} (n link : ℕ) (x : Beat w) (t : Trace w) → IsGivenAlone link x t → IsAnsweredInTime link x t
-    → broken_memory n link x t ≡ None
-memory-quiet n link (beat.D y) t alone timely = go (begins (beat.D y) (on_link link t)) refl
+begins-quiet : {w : ℕ} (n link : ℕ) (x : Beat w) (t : Trace w) → IsGivenAlone link x t → IsAnsweredInTime link x t
+    → BeginsUnbroken n link x t
+begins-quiet n link (beat.D y) t alone timely = go (begins (beat.D y) (on_link link t)) refl
   where
     go : (b : Bool) → begins (beat.D y) (on_link link t) ≡ b → (if b then broken_response n link y t else None) ≡ None
     go true begun = response-quiet n link y t begun alone timely
     go false e = refl
-memory-quiet n link (beat.A y) t alone timely = refl
-memory-quiet n link (beat.B y) t alone timely = refl
-memory-quiet n link (beat.C y) t alone timely = refl
-memory-quiet n link (beat.E y) t alone timely = refl
-
--- ---- all that is taken
-
--- each beat of a trace, the newest first, breaks no rule of memory after the older ones
-unfoldable AreQuiet : {w : ℕ} → ℕ → Trace w → Type 0
-AreQuiet n [] = ⊤
-AreQuiet n (x ∷ t) = (broken_memory n x.0.0 x.1 t ≡ None) × AreQuiet n t
-
-older-quiet : {w : ℕ} (n : ℕ) (newer t : Trace w) → AreQuiet n (newer ++ t) → AreQuiet n t
-unfolding AreQuiet
-older-quiet n [] t quiet = quiet
-older-quiet n (x ∷ newer) t quiet = older-quiet n newer t quiet.1
+begins-quiet n link (beat.A y) t alone timely = tt
+begins-quiet n link (beat.B y) t alone timely = tt
+begins-quiet n link (beat.C y) t alone timely = tt
+begins-quiet n link (beat.E y) t alone timely = tt
 
 log-quiet : {w : ℕ} (n : ℕ) (log : Log w) → EachTaken (λ earlier link x. IsGivenAlone link x (trace_of earlier)) log
-    → EachTaken (λ earlier link x. IsAnsweredInTime link x (trace_of earlier)) log → AreQuiet n (trace_of log)
-unfolding AreQuiet EachTaken trace_of
+    → EachTaken (λ earlier link x. IsAnsweredInTime link x (trace_of earlier)) log
+    → EachTaken (λ earlier link x. BeginsUnbroken n link x (trace_of earlier)) log
+unfolding EachTaken
 log-quiet n [] alone timely = tt
-log-quiet n ((Ask c op, o) ∷ log) alone timely = log-quiet n log alone.1 timely.1
+log-quiet n ((Ask c op, o) ∷ log) alone timely = (tt, log-quiet n log alone.1 timely.1)
 log-quiet n ((Deliver link ch, outcome.Moved x) ∷ log) alone timely = (
-  memory-quiet n link.0 x (trace_of log) alone.0 timely.0,
+  begins-quiet n link.0 x (trace_of log) alone.0 timely.0,
   log-quiet n log alone.1 timely.1,
 )
 log-quiet n ((Deliver link ch, outcome.Done x source f) ∷ log) alone timely = (
-  memory-quiet n link.0 x (trace_of log) alone.0 timely.0,
+  begins-quiet n link.0 x (trace_of log) alone.0 timely.0,
   log-quiet n log alone.1 timely.1,
 )
-log-quiet n ((Deliver link ch, outcome.Replied r) ∷ log) alone timely = log-quiet n log alone.1 timely.1
-log-quiet n ((Deliver link ch, outcome.Empty) ∷ log) alone timely = log-quiet n log alone.1 timely.1
-log-quiet n ((Deliver link ch, outcome.Stalled) ∷ log) alone timely = log-quiet n log alone.1 timely.1
-log-quiet n ((Deliver link ch, outcome.NoSuchClient) ∷ log) alone timely = log-quiet n log alone.1 timely.1
+log-quiet n ((Deliver link ch, outcome.Replied r) ∷ log) alone timely = (tt, log-quiet n log alone.1 timely.1)
+log-quiet n ((Deliver link ch, outcome.Empty) ∷ log) alone timely = (tt, log-quiet n log alone.1 timely.1)
+log-quiet n ((Deliver link ch, outcome.Stalled) ∷ log) alone timely = (tt, log-quiet n log alone.1 timely.1)
+log-quiet n ((Deliver link ch, outcome.NoSuchClient) ∷ log) alone timely = (tt, log-quiet n log alone.1 timely.1)
 
--- what has no fault of a link and breaks no rule of memory has no breach
-no-breach : {w : ℕ} (levels : List Level) (p : Profile) (before trace : Trace w)
-    → fault_from levels p before trace ≡ None → AreQuiet (length levels) (reverse trace ++ before)
-    → breach_from levels p before trace ≡ None
-unfolding AreQuiet fault_from breach_from
-no-breach levels p before [] clean quiet = refl
-no-breach {w} levels p before (x ∷ trace) clean quiet =
-    let turned : reverse (x ∷ trace) ++ before ≡ reverse trace ++ (x ∷ before) =
-    ap (λ (t : Trace w). t ++ before) (reverse-append (x ∷ []) trace) ∙ append_assoc (reverse trace) (x ∷ []) before in
-    let all : AreQuiet (length levels) (reverse trace ++ (x ∷ before)) =
-    subst (AreQuiet (length levels)) turned quiet in
-    let first = unbroken (broken_on_link levels p x before) (length before) (fault_from levels p (x ∷ before) trace)
-    clean in
-    rw (first.0, (older-quiet (length levels) (reverse trace) (x ∷ before) all).0)
-    (no-breach levels p (x ∷ before) trace first.1 all)
-  where
-    unbroken : (o : Option Rule) (i : ℕ) (rest : Option (ℕ × Rule)) → fault_or o i rest ≡ None
-        → (o ≡ None) × (rest ≡ None)
-    unbroken None i rest e = (refl, e)
-    unbroken (Some r) i rest e = absurd cc
-
-pub concord : {w : ℕ} → Concord w
-concord config log given =
-    no-breach (levels_of config) config.profile [] (reverse (trace_of log)) (faultless config log given)
-    (subst (AreQuiet (length (levels_of config)))
-    (sym (append-nil (reverse (reverse (trace_of log))) ∙ reverse-reverse (trace_of log)))
-    (log-quiet (length (levels_of config)) log (apart config log given).given_alone (in_time config log given)))
+pub begins_unbroken : {w : ℕ} → Beginnings w
+begins_unbroken config log given =
+    log-quiet (length config.clients.items) log (apart config log given).given_alone (in_time config log given)

@@ -1,5 +1,5 @@
 pub mod Accesses
-pub mod Concord
+pub mod Beginnings
 pub mod Responses
 pub mod Told
 pub mod WholeStores

@@ -2,17 +2,17 @@
 
 ghost use Rattle.tl_beat.specs.statement.Width.{IsWidth};
 ghost use Rattle.tl_concord.specs.statement.Accesses.{CarriesAccesses};
-ghost use Rattle.tl_concord.specs.statement.Concord.{Concord};
+ghost use Rattle.tl_concord.specs.statement.Beginnings.{Beginnings};
 ghost use Rattle.tl_concord.specs.statement.Responses.{Responses};
 ghost use Rattle.tl_concord.specs.statement.Told.{TellsOfMemory};
 ghost use Rattle.tl_concord.specs.statement.WholeStores.{WholeStores};
 ghost use Rattle.tl_concord.specs.statement.WritesBeside.{WritesBesideNoGrant};
 
-/// Whatever happens to a manager and its clients, no beat of what their links carry, in the order of
-/// delivery, breaks a rule of its link, M1 or M4: a judge of all links finds nothing.
-pub fn breaks_no_rule_together<const W: usize>()
+/// Whatever happens to a manager and its clients, no response that begins breaks a rule of memory: no Grant begins
+/// beside a link that holds what excludes it, and no answer to an access that had no moment at which it may be performed.
+pub fn begins_unbroken<const W: usize>()
     requires { IsWidth W }
-    ensures { Concord W }
+    ensures { Beginnings W }
 {}
 
 /// What all links carry tells of one memory: data that are granted, or given back, have its bytes, and they come

@@ -12,7 +12,7 @@ use Rattle.tl_coherence.specs.statement.Delivery.{levels_of}
 use Rattle.tl_coherence.specs.statement.Flow.{trace_of}
 use Rattle.tl_together.specs.declared.breach.Breach.{Breach}
 use Rattle.tl_together.specs.statement.Coherence.{breach_from, breach_or, broken_together, first_breach}
-use Rattle.tl_concord.proofs.Quiet.{concord}
+use Rattle.tl_true_bytes.proofs.Together.{concord}
 use Rattle.tl_engine.specs.declared.status.Status.{Status}
 use Rattle.tl_engine.specs.laws.Clean.{IsCoherent, IsUpTo}
 use Rattle.tl_engine.specs.statement.Coherent.{coherent_text, fault_of_breach, faults_together}

@@ -15,5 +15,6 @@ pub mod Requests
 pub mod Runs
 pub mod Sources
 pub mod Taken
+pub mod Together
 pub mod WorldRuns
 pub mod Worlds

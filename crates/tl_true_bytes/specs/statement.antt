@@ -1,1 +1,2 @@
+pub mod Concord
 pub mod TrueWorlds

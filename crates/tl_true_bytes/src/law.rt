@@ -1,6 +1,7 @@
-//! That no beat of a world breaks the rules of memory for its bytes, as a law.
+//! That no beat of a world breaks a rule of memory, or any rule, as laws.
 
 ghost use Rattle.tl_beat.specs.statement.Width.{IsWidth};
+ghost use Rattle.tl_true_bytes.specs.statement.Concord.{Concord};
 ghost use Rattle.tl_true_bytes.specs.statement.TrueWorlds.{TrueWorlds};
 
 /// Whatever happens to a manager and its clients, each beat of a GrantData that their links carry has bytes that may be
@@ -8,4 +9,11 @@ ghost use Rattle.tl_true_bytes.specs.statement.TrueWorlds.{TrueWorlds};
 pub fn carries_true_bytes<const W: usize>()
     requires { IsWidth W }
     ensures { TrueWorlds W }
+{}
+
+/// Whatever happens to a manager and its clients, no beat of what their links carry, in the order of
+/// delivery, breaks a rule of its link or of memory: a judge of all links finds nothing.
+pub fn breaks_no_rule_together<const W: usize>()
+    requires { IsWidth W }
+    ensures { Concord W }
 {}

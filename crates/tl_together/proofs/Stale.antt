@@ -15,7 +15,7 @@ use Rattle.tl_bytes.specs.statement.Bytes.{before_last, carried_byte, carried_ma
 use Rattle.tl_bytes.specs.statement.Bytes.{may_be, may_read, pending_accesses, window_began, windows_since}
 use Rattle.tl_bytes.proofs.WorkedBeats.{acquire, done, eight, found, get, grant_ack, grant_beat, put}
 use Rattle.tl_together.specs.declared.breach.Breach.TheVariants.{OfMemory}
-use Rattle.tl_together.specs.declared.breach.MemoryRule.TheVariants.{M1, M2, M3}
+use Rattle.tl_together.specs.declared.breach.MemoryRule.TheVariants.{M1, M2, M3, M4}
 use Rattle.tl_together.specs.statement.Coherence.{breach_from, first_breach}
 
 abbrev two_caches : List Level
@@ -71,3 +71,33 @@ unfolding breach_from is_free has_window on_link unfinished request_of release_o
     illegal first_illegal each_below broken_order broken_after may_be may_read pending_accesses carried_byte
     bytes_carried carried_mask windows_since window_began last_window last_told each_from before_last effect
 a_stale_grant_beside_a_writer = refl
+
+-- so does one of its answer, beside a writer
+a_stale_get_beside_a_writer : first_breach two_caches profile.One
+    (twice_written
+    (acquire 0 1 0 255 ∷ replicate 8 (grant_beat 0 0 0 0 (eight 7)) ++ grant_ack 0 0 ∷ read 5))
+    ≡ Some (15, OfMemory M4)
+unfolding breach_from is_free has_window on_link unfinished request_of release_of probe_of grant_sink pending held
+    illegal first_illegal each_below broken_order broken_after may_be may_read pending_accesses carried_byte
+    bytes_carried carried_mask windows_since window_began last_window last_told each_from before_last effect
+a_stale_get_beside_a_writer = refl
+
+-- sixteen bytes are 5, and a Grant brings v in its second beat
+abbrev granted_later : ℕ → Trace 8
+granted_later v =
+    put 0 0 4 (eight 5) 255 ∷ put 0 0 4 (eight 5) 255 ∷ done 0 0 4 ∷ acquire 1 0 0 255 ∷ grant_beat 1 1 0 0 (eight 5)
+    ∷ grant_beat 1 1 0 0 (eight v) ∷ []
+
+-- what was there before, in a beat behind the first
+a_stale_second_beat : first_breach two_caches profile.One (granted_later 4) ≡ Some (5, OfMemory M2)
+unfolding breach_from is_free has_window on_link unfinished request_of release_of probe_of grant_sink pending held
+    illegal first_illegal each_below broken_order broken_after may_be may_read pending_accesses carried_byte
+    bytes_carried carried_mask windows_since window_began last_window last_told each_from before_last effect
+a_stale_second_beat = refl
+
+-- what was written
+a_true_second_beat : first_breach two_caches profile.One (granted_later 5) ≡ None
+unfolding breach_from is_free has_window on_link unfinished request_of release_of probe_of grant_sink pending held
+    illegal first_illegal each_below broken_order broken_after may_be may_read pending_accesses carried_byte
+    bytes_carried carried_mask windows_since window_began last_window last_told each_from before_last effect
+a_true_second_beat = refl

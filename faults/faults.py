@@ -19,6 +19,7 @@ COMMANDS = [
     "monitor two_caches.trace",
     "monitor rules/H9.trace",
     "coherent two_caches.trace",
+    "coherent rules/M2.trace",
     "coherent rules/M4.trace",
     "explain two_caches.trace",
     "explain wrong_report.trace",

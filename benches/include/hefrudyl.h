@@ -27,7 +27,7 @@ enum tl_rule {
   TL_H1 = 9, TL_H2 = 10, TL_H3 = 11, TL_H4 = 12, TL_H5 = 13, TL_H6 = 14, TL_H7 = 15, TL_H8 = 16,
   TL_H9 = 17, TL_H10 = 18, TL_H11 = 19, TL_H12 = 20, TL_H13 = 21,
   TL_A1 = 22, TL_A2 = 23, TL_A3 = 24,
-  TL_M1 = 25, TL_M4 = 28 /* of a judge of all links */
+  TL_M1 = 25, TL_M2 = 26, TL_M3 = 27, TL_M4 = 28 /* of a judge of all links */
 };
 
 enum tl_level { TL_UL = 0, TL_UH = 1, TL_C = 2 };

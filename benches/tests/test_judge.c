@@ -1,5 +1,5 @@
-/* The judge of all links from C: two writers of one block, an access beside a writer, and what is refused. It
-   is built with the address and undefined-behaviour sanitizers too. */
+/* The judge of all links from C: two writers of one block, stale bytes, an access beside a writer, and what is
+   refused. It is built with the address and undefined-behaviour sanitizers too. */
 #include <hefrudyl.h>
 #include <stdio.h>
 
@@ -15,6 +15,10 @@ static void want(int holds, const char *what) {
 static const uint8_t levels[2] = {TL_C, TL_C};
 static const tl_beat grant = {.channel = TL_CHANNEL_D, .opcode = TL_D_Grant, .param = 0, .size = 6};
 static const tl_beat answer = {.channel = TL_CHANNEL_D, .opcode = TL_D_AccessAckData, .size = 2};
+static const tl_beat put = {
+    .lanes = {5}, .channel = TL_CHANNEL_A, .opcode = TL_A_PutFullData, .size = 2, .mask = 0xf};
+static const tl_beat put_ack = {.channel = TL_CHANNEL_D, .opcode = TL_D_AccessAck, .size = 2};
+static const tl_beat grant_data = {.channel = TL_CHANNEL_D, .opcode = TL_D_GrantData, .param = 1, .size = 6};
 
 static tl_beat asked(uint8_t opcode, uint8_t size, uint8_t width) {
   tl_beat beat = {.channel = TL_CHANNEL_A, .opcode = opcode, .size = size, .mask = (uint16_t)((1u << width) - 1)};
@@ -54,6 +58,32 @@ static void an_access_beside_a_writer(uint8_t width) {
   tl_judge_free(&judge);
 }
 
+/* A judge of two links, of which the first wrote 5 at address 0. */
+static tl_judge behind_a_put(uint8_t width) {
+  tl_judge judge = {0};
+  want(tl_judge_new(&judge, levels, 2, width, 1).code == TL_OK, "a judge is made");
+  want(push(&judge, 0, put).code == TL_OK, "a Put");
+  want(push(&judge, 0, put_ack).code == TL_OK, "its answer");
+  return judge;
+}
+
+static void stale_bytes(uint8_t width) {
+  tl_judge judge = behind_a_put(width);
+  want(push(&judge, 1, asked(TL_A_AcquireBlock, 6, width)).code == TL_OK, "an Acquire");
+  tl_answer told = push(&judge, 1, grant_data);
+  want(told.code == TL_BROKEN && told.rule == TL_M2, "a Grant of what was there before is M2");
+  tl_judge_free(&judge);
+  judge = behind_a_put(width);
+  want(push(&judge, 1, asked(TL_A_Get, 2, width)).code == TL_OK, "a Get");
+  tl_beat right = answer;
+  right.lanes[0] = 5;
+  want(push(&judge, 1, right).code == TL_OK, "an answer with what was written");
+  want(push(&judge, 1, asked(TL_A_Get, 2, width)).code == TL_OK, "a second Get");
+  told = push(&judge, 1, answer);
+  want(told.code == TL_BROKEN && told.rule == TL_M3, "an answer with what was there before is M3");
+  tl_judge_free(&judge);
+}
+
 static void a_rule_of_the_link_comes_first(void) {
   tl_judge judge = beside_a_writer(8);
   tl_answer told = push(&judge, 1, grant);
@@ -85,6 +115,7 @@ int main(void) {
   static const uint8_t widths[3] = {4, 8, 16};
   for (int i = 0; i < 3; i++) {
     two_writers(widths[i]);
+    stale_bytes(widths[i]);
     an_access_beside_a_writer(widths[i]);
   }
   a_rule_of_the_link_comes_first();

@@ -117,6 +117,7 @@ static void names(void) {
   uint8_t name[4] = "???";
   want(tl_rule_name(TL_H12, name, 3) == 3 && memcmp(name, "H12", 3) == 0, "H12");
   want(tl_rule_name(TL_NO_RULE, name, 3) == 0, "no rule has no name");
+  want(tl_rule_name(TL_M2, name, 3) == 2 && memcmp(name, "M2", 2) == 0, "M2");
   want(tl_rule_name(TL_M4, name, 3) == 2 && memcmp(name, "M4", 2) == 0, "M4");
   want(tl_rule_name(29, name, 3) == 0, "there is no rule 29");
   name[1] = '?';

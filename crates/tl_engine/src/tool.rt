@@ -17,8 +17,8 @@ use tl_command::command::{Command, Width};
 /// Runs a command: reads the input to its end or to the first line at fault, and writes the command's
 /// text of it; of `explain` the first line, since its reasons take a second reading. `decode` takes memory that doesn't
 /// grow with the input; `monitor` keeps what is unfinished,
-/// pending and held on each link besides, `coherent` also when each block that it has seen was last free, and
-/// `run` the world that the schedule's header names.
+/// pending and held on each link besides, `coherent` also when each block that it has seen was last free and what its
+/// bytes may be, and `run` the world that the schedule's header names.
 ///
 /// `Broken` says that a `line N X` was written, and that it stands whatever follows the input, unless
 /// line N is what stands behind the last LF at the end of the input: fewer than 256 bytes, or nothing.

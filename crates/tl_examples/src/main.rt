@@ -66,11 +66,15 @@ const TRACES: [&str; 44] = [
 ];
 
 /// The traces whose links are judged together.
-const TOGETHER: [&str; 6] = [
+const TOGETHER: [&str; 10] = [
     "two_caches.trace",
     "wrong_report.trace",
     "rules/M1.trace",
     "rules/M1_right.trace",
+    "rules/M2.trace",
+    "rules/M2_right.trace",
+    "rules/M3.trace",
+    "rules/M3_right.trace",
     "rules/M4.trace",
     "rules/M4_right.trace",
 ];
@@ -142,9 +146,10 @@ const FAULTS: [&str; 27] = [
 const PENDING: [&str; 2] = ["pending/each_kind.trace", "pending/more_than_twenty.trace"];
 
 /// The names of the rules and faults that are explained.
-const NAMES: [&str; 31] = [
+const NAMES: [&str; 33] = [
     "L1", "L2", "L3", "L4", "L5", "L6", "L7", "S1", "H1", "H2", "H3", "H4", "H5", "H6", "H7", "H8",
-    "H9", "H10", "H11", "H12", "H13", "M1", "M4", "F1", "F2", "F3", "F4", "F5", "F6", "F7", "F8",
+    "H9", "H10", "H11", "H12", "H13", "M1", "M2", "M3", "M4", "F1", "F2", "F3", "F4", "F5", "F6",
+    "F7", "F8",
 ];
 
 /// Writes the name of a file, a separator, and what the command tells of the file. Its faults are those

@@ -5,7 +5,12 @@ use crate::example::Example;
 use tl_together::breach::MemoryRule;
 
 /// The rules of memory that traces are judged by.
-const RULES: [MemoryRule; 2] = [MemoryRule::M1, MemoryRule::M4];
+const RULES: [MemoryRule; 4] = [
+    MemoryRule::M1,
+    MemoryRule::M2,
+    MemoryRule::M3,
+    MemoryRule::M4,
+];
 
 /// What is said of a rule of memory: the messages that it judges, where it is broken, what it is judged by,
 /// and its example.
@@ -30,19 +35,27 @@ pub fn rule_named(name: &str) -> Option<MemoryRule> {
 /// What is said of a rule.
 pub fn explanation_of(rule: MemoryRule) -> Explanation {
     match rule {
-        MemoryRule::M1 => Explanation {
-            messages: "Grant, GrantData",
-            sentence: "the cap is toT and another link holds something of the block, or toB and another link holds Trunk of it",
-            basis: "what the last Grant, ProbeAck or Release of the block left on each other link",
-            example: Example {
-                wrong: "tltrace 1 C C\n\
+        MemoryRule::M1 => grant_beside_a_holder(),
+        MemoryRule::M2 => stale_grant(),
+        MemoryRule::M3 => stale_answer(),
+        MemoryRule::M4 => answer_without_a_window(),
+    }
+}
+
+fn grant_beside_a_holder() -> Explanation {
+    Explanation {
+        messages: "Grant, GrantData",
+        sentence: "the cap is toT and another link holds something of the block, or toB and another link holds Trunk of it",
+        basis: "what the last Grant, ProbeAck or Release of the block left on each other link",
+        example: Example {
+            wrong: "tltrace 1 C C\n\
 00 A 7 1 6 00 00000000 ff - 0\n\
 00 D 4 0 6 00 00 0 - 0\n\
 01 A 7 1 6 00 00000000 ff - 0\n\
 01 D 4 0 6 00 01 0 - 0\n",
-                what: "a Grant toT, while link 00 holds the block as Trunk",
-                instead: "a Probe of link 00 and its report before it",
-                right: "tltrace 1 C C\n\
+            what: "a Grant toT, while link 00 holds the block as Trunk",
+            instead: "a Probe of link 00 and its report before it",
+            right: "tltrace 1 C C\n\
 00 A 7 1 6 00 00000000 ff - 0\n\
 00 D 4 0 6 00 00 0 - 0\n\
 00 E 00\n\
@@ -50,21 +63,68 @@ pub fn explanation_of(rule: MemoryRule) -> Explanation {
 00 B 7 2 6 00 00000000 ff - 0\n\
 00 C 4 1 6 00 00000000 - 0\n\
 01 D 4 0 6 00 01 0 - 0\n",
-            },
         },
-        MemoryRule::M4 => Explanation {
-            messages: "AccessAck, AccessAckData",
-            sentence: "all the while since the request was complete a link has held what excludes it: Trunk of the block for a Get, anything of it for a Put or an atomic",
-            basis: "what each link has held of the block since the request was complete",
-            example: Example {
-                wrong: "tltrace 1 C UL\n\
+    }
+}
+
+fn stale_grant() -> Explanation {
+    Explanation {
+        messages: "GrantData",
+        sentence: "a byte isn't one that it may be at the first beat, by what was told of it and by the Puts and atomics that are pending",
+        basis: "the data that were given back or granted, the answers to Puts and atomics, and of those that are pending the ones that have had a moment at which no link held the block",
+        example: Example {
+            wrong: "tltrace 1 UL C\n\
+00 A 0 0 3 00 00000000 ff 0000000000000005 0\n\
+00 D 0 0 3 00 00 0 - 0\n\
+01 A 6 0 6 00 00000000 ff - 0\n\
+01 D 5 1 6 00 00 0 0000000000000000 0\n",
+            what: "a GrantData with 00 at address 0, where an answered Put wrote 05",
+            instead: "the 05 that was written",
+            right: "tltrace 1 UL C\n\
+00 A 0 0 3 00 00000000 ff 0000000000000005 0\n\
+00 D 0 0 3 00 00 0 - 0\n\
+01 A 6 0 6 00 00000000 ff - 0\n\
+01 D 5 1 6 00 00 0 0000000000000005 0\n",
+        },
+    }
+}
+
+fn stale_answer() -> Explanation {
+    Explanation {
+        messages: "AccessAckData",
+        sentence: "a byte that was asked for isn't one that it may have been from the request's last beat to the answer's first, by what was told of it and by the Puts and atomics that were pending",
+        basis: "the data that were given back or granted, the answers to Puts and atomics, and those that were pending",
+        example: Example {
+            wrong: "tltrace 1 UL UL\n\
+00 A 0 0 3 00 00000000 ff 0000000000000005 0\n\
+00 D 0 0 3 00 00 0 - 0\n\
+01 A 4 0 3 00 00000000 ff - 0\n\
+01 D 1 0 3 00 00 0 0000000000000000 0\n",
+            what: "the answer to a Get with 00 at address 0, where an answered Put wrote 05",
+            instead: "the 05 that was written",
+            right: "tltrace 1 UL UL\n\
+00 A 0 0 3 00 00000000 ff 0000000000000005 0\n\
+00 D 0 0 3 00 00 0 - 0\n\
+01 A 4 0 3 00 00000000 ff - 0\n\
+01 D 1 0 3 00 00 0 0000000000000005 0\n",
+        },
+    }
+}
+
+fn answer_without_a_window() -> Explanation {
+    Explanation {
+        messages: "AccessAck, AccessAckData",
+        sentence: "all the while since the request was complete a link has held what excludes it: Trunk of the block for a Get, anything of it for a Put or an atomic",
+        basis: "what each link has held of the block since the request was complete",
+        example: Example {
+            wrong: "tltrace 1 C UL\n\
 00 A 7 1 6 00 00000000 ff - 0\n\
 00 D 4 0 6 00 00 0 - 0\n\
 01 A 4 0 3 00 00000000 ff - 0\n\
 01 D 1 0 3 00 00 0 0000000000000000 0\n",
-                what: "the answer to a Get, while link 00 holds the block as Trunk",
-                instead: "a Probe of link 00 and its report before it",
-                right: "tltrace 1 C UL\n\
+            what: "the answer to a Get, while link 00 holds the block as Trunk",
+            instead: "a Probe of link 00 and its report before it",
+            right: "tltrace 1 C UL\n\
 00 A 7 1 6 00 00000000 ff - 0\n\
 00 D 4 0 6 00 00 0 - 0\n\
 00 E 00\n\
@@ -72,7 +132,6 @@ pub fn explanation_of(rule: MemoryRule) -> Explanation {
 00 B 7 1 6 00 00000000 ff - 0\n\
 00 C 4 0 6 00 00000000 - 0\n\
 01 D 1 0 3 00 00 0 0000000000000000 0\n",
-            },
         },
     }
 }

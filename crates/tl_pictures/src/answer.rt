@@ -55,6 +55,8 @@ fn number_of_memory(rule: MemoryRule) -> u8
 {
     match rule {
         MemoryRule::M1 => 25,
+        MemoryRule::M2 => 26,
+        MemoryRule::M3 => 27,
         MemoryRule::M4 => 28,
     }
 }

@@ -45,6 +45,8 @@ fn memory_rule_with(number: u8) -> Option<MemoryRule>
 {
     match number {
         25 => Some(MemoryRule::M1),
+        26 => Some(MemoryRule::M2),
+        27 => Some(MemoryRule::M3),
         28 => Some(MemoryRule::M4),
         _ => None,
     }

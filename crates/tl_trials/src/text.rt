@@ -15,7 +15,7 @@ use tl_engine::status::exit_of;
 use tl_engine::tool::run_tool;
 
 /// The files, by their names in data/.
-const FILES: [&str; 14] = [
+const FILES: [&str; 15] = [
     "text/beats.txt",
     "text/levels.txt",
     "text/checked.txt",
@@ -24,6 +24,7 @@ const FILES: [&str; 14] = [
     "text/headers.txt",
     "text/traces.txt",
     "text/together.txt",
+    "text/bytes.txt",
     "text/legality.txt",
     "text/requests.txt",
     "text/grants.txt",

@@ -59,7 +59,7 @@ wrong with it. `tltool explain FILE` says why, `tltool explain X` what X says, a
   L1 to L7      the beat is not a legal one by itself
   S1            the beat does not continue its burst
   H1 to H13     the beat breaks the order of messages
-  M1, M4        the beat breaks a rule of memory, between links (`coherent`)
+  M1 to M4      the beat breaks a rule of memory, between links (`coherent`)
 
 Exit status:
   0  done, and no line is at fault; or help or the version was asked for
@@ -156,11 +156,15 @@ pub const TRACE: &str = outcomes_of_a_trace!(
 
 /// Behind the options of `coherent`.
 pub const TOGETHER: &str = outcomes_of_a_trace!(
-    "Judged are the rules of each link and, between them, M1 and M4; the bytes aren't.\n",
-    "`tltool explain FILE` says why, but for M1 and M4, and `tltool explain M1` what M1 says.\n",
+    "Judged are the rules of each link and, between them, M1 to M4.\n",
+    "`tltool explain FILE` says why, but for M1 to M4, and `tltool explain M1` what M1 says.\n",
     ;
     "  M1   the cap is toT and another link holds something of the block, or toB and another link\n",
     "       holds Trunk of it\n",
+    "  M2   a byte isn't one that it may be at the first beat, by what was told of it and by the Puts\n",
+    "       and atomics that are pending\n",
+    "  M3   a byte that was asked for isn't one that it may have been from the request's last beat to\n",
+    "       the answer's first, by what was told of it and by the Puts and atomics that were pending\n",
     "  M4   all the while since the request was complete a link has held what excludes it: Trunk of\n",
     "       the block for a Get, anything of it for a Put or an atomic\n",
     ;

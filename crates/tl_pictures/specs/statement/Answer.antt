@@ -8,7 +8,7 @@ use Rattle.tl_monitor.specs.declared.fault.MonitorFault.TheVariants.{Levels, Bro
 use Rattle.tl_together.specs.declared.breach.Breach.{Breach}
 use Rattle.tl_together.specs.declared.breach.Breach.TheVariants.{OfLink, OfMemory}
 use Rattle.tl_together.specs.declared.breach.MemoryRule.{MemoryRule}
-use Rattle.tl_together.specs.declared.breach.MemoryRule.TheVariants.{M1, M4}
+use Rattle.tl_together.specs.declared.breach.MemoryRule.TheVariants.{M1, M2, M3, M4}
 use Rattle.tl_together.specs.declared.fault.JudgeFault.{JudgeFault}
 use Rattle.tl_together.specs.declared.fault.JudgeFault.TheVariants as judge
 use Rattle.tl_pictures.specs.declared.answer.Answer.{Answer}
@@ -43,6 +43,8 @@ rule_number A3 = 24
 -- the rules of memory, behind them
 abbrev pub memory_rule_number : MemoryRule → ℕ
 memory_rule_number M1 = 25
+memory_rule_number M2 = 26
+memory_rule_number M3 = 27
 memory_rule_number M4 = 28
 
 abbrev pub breach_number : Breach → ℕ

@@ -7,7 +7,7 @@ use Rattle.tl_params.specs.declared.rule.Rule.TheVariants.{L1, L2, L3, L4, L5, L
 use Rattle.tl_params.specs.declared.rule.Rule.TheVariants.{H8, H9, H10, H11, H12, H13, A1, A2, A3}
 use Rattle.tl_params.specs.statement.Names.{rule_name}
 use Rattle.tl_together.specs.declared.breach.MemoryRule.{MemoryRule}
-use Rattle.tl_together.specs.declared.breach.MemoryRule.TheVariants.{M1, M4}
+use Rattle.tl_together.specs.declared.breach.MemoryRule.TheVariants.{M1, M2, M3, M4}
 use Rattle.tl_together.specs.statement.Names.{memory_rule_name}
 use Rattle.tl_pictures.specs.statement.Answer.{rule_number, memory_rule_number}
 
@@ -22,7 +22,7 @@ rule_with n = find (λ rule. rule_number rule == n) rules
 
 -- the rule of memory with a number
 abbrev pub memory_rule_with : ℕ → Option MemoryRule
-memory_rule_with n = find (λ rule. memory_rule_number rule == n) (M1 ∷ M4 ∷ [])
+memory_rule_with n = find (λ rule. memory_rule_number rule == n) (M1 ∷ M2 ∷ M3 ∷ M4 ∷ [])
 
 -- the name of one of them, or nothing
 abbrev pub name_of : Option Rule → Option MemoryRule → List ℕ

@@ -1,6 +1,6 @@
 -- No beat of a world breaks a rule of memory, and so none breaks a rule.
 use Rattle.std.proofs.Common.{◌≡◌, ℕ, List, [], ◌∷◌, ◌++◌, length, refl, sym, ◌∙◌, ap, append_assoc, subst}
-use Rattle.std.specs.Prelude.{Option, None, reverse, ⊤}
+use Rattle.std.specs.Prelude.{Option, Some, None, reverse, ⊤}
 use Rattle.std.proofs.lemmas.List.{append-nil, length-map, reverse-append, reverse-reverse}
 use Rattle.tl_beat.specs.declared.beat.Beat.{Beat}
 use Rattle.tl_beat.specs.declared.beat.Beat.TheVariants as beat

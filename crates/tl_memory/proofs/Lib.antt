@@ -8,6 +8,7 @@ pub mod Borne
 pub mod Complete
 pub mod Elsewhere
 pub mod Expecting
+pub mod Growing
 pub mod Judging
 pub mod Keeping
 pub mod Lanes

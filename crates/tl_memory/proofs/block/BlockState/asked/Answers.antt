@@ -4,6 +4,7 @@ use Rattle.std.proofs.lemmas.Bool.{eq-eqb}
 use Rattle.tl_beat.specs.declared.beat.Beat.TheVariants as beat
 use Rattle.tl_memory.specs.code.Writers.{writers_staying}
 use Rattle.tl_memory.specs.declared.writer.Writer.{Writer}
+use Rattle.tl_memory.proofs.Bearing.{request-leaves}
 use Rattle.tl_memory.proofs.Elsewhere.{bytes-kept, free-kept, last-kept}
 use Rattle.tl_memory.proofs.Keeping.{asked-writers}
 use Rattle.tl_memory.proofs.States.{asked-access, asked-state, asked-write, copy-known}
@@ -17,7 +18,7 @@ returns g c = λ n block link y access t k more asked lawful inside at now.
     let all = c.in_ok-append_renewed.ensures in
     let items : c.append_renewed.new.renewed.items ≡ c.in_ok-first.first ∷ all.0 = search rules in
     let to = eq-eqb (access.request.address / 64) block at in
-    let same = free-kept n block (link, beat.A y) t (λ over. refl) in
+    let same = free-kept n block (link, beat.A y) t (request-leaves block link y t) in
     let bytes =
     bytes-kept n block c.in_ok-bytes.bytes (link, beat.A y) t
     (copy-known old.bytes c.in_ok-bytes.bytes n block t c.in_ok-bytes.ensures.told c.in_ok-bytes.ensures.last

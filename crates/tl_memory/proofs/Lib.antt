@@ -21,6 +21,7 @@ pub mod Masks
 pub mod Memories
 pub mod Open
 pub mod OpenAccesses
+pub mod PassedBy
 pub mod Payloads
 pub mod Puts
 pub mod Responses

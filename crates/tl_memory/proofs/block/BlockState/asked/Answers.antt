@@ -4,6 +4,7 @@ use Rattle.tl_beat.specs.declared.beat.Beat.TheVariants as beat
 use Rattle.tl_bytes.specs.statement.Known.{MayWrite, others}
 use Rattle.tl_memory.specs.code.Writers.{writes_but}
 use Rattle.tl_memory.specs.declared.writer.Writer.{Writer}
+use Rattle.tl_memory.proofs.Bearing.{request-leaves}
 use Rattle.tl_memory.proofs.Elsewhere.{bytes-kept, free-kept, last-kept}
 use Rattle.tl_memory.proofs.States.{asked-access, asked-state, asked-write}
 use Rattle.tl_memory.proofs.Writing.{others-may-write}
@@ -16,7 +17,7 @@ returns g c = λ n block link y access t k more asked lawful inside at now.
     let copies = c.in_ok-append_staying.ensures in
     let items : c.append_staying.new.copies.items ≡ c.in_ok-new.field-0 ∷ copies.0 = search rules in
     let to = eq-eqb (access.request.address / 64) block at in
-    let same = free-kept n block (link, beat.A y) t (λ over. refl) in
+    let same = free-kept n block (link, beat.A y) t (request-leaves block link y t) in
     let before = c.in_ok-bytes.ensures g.row.W n block t k.bytes_are in
     let bytes = bytes-kept n block c.in_ok-bytes.bytes (link, beat.A y) t before refl (λ p lt. tt) in
     let write = asked-write c.pending_write.result block access at (c.pending_write.ensures access asked lawful) in

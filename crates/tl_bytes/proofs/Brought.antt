@@ -1,46 +1,106 @@
--- The bytes that one more beat brings, place by place.
-use Rattle.std.proofs.Common.{◌≡◌, ℕ, Bool, true, false, ◌&&◌, ◌+◌, ◌<◌, ◌≤◌, List, get_or, set}
-use Rattle.std.proofs.Common.{length, refl, sym, ap, ◌∙◌, arith, inl, inr}
-use Rattle.std.specs.Prelude.{if◌then◌else◌, Option, None, nat_lt, slice_index_or}
-use Rattle.std.proofs.lemmas.Bool.{cases_eq, cases_lt, lt-ltb, le-ltb}
-use Rattle.std.proofs.lemmas.List.{get_or-set_same, get_or-set_other}
+-- The bytes that one more beat brings.
+use Rattle.std.proofs.Common.{◌≡◌, ℕ, Bool, true, false, ◌&&◌, ◌+◌, ◌-◌, ◌*◌, ◌/◌, ◌%◌, ◌<◌, ◌≤◌, List}
+use Rattle.std.proofs.Common.{◌∷◌, [], length, refl, sym, ap, ◌∙◌, arith, inl, inr}
+use Rattle.std.specs.Prelude.{if◌then◌else◌, ◌==◌, Option, None, nat_lt, slice_get, slice_index_or}
+use Rattle.std.proofs.Math.Nat.{div-lt_iff_lt-mul, le-div_iff_mul-le, mod-lt}
+use Rattle.std.proofs.lemmas.Bool.{cases_eq, cases_lt, eq-eqb, lt-ltb, le-ltb, ne_eqb}
+use Rattle.std.proofs.lemmas.Nat.{div-add-mod'}
+use Rattle.std.proofs.lemmas.Option.{slice_get_past}
+use Rattle.tl_beat.specs.declared.beat.Beat.{Beat}
+use Rattle.tl_beat.specs.statement.Width.{IsWidth}
+use Rattle.tl_rules.specs.statement.Admission.{is_spoiled, lanes_of}
+use Rattle.tl_bytes.specs.code.Carried.{with_lanes}
+use Rattle.tl_bytes.specs.declared.carried.CarriedBytes.{CarriedBytes}
+use Rattle.tl_bytes.specs.statement.Bytes.{carried_byte}
+use Rattle.tl_bytes.specs.statement.Known.{HasBytes, KnowsCarried}
 
-module _ (test : ℕ → Bool) (brought : ℕ → Option ℕ) (old : List (Option ℕ)) where
-  -- what stands at a place once those before this one are done
-  abbrev after : ℕ → ℕ → Option ℕ
-  after k p = if nat_lt p k && test p then brought p else slice_index_or old p None
+-- ---- the places of a beat's lanes
 
-  pub none-done : (p : ℕ) → slice_index_or old p None ≡ after 0 p
-  none-done p = rw (le-ltb p 0 (omega arith)) refl
+pub quotient : (w p n : ℕ) → 0 < w → w * n ≤ p → p < w * n + w → p / w ≡ n
+quotient w p n pos le lt =
+    let least : n ≤ p / w = (le-div_iff_mul-le pos).1 (omega (arith, le)) in
+    let most : p / w < n + 1 = (div-lt_iff_lt-mul pos).1 (omega (arith, lt)) in
+    omega (arith, least, most)
 
-  pub all-done : (k p : ℕ) → k ≡ 64 → p < 64 → after k p ≡ (if test p then brought p else slice_index_or old p None)
-  all-done k p all lt = rw (lt-ltb p k (omega arith)) refl
+pub in_beat : (w p n : ℕ) → p / w ≡ n → (w * n ≤ p) × (p - w * n ≡ p % w)
+in_beat w p n e =
+    let whole = div-add-mod' p w in
+    let turned : p / w * w ≡ w * n = rw e (omega arith) in
+    (omega (arith, whole, turned), omega (arith, whole, turned))
 
-  same-elsewhere : (k p : ℕ) → (p ≡ k → ⊥) → after k p ≡ after (k + 1) p
-  same-elsewhere k p ne = elim (cases_lt p k) [
-    | inl lt ↦ rw (lt-ltb p k lt, lt-ltb p (k + 1) (omega arith)) refl
-    | inr le ↦
-        let less : k + 1 ≤ p = omega (arith, ne) in
-        rw (le-ltb p k le, le-ltb p (k + 1) less) refl
-  ]
+-- the place is one of the lanes of beat n, of which there are so many
+abbrev pub is_lane : ℕ → ℕ → ℕ → ℕ → Bool
+is_lane w n many p = (p / w == n) && nat_lt (p % w) many
 
-  pub one-brought : (k : ℕ) (now : List (Option ℕ)) → k < length now → test k ≡ true
-      → ((p : ℕ) → p < 64 → slice_index_or now p None ≡ after k p)
-      → (p : ℕ) → p < 64 → slice_index_or (set now k (brought k)) p None ≡ after (k + 1) p
-  one-brought k now inside on so_far p lt = elim (cases_eq p k) [
-    | inl same ↦
-        ap (λ q. get_or (set now k (brought k)) q None) same
-        ∙ get_or-set_same now k (brought k) None inside
-        ∙ sym (ap (after (k + 1)) same ∙ rw (lt-ltb k (k + 1) (omega arith), on) refl)
-    | inr ne ↦ get_or-set_other now k p (brought k) None ne ∙ so_far p lt ∙ same-elsewhere k p ne
-  ]
+pub lane-on : (w n many lane p : ℕ) → 0 < w → p ≡ w * n + lane → lane < w → lane < many
+    → (is_lane w n many p ≡ true) × (p % w ≡ lane)
+lane-on w n many lane p pos at in_width in_lanes =
+    let here = quotient w p n pos (omega (arith, at)) (omega (arith, at, in_width)) in
+    let rest : p % w ≡ lane = omega (arith, at, (in_beat w p n here).1) in
+    (rw (eq-eqb (p / w) n here, rest, lt-ltb lane many in_lanes) refl, rest)
 
-  pub none-brought : (k : ℕ) (now : List (Option ℕ)) → test k ≡ false
-      → ((p : ℕ) → p < 64 → slice_index_or now p None ≡ after k p)
-      → (p : ℕ) → p < 64 → slice_index_or now p None ≡ after (k + 1) p
-  none-brought k now off so_far p lt = elim (cases_eq p k) [
-    | inl same ↦
-        so_far p lt ∙ ap (after k) same ∙ rw (le-ltb k k (omega arith), lt-ltb k (k + 1) (omega arith), off) refl
-        ∙ sym (ap (after (k + 1)) same)
-    | inr ne ↦ so_far p lt ∙ same-elsewhere k p ne
-  ]
+pub lane-off : (w n many p : ℕ) → 0 < w → (w * n ≤ p → p < w * n + w → ⊥) → is_lane w n many p ≡ false
+lane-off w n many p pos outside = elim (cases_eq (p / w) n) [
+  | inl here ↦
+      let within = in_beat w p n here in
+      absurd (outside within.0 (omega (arith, within.0, within.1, mod-lt p pos)))
+  | inr ne ↦ rw (ne_eqb (p / w) n ne) refl
+]
+
+-- a block that has room for one byte of a beat has room for all
+pub whole_beat : (w n p : ℕ) → IsWidth w → p < 64 → w * n ≤ p → w * n + w ≤ 64
+whole_beat w n p (inl e) lt le = omega (arith, e, ap (λ k. k * n) e, lt, le)
+whole_beat w n p (inr (inl e)) lt le = omega (arith, e, ap (λ k. k * n) e, lt, le)
+whole_beat w n p (inr (inr e)) lt le = omega (arith, e, ap (λ k. k * n) e, lt, le)
+
+pub width_positive : (w : ℕ) → IsWidth w → 0 < w
+width_positive w (inl e) = omega (arith, e)
+width_positive w (inr (inl e)) = omega (arith, e)
+width_positive w (inr (inr e)) = omega (arith, e)
+
+-- ---- what the beats of a message have brought
+
+-- of a beat that is to come nothing
+to-come : {w : ℕ} (burst : List (Beat w)) (p : ℕ) → length burst ≤ p / w → carried_byte burst p ≡ None
+unfolding carried_byte
+to-come [] p le = refl
+to-come {w} (x ∷ burst) p le =
+    rw (ne_eqb (p / w) (length burst) (λ same. omega (arith, le, same))) (to-come burst p (omega (arith, le)))
+
+-- with a beat that brings none they are the same
+pub none-brought : {w : ℕ} (carried : CarriedBytes) (x : Beat w) (burst : List (Beat w)) → KnowsCarried carried burst
+    → (if is_spoiled x then [] else lanes_of x) ≡ [] → HasBytes carried.bytes (x ∷ burst)
+unfolding carried_byte
+none-brought {w} carried x burst k none p lt = elim (cases_eq (p / w) (length burst)) [
+  | inr ne ↦ rw (ne_eqb (p / w) (length burst) ne) (k.bytes_are p lt)
+  | inl here ↦
+      k.bytes_are p lt ∙ to-come burst p (omega (arith, here))
+      ∙ sym (rw (eq-eqb (p / w) (length burst) here) (nothing (is_spoiled x) (lanes_of x) (p % w) none))
+]
+  where
+    nothing : (b : Bool) (lanes : List ℕ) (i : ℕ) → (if b then [] else lanes) ≡ []
+        → (if b then None else slice_get lanes i) ≡ None
+    nothing true lanes i e = refl
+    nothing false [] i e = refl
+    nothing false (v ∷ lanes) i e = absurd cc
+
+-- with one that isn't corrupt its lanes are put at their places
+pub lanes-brought : {w : ℕ} (old : CarriedBytes) (new : List (Option ℕ)) (x : Beat w) (burst : List (Beat w))
+    (lanes : List ℕ) → KnowsCarried old burst → is_spoiled x ≡ false → lanes ≡ lanes_of x
+    → ((p : ℕ) → p < 64 → slice_index_or new p None ≡ with_lanes w old.beats lanes old.bytes p)
+    → HasBytes new (x ∷ burst)
+unfolding carried_byte
+lanes-brought {w} old new x burst lanes k sound same put p lt =
+    put p lt ∙ rw (k.beats_are, same, sound) (elim (cases_eq (p / w) (length burst)) [
+      | inr ne ↦ rw (ne_eqb (p / w) (length burst) ne) (k.bytes_are p lt)
+      | inl here ↦
+          rw (eq-eqb (p / w) (length burst) here)
+          (past (lanes_of x) (p % w) _ (k.bytes_are p lt ∙ to-come burst p (omega (arith, here))))
+    ])
+  where
+    past : (lanes : List ℕ) (i : ℕ) (before : Option ℕ) → before ≡ None
+        → (if nat_lt i (length lanes) then slice_get lanes i else before) ≡ slice_get lanes i
+    past lanes i before none = elim (cases_lt i (length lanes)) [
+      | inl less ↦ rw (lt-ltb i (length lanes) less) refl
+      | inr more ↦ rw (le-ltb i (length lanes) more) (none ∙ sym (slice_get_past lanes i more))
+    ]

@@ -1,8 +1,9 @@
 pub mod Brought
 pub mod BytesGranted
 pub mod BytesRead
+pub mod Filled
 pub mod Finding
-pub mod Gathered
+pub mod Offered
 pub mod Pending
 pub mod Reading
 pub mod Since

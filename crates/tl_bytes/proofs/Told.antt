@@ -1,7 +1,7 @@
 -- What is kept of tellings is what each byte may be.
 use Rattle.std.proofs.Common.{◌≡◌, ℕ, zero, suc, Bool, true, false, not, ◌&&◌}
 use Rattle.std.proofs.Common.{◌+◌, ◌*◌, ◌/◌, ◌%◌, ◌<◌, ◌≤◌, List, [], ◌∷◌, ◌++◌}
-use Rattle.std.proofs.Common.{length, refl, sym, ap, ◌∙◌, arith, inl, inr}
+use Rattle.std.proofs.Common.{length, refl, sym, ap, ap₂, ◌∙◌, arith, inl, inr}
 use Rattle.std.specs.Prelude.{if◌then◌else◌, Option, Some, None, nat_lt}
 use Rattle.std.specs.Prelude.{nat_le, filter, find, ◌==◌}
 use Rattle.std.proofs.Common.{append_assoc, drop, get_or}
@@ -19,7 +19,8 @@ use Rattle.tl_burst.specs.statement.Messages.{unfinished}
 use Rattle.tl_params.specs.declared.perm.Perm.TheVariants as perm
 use Rattle.tl_rules.specs.statement.Conformance.{Trace, on_link}
 use Rattle.tl_rules.specs.statement.Windows.{is_free}
-use Rattle.tl_bytes.specs.code.Tellings.{is_written, news, renewed, stays, value_at}
+use Rattle.tl_bytes.specs.code.Tellings.{displaced, is_displaced, is_written, outlived, stays, telling_at, value_at}
+use Rattle.tl_bytes.specs.code.Tellings.{written_at}
 use Rattle.tl_bytes.specs.declared.write.Write.{Write}
 use Rattle.tl_bytes.specs.declared.block_bytes.BlockBytes.{BlockBytes}
 use Rattle.tl_bytes.specs.declared.standing.Standing.{Standing}
@@ -29,7 +30,7 @@ use Rattle.tl_bytes.specs.declared.telling.Told.{Told}
 use Rattle.tl_bytes.specs.statement.Bytes.{Access, access_writes, after_write, could_be, ends_request, is_of, may_be}
 use Rattle.tl_bytes.specs.statement.Bytes.{pending_accesses, same_value, tells, told_as, told_too, value_written}
 use Rattle.tl_bytes.specs.statement.Bytes.{windows_since, window_began, last_window, last_told}
-use Rattle.tl_bytes.specs.statement.Known.{tellings_at, KnowsBlock, AreCarried, IsWrite, standing_of}
+use Rattle.tl_bytes.specs.statement.Known.{tellings_at, tellings_of, KnowsBlock, AreCarried, IsWrite, standing_of}
 
 -- ---- the list of tellings, place by place
 
@@ -43,119 +44,127 @@ tellings-append p (x ∷ xs) ys = one (x.place == p) x.telling _ _ _ (tellings-a
     one true e all left right same = ap (λ l. e ∷ l) same
     one false e all left right same = same
 
-module _ (write : Write) (moment : ℕ) where
-  abbrev now_at : ℕ → Telling
-  now_at p = record { value = value_at write p; moment = moment }
+module _ (write : Write) (since : ℕ) where
+  -- what was told of a place that is written stays where it is told otherwise, and no sooner
+  abbrev stays_at : ℕ → Telling → Bool
+  stays_at p e = nat_le since e.moment && not (same_value e.value (value_at write p))
 
-  abbrev told_now : ℕ → Bool
-  told_now p = is_written write p
-
-  alone-at : (p : ℕ) (e : Telling) → tellings_at p (record { place = p; telling = e } ∷ []) ≡ e ∷ []
-  unfolding tellings_at
-  alone-at p e = rw (eq-eqb p p refl) refl
-
-  alone-off : (k p : ℕ) (e : Telling) → (k ≡ p → ⊥) → tellings_at p (record { place = k; telling = e } ∷ []) ≡ []
-  unfolding tellings_at
-  alone-off k p e ne = rw (ne_eqb k p ne) refl
-
-  -- of a place that isn't told of there are no news
-  pub news-none : (k p : ℕ) → told_now p ≡ false → tellings_at p (news k write moment) ≡ []
-  unfolding news tellings_at
-  news-none zero p e = refl
-  news-none (suc k) p e = elim (cases_Bool (told_now k)) [
-    | inr off ↦ rw off (news-none k p e)
-    | inl on ↦
-        rw on (tellings-append p (news k write moment) (record { place = k; telling = now_at k } ∷ [])
-        ∙ rw (news-none k p e) (alone-off k p (now_at k) (λ same. absurd (differ (sym on ∙ ap told_now same ∙ e)))))
-  ]
-    where
-      differ : true ≡ false → ⊥
-      differ e = cc
-
-  -- and of one that comes later neither
-  news-later : (k p : ℕ) → k ≤ p → tellings_at p (news k write moment) ≡ []
-  unfolding news tellings_at
-  news-later zero p le = refl
-  news-later (suc k) p le = elim (cases_Bool (told_now k)) [
-    | inr off ↦ rw off (news-later k p (omega arith))
-    | inl on ↦
-        rw on (tellings-append p (news k write moment) (record { place = k; telling = now_at k } ∷ [])
-        ∙ rw (news-later k p (omega arith)) (alone-off k p (now_at k) (λ same. omega arith)))
-  ]
-
-  -- one place more
-  pub news-told : (k : ℕ) (items before : List Told) → items ≡ before ++ news k write moment → told_now k ≡ true
-      → items ++ record { place = k; telling = now_at k } ∷ [] ≡ before ++ news (k + 1) write moment
-  unfolding news
-  news-told k items before is on =
-      rw (add-one k, on, is) (append_assoc before (news k write moment)
-      (record { place = k; telling = now_at k } ∷ []))
-
-  pub news-untold : (k : ℕ) (items before : List Told) → items ≡ before ++ news k write moment
-      → told_now k ≡ false → items ≡ before ++ news (k + 1) write moment
-  unfolding news
-  news-untold k items before is off = rw (add-one k, off) is
-
-  pub news-one : (k p : ℕ) → p < k → told_now p ≡ true → tellings_at p (news k write moment) ≡ now_at p ∷ []
-  unfolding news tellings_at
-  news-one zero p lt e = absurd (omega arith)
-  news-one (suc k) p lt e = elim (cases_eq k p) [
-    | inl same ↦
-        rw (same, e) (tellings-append p (news p write moment) (record { place = p; telling = now_at p } ∷ [])
-        ∙ rw (news-later p p (omega arith)) (alone-at p (now_at p)))
-    | inr ne ↦ elim (cases_Bool (told_now k)) [
-      | inr off ↦ rw off (news-one k p (omega arith) e)
-      | inl on ↦
-          rw on (tellings-append p (news k write moment) (record { place = k; telling = now_at k } ∷ [])
-          ∙ rw (news-one k p (omega arith) e, alone-off k p (now_at k) ne) refl)
-    ]
-  ]
-
-  -- what stays of a place that isn't told of is all
-  stays-all : (since p : ℕ) (before : List Told) → told_now p ≡ false
+  -- of a place that isn't written all stays
+  stays-all : (p : ℕ) (before : List Told) → is_written write p ≡ false
       → tellings_at p (filter (stays write since) before) ≡ tellings_at p before
   unfolding tellings_at
-  stays-all since p [] e = refl
-  stays-all since p (x ∷ before) e = elim (cases_eq x.place p) [
-    | inl same ↦ rw (same, e, eq-eqb p p refl) (ap (λ l. x.telling ∷ l) (stays-all since p before e))
+  stays-all p [] off = refl
+  stays-all p (x ∷ before) off = elim (cases_eq x.place p) [
+    | inl same ↦ rw (same, off, eq-eqb p p refl) (ap (λ l. x.telling ∷ l) (stays-all p before off))
     | inr ne ↦ elim (cases_Bool (stays write since x)) [
-      | inl stay ↦ rw (stay, ne_eqb x.place p ne) (stays-all since p before e)
-      | inr goes ↦ rw (goes, ne_eqb x.place p ne) (stays-all since p before e)
+      | inl stay ↦ rw (stay, ne_eqb x.place p ne) (stays-all p before off)
+      | inr goes ↦ rw (goes, ne_eqb x.place p ne) (stays-all p before off)
     ]
   ]
 
-  -- and of one that is, what is told otherwise, and no sooner
-  abbrev stays_at : ℕ → ℕ → Telling → Bool
-  stays_at since p e = nat_le since e.moment && not (same_value e.value (value_at write p))
-
-  stays-some : (since p : ℕ) (before : List Told) → told_now p ≡ true
-      → tellings_at p (filter (stays write since) before) ≡ filter (stays_at since p) (tellings_at p before)
+  -- and of one that is, so much
+  stays-some : (p : ℕ) (before : List Told) → is_written write p ≡ true
+      → tellings_at p (filter (stays write since) before) ≡ filter (stays_at p) (tellings_at p before)
   unfolding tellings_at
-  stays-some since p [] e = refl
-  stays-some since p (x ∷ before) e = elim (cases_eq x.place p) [
-    | inl same ↦ elim (cases_Bool (stays_at since p x.telling)) [
+  stays-some p [] on = refl
+  stays-some p (x ∷ before) on = elim (cases_eq x.place p) [
+    | inl same ↦ elim (cases_Bool (stays_at p x.telling)) [
       | inl stay ↦
-          rw (same, e, eq-eqb p p refl, stay, eq-eqb p p refl) (ap (λ l. x.telling ∷ l) (stays-some since p before e))
-      | inr goes ↦ rw (same, e, eq-eqb p p refl, goes) (stays-some since p before e)
+          rw (same, on, eq-eqb p p refl, stay, eq-eqb p p refl) (ap (λ l. x.telling ∷ l) (stays-some p before on))
+      | inr goes ↦ rw (same, on, eq-eqb p p refl, goes) (stays-some p before on)
     ]
     | inr ne ↦ elim (cases_Bool (stays write since x)) [
-      | inl stay ↦ rw (stay, ne_eqb x.place p ne) (stays-some since p before e)
-      | inr goes ↦ rw (goes, ne_eqb x.place p ne) (stays-some since p before e)
+      | inl stay ↦ rw (stay, ne_eqb x.place p ne) (stays-some p before on)
+      | inr goes ↦ rw (goes, ne_eqb x.place p ne) (stays-some p before on)
     ]
   ]
 
-  pub renewed-told : (since p : ℕ) (before : List Told) → p < 64 → told_now p ≡ true
-      → tellings_at p (renewed write moment since before)
-      ≡ now_at p ∷ filter (stays_at since p) (tellings_at p before)
-  renewed-told since p before lt on =
-      tellings-append p (news 64 write moment) (filter (stays write since) before)
-      ∙ rw (news-one 64 p lt on, stays-some since p before on) refl
+  module _ (latest : List Telling) where
+    abbrev last_at : ℕ → Told
+    last_at p = record { place = p; telling = telling_at latest p }
 
-  pub renewed-untold : (since p : ℕ) (before : List Told) → told_now p ≡ false
-      → tellings_at p (renewed write moment since before) ≡ tellings_at p before
-  renewed-untold since p before off =
-      tellings-append p (news 64 write moment) (filter (stays write since) before)
-      ∙ rw (news-none 64 p off, stays-all since p before off) refl
+    alone-at : (p : ℕ) → tellings_at p (last_at p ∷ []) ≡ telling_at latest p ∷ []
+    unfolding tellings_at
+    alone-at p = rw (eq-eqb p p refl) refl
+
+    alone-off : (k p : ℕ) → (k ≡ p → ⊥) → tellings_at p (last_at k ∷ []) ≡ []
+    unfolding tellings_at
+    alone-off k p ne = rw (ne_eqb k p ne) refl
+
+    -- of a place whose last telling isn't displaced there is none
+    displaced-none : (k p : ℕ) → is_displaced write since (last_at p) ≡ false
+        → tellings_at p (displaced k latest write since) ≡ []
+    unfolding displaced tellings_at
+    displaced-none zero p off = refl
+    displaced-none (suc k) p off = elim (cases_Bool (is_displaced write since (last_at k))) [
+      | inr stays ↦ rw stays (displaced-none k p off)
+      | inl goes ↦
+          rw goes (tellings-append p (displaced k latest write since) (last_at k ∷ [])
+          ∙ rw (displaced-none k p off) (alone-off k p (λ same.
+          absurd (differ (sym goes ∙ ap (λ q. is_displaced write since (last_at q)) same ∙ off)))))
+    ]
+      where
+        differ : true ≡ false → ⊥
+        differ e = cc
+
+    -- and of one that comes later neither
+    displaced-later : (k p : ℕ) → k ≤ p → tellings_at p (displaced k latest write since) ≡ []
+    unfolding displaced tellings_at
+    displaced-later zero p le = refl
+    displaced-later (suc k) p le = elim (cases_Bool (is_displaced write since (last_at k))) [
+      | inr stays ↦ rw stays (displaced-later k p (omega arith))
+      | inl goes ↦
+          rw goes (tellings-append p (displaced k latest write since) (last_at k ∷ [])
+          ∙ rw (displaced-later k p (omega arith)) (alone-off k p (λ same. omega arith)))
+    ]
+
+    displaced-one : (k p : ℕ) → p < k → is_displaced write since (last_at p) ≡ true
+        → tellings_at p (displaced k latest write since) ≡ telling_at latest p ∷ []
+    unfolding displaced tellings_at
+    displaced-one zero p lt on = absurd (omega arith)
+    displaced-one (suc k) p lt on = elim (cases_eq k p) [
+      | inl same ↦
+          rw (same, on) (tellings-append p (displaced p latest write since) (last_at p ∷ [])
+          ∙ rw (displaced-later p p (omega arith)) (alone-at p))
+      | inr ne ↦ elim (cases_Bool (is_displaced write since (last_at k))) [
+        | inr stays ↦ rw stays (displaced-one k p (omega arith) on)
+        | inl goes ↦
+            rw goes (tellings-append p (displaced k latest write since) (last_at k ∷ [])
+            ∙ rw (displaced-one k p (omega arith) on, alone-off k p ne) refl)
+      ]
+    ]
+
+    -- one place more
+    pub one-displaced : (k : ℕ) (items before : List Told) → items ≡ before ++ displaced k latest write since
+        → is_displaced write since (last_at k) ≡ true
+        → items ++ last_at k ∷ [] ≡ before ++ displaced (k + 1) latest write since
+    unfolding displaced
+    one-displaced k items before is goes =
+        rw (add-one k, goes, is) (append_assoc before (displaced k latest write since) (last_at k ∷ []))
+
+    pub one-stays : (k : ℕ) (items before : List Told) → items ≡ before ++ displaced k latest write since
+        → is_displaced write since (last_at k) ≡ false → items ≡ before ++ displaced (k + 1) latest write since
+    unfolding displaced
+    one-stays k items before is stays = rw (add-one k, stays) is
+
+    -- beside what is written what was told before stays as far as it outlives that
+    outlived-on : (earlier : List Told) (p : ℕ) → p < 64 → is_written write p ≡ true
+        → tellings_at p (outlived latest earlier write since)
+        ≡ filter (stays_at p) (telling_at latest p ∷ tellings_at p earlier)
+    outlived-on earlier p lt on =
+        tellings-append p (displaced 64 latest write since) (filter (stays write since) earlier)
+        ∙ elim (cases_Bool (stays_at p (telling_at latest p))) [
+          | inl stay ↦
+              rw (displaced-one 64 p lt (rw on stay), stays-some p earlier on, stay) refl
+          | inr goes ↦
+              rw (displaced-none 64 p (rw on goes), stays-some p earlier on, goes) refl
+        ]
+
+    outlived-off : (earlier : List Told) (p : ℕ) → is_written write p ≡ false
+        → tellings_at p (outlived latest earlier write since) ≡ tellings_at p earlier
+    outlived-off earlier p off =
+        tellings-append p (displaced 64 latest write since) (filter (stays write since) earlier)
+        ∙ rw (displaced-none 64 p (rw off refl), stays-all p earlier off) refl
 
 -- ---- what a byte may be
 
@@ -166,30 +175,39 @@ place-of : (block p : ℕ) → p < 64 → (64 * block + p) % 64 ≡ p
 place-of block p lt = omega arith
 
 -- a block that was told of
-pub told-is : {w : ℕ} (write : Write) (moment n block : ℕ) (b : BlockBytes) (x : Link × Beat w) (t : Trace w)
-    → b.told.items ≡ renewed write moment 0 [] → b.last ≡ Some moment
+pub told-is : {w : ℕ} (write : Write) (latest : List Telling) (moment n block : ℕ) (b : BlockBytes)
+    (x : Link × Beat w) (t : Trace w)
+    → ((p : ℕ) → p < 64 → telling_at b.latest.items p ≡ written_at latest write moment p)
     → ((p : ℕ) → p < 64 → is_written write p ≡ true)
+    → b.earlier.items ≡ [] → b.last ≡ Some moment
     → tells block x.1 (on_link x.0.0 t) ≡ true → moment ≡ length t → AreCarried write.values x t
     → KnowsBlock b n block (x ∷ t)
 unfolding may_be last_told tellings_at
-told-is write moment n block b x t items last all told now carried = record {
-  bytes_are = λ p lt. ap (tellings_at p) items
-      ∙ renewed-told write moment 0 p [] lt (all p lt)
+told-is write latest moment n block b x t last all none when told now carried = record {
+  bytes_are = λ p lt. ap₂ (λ e l. e ∷ tellings_at p l) (last p lt ∙ all-written p (all p lt)) none
       ∙ rw (block-of block p lt, place-of block p lt, told, carried p lt, now) refl;
-  last_is = rw (last, told) (ap suc now);
+  last_is = rw (when, told) (ap suc now);
 }
+  where
+    all-written : (p : ℕ) → is_written write p ≡ true
+        → written_at latest write moment p ≡ record { value = value_at write p; moment = moment }
+    all-written p on = rw on refl
 
 -- a block of which nothing was
-pub untold-is : {w : ℕ} (n block : ℕ) (b : BlockBytes) (write : Write)
-    → b.told.items ≡ renewed write 0 0 [] → b.last ≡ None
-    → ((p : ℕ) → p < 64 → is_written write p ≡ true)
-    → ((p : ℕ) → p < 64 → value_at write p ≡ None)
+pub untold-is : {w : ℕ} (n block : ℕ) (b : BlockBytes) → b.latest.items ≡ [] → b.earlier.items ≡ [] → b.last ≡ None
     → KnowsBlock {w = w} b n block []
 unfolding may_be last_told tellings_at
-untold-is n block b write items last all none = record {
-  bytes_are = λ p lt. ap (tellings_at p) items
-      ∙ renewed-told write 0 0 p [] lt (all p lt) ∙ rw (none p lt) refl;
+untold-is n block b latest none last = record {
+  bytes_are = λ p lt. ap₂ (λ e l. telling_at e p ∷ tellings_at p l) latest none;
   last_is = rw last refl;
+}
+
+-- the same bytes
+pub copy-known : {w : ℕ} (a b : BlockBytes) (n block : ℕ) (t : Trace w) → b.latest.items ≡ a.latest.items
+    → b.earlier.items ≡ a.earlier.items → b.last ≡ a.last → KnowsBlock a n block t → KnowsBlock b n block t
+copy-known a b n block t latest earlier last k = record {
+  bytes_are = λ p lt. ap₂ (λ l m. telling_at l p ∷ tellings_at p m) latest earlier ∙ k.bytes_are p lt;
+  last_is = rw last k.last_is;
 }
 
 -- what a byte may be when an access was answered that writes it, by how that stands
@@ -251,10 +269,10 @@ once since value (e ∷ before) = elim (cases_Bool (nat_le since e.moment)) [
 pub written-is : {w : ℕ} (write : Write) (moment n block : ℕ) (s : Standing)
     (old new : BlockBytes) (link : Link) (y : BeatD w) (access : Access w) (t : Trace w)
     → new.last ≡ old.last
-    → ((p : ℕ) → p < 64 → tellings_at p new.told.items
+    → ((p : ℕ) → p < 64 → tellings_of new p
     ≡ (if is_written write p
-    then by_standing s (record { value = value_at write p; moment = moment }) (tellings_at p old.told.items)
-    else tellings_at p old.told.items))
+    then by_standing s (record { value = value_at write p; moment = moment }) (tellings_of old p)
+    else tellings_of old p))
     → KnowsBlock old n block t → tells block (beat.D y) (on_link link.0 t) ≡ false
     → ends_request y (on_link link.0 t) ≡ true → find (is_of link.0 y.source) (pending_accesses t) ≡ Some access
     → s ≡ standing_of n block access t → moment ≡ length t
@@ -277,37 +295,41 @@ written-is write moment n block s old new link y access t last items k quiet end
     where_written true u v s m before e = ap (λ z. by_standing s (record { value = z; moment = m }) before) (e refl)
     where_written false u v s m before e = refl
 
--- the tellings of a place, renewed
-pub renewed-within : (write : Write) (moment since p : ℕ) (before : List Told) → p < 64
-    → tellings_at p (renewed write moment since before)
+-- what is kept of a place with what is written in the one window that has been open since a moment
+pub written-within : (write : Write) (moment since p : ℕ) (old new : BlockBytes) → p < 64
+    → telling_at new.latest.items p ≡ written_at old.latest.items write moment p
+    → new.earlier.items ≡ outlived old.latest.items old.earlier.items write since
+    → tellings_of new p
     ≡ (if is_written write p
-    then by_standing (standing.Within since) (record { value = value_at write p; moment = moment })
-    (tellings_at p before)
-    else tellings_at p before)
-renewed-within write moment since p before lt = elim (cases_Bool (is_written write p)) [
-  | inr off ↦ renewed-untold write moment since p before off ∙ sym (rw off refl)
-  | inl on ↦
-      renewed-told write moment since p before lt on
-      ∙ ap (λ l. record { value = value_at write p; moment = moment } ∷ l)
-      (once since (value_at write p) (tellings_at p before))
-      ∙ sym (rw on refl)
-]
+    then by_standing (standing.Within since) (record { value = value_at write p; moment = moment }) (tellings_of old p)
+    else tellings_of old p)
+written-within write moment since p old new lt latest earlier =
+    ap₂ (λ e l. e ∷ tellings_at p l) latest earlier ∙ elim (cases_Bool (is_written write p)) [
+      | inr off ↦
+          rw off (ap (λ l. telling_at old.latest.items p ∷ l) (outlived-off write since old.latest.items old.earlier.items p off))
+      | inl on ↦
+          rw on (ap (λ l. record { value = value_at write p; moment = moment } ∷ l)
+          (outlived-on write since old.latest.items old.earlier.items p lt on
+          ∙ once since (value_at write p) (telling_at old.latest.items p ∷ tellings_at p old.earlier.items)))
+    ]
 
 all-later : (before : List Telling) → filter (λ e. nat_le 0 e.moment) before ≡ before
 all-later [] = refl
 all-later (e ∷ before) = rw (leb-zero e.moment) (ap (λ l. e ∷ l) (all-later before))
 
-pub renewed-anywhere : (write : Write) (moment p : ℕ) (before : List Told) → p < 64
-    → tellings_at p (renewed write moment 0 before)
+-- and at any moment
+pub written-anywhere : (write : Write) (moment p : ℕ) (old new : BlockBytes) → p < 64
+    → telling_at new.latest.items p ≡ written_at old.latest.items write moment p
+    → new.earlier.items ≡ outlived old.latest.items old.earlier.items write 0
+    → tellings_of new p
     ≡ (if is_written write p
-    then by_standing standing.Anywhere (record { value = value_at write p; moment = moment })
-    (tellings_at p before)
-    else tellings_at p before)
-renewed-anywhere write moment p before lt =
-    renewed-within write moment 0 p before lt
+    then by_standing standing.Anywhere (record { value = value_at write p; moment = moment }) (tellings_of old p)
+    else tellings_of old p)
+written-anywhere write moment p old new lt latest earlier =
+    written-within write moment 0 p old new lt latest earlier
     ∙ ap (λ (l : List Telling). if is_written write p
     then told_too (record { value = value_at write p; moment = moment }) l
-    else tellings_at p before) (all-later (tellings_at p before))
+    else tellings_of old p) (all-later (tellings_of old p))
 
 pub kept-told : {X : Type 0} (b : Bool) (x : X) → x ≡ (if b then x else x)
 kept-told true x = refl

@@ -1,7 +1,7 @@
 //! What the bytes of a block may be.
 
 ghost use Rattle.std.specs.Prelude.{ℕ, Bool, true, false, [], ◌∷◌, ◌++◌, ◌+◌, ◌*◌, ◌<◌, ◌≡◌, List, Option, Some, None};
-ghost use Rattle.std.specs.Prelude.{filter, find, length, IfOk, OnOk, OnErr};
+ghost use Rattle.std.specs.Prelude.{filter, find, length, IfOk};
 ghost use Rattle.tl_beat.specs.declared.beat.Beat.{Beat};
 ghost use Rattle.tl_beat.specs.declared.beat.Beat.TheVariants as beat;
 ghost use Rattle.tl_beat.specs.declared.beat.BeatD.{BeatD};
@@ -13,8 +13,8 @@ ghost use Rattle.tl_bytes.specs.statement.Bytes as bytes;
 ghost use Rattle.tl_bytes.specs.statement.Bytes.{Access, ends_request, is_of, pending_accesses, tells, told_as};
 
 use crate::standing::Standing;
-use crate::telling::Told;
-use crate::tellings::{is_told_as, renewed};
+use crate::telling::{Telling, Told, could_be};
+use crate::tellings::{is_told_as, last_at, latest_with, outlived};
 use crate::windows::{WindowCount, WritingWindows};
 use crate::write::{Write, is_left_as};
 use std::alloc::{AllocError, Global};
@@ -22,7 +22,10 @@ use std::alloc::{AllocError, Global};
 /// What the bytes of one block may be, and when they were last told.
 #[derive(Drop)]
 pub struct BlockBytes {
-    pub(crate) told: Vec<Told>,
+    /// What each byte was told to be last; none before that.
+    pub(crate) latest: Vec<Telling>,
+    /// What it may be beside that, the last told first.
+    pub(crate) earlier: Vec<Told>,
     /// How many beats had been taken before the one with which a Grant, or data given back, last told of
     /// the block; none where that never was.
     last: Option<u64>,
@@ -33,25 +36,26 @@ impl BlockBytes {
     ghost use Rattle.tl_bytes.specs.statement.Known.{MayWrite, standing_of, windowed};
 
     /// A block of which nothing was told: its bytes may be anything.
-    pub fn new(alloc: Global) -> Result<Self, AllocError>
-        ensures { IfOk result (λ b. (w n block : ℕ) → KnowsBlock {w = w} b n block []) }
+    pub fn new(alloc: Global) -> Self
+        ensures { (w n block : ℕ) → KnowsBlock {w = w} result n block [] }
     {
-        let write = Write {
-            places: [true; 64],
-            values: [None; 64],
-        };
-        let told = renewed(alloc, &write, 0, 0, &[])?;
-        Ok(BlockBytes { told, last: None })
+        BlockBytes {
+            latest: Vec::new(alloc),
+            earlier: Vec::new(alloc),
+            last: None,
+        }
     }
 
     /// The same.
     pub fn copy(&self, alloc: Global) -> Result<Self, AllocError>
-        ensures told { IfOk result (λ b. b.told.items ≡ self.now.told.items) }
-        ensures last { IfOk result (λ b. b.last ≡ self.now.last) }
+        ensures { IfOk result (λ b. (w n block : ℕ) (t : Trace w) → KnowsBlock self.now n block t →
+            KnowsBlock b n block t) }
     {
-        let told = Vec::from_slice(alloc, self.told.as_slice())?;
+        let latest = Vec::from_slice(alloc, self.latest.as_slice())?;
+        let earlier = Vec::from_slice(alloc, self.earlier.as_slice())?;
         Ok(BlockBytes {
-            told,
+            latest,
+            earlier,
             last: self.last,
         })
     }
@@ -61,7 +65,8 @@ impl BlockBytes {
         ensures { (w n block : ℕ) (t : Trace w) → KnowsBlock self.now n block t → place < 64 →
             result ≡ told_as byte (bytes.may_be n (64 * block + place) t) }
     {
-        is_told_as(self.told.as_slice(), place, byte)
+        let last = last_at(self.latest.as_slice(), place);
+        could_be(byte, last.value) || is_told_as(self.earlier.as_slice(), place, byte)
     }
 
     /// Whether this byte may be granted at a place, beside what accesses that are pending, and have had a
@@ -92,53 +97,54 @@ impl BlockBytes {
         }
     }
 
-    /// Takes the bytes that are granted or given back with a beat before which so many were taken; none is
-    /// for one that may be anything. Without memory nothing changes.
-    pub fn tell(
-        &mut self,
-        alloc: Global,
-        values: &[Option<u8>; 64],
-        moment: u64,
-    ) -> Result<(), AllocError>
-        ensures told { OnOk result ((w n block : ℕ) (x : Link × Beat w) (t : Trace w) →
+    /// What is told by the bytes that are granted or given back with a beat before which so many were taken;
+    /// none is for one that may be anything.
+    pub fn told(alloc: Global, values: &[Option<u8>; 64], moment: u64) -> Result<Self, AllocError>
+        ensures { IfOk result (λ b. (w n block : ℕ) (x : Link × Beat w) (t : Trace w) →
             tells block x.1 (on_link x.0.0 t) ≡ true → moment ≡ length t → AreCarried values.now x t →
-            KnowsBlock self.new n block (x ∷ t)) }
-        ensures unchanged { OnErr result (self.new ≡ self.old) }
+            KnowsBlock b n block (x ∷ t)) }
     {
         let write = Write {
             places: [true; 64],
             values: *values,
         };
-        self.told = renewed(alloc, &write, moment, 0, &[])?;
-        self.last = Some(moment);
-        Ok(())
+        let latest = latest_with(&[], &write, moment);
+        Ok(BlockBytes {
+            latest: Vec::from_slice(alloc, &latest)?,
+            earlier: Vec::new(alloc),
+            last: Some(moment),
+        })
     }
 
-    /// Takes the bytes that an access leaves in the block, whose answer is complete with a beat before
-    /// which so many were taken. Without memory nothing changes.
-    pub fn write(
-        &mut self,
+    /// It with the bytes that an access leaves in the block, whose answer is complete with a beat before which
+    /// so many were taken.
+    pub fn with(
+        &self,
         alloc: Global,
         write: &Write,
         standing: Standing,
         moment: u64,
-    ) -> Result<(), AllocError>
-        ensures written { OnOk result ((w n block : ℕ) (link : Link) (y : BeatD w) (access : Access w) (t : Trace w) →
-            KnowsBlock self.old n block t →
+    ) -> Result<Self, AllocError>
+        ensures { IfOk result (λ b. (w n block : ℕ) (link : Link) (y : BeatD w) (access : Access w) (t : Trace w) →
+            KnowsBlock self.now n block t →
             tells block (beat.D y) (on_link link.0 t) ≡ false →
             ends_request y (on_link link.0 t) ≡ true →
             find (is_of link.0 y.source) (pending_accesses t) ≡ Some access →
             standing ≡ standing_of n block access t → moment ≡ length t →
             IsWrite write.now block access (beat.D y ∷ unfinished channel.D (on_link link.0 t)) →
-            KnowsBlock self.new n block ((link, beat.D y) ∷ t)) }
-        ensures unchanged { OnErr result (self.new ≡ self.old) }
+            KnowsBlock b n block ((link, beat.D y) ∷ t)) }
     {
         let since = match standing {
-            Standing::Told => return Ok(()),
+            Standing::Told => return self.copy(alloc),
             Standing::Within(began) => began,
             Standing::Anywhere => 0,
         };
-        self.told = renewed(alloc, write, moment, since, self.told.as_slice())?;
-        Ok(())
+        let latest = latest_with(self.latest.as_slice(), write, moment);
+        let earlier = self.earlier.as_slice();
+        Ok(BlockBytes {
+            latest: Vec::from_slice(alloc, &latest)?,
+            earlier: outlived(alloc, self.latest.as_slice(), earlier, write, since)?,
+            last: self.last,
+        })
     }
 }

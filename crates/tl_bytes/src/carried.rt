@@ -1,29 +1,12 @@
 //! The bytes that the beats of a message bring.
 
-ghost use Rattle.std.specs.Prelude.{ℕ, [], ◌∷◌, ◌<◌, ◌≡◌, List, None, if◌then◌else◌, length, slice_get};
+ghost use Rattle.std.specs.Prelude.{ℕ, [], ◌∷◌, ◌<◌, ◌≡◌, List, None, length, slice_index_or, unwrap_or};
 ghost use Rattle.tl_beat.specs.declared.beat.Beat.{Beat};
 ghost use Rattle.tl_beat.specs.statement.Width.{IsWidth};
-ghost use Rattle.tl_rules.specs.statement.Admission as admission;
+ghost use Rattle.tl_bytes.specs.code.Carried.{with_lanes};
 
 use tl_beat::beat::Beat;
 use tl_rules::admission::is_spoiled;
-
-/// The byte that a beat brings on a lane, where it brings data that aren't corrupt.
-fn brought<const W: usize>(beat: &Beat<W>, lane: usize) -> Option<u8>
-    ensures { result ≡ (if admission.is_spoiled beat.now then None else slice_get (admission.lanes_of beat.now) lane) }
-{
-    if is_spoiled(beat) {
-        return None;
-    }
-    let lanes = match beat {
-        Beat::A(x) => x.lanes?,
-        Beat::B(x) => x.lanes?,
-        Beat::C(x) => x.lanes?,
-        Beat::D(x) => x.lanes?,
-        Beat::E(_) => return None,
-    };
-    lanes.get(lane).copied()
-}
 
 /// The bytes that the beats of a message have brought so far, each at its place in the block; none where
 /// its beat is to come, or was corrupt.
@@ -46,17 +29,61 @@ impl CarriedBytes {
         }
     }
 
+    /// Puts the bytes of one more beat at their places; a block has no room for more than its own.
+    fn put<const W: usize>(&mut self, lanes: &[u8; W])
+        requires { IsWidth W }
+        ensures beats { self.new.beats ≡ self.old.beats }
+        ensures bytes { (place : ℕ) → place < 64 → slice_index_or self.new.bytes place None
+            ≡ with_lanes W self.old.beats lanes.now self.old.bytes place }
+    {
+        let first = W.saturating_mul(self.beats);
+        let end = first.saturating_add(W);
+        if end > 64 {
+            return;
+        }
+        for lane in 0..W {
+            self.bytes[first + lane] = Some(lanes[lane]);
+        }
+    }
+
+    /// Puts those of data, where a beat has any.
+    fn put_data<const W: usize>(&mut self, lanes: &Option<[u8; W]>)
+        requires { IsWidth W }
+        ensures beats { self.new.beats ≡ self.old.beats }
+        ensures bytes { (place : ℕ) → place < 64 → slice_index_or self.new.bytes place None
+            ≡ with_lanes W self.old.beats (unwrap_or lanes.now []) self.old.bytes place }
+    {
+        if let Some(lanes) = lanes {
+            self.put(lanes);
+        }
+    }
+
+    /// Puts those of a beat that isn't corrupt.
+    fn bring<const W: usize>(&mut self, beat: &Beat<W>)
+        requires { IsWidth W }
+        ensures beats { self.new.beats ≡ self.old.beats }
+        ensures bytes { (burst : List (Beat W)) → KnowsCarried self.old burst →
+            HasBytes self.new.bytes (beat.now ∷ burst) }
+    {
+        if is_spoiled(beat) {
+            return;
+        }
+        match beat {
+            Beat::A(x) => self.put_data(&x.lanes),
+            Beat::B(x) => self.put_data(&x.lanes),
+            Beat::C(x) => self.put_data(&x.lanes),
+            Beat::D(x) => self.put_data(&x.lanes),
+            Beat::E(_) => {}
+        }
+    }
+
     /// Adds those of the next beat.
     pub fn add<const W: usize>(&mut self, beat: &Beat<W>)
         requires { IsWidth W }
         ensures { (burst : List (Beat W)) → KnowsCarried self.old burst → length burst < 64 →
             KnowsCarried self.new (beat.now ∷ burst) }
     {
-        for place in 0..64usize {
-            if place / W == self.beats {
-                self.bytes[place] = brought(beat, place % W);
-            }
-        }
+        self.bring(beat);
         self.beats = self.beats.saturating_add(1);
     }
 

@@ -1,27 +1,139 @@
 //! What a read may bring.
 
-ghost use Rattle.std.specs.Prelude.{ℕ, suc, [], ◌∷◌, ◌+◌, ◌*◌, ◌<◌, ◌≤◌, ◌≡◌, List, length, IfOk, OnOk, OnErr};
+ghost use Rattle.std.specs.Prelude.{ℕ, suc, [], ◌∷◌, ◌+◌, ◌*◌, ◌<◌, ◌≤◌, ◌≡◌, ◌==◌, ◌&&◌, ◌||◌, List, None, length};
+ghost use Rattle.std.specs.Prelude.{IfOk, OnOk, slice_index_or};
 ghost use Rattle.tl_beat.specs.declared.beat.Beat.{Beat};
 ghost use Rattle.tl_beat.specs.declared.beat.Link.{Link};
 ghost use Rattle.tl_rules.specs.statement.Conformance.{Trace};
-ghost use Rattle.tl_bytes.specs.statement.Bytes.{Access, may_read, told_as};
+ghost use Rattle.tl_bytes.specs.code.Tellings.{leaves, left_as, telling_at};
+ghost use Rattle.tl_bytes.specs.code.Possible as code;
+ghost use Rattle.tl_bytes.specs.statement.Bytes.{Access, could_be, may_read, told_as};
+ghost use Rattle.tl_bytes.specs.statement.Known as known;
+ghost use Rattle.tl_bytes.specs.statement.Known.{tellings_at, tellings_of};
 
 use crate::block_bytes::BlockBytes;
-use crate::telling::Told;
-use crate::tellings::{gathered, is_told_as};
+use crate::telling::{Possible, Telling, Told, could_be, covers};
+use crate::tellings::{last_at, values_of};
 use crate::write::Write;
 use std::alloc::{AllocError, Global};
+
+/// The bytes of a block.
+const BLOCK_BYTES: u8 = 64;
+
+/// Whether one of these lets the byte at a place be all that this value may.
+fn is_covered(possible: &[Possible], place: u8, value: Option<u8>) -> bool
+    ensures { result ≡ code.is_covered place value possible.now }
+{
+    for other in possible {
+        if other.place == place && covers(other.value, value) {
+            return true;
+        }
+    }
+    false
+}
+
+/// Whether one of these lets the byte at a place be this one.
+fn is_listed(possible: &[Possible], place: u8, byte: u8) -> bool
+    ensures { result ≡ known.is_listed place byte possible.now }
+{
+    for other in possible {
+        if other.place == place && could_be(byte, other.value) {
+            return true;
+        }
+    }
+    false
+}
 
 /// What an access that reads may bring of its block: all that each byte may have been since its request
 /// was complete.
 #[derive(Drop)]
 pub struct ReadBytes {
-    told: Vec<Told>,
+    /// What each byte might be at first.
+    first: Vec<Option<u8>>,
+    /// What else.
+    more: Vec<Possible>,
 }
 
 impl ReadBytes {
-    ghost use Rattle.tl_bytes.specs.statement.Known.{KnowsBlock, KnowsGrant, KnowsRead, MayWrite, others};
-    ghost use Rattle.tl_bytes.specs.statement.Known.{tellings_at, windowed};
+    ghost use Rattle.tl_bytes.specs.statement.Known.{KnowsBlock, KnowsGrant, KnowsRead, MayWrite, may_bring};
+    ghost use Rattle.tl_bytes.specs.statement.Known.{others, windowed};
+
+    /// What the byte at a place might be at first.
+    fn first_at(&self, place: u8) -> Option<u8>
+        ensures { result ≡ slice_index_or self.now.first.items place None }
+    {
+        match self.first.as_slice().get(usize::from(place)) {
+            Some(value) => *value,
+            None => None,
+        }
+    }
+
+    /// Whether it may bring all of a place that this value may be.
+    fn has(&self, place: u8, value: Option<u8>) -> bool
+        ensures { result ≡ code.has self.now place value }
+    {
+        covers(self.first_at(place), value) || is_covered(self.more.as_slice(), place, value)
+    }
+
+    /// Adds what the byte at a place may be.
+    fn offer(&mut self, place: u8, value: Option<u8>) -> Result<(), AllocError>
+        ensures { OnOk result ((at byte : ℕ) → may_bring self.new at byte
+            ≡ (may_bring self.old at byte || ((place == at) && could_be byte value))) }
+    {
+        if self.has(place, value) {
+            return Ok(());
+        }
+        self.more.push(Possible { place, value })?;
+        Ok(())
+    }
+
+    /// Adds what was told last.
+    fn offer_latest(&mut self, latest: &[Telling]) -> Result<(), AllocError>
+        ensures { OnOk result ((at byte : ℕ) → at < 64 → may_bring self.new at byte
+            ≡ (may_bring self.old at byte || could_be byte (telling_at latest.now at).value)) }
+    {
+        for place in 0..BLOCK_BYTES {
+            self.offer(place, last_at(latest, place).value)?;
+        }
+        Ok(())
+    }
+
+    /// Adds what was told before that.
+    fn offer_earlier(&mut self, earlier: &[Told]) -> Result<(), AllocError>
+        ensures { OnOk result ((at byte : ℕ) → may_bring self.new at byte
+            ≡ (may_bring self.old at byte || told_as byte (tellings_at at earlier.now))) }
+    {
+        for told in earlier {
+            self.offer(told.place, told.telling.value)?;
+        }
+        Ok(())
+    }
+
+    /// Adds what each of these writes.
+    fn offer_writes(&mut self, writes: &[Write]) -> Result<(), AllocError>
+        ensures { OnOk result ((at byte : ℕ) → at < 64 → may_bring self.new at byte
+            ≡ (may_bring self.old at byte || left_as at byte writes.now)) }
+    {
+        for write in writes {
+            self.write(write)?;
+        }
+        Ok(())
+    }
+
+    /// What the block's bytes may be, and what these write.
+    fn gathered(alloc: Global, block: &BlockBytes, writes: &[Write]) -> Result<Self, AllocError>
+        ensures { IfOk result (λ read. (at byte : ℕ) → at < 64 → may_bring read at byte
+            ≡ (told_as byte (tellings_of block.now at) || left_as at byte writes.now)) }
+    {
+        let first = values_of(block.latest.as_slice());
+        let mut read = ReadBytes {
+            first: Vec::from_slice(alloc, &first)?,
+            more: Vec::new(alloc),
+        };
+        read.offer_earlier(block.earlier.as_slice())?;
+        read.offer_writes(writes)?;
+        Ok(read)
+    }
 
     /// What it may bring at the moment at which its request is complete: what the block's bytes may be,
     /// and what the other accesses that are pending may write.
@@ -30,8 +142,7 @@ impl ReadBytes {
             KnowsBlock block.now n number (x ∷ t) → MayWrite writes.now number (others access (x ∷ t)) →
             access.asked ≡ suc (length t) → KnowsRead read n number access (x ∷ t)) }
     {
-        let told = gathered(alloc, block.told.as_slice(), writes, &[])?;
-        Ok(ReadBytes { told })
+        ReadBytes::gathered(alloc, block, writes)
     }
 
     /// What may be granted.
@@ -39,41 +150,48 @@ impl ReadBytes {
         ensures { IfOk result (λ read. (w n number : ℕ) (t : Trace w) → KnowsBlock block.now n number t →
             MayWrite writes.now number (windowed n number t) → KnowsGrant read n number t) }
     {
-        let told = gathered(alloc, block.told.as_slice(), writes, &[])?;
-        Ok(ReadBytes { told })
+        ReadBytes::gathered(alloc, block, writes)
     }
 
     /// The same.
     pub fn copy(&self, alloc: Global) -> Result<Self, AllocError>
-        ensures { IfOk result (λ read. read.told.items ≡ self.now.told.items) }
+        ensures { IfOk result (λ read. (place byte : ℕ) →
+            may_bring read place byte ≡ may_bring self.now place byte) }
     {
-        let told = Vec::from_slice(alloc, self.told.as_slice())?;
-        Ok(ReadBytes { told })
+        let first = Vec::from_slice(alloc, self.first.as_slice())?;
+        let more = Vec::from_slice(alloc, self.more.as_slice())?;
+        Ok(ReadBytes { first, more })
     }
 
-    /// Adds what it may bring with one more beat. Without memory nothing changes.
-    pub fn add(
-        &mut self,
-        alloc: Global,
-        block: &BlockBytes,
-        writes: &[Write],
-    ) -> Result<(), AllocError>
-        ensures added { OnOk result ((w n number : ℕ) (access : Access w) (x : Link × Beat w) (t : Trace w) →
-            KnowsRead self.old n number access t → access.asked ≤ length t →
-            KnowsBlock block.now n number (x ∷ t) → MayWrite writes.now number (others access (x ∷ t)) →
-            KnowsRead self.new n number access (x ∷ t)) }
-        ensures unchanged { OnErr result (self.new ≡ self.old) }
+    /// Adds what is told of the block. Without memory it may have some of that.
+    pub fn tell(&mut self, block: &BlockBytes) -> Result<(), AllocError>
+        ensures { OnOk result ((at byte : ℕ) → at < 64 → may_bring self.new at byte
+            ≡ (may_bring self.old at byte || told_as byte (tellings_of block.now at))) }
     {
-        self.told = gathered(alloc, block.told.as_slice(), writes, self.told.as_slice())?;
+        self.offer_latest(block.latest.as_slice())?;
+        self.offer_earlier(block.earlier.as_slice())?;
+        Ok(())
+    }
+
+    /// Adds what is written. Without memory it may have some of that.
+    pub fn write(&mut self, write: &Write) -> Result<(), AllocError>
+        ensures { OnOk result ((at byte : ℕ) → at < 64 → may_bring self.new at byte
+            ≡ (may_bring self.old at byte || leaves at byte write.now)) }
+    {
+        for place in 0..BLOCK_BYTES {
+            if write.writes(place) {
+                self.offer(place, write.value(place))?;
+            }
+        }
         Ok(())
     }
 
     /// Whether it may bring this byte of a place.
     pub fn may_bring(&self, place: u8, byte: u8) -> bool
-        ensures told { result ≡ told_as byte (tellings_at place self.now.told.items) }
+        ensures told { result ≡ may_bring self.now place byte }
         ensures read { (w n number : ℕ) (access : Access w) (t : Trace w) → KnowsRead self.now n number access t →
             place < 64 → result ≡ may_read n access t (64 * number + place) byte }
     {
-        is_told_as(self.told.as_slice(), place, byte)
+        could_be(byte, self.first_at(place)) || is_listed(self.more.as_slice(), place, byte)
     }
 }

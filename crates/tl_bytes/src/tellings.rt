@@ -1,7 +1,8 @@
-//! Lists of what is told of the bytes of a block.
+//! What was told of the bytes of a block: of each what was told last, and what it may be beside that.
 
-ghost use Rattle.std.specs.Prelude.{ℕ, [], ◌∷◌, ◌++◌, ◌<◌, ◌≡◌, ◌||◌, List, IfOk, OnOk, filter, find, is_some, not};
-ghost use Rattle.tl_bytes.specs.code.Tellings.{covers, is_covered, left_as, news, renewed, stays, told_by};
+ghost use Rattle.std.specs.Prelude.{ℕ, ◌∷◌, ◌++◌, ◌<◌, ◌≡◌, List, None, IfOk, OnOk, filter, is_some, slice_index_or};
+ghost use Rattle.tl_bytes.specs.code.Tellings.{displaced, is_displaced, outlived, outlives, stays, telling_at};
+ghost use Rattle.tl_bytes.specs.code.Tellings.{written_at};
 ghost use Rattle.tl_bytes.specs.statement.Bytes.{told_as};
 ghost use Rattle.tl_bytes.specs.statement.Known.{tellings_at};
 
@@ -12,32 +13,67 @@ use std::alloc::{AllocError, Global};
 /// The bytes of a block.
 const BLOCK_BYTES: u8 = 64;
 
-/// Tells of the places that are written, behind what was told of others.
-fn tell_news(told: &mut Vec<Told>, write: &Write, moment: u64) -> Result<(), AllocError>
-    ensures { OnOk result (told.new.items ≡ told.old.items ++ news 64 write.now moment) }
+/// What was told last of a place: anything where there is nothing.
+pub fn last_at(latest: &[Telling], place: u8) -> Telling
+    ensures { result ≡ telling_at latest.now place }
 {
-    for place in 0..BLOCK_BYTES {
-        let n = usize::from(place);
-        if write.places[n] {
-            let telling = Telling {
-                value: write.values[n],
-                moment,
-            };
-            told.push(Told { place, telling })?;
-        }
+    match latest.get(usize::from(place)) {
+        Some(telling) => *telling,
+        None => Telling {
+            value: None,
+            moment: 0,
+        },
     }
-    Ok(())
 }
 
-/// Whether what was told stays beside what is written.
+/// Whether what was told of a place that is written stays beside that.
+fn outlives(write: &Write, since: u64, told: &Told) -> bool
+    ensures { result ≡ outlives write.now since told.now }
+{
+    since <= told.telling.moment && !same_value(told.telling.value, write.value(told.place))
+}
+
+/// Whether what was told of a place stays beside what is written.
 fn stays(write: &Write, since: u64, told: &Told) -> bool
     ensures { result ≡ stays write.now since told.now }
 {
-    let n = usize::from(told.place);
-    if n >= write.places.len() || !write.places[n] {
-        return true;
+    if write.writes(told.place) {
+        outlives(write, since, told)
+    } else {
+        true
     }
-    since <= told.telling.moment && !same_value(told.telling.value, write.values[n])
+}
+
+/// Whether what was told last of a place stays, and isn't what was told last any more.
+fn is_displaced(write: &Write, since: u64, told: &Told) -> bool
+    ensures { result ≡ is_displaced write.now since told.now }
+{
+    if write.writes(told.place) {
+        outlives(write, since, told)
+    } else {
+        false
+    }
+}
+
+/// Appends what was told last of the places that are written, where it stays.
+fn displace(
+    told: &mut Vec<Told>,
+    latest: &[Telling],
+    write: &Write,
+    since: u64,
+) -> Result<(), AllocError>
+    ensures { OnOk result (told.new.items ≡ told.old.items ++ displaced 64 latest.now write.now since) }
+{
+    for place in 0..BLOCK_BYTES {
+        let last = Told {
+            place,
+            telling: last_at(latest, place),
+        };
+        if is_displaced(write, since, &last) {
+            told.push(last)?;
+        }
+    }
+    Ok(())
 }
 
 /// Appends what stays of what was told.
@@ -52,20 +88,60 @@ fn keep(told: &mut Vec<Told>, write: &Write, since: u64, before: &[Told]) -> Res
     Ok(())
 }
 
-/// What is written, and what stays of what was told before.
-pub fn renewed(
+/// What the bytes may be beside what is told last of them with what is written.
+pub fn outlived(
     alloc: Global,
+    latest: &[Telling],
+    earlier: &[Told],
     write: &Write,
-    moment: u64,
     since: u64,
-    before: &[Told],
 ) -> Result<Vec<Told>, AllocError>
-    ensures { IfOk result (λ told. told.items ≡ renewed write.now moment since before.now) }
+    ensures { IfOk result (λ told. told.items ≡ outlived latest.now earlier.now write.now since) }
 {
     let mut told = Vec::new(alloc);
-    tell_news(&mut told, write, moment)?;
-    keep(&mut told, write, since, before)?;
+    displace(&mut told, latest, write, since)?;
+    keep(&mut told, write, since, earlier)?;
     Ok(told)
+}
+
+/// What is told last of a place with what is written at this moment.
+fn written_at(latest: &[Telling], write: &Write, moment: u64, place: u8) -> Telling
+    ensures { result ≡ written_at latest.now write.now moment place }
+{
+    if write.writes(place) {
+        Telling {
+            value: write.value(place),
+            moment,
+        }
+    } else {
+        last_at(latest, place)
+    }
+}
+
+/// What is told last of all places with what is written at this moment.
+pub fn latest_with(latest: &[Telling], write: &Write, moment: u64) -> [Telling; 64]
+    ensures { (place : ℕ) → place < 64 →
+        telling_at result place ≡ written_at latest.now write.now moment place }
+{
+    let mut all = [Telling {
+        value: None,
+        moment: 0,
+    }; 64];
+    for place in 0..BLOCK_BYTES {
+        all[usize::from(place)] = written_at(latest, write, moment, place);
+    }
+    all
+}
+
+/// What was told last of all places.
+pub fn values_of(latest: &[Telling]) -> [Option<u8>; 64]
+    ensures { (place : ℕ) → place < 64 → slice_index_or result place None ≡ (telling_at latest.now place).value }
+{
+    let mut values = [None; 64];
+    for place in 0..BLOCK_BYTES {
+        values[usize::from(place)] = last_at(latest, place).value;
+    }
+    values
 }
 
 /// Whether the byte at a place may be this one, by what is told.
@@ -78,71 +154,4 @@ pub fn is_told_as(told: &[Told], place: u8, byte: u8) -> bool
         }
     }
     false
-}
-
-/// Whether one telling lets its byte be all that another does.
-fn covers(one: &Told, other: &Told) -> bool
-    ensures { result ≡ covers one.now other.now }
-{
-    if one.place != other.place {
-        return false;
-    }
-    match one.telling.value {
-        None => true,
-        Some(value) => other.telling.value == Some(value),
-    }
-}
-
-/// Whether one of these tellings does.
-fn is_covered(told: &[Told], other: &Told) -> bool
-    ensures { result ≡ is_covered told.now other.now }
-{
-    for telling in told {
-        if covers(telling, other) {
-            return true;
-        }
-    }
-    false
-}
-
-/// Appends what was told before and isn't covered by what is told now.
-fn append_uncovered(told: &mut Vec<Told>, now: &[Told], before: &[Told]) -> Result<(), AllocError>
-    ensures { OnOk result (told.new.items ≡ told.old.items ++ filter (λ x. not (is_covered now.now x)) before.now) }
-{
-    for telling in before {
-        if !is_covered(now, telling) {
-            told.push(*telling)?;
-        }
-    }
-    Ok(())
-}
-
-/// Appends what each of these writes.
-fn append_writes(told: &mut Vec<Told>, writes: &[Write]) -> Result<(), AllocError>
-    ensures { OnOk result (told.new.items ≡ told.old.items ++ told_by writes.now) }
-{
-    for write in writes {
-        tell_news(told, write, 0)?;
-    }
-    Ok(())
-}
-
-/// What is told now, what is being written, and what was told before.
-pub fn gathered(
-    alloc: Global,
-    told: &[Told],
-    writes: &[Write],
-    before: &[Told],
-) -> Result<Vec<Told>, AllocError>
-    ensures { IfOk result (λ all. (place byte : ℕ) → place < 64 → told_as byte (tellings_at place all.items)
-        ≡ (told_as byte (tellings_at place told.now)
-        || (left_as place byte writes.now || told_as byte (tellings_at place before.now)))) }
-{
-    let mut now = Vec::new(alloc);
-    now.extend_from_slice(told)?;
-    append_writes(&mut now, writes)?;
-    let mut all = Vec::new(alloc);
-    all.extend_from_slice(now.as_slice())?;
-    append_uncovered(&mut all, now.as_slice(), before)?;
-    Ok(all)
 }

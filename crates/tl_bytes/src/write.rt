@@ -1,7 +1,7 @@
 //! What an access writes in a block.
 
 ghost use Rattle.std.specs.Prelude.{◌≡◌};
-ghost use Rattle.tl_bytes.specs.code.Tellings.{leaves, left_as};
+ghost use Rattle.tl_bytes.specs.code.Tellings.{is_written, leaves, left_as, value_at};
 
 use crate::telling::could_be;
 
@@ -13,12 +13,29 @@ pub struct Write {
 }
 
 impl Write {
+    /// Whether it writes a place.
+    pub fn writes(&self, place: u8) -> bool
+        ensures { result ≡ is_written self.now place }
+    {
+        let n = usize::from(place);
+        n < self.places.len() && self.places[n]
+    }
+
+    /// What it writes there.
+    pub fn value(&self, place: u8) -> Option<u8>
+        ensures { result ≡ value_at self.now place }
+    {
+        match self.values.get(usize::from(place)) {
+            Some(value) => *value,
+            None => None,
+        }
+    }
+
     /// Whether it may leave this byte at a place.
     pub fn may_leave(&self, place: u8, byte: u8) -> bool
         ensures { result ≡ leaves place byte self.now }
     {
-        let n = usize::from(place);
-        n < self.places.len() && self.places[n] && could_be(byte, self.values[n])
+        self.writes(place) && could_be(byte, self.value(place))
     }
 }
 

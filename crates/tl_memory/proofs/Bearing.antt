@@ -18,20 +18,25 @@ use Rattle.tl_rules.specs.statement.Conformance.{Trace, on_link}
 use Rattle.tl_rules.specs.statement.History.{block_at, ends, grants, is_probe_ack, is_release}
 use Rattle.tl_bytes.specs.statement.Bytes.{Access, asked_by, ends_request, is_access, is_of}
 use Rattle.tl_bytes.specs.statement.Bytes.{pending_accesses, tells}
-use Rattle.tl_memory.specs.code.Elsewhere.{IsElsewhere, IsSilent, NoneIsTo, PassesBy, WritesNot}
+use Rattle.tl_memory.specs.code.Elsewhere.{IsElsewhere, LeavesHeld, NoneIsTo, PassesBy, WritesNot}
 use Rattle.tl_memory.specs.declared.block.BlockState.{BlockState}
 use Rattle.tl_memory.specs.statement.Known.{AllWriteInside, is_to, KnowsState}
-use Rattle.tl_memory.proofs.Elsewhere.{elsewhere-kept, free-kept, freedom-kept}
+use Rattle.tl_memory.proofs.Elsewhere.{elsewhere-kept, free-kept, freedom-kept, held-kept}
 use Rattle.tl_memory.proofs.Keeping.{inside-kept}
 use Rattle.tl_memory.proofs.Writing.{apart}
 
 -- what is kept of a block that a beat passes by
 pub stays : {w : ℕ} (s : BlockState w) (n block : ℕ) (x : Link × Beat w) (t : Trace w) → PassesBy block x t
     → KnowsState s n block t t → KnowsState s n block (x ∷ t) (x ∷ t)
-stays s n block x t passes k = freedom-kept s n block x t (free-kept n block x t passes.silent)
+stays s n block x t passes k = freedom-kept s n block x t (free-kept n block x t passes.held_is)
     (elsewhere-kept s n block x t passes.elsewhere k)
 
 -- ---- requests
+
+-- a beat of channel A leaves as much of each block with its link
+pub request-leaves : {w : ℕ} (block : ℕ) (link : Link) (y : BeatA w) (t : Trace w)
+    → LeavesHeld block (link, beat.A y) t
+request-leaves block link y t = held-kept block (beat.A y) (on_link link.0 t) (λ over. refl)
 
 -- a request that is complete is among those that are pending
 asked-elsewhere : {w : ℕ} (c : Bool) (block : ℕ) (access : Access w) (before : List (Access w))
@@ -54,7 +59,7 @@ request-passes block link y t inside other = record {
         (pending_accesses t) other;
     inside = inside;
   };
-  silent = λ over. refl;
+  held_is = request-leaves block link y t;
 }
 
 -- one with which no access is complete
@@ -80,7 +85,7 @@ pub probe-passes : {w : ℕ} (block : ℕ) (link : Link) (y : BeatB w) (t : Trac
 unfolding pending_accesses
 probe-passes block link y t inside = record {
   elsewhere = record { quiet = refl; keeps = λ place lt. tt; pending_stay = refl; inside = inside };
-  silent = λ over. refl;
+  held_is = held-kept block (beat.B y) (on_link link.0 t) (λ over. refl);
 }
 
 pub ack-passes : {w : ℕ} (block : ℕ) (link : Link) (y : BeatE) (t : Trace w)
@@ -88,7 +93,7 @@ pub ack-passes : {w : ℕ} (block : ℕ) (link : Link) (y : BeatE) (t : Trace w)
 unfolding pending_accesses
 ack-passes block link y t inside = record {
   elsewhere = record { quiet = refl; keeps = λ place lt. tt; pending_stay = refl; inside = inside };
-  silent = λ over. refl;
+  held_is = held-kept block (beat.E y) (on_link link.0 t) (λ over. refl);
 }
 
 -- a beat of channel C that tells nothing of the block
@@ -106,10 +111,10 @@ none_of_both false b e = refl
 pub none_of_three : (a b c : Bool) → c ≡ false → a && (b && c) ≡ false
 none_of_three a b c e = none_of_both a (b && c) (none_of_both b c e)
 
-report-silent : {w : ℕ} (block : ℕ) (link : Link) (y : BeatC w) (t : Trace w) → (block_at y.address == block) ≡ false
-    → IsSilent block (link, beat.C y) t
-report-silent block link y t other over =
-    rw (none_of_both (is_probe_ack y.opcode || is_release y.opcode) (block_at y.address == block) other) refl
+report-leaves : {w : ℕ} (block : ℕ) (link : Link) (y : BeatC w) (t : Trace w) → (block_at y.address == block) ≡ false
+    → LeavesHeld block (link, beat.C y) t
+report-leaves block link y t other = held-kept block (beat.C y) (on_link link.0 t)
+    (λ over. rw (none_of_both (is_probe_ack y.opcode || is_release y.opcode) (block_at y.address == block) other) refl)
 
 -- one that completes data of the block tells what that has
 pub report-tells : {w : ℕ} (block : ℕ) (link : Link) (y : BeatC w) (t : Trace w)
@@ -143,7 +148,7 @@ report-passes block link y t inside other = record {
   elsewhere = report-elsewhere block link y t inside
       (none_of_three (ends (beat.C y) (on_link link.0 t)) (c_carries_data y.opcode) (block_at y.address == block)
       other);
-  silent = report-silent block link y t other;
+  held_is = report-leaves block link y t other;
 }
 
 -- ---- responses
@@ -197,9 +202,9 @@ response-elsewhere block link y t inside quiet none = record {
       (pending_accesses t) inside;
 }
 
-response-silent : {w : ℕ} (block : ℕ) (link : Link) (y : BeatD w) (t : Trace w)
-    → grants block y (on_link link.0 t) ≡ false → IsSilent block (link, beat.D y) t
-response-silent block link y t other over = rw other refl
+pub response-leaves : {w : ℕ} (block : ℕ) (link : Link) (y : BeatD w) (t : Trace w)
+    → grants block y (on_link link.0 t) ≡ false → LeavesHeld block (link, beat.D y) t
+response-leaves block link y t other = held-kept block (beat.D y) (on_link link.0 t) (λ over. rw other refl)
 
 -- a beat of channel D that answers no request of the block
 pub response-passes : {w : ℕ} (block : ℕ) (link : Link) (y : BeatD w) (t : Trace w)
@@ -209,7 +214,7 @@ pub response-passes : {w : ℕ} (block : ℕ) (link : Link) (y : BeatD w) (t : T
 response-passes block link y t inside other none = record {
   elsewhere = response-elsewhere block link y t inside
       (quiet (ends (beat.D y) (on_link link.0 t)) (grants block y (on_link link.0 t)) _ other) none;
-  silent = response-silent block link y t other;
+  held_is = response-leaves block link y t other;
 }
   where
     quiet : (a b c : Bool) → b ≡ false → a && (b && c) ≡ false

@@ -20,7 +20,7 @@ use Rattle.tl_bytes.specs.statement.Bytes.{after_beat, ends_request, is_of, last
 use Rattle.tl_bytes.specs.statement.Bytes.{last_window, may_be, may_read, pending_accesses, tells, told_as, written_as}
 use Rattle.tl_bytes.specs.statement.Known.{KnowsBlock, others}
 use Rattle.tl_bytes.proofs.Since.{same_after}
-use Rattle.tl_memory.specs.code.Elsewhere.{IsElsewhere, KeepsByte, WritesNot}
+use Rattle.tl_memory.specs.code.Elsewhere.{IsElsewhere, KeepsByte, LeavesHeld, WritesNot}
 use Rattle.tl_memory.specs.declared.block.BlockState.{BlockState}
 use Rattle.tl_memory.specs.declared.pending.PendingAccess.{PendingAccess}
 use Rattle.tl_memory.specs.statement.Known.{AllWriteInside, AreKnown, is_to, KnowsAccess, KnowsState}
@@ -201,7 +201,8 @@ freedom-kept s n block x t same k = record {
 
 -- ---- how free it is
 
-held-kept : {w : ℕ} (block : ℕ) (x : Beat w) (past : History w)
+-- where the beat says nothing of what is held of a block, that stays
+pub held-kept : {w : ℕ} (block : ℕ) (x : Beat w) (past : History w)
     → (ends x past ≡ true → says_held block x past ≡ None) → held block (x ∷ past) ≡ held block past
 unfolding held
 held-kept block x past silent = elim (cases_Bool (ends x past)) [
@@ -209,25 +210,21 @@ held-kept block x past silent = elim (cases_Bool (ends x past)) [
   | inr goes_on ↦ rw goes_on refl
 ]
 
-link-kept : {w : ℕ} (block m : ℕ) (x : Link × Beat w) (t : Trace w)
-    → (ends x.1 (on_link x.0.0 t) ≡ true → says_held block x.1 (on_link x.0.0 t) ≡ None)
+link-kept : {w : ℕ} (block m : ℕ) (x : Link × Beat w) (t : Trace w) → LeavesHeld block x t
     → held block (on_link m (x ∷ t)) ≡ held block (on_link m t)
 unfolding on_link
-link-kept block m x t silent = elim (cases_eq x.0.0 m) [
-  | inl own ↦
-      rw (eq-eqb x.0.0 m own) (held-kept block x.1 (on_link m t)
-      (rw own at silent))
+link-kept block m x t same = elim (cases_eq x.0.0 m) [
+  | inl own ↦ rw (eq-eqb x.0.0 m own) (rw own at same)
   | inr other ↦ rw (ne_eqb x.0.0 m other) refl
 ]
 
--- a beat that says nothing of what is held of a block leaves it as free as it was
-pub free-kept : {w : ℕ} (n block : ℕ) (x : Link × Beat w) (t : Trace w)
-    → (ends x.1 (on_link x.0.0 t) ≡ true → says_held block x.1 (on_link x.0.0 t) ≡ None)
+-- a beat that leaves as much of a block with its link leaves it as free as it was
+pub free-kept : {w : ℕ} (n block : ℕ) (x : Link × Beat w) (t : Trace w) → LeavesHeld block x t
     → is_free n None perm.Trunk block (x ∷ t) ≡ is_free n None perm.Trunk block t
 unfolding is_free
-free-kept zero block x t silent = refl
-free-kept (suc n) block x t silent =
-    rw (free-kept n block x t silent, link-kept block n x t silent) refl
+free-kept zero block x t same = refl
+free-kept (suc n) block x t same =
+    rw (free-kept n block x t same, link-kept block n x t same) refl
 
 -- where nothing was carried it is free
 pub free-first : (w n block : ℕ) → true ≡ is_free {w = w} n None perm.Trunk block []

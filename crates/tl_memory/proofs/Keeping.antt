@@ -1,5 +1,5 @@
 -- What is kept of a block, with one more beat.
-use Rattle.std.proofs.Common.{◌≡◌, ℕ, zero, suc, Bool, true, false, not, ◌+◌, ◌<◌, ◌≤◌}
+use Rattle.std.proofs.Common.{◌≡◌, ℕ, zero, suc, Bool, true, false, not, ◌||◌, ◌+◌, ◌*◌, ◌<◌, ◌≤◌}
 use Rattle.std.proofs.Common.{List, [], ◌∷◌, ◌++◌, length, refl, sym, ap, ◌∙◌, arith, inl, inr}
 use Rattle.std.specs.Prelude.{if◌then◌else◌, filter, find, None, Option, Some}
 use Rattle.std.specs.List.{AllZip}
@@ -14,15 +14,13 @@ use Rattle.tl_beat.specs.declared.beat.Link.{Link}
 use Rattle.tl_params.specs.declared.perm.Perm.TheVariants as perm
 use Rattle.tl_rules.specs.statement.Conformance.{Trace}
 use Rattle.tl_rules.specs.statement.Windows.{is_free}
-use Rattle.tl_bytes.specs.declared.block_bytes.BlockBytes.{BlockBytes}
-use Rattle.tl_bytes.specs.statement.Bytes.{Access, is_of, pending_accesses}
-use Rattle.tl_bytes.specs.statement.Known.{KnowsBlock}
-use Rattle.tl_memory.specs.code.Writers.{AreRenewed, AreWatched, IsRenewed, is_named, picked, stays}
-use Rattle.tl_memory.specs.code.Writers.{staying, writers_staying}
+use Rattle.tl_bytes.specs.statement.Bytes.{Access, is_of, may_read, pending_accesses}
+use Rattle.tl_bytes.specs.statement.Known.{may_bring}
+use Rattle.tl_memory.specs.code.Writers.{AreRenewed, AreWatched, IsRenewed, is_named, keeps, nothing, picked, stays}
+use Rattle.tl_memory.specs.code.Writers.{staying}
 use Rattle.tl_memory.specs.declared.pending.PendingAccess.{PendingAccess}
-use Rattle.tl_memory.specs.declared.writer.Writer.{Writer}
-use Rattle.tl_memory.specs.statement.Known.{AllWriteInside, AreKnown, AreWriters, AreWritersOf, IsAsked, is_to}
-use Rattle.tl_memory.specs.statement.Known.{AnyIsTo, IsPendingWrite, KnowsAccess, KnowsAccesses}
+use Rattle.tl_memory.specs.statement.Known.{AllWriteInside, AreKnown, IsAsked, is_to}
+use Rattle.tl_memory.specs.statement.Known.{AnyIsTo, KnowsAccess, KnowsAccesses}
 use Rattle.tl_memory.specs.statement.Known.{WritesInside}
 use Rattle.tl_memory.proofs.Writing.{named, one_kept, one_left}
 
@@ -61,7 +59,7 @@ finds-none p q (y ∷ xs) none = elim (cases_Bool (p y)) [
     never : {X : Type 0} {x : X} → Some x ≡ None → ⊥
     never e = cc
 
-filters-swap : {X : Type 0} (p q : X → Bool) (xs : List X) → filter p (filter q xs) ≡ filter q (filter p xs)
+pub filters-swap : {X : Type 0} (p q : X → Bool) (xs : List X) → filter p (filter q xs) ≡ filter q (filter p xs)
 filters-swap p q [] = refl
 filters-swap p q (x ∷ xs) = elim (cases_Bool (p x)) [
   | inl p_on ↦ elim (cases_Bool (q x)) [
@@ -126,11 +124,6 @@ module _ {X : Type 0} (R : X → X → Type 0) where
 
 -- ---- the accesses that stay
 
--- the access isn't the one that is gone, where one is
-abbrev pub keeps : {w : ℕ} → Option (Link × ℕ) → Access w → Bool
-keeps None access = true
-keeps (Some gone) access = not (is_of gone.0.0 gone.1 access)
-
 pub keeps-all : {w : ℕ} (accesses : List (Access w)) → accesses ≡ filter (keeps None) accesses
 keeps-all [] = refl
 keeps-all (x ∷ accesses) = ap (λ l. x ∷ l) (keeps-all accesses)
@@ -148,109 +141,117 @@ inside-kept keep (x ∷ accesses) inside = elim (cases_Bool (keep x)) [
   | inr left ↦ rw left (inside-kept keep accesses inside.1)
 ]
 
-pub writers-known : {w : ℕ} (n block : ℕ) (gone : Option (Link × ℕ)) (seen t : Trace w)
-    (pending : List (PendingAccess w))
-    (accesses : List (Access w))
-    → AreKnown pending n block accesses seen t
-    → AreWriters (writers_staying gone pending) block (filter (keeps gone) accesses)
+-- none is copied yet
+pub copied-none : {w : ℕ} (gone : Option (Link × ℕ)) (xs : List (PendingAccess w))
+    → AreRenewed nothing (staying gone (take 0 xs)) []
 unfolding picked
-writers-known n block gone seen t [] [] are = tt
-writers-known n block gone seen t [] (y ∷ accesses) are = absurd are
-writers-known n block gone seen t (x ∷ pending) [] are = absurd are
-writers-known n block gone seen t (x ∷ pending) (y ∷ accesses) are =
-    let more = writers-known n block gone seen t pending accesses are.1 in
-    let same = stays-as gone x y are.0.asked_is in
-    elim (cases_Bool (keeps gone y)) [
-      | inl stay ↦ rw (same ∙ stay, stay) (are.0.asked_is, are.0.write_is, more)
-      | inr goes ↦ rw (same ∙ goes, goes) more
-    ]
+copied-none gone xs = tt
 
--- none is renewed yet
-pub renewed-none : {w : ℕ} (bytes : BlockBytes) (writers : List (Writer w)) (gone : Option (Link × ℕ))
-    (xs : List (PendingAccess w)) → AreRenewed bytes writers (staying gone (take 0 xs)) []
-unfolding picked
-renewed-none bytes writers gone xs = tt
-
--- one is renewed
-pub renewed-more : {w : ℕ} (bytes : BlockBytes) (writers : List (Writer w)) (gone : Option (Link × ℕ)) (i : ℕ)
-    (xs more : List (PendingAccess w)) (x new : PendingAccess w)
-    → AreRenewed bytes writers (staying gone (take i xs)) more → x ≡ get_or xs i x → i < length xs
-    → stays gone x ≡ true → IsRenewed bytes writers x new
-    → AreRenewed bytes writers (staying gone (take (i + 1) xs)) (more ++ new ∷ [])
-renewed-more bytes writers gone i xs more x new are is lt on one =
+-- one is copied
+pub copied-more : {w : ℕ} (gone : Option (Link × ℕ)) (i : ℕ) (xs more : List (PendingAccess w))
+    (x new : PendingAccess w)
+    → AreRenewed nothing (staying gone (take i xs)) more → x ≡ get_or xs i x → i < length xs
+    → stays gone x ≡ true → IsRenewed nothing x new
+    → AreRenewed nothing (staying gone (take (i + 1) xs)) (more ++ new ∷ [])
+copied-more gone i xs more x new are is lt on one =
     rw (← one_kept (stays gone) (λ x. x) i xs x x is lt on)
-    (all_zipped_more (IsRenewed bytes writers) (staying gone (take i xs)) more x new are one)
+    (all_zipped_more (IsRenewed nothing) (staying gone (take i xs)) more x new are one)
 
 -- one that is gone isn't
-pub renewed-left : {w : ℕ} (bytes : BlockBytes) (writers : List (Writer w)) (gone : Option (Link × ℕ)) (i : ℕ)
-    (xs more : List (PendingAccess w)) (x : PendingAccess w)
-    → AreRenewed bytes writers (staying gone (take i xs)) more → x ≡ get_or xs i x → i < length xs
-    → stays gone x ≡ false → AreRenewed bytes writers (staying gone (take (i + 1) xs)) more
-renewed-left bytes writers gone i xs more x are is lt off =
+pub copied-left : {w : ℕ} (gone : Option (Link × ℕ)) (i : ℕ) (xs more : List (PendingAccess w)) (x : PendingAccess w)
+    → AreRenewed nothing (staying gone (take i xs)) more → x ≡ get_or xs i x → i < length xs
+    → stays gone x ≡ false → AreRenewed nothing (staying gone (take (i + 1) xs)) more
+copied-left gone i xs more x are is lt off =
     rw (← one_left (stays gone) (λ x. x) i xs x x is lt off) are
 
-module _ {w : ℕ} (n block : ℕ) (bytes : BlockBytes) (writers : List (Writer w)) (seen : Trace w) (x : Link × Beat w)
-    (t : Trace w) (le : length seen ≤ length t) (known : KnowsBlock bytes n block (x ∷ t))
-    (are_writers : AreWritersOf writers block (x ∷ t)) where
-  renewed-one : (old new : PendingAccess w) (access : Access w) → IsRenewed bytes writers old new
-      → KnowsAccess old n block access seen t → KnowsAccess new n block access seen (x ∷ t)
+-- an access that may bring nothing more
+pub nothing-more : {w : ℕ} (n block : ℕ) (seen t : Trace w) (more : PendingAccess w → ℕ → ℕ → Bool)
+    (old new : PendingAccess w) (access : Access w)
+    → IsRenewed more old new → ((p v : ℕ) → more old p v ≡ false) → KnowsAccess old n block access seen t
+    → KnowsAccess new n block access seen t
+nothing-more n block seen t more old new access r none k = record {
+  asked_is = rw r.writer_is k.asked_is;
+  lawful = k.lawful;
+  write_is = rw r.writer_is k.write_is;
+  before = k.before;
+  windows_are = rw r.windows_are k.windows_are;
+  read_is = λ p v lt. r.read_is p v lt ∙ ap (λ b. may_bring old.read p v || b) (none p v)
+      ∙ no_more (may_bring old.read p v) ∙ k.read_is p v lt;
+}
+  where
+    no_more : (b : Bool) → (b || false) ≡ b
+    no_more true = refl
+    no_more false = refl
+
+module _ {w : ℕ} (n block : ℕ) (seen t : Trace w) where
+  copied-step : (b c : Bool) (z : PendingAccess w) (rest new : List (PendingAccess w)) (y : Access w)
+      (accesses : List (Access w))
+      → b ≡ c → AreRenewed nothing (if b then z ∷ rest else rest) new → KnowsAccess z n block y seen t
+      → ((more : List (PendingAccess w)) → AreRenewed nothing rest more → AreKnown more n block accesses seen t)
+      → AreKnown new n block (if c then y ∷ accesses else accesses) seen t
+  copied-step true true z rest [] y accesses e copied k more = absurd copied
+  copied-step true true z rest (first ∷ new) y accesses e copied k more =
+      (nothing-more n block seen t nothing z first y copied.0 (λ p v. refl) k, more new copied.1)
+  copied-step false false z rest new y accesses e copied k more = more new copied
+  copied-step true false z rest new y accesses e copied k more = absurd cc
+  copied-step false true z rest new y accesses e copied k more = absurd cc
+
+  -- the copies of those that stay
+  pub copied-each : (gone : Option (Link × ℕ)) (old new : List (PendingAccess w)) (accesses : List (Access w))
+      → AreKnown old n block accesses seen t → AreRenewed nothing (staying gone old) new
+      → AreKnown new n block (filter (keeps gone) accesses) seen t
+  unfolding picked
+  copied-each gone [] [] [] are copied = tt
+  copied-each gone [] (z ∷ new) [] are copied = absurd copied
+  copied-each gone [] new (y ∷ accesses) are copied = absurd are
+  copied-each gone (z ∷ old) new [] are copied = absurd are
+  copied-each gone (z ∷ old) new (y ∷ accesses) are copied =
+      copied-step (stays gone z) (keeps gone y) z (staying gone old) new y (filter (keeps gone) accesses)
+      (stays-as gone z y are.0.asked_is) copied are.0
+      (λ more each. copied-each gone old more accesses are.1 each)
+
+-- so each access that is pending may bring this with one more beat
+abbrev pub Grows : {w : ℕ} → ℕ → ℕ → (PendingAccess w → ℕ → ℕ → Bool) → Link × Beat w → Trace w → Type 0
+Grows {w} n block more x t = (old : PendingAccess w) (access : Access w) → IsAsked old.writer.asked access
+    → access.asked ≤ length t → (p v : ℕ) → p < 64
+    → may_read n access (x ∷ t) (64 * block + p) v
+    ≡ (may_read n access t (64 * block + p) v || more old p v)
+
+module _ {w : ℕ} (n block : ℕ) (more : PendingAccess w → ℕ → ℕ → Bool) (x : Link × Beat w) (t : Trace w)
+    (grows : Grows n block more x t) where
+  renewed-one : (old new : PendingAccess w) (access : Access w) → IsRenewed more old new
+      → KnowsAccess old n block access t t → KnowsAccess new n block access t (x ∷ t)
   renewed-one old new access r k = record {
     asked_is = rw r.writer_is k.asked_is;
     lawful = k.lawful;
     write_is = rw r.writer_is k.write_is;
     before = k.before;
     windows_are = rw r.windows_are k.windows_are;
-    read_is = r.read_is n block access x t k.asked_is (omega (arith, k.before, le)) k.read_is known are_writers;
+    read_is = λ p v lt. r.read_is p v lt ∙ ap (λ b. b || more old p v) (k.read_is p v lt)
+        ∙ sym (grows old access k.asked_is k.before p v lt);
   }
 
-  renewed-step : (b c : Bool) (z : PendingAccess w) (rest new : List (PendingAccess w)) (y : Access w)
-      (accesses : List (Access w))
-      → b ≡ c → AreRenewed bytes writers (if b then z ∷ rest else rest) new → KnowsAccess z n block y seen t
-      → ((more : List (PendingAccess w)) → AreRenewed bytes writers rest more
-      → AreKnown more n block accesses seen (x ∷ t))
-      → AreKnown new n block (if c then y ∷ accesses else accesses) seen (x ∷ t)
-  renewed-step true true z rest [] y accesses e renewed k more = absurd renewed
-  renewed-step true true z rest (first ∷ new) y accesses e renewed k more =
-      (renewed-one z first y renewed.0 k, more new renewed.1)
-  renewed-step false false z rest new y accesses e renewed k more = more new renewed
-  renewed-step true false z rest new y accesses e renewed k more = absurd cc
-  renewed-step false true z rest new y accesses e renewed k more = absurd cc
+  pub renewed-each : (old new : List (PendingAccess w)) (accesses : List (Access w))
+      → AreKnown old n block accesses t t → AreRenewed more old new → AreKnown new n block accesses t (x ∷ t)
+  renewed-each [] [] [] are renewed = tt
+  renewed-each [] (z ∷ new) accesses are renewed = absurd renewed
+  renewed-each (z ∷ old) [] accesses are renewed = absurd renewed
+  renewed-each [] [] (y ∷ accesses) are renewed = absurd are
+  renewed-each (z ∷ old) (v ∷ new) [] are renewed = absurd are
+  renewed-each (z ∷ old) (v ∷ new) (y ∷ accesses) are renewed =
+      (renewed-one z v y renewed.0 are.0, renewed-each old new accesses are.1 renewed.1)
 
-  pub renewed-each : (gone : Option (Link × ℕ)) (old new : List (PendingAccess w)) (accesses : List (Access w))
-      → AreKnown old n block accesses seen t → AreRenewed bytes writers (staying gone old) new
-      → AreKnown new n block (filter (keeps gone) accesses) seen (x ∷ t)
-  unfolding picked
-  renewed-each gone [] [] [] are renewed = tt
-  renewed-each gone [] (z ∷ new) [] are renewed = absurd renewed
-  renewed-each gone [] new (y ∷ accesses) are renewed = absurd are
-  renewed-each gone (z ∷ old) new [] are renewed = absurd are
-  renewed-each gone (z ∷ old) new (y ∷ accesses) are renewed =
-      renewed-step (stays gone z) (keeps gone y) z (staying gone old) new y (filter (keeps gone) accesses)
-      (stays-as gone z y are.0.asked_is) renewed are.0
-      (λ more each. renewed-each gone old more accesses are.1 each)
-
--- those that are pending with one more beat write this
-pub writers-of : {w : ℕ} (n block : ℕ) (gone : Option (Link × ℕ)) (seen : Trace w) (x : Link × Beat w) (t : Trace w)
-    (pending : List (PendingAccess w)) (writers : List (Writer w))
-    → KnowsAccesses pending n block seen t → pending_accesses (x ∷ t) ≡ filter (keeps gone) (pending_accesses t)
-    → writers ≡ writers_staying gone pending → AreWritersOf writers block (x ∷ t)
-writers-of n block gone seen x t pending writers k stay are = record {
-  writers_are = rw (are, stay, filters-swap (is_to block) (keeps gone) (pending_accesses t))
-      (writers-known n block gone seen t pending (filter (is_to block) (pending_accesses t)) k.accesses_are);
-  inside = rw stay (inside-kept (keeps gone) (pending_accesses t) k.inside);
-}
-
--- and may bring this
-pub renewed-all : {w : ℕ} (n block : ℕ) (gone : Option (Link × ℕ)) (bytes : BlockBytes) (writers : List (Writer w))
-    (seen : Trace w) (x : Link × Beat w) (t : Trace w) (old new : List (PendingAccess w))
-    → KnowsAccesses old n block seen t → pending_accesses (x ∷ t) ≡ filter (keeps gone) (pending_accesses t)
-    → length seen ≤ length t → KnowsBlock bytes n block (x ∷ t) → writers ≡ writers_staying gone old
-    → AreRenewed bytes writers (staying gone old) new → KnowsAccesses new n block seen (x ∷ t)
-renewed-all n block gone bytes writers seen x t old new k stay le known are renewed = record {
+-- where some are gone, or none, and the others may bring more, this is kept of them
+pub renewed-all : {w : ℕ} (n block : ℕ) (gone : Option (Link × ℕ)) (more : PendingAccess w → ℕ → ℕ → Bool)
+    (x : Link × Beat w) (t : Trace w) (old copies new : List (PendingAccess w))
+    → KnowsAccesses old n block t t → pending_accesses (x ∷ t) ≡ filter (keeps gone) (pending_accesses t)
+    → Grows n block more x t → AreRenewed nothing (staying gone old) copies → AreRenewed more copies new
+    → KnowsAccesses new n block t (x ∷ t)
+renewed-all n block gone more x t old copies new k stay grows copied renewed = record {
   accesses_are = rw (stay, filters-swap (is_to block) (keeps gone) (pending_accesses t))
-      (renewed-each n block bytes writers seen x t le known
-      (writers-of n block gone seen x t old writers k stay are) gone old new
-      (filter (is_to block) (pending_accesses t)) k.accesses_are renewed);
+      (renewed-each n block more x t grows copies new (filter (keeps gone) (filter (is_to block) (pending_accesses t)))
+      (copied-each n block t t gone old copies (filter (is_to block) (pending_accesses t)) k.accesses_are copied)
+      renewed);
   inside = rw stay (inside-kept (keeps gone) (pending_accesses t) k.inside);
 }
 
@@ -301,22 +302,6 @@ pub asked-more : {w : ℕ} (n block : ℕ) (first : PendingAccess w) (more : Lis
 asked-more n block first more access x t pending to inside all k are = record {
   accesses_are = rw (pending, to) (k, are);
   inside = rw pending (inside, all);
-}
-
--- they write this
-pub asked-writers : {w : ℕ} (n block : ℕ) (x : Link × Beat w) (t : Trace w) (writer : Writer w)
-    (pending : List (PendingAccess w)) (writers : List (Writer w)) (access : Access w)
-    → KnowsAccesses pending n block t t → pending_accesses (x ∷ t) ≡ access ∷ pending_accesses t
-    → is_to block access ≡ true → IsAsked writer.asked access → IsPendingWrite writer.write block access
-    → WritesInside access → writers ≡ writer ∷ writers_staying None pending → AreWritersOf writers block (x ∷ t)
-asked-writers n block x t writer pending writers access k more to asked write inside are = record {
-  writers_are = rw (are, more, to) (
-    asked,
-    write,
-    rw (keeps-all (filter (is_to block) (pending_accesses t)))
-        (writers-known n block None t t pending (filter (is_to block) (pending_accesses t)) k.accesses_are),
-  );
-  inside = rw more (inside, k.inside);
 }
 
 -- ---- seen whether the block is free

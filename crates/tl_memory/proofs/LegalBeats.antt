@@ -1,5 +1,5 @@
 -- What is known of a beat that breaks no rule of its link, where none before it did.
-use Rattle.std.proofs.Common.{◌≡◌, ℕ, suc, false, List, ◌∷◌, length, refl, None}
+use Rattle.std.proofs.Common.{◌≡◌, ◌<◌, ℕ, suc, false, List, ◌∷◌, length, refl, None, arith}
 use Rattle.std.proofs.lemmas.Bool.{and_parts}
 use Rattle.tl_beat.specs.declared.beat.Beat.{Beat}
 use Rattle.tl_beat.specs.declared.beat.Beat.TheVariants as beat
@@ -8,7 +8,7 @@ use Rattle.tl_beat.specs.declared.beat.BeatD.{BeatD}
 use Rattle.tl_beat.specs.declared.beat.Link.{Link}
 use Rattle.tl_beat.specs.declared.channel.Channel.TheVariants as channel
 use Rattle.tl_beat.specs.statement.Width.{IsWidth}
-use Rattle.tl_burst.specs.statement.Messages.{unfinished}
+use Rattle.tl_burst.specs.statement.Messages.{channel_of, unfinished}
 use Rattle.tl_params.specs.declared.level.Level.{Level}
 use Rattle.tl_params.specs.declared.profile.Profile.{Profile}
 use Rattle.tl_rules.specs.declared.past.Request.{Request}
@@ -21,7 +21,7 @@ use Rattle.tl_memory.specs.statement.Links.{AreLegal}
 use Rattle.tl_memory.proofs.Answering.{is-answering}
 use Rattle.tl_memory.proofs.Apart.{are-asked}
 use Rattle.tl_memory.proofs.Complete.{lawful-asked, wide-burst, writes-inside}
-use Rattle.tl_memory.proofs.Masks.{positive}
+use Rattle.tl_memory.proofs.Masks.{few, positive}
 use Rattle.tl_memory.proofs.Open.{open-whole}
 use Rattle.tl_memory.proofs.OpenAccesses.{is-fine, legal-on}
 use Rattle.tl_memory.proofs.Unfinished.{has-room, room}
@@ -59,6 +59,15 @@ module _ {w : ℕ} (levels : List Level) (p : Profile) (link : Link) (t : Trace 
           room = (room f.level p (beat.D y) (on_link link.0 t) is past f.fine, positive w);
         },
       )
+
+  -- a block has room for the beats before it of its message
+  pub few-before : (y : Beat w) → broken_on_link levels p (link, y) t ≡ None
+      → length (unfinished (channel_of y) (on_link link.0 t)) < 64
+  few-before y fine =
+      let f = is-fine levels p (link, y) t fine in
+      let left = room f.level p y (on_link link.0 t) is (legal-on levels p link.0 f.level t f.has_level legal) f.fine in
+      let short = few w (length (unfinished (channel_of y) (on_link link.0 t))) is left in
+      omega (arith, short)
 
   pub legal-beat : (y : Beat w)
       → ((x : BeatA w) → y ≡ beat.A x → AreTyped (beat.A x ∷ unfinished channel.A (on_link link.0 t)))

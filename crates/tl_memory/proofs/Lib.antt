@@ -8,6 +8,7 @@ pub mod Borne
 pub mod Complete
 pub mod Elsewhere
 pub mod Expecting
+pub mod Growing
 pub mod Judging
 pub mod Keeping
 pub mod Lanes
@@ -20,6 +21,7 @@ pub mod Masks
 pub mod Memories
 pub mod Open
 pub mod OpenAccesses
+pub mod PassedBy
 pub mod Payloads
 pub mod Puts
 pub mod Responses

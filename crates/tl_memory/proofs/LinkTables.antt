@@ -2,7 +2,7 @@
 use Rattle.std.proofs.Common.{◌≡◌, ℕ, suc, zero, pred, List, [], ◌∷◌, ◌++◌, ◌<◌, ◌⊎◌, length, inl, inr, refl, sym, ap}
 use Rattle.std.proofs.Common.{◌∙◌, Some, None, slice_get, slice_set, arith}
 use Rattle.std.proofs.lemmas.List.{length-set}
-use Rattle.std.proofs.lemmas.Option.{same_Some, slice_get_within}
+use Rattle.std.proofs.lemmas.Option.{none-some, same_Some, slice_get_cases, slice_get_within}
 use Rattle.tl_beat.specs.declared.beat.Beat.{Beat}
 use Rattle.tl_beat.specs.declared.beat.Link.{Link}
 use Rattle.tl_params.specs.declared.level.Level.{Level}
@@ -66,6 +66,14 @@ pub link-there : {w : ℕ} (levels : List Level) (p : Profile) (x : Link × Beat
     → broken_on_link levels p x t ≡ None → x.0.0 < length levels
 link-there levels p x t fine =
     let f = is-fine levels p x t fine in slice_get_within levels x.0.0 f.level f.has_level
+
+-- of which a state is kept
+pub state-there : {w : ℕ} {X : Type 0} (levels : List Level) (p : Profile) (l : Links) (x : Link × Beat w) (t : Trace w)
+    → KnowsLinks l (length levels) t → broken_on_link levels p x t ≡ None → slice_get l.states.items x.0.0 ≡ None → X
+state-there levels p l x t k fine none = elim (slice_get_cases l.states.items x.0.0).1 [
+  | inl found ↦ absurd (none-some found.0 (sym none ∙ found.2))
+  | inr past ↦ absurd (omega (arith, link-there levels p x t fine, past.0, k.count_is))
+]
 
 pub links-taken : {w : ℕ} (levels : List Level) (p : Profile) (l new : Links) (old next : LinkState) (n : ℕ)
     (link : Link) (x : Beat w) (t : Trace w)

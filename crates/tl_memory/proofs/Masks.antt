@@ -1,6 +1,6 @@
 -- The mask of a message, beat by beat.
-use Rattle.std.proofs.Common.{◌≡◌, ℕ, suc, true, false, ◌+◌, ◌*◌, ◌<◌, ◌≤◌, ◌^◌, ◌%◌, List, ◌∷◌, refl, ap}
-use Rattle.std.proofs.Common.{◌∙◌, arith, inl, inr, pow_pos, Bool, ◌||◌}
+use Rattle.std.proofs.Common.{◌≡◌, ℕ, suc, true, false, ◌+◌, ◌*◌, ◌<◌, ◌≤◌, ◌^◌, ◌%◌, List, [], ◌∷◌, refl, ap}
+use Rattle.std.proofs.Common.{◌∙◌, arith, length, inl, inr, pow_pos, Bool, ◌||◌}
 use Rattle.std.specs.Prelude.{if◌then◌else◌, is_some, Option, Some}
 use Rattle.std.proofs.Math.Nat.{mod-eq_of_lt}
 use Rattle.std.proofs.lemmas.Nat.{shl_whole}
@@ -10,6 +10,8 @@ use Rattle.tl_beat.specs.declared.beat.BeatA.{BeatA}
 use Rattle.tl_beat.specs.statement.Width.{IsWidth}
 use Rattle.tl_burst.proofs.Bits.{mask_below, mask_fits}
 use Rattle.tl_bytes.specs.statement.Bytes.{carried_mask}
+use Rattle.tl_memory.specs.declared.message.CarriedMessage.{CarriedMessage}
+use Rattle.tl_memory.specs.statement.Known.{KnowsMessage}
 
 -- the mask of a beat, shifted to its place and added
 pub added : (w i m b r from : ℕ) → r ≡ b → from ≡ w * i → m < 2 ^ (w * i) → b < 2 ^ w → w * i + w ≤ 64
@@ -50,3 +52,9 @@ pub one_more : {X : Type 0} (one : Bool) (x : X) (o : Option X)
     → (one || is_some o) ≡ is_some (if one then Some x else o)
 one_more true x o = refl
 one_more false x o = refl
+
+-- a message that no beat brought has brought nothing
+pub none_brought : {w : ℕ} (m : CarriedMessage) (burst : List (Beat w)) → KnowsMessage m burst → length burst ≡ 0
+    → KnowsMessage {w = w} m []
+none_brought m [] k none = k
+none_brought m (x ∷ burst) k none = absurd (omega (arith, none))

@@ -1,7 +1,7 @@
 -- What is known of the bytes of memory, with one more beat.
 use Rattle.std.proofs.Common.{◌≡◌, ℕ, Bool, true, false, ◌&&◌, ◌∷◌, ◌^◌, ◌<◌, ◌/◌, List, [], Option, Some, None, length}
 use Rattle.std.proofs.Common.{refl, sym, ap, ◌∙◌, arith, inl, inr}
-use Rattle.std.specs.Prelude.{if◌then◌else◌, ◌==◌}
+use Rattle.std.specs.Prelude.{if◌then◌else◌, ◌==◌, option_map}
 use Rattle.std.proofs.lemmas.Bool.{eqb-false}
 use Rattle.std.proofs.lemmas.Option.{none-some, same_Some, slice_get_cases}
 use Rattle.tl_beat.specs.declared.beat.Beat.{Beat}
@@ -9,20 +9,24 @@ use Rattle.tl_beat.specs.declared.beat.Beat.TheVariants as beat
 use Rattle.tl_beat.specs.declared.beat.BeatA.{BeatA}
 use Rattle.tl_beat.specs.declared.beat.BeatD.{BeatD}
 use Rattle.tl_beat.specs.declared.beat.Link.{Link}
+use Rattle.tl_beat.specs.declared.channel.Channel.TheVariants as channel
 use Rattle.tl_beat.specs.declared.opcode.OpD.TheVariants as d
 use Rattle.tl_beat.specs.statement.Width.{IsWidth}
-use Rattle.tl_burst.specs.statement.Messages.{History}
+use Rattle.tl_burst.specs.statement.Messages.{History, on}
 use Rattle.tl_params.specs.declared.level.Level.{Level}
+use Rattle.tl_params.specs.declared.perm.Perm.TheVariants as perm
 use Rattle.tl_params.specs.declared.profile.Profile.{Profile}
 use Rattle.tl_rules.specs.code.Open.{open_request, request_fields}
 use Rattle.tl_rules.specs.declared.past.Request.{Request}
 use Rattle.tl_rules.specs.laws.Typed.{IsTyped}
 use Rattle.tl_rules.specs.statement.Conformance.{Trace, broken_on_link, on_link}
 use Rattle.tl_rules.specs.statement.History.{begins, is_release_ack, request_of}
+use Rattle.tl_rules.specs.statement.Windows.{is_free}
 use Rattle.tl_bytes.specs.statement.Bytes.{pending_accesses}
-use Rattle.tl_memory.specs.code.Changing.{ExpectsBegun, IsChange}
+use Rattle.tl_memory.specs.code.Changing.{ExpectsBegun, IsBorne, IsChange}
 use Rattle.tl_memory.specs.code.Elsewhere.{PassesBy, block_asked, block_borne}
-use Rattle.tl_memory.specs.code.Taking.{IsLegalBeat}
+use Rattle.tl_memory.specs.code.Passing.{changes_held}
+use Rattle.tl_memory.specs.code.Taking.{IsLegalBeat, IsSeen}
 use Rattle.tl_memory.specs.declared.expected.Expected.{Expected}
 use Rattle.tl_memory.specs.declared.link.LinkState.{LinkState}
 use Rattle.tl_memory.specs.declared.links.Links.{Links}
@@ -36,6 +40,7 @@ use Rattle.tl_memory.proofs.Beginning.{none-begun}
 use Rattle.tl_memory.proofs.Borne.{passes}
 use Rattle.tl_memory.proofs.LegalBeats.{legal-beat}
 use Rattle.tl_memory.proofs.LinkTables.{link-there}
+use Rattle.tl_memory.proofs.PassedBy.{held-left}
 
 -- ---- the blocks of requests
 
@@ -98,18 +103,19 @@ module _ {w : ℕ} (levels : List Level) (p : Profile) (link : Link) (x : Beat w
   ]
 
 -- each block is left as it is but that on which the beat bears
-pub others-passed : {w : ℕ} (link : Link) (x : Beat w) (t : Trace w) (block other : ℕ)
-    → AllWriteInside (pending_accesses t) → IsLegalBeat link.0 x t
-    → block_borne x (on_link link.0 t) ≡ Some block → (other == block) ≡ false → PassesBy other (link, x) t
-others-passed link x t block other inside legal borne apart =
-    passes other link x t inside legal (λ e. eqb-false other block apart (same_Some other block (sym e ∙ borne)))
+pub is-borne : {w : ℕ} (own : Option ℕ) (link : Link) (x : Beat w) (t : Trace w) → AllWriteInside (pending_accesses t)
+    → IsLegalBeat link.0 x t → block_borne x (on_link link.0 t) ≡ own → IsBorne own (link, x) t
+is-borne own link x t inside legal borne block other = passes block link x t inside legal (λ e. other (sym borne ∙ e))
+
+pub others-passed : {w : ℕ} (own : Option ℕ) (block other : ℕ) (x : Link × Beat w) (t : Trace w) → IsBorne own x t
+    → own ≡ Some block → (other == block) ≡ false → PassesBy other x t
+others-passed own block other x t borne is apart =
+    borne other (λ e. eqb-false other block apart (same_Some other block (sym e ∙ is)))
 
 -- where it bears on none each is
-pub all-passed : {w : ℕ} (link : Link) (x : Beat w) (t : Trace w) (block : ℕ)
-    → AllWriteInside (pending_accesses t) → IsLegalBeat link.0 x t
-    → block_borne x (on_link link.0 t) ≡ None → PassesBy block (link, x) t
-all-passed link x t block inside legal borne =
-    passes block link x t inside legal (λ e. none-some block (sym borne ∙ e))
+pub all-passed : {w : ℕ} (own : Option ℕ) (block : ℕ) (x : Link × Beat w) (t : Trace w) → IsBorne own x t → own ≡ None
+    → PassesBy block x t
+all-passed own block x t borne none = borne block (λ e. none-some block (sym none ∙ e))
 
 -- and nothing is expected
 pub none-expected : {w : ℕ} (link : Link) (x : Beat w) (n : ℕ) (t : Trace w) → IsLegalBeat link.0 x t
@@ -137,13 +143,42 @@ begun-by {w} expected n link x z t is known y e first =
     same : (a b : BeatD w) → beat.D a ≡ beat.D b → a ≡ b
     same a b e = cc
 
--- a beat that bears on no block changes nothing
-pub nothing-changed : {w : ℕ} (change : Change w) (m : Memory w) (n : ℕ) (link : Link) (x : Beat w) (t : Trace w)
-    → change.block ≡ None → change.expected ≡ None → IsLegalBeat link.0 x t
-    → block_borne x (on_link link.0 t) ≡ None → IsChange change m n (link, x) t
-nothing-changed change m n link x t unborne none legal borne = record {
-  block_is = unborne ∙ sym borne;
+either_none : (c : Bool) → ◌≡◌ {A = Option ℕ} None (if c then None else None)
+either_none true = refl
+either_none false = refl
+
+-- a beat that leaves each block as it is changes nothing, where no response begins with it
+pub nothing-changed : {w : ℕ} (change : Change w) (m : Memory w) (n : ℕ) (x : Link × Beat w) (t : Trace w)
+    → change.block ≡ None → change.held ≡ None → change.expected ≡ None → IsBorne None x t → ExpectsBegun None n x t
+    → IsChange change m n x t
+nothing-changed change m n x t unborne unheld none passed unbegun = record {
+  block_is = rw unborne passed;
+  held_is = unheld ∙ rw unborne (either_none (changes_held x.1 (on_link x.0.0 t)));
   kept = λ block e. absurd (none-some block (sym unborne ∙ e));
   next_is = λ block free e seen. absurd (none-some block (sym unborne ∙ e));
-  expected_is = rw none (none-expected link x n t legal borne);
+  expected_is = rw none unbegun;
 }
+
+-- ---- how free a block is seen to be
+
+off-a : {w : ℕ} (x : Beat w) (past : History w) → changes_held x past ≡ true → on channel.A x ≡ false
+off-a (beat.A y) past e = absurd cc
+off-a (beat.B y) past e = refl
+off-a (beat.C y) past e = refl
+off-a (beat.D y) past e = refl
+off-a (beat.E y) past e = refl
+
+-- told of the block of which its link may hold more or less, it is told of the one that the beat bears on
+pub held-seen : {w : ℕ} (change : Change w) (m : Memory w) (n : ℕ) (x : Link × Beat w) (t : Trace w)
+    (free : Option Bool) (block : ℕ)
+    → IsChange change m n x t → free ≡ option_map (λ b. is_free n None perm.Trunk b (x ∷ t)) change.held
+    → change.block ≡ Some block → IsSeen free n block x t
+held-seen {w} change m n x t free block is told own = go (changes_held x.1 (on_link x.0.0 t)) refl
+  where
+    go : (c : Bool) → changes_held x.1 (on_link x.0.0 t) ≡ c → IsSeen free n block x t
+    go true e =
+        let held : change.held ≡ Some block = is.held_is ∙ rw (e, own) refl in
+        rw (told, held) (off-a x.1 (on_link x.0.0 t) e, refl)
+    go false e =
+        let held : change.held ≡ None = is.held_is ∙ rw e refl in
+        rw (told, held) (held-left block x.0 x.1 t e)

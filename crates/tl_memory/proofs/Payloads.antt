@@ -1,17 +1,17 @@
 -- The bytes of a message, by their places and one after another.
-use Rattle.std.proofs.Common.{◌≡◌, ℕ, suc, Bool, true, false, ◌+◌, ◌-◌, ◌*◌, ◌/◌, ◌%◌, ◌^◌, ◌<◌, ◌≤◌, List, [], ◌∷◌}
+use Rattle.std.proofs.Common.{◌≡◌, ℕ, suc, Bool, true, false, ◌+◌, ◌*◌, ◌/◌, ◌%◌, ◌^◌, ◌<◌, ◌≤◌, List, [], ◌∷◌}
 use Rattle.std.proofs.Common.{length, refl, sym, ap, ◌∙◌, arith, inl, inr, length-append, get_or, set}
 use Rattle.std.specs.Prelude.{if◌then◌else◌, ◌==◌, find, is_some, Option, Some, slice_index, unwrap_or}
-use Rattle.std.proofs.Math.Nat.{div-eq_of_lt, div-lt_iff_lt-mul, le-div_iff_mul-le, mod-lt, pow-le-pow_right}
+use Rattle.std.proofs.Math.Nat.{div-eq_of_lt, mod-lt, pow-le-pow_right}
 use Rattle.std.proofs.lemmas.Bool.{cases_eq, cases_lt, eq-eqb, ne_eqb}
-use Rattle.std.proofs.lemmas.List.{get_or_append_left, get_or-append_right, get_or-set_same, get_or-set_other}
+use Rattle.std.proofs.lemmas.List.{get_or_append_left, get_or-append_right}
 use Rattle.std.proofs.lemmas.Nat.{div-add-mod'}
 use Rattle.std.proofs.lemmas.Option.{slice_get-get_or}
 use Rattle.tl_beat.specs.declared.beat.Beat.{Beat}
-use Rattle.tl_beat.specs.statement.Width.{IsWidth}
 use Rattle.tl_burst.specs.statement.Burst.{bit}
 use Rattle.tl_rules.specs.statement.Admission.{bytes_carried, is_spoiled, lanes_of}
 use Rattle.tl_bytes.specs.statement.Bytes.{carried_byte}
+use Rattle.tl_bytes.proofs.Brought.{in_beat, quotient}
 use Rattle.tl_memory.specs.statement.Known.{AreWide}
 
 pub wide-length : {w : ℕ} (burst : List (Beat w)) → AreWide burst → length (bytes_carried burst) ≡ w * length burst
@@ -34,18 +34,6 @@ at_place w p n pos lt other =
       | inl less ↦ less
       | inr more ↦ absurd (other (quotient w p n pos more lt))
     ]
-  where
-    quotient : (w p n : ℕ) → 0 < w → w * n ≤ p → p < w * n + w → p / w ≡ n
-    quotient w p n pos le lt =
-        let least : n ≤ p / w = (le-div_iff_mul-le pos).1 (omega (arith, le)) in
-        let most : p / w < n + 1 = (div-lt_iff_lt-mul pos).1 (omega (arith, lt)) in
-        omega (arith, least, most)
-
-in_beat : (w p n : ℕ) → p / w ≡ n → (w * n ≤ p) × (p - w * n ≡ p % w)
-in_beat w p n e =
-    let whole = div-add-mod' p w in
-    let turned : p / w * w ≡ w * n = rw e (omega arith) in
-    (omega (arith, whole, turned), omega (arith, whole, turned))
 
 -- where no beat is spoiled, and each has all its lanes
 pub wide-bytes : {w : ℕ} (burst : List (Beat w)) → 0 < w → AreWide burst → is_some (find is_spoiled burst) ≡ false
@@ -86,17 +74,3 @@ bit_below m n p lt set = elim (cases_lt p n) [
 
 pub known : (o : Option ℕ) (v : ℕ) → o ≡ Some v → unwrap_or o 0 ≡ v
 known o v e = rw e refl
-
-pub width_positive : (w : ℕ) → IsWidth w → 0 < w
-width_positive w (inl e) = omega (arith, e)
-width_positive w (inr (inl e)) = omega (arith, e)
-width_positive w (inr (inr e)) = omega (arith, e)
-
--- an array, filled place by place
-pub one_filled : {X : Type 0} (f : ℕ → X) (k : ℕ) (xs : List X) (d : X) → k < length xs
-    → ((p : ℕ) → p < k → get_or xs p d ≡ f p) → (p : ℕ) → p < k + 1 → get_or (set xs k (f k)) p d ≡ f p
-one_filled f k xs d inside so_far p lt = elim (cases_eq p k) [
-  | inl same ↦
-      ap (λ q. get_or (set xs k (f k)) q d) same ∙ get_or-set_same xs k (f k) d inside ∙ ap f (sym same)
-  | inr ne ↦ get_or-set_other xs k p (f k) d ne ∙ so_far p (omega (arith, lt, ne))
-]

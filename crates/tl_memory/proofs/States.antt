@@ -1,37 +1,39 @@
 -- What is known of the state of a block, from what is known of its parts.
 use Rattle.std.proofs.Common.{◌≡◌, ℕ, suc, Bool, true, false, not, ◌&&◌, ◌+◌, ◌-◌, ◌*◌, ◌/◌, ◌≤◌, List, [], ◌∷◌}
-use Rattle.std.proofs.Common.{◌++◌, length, refl, sym, ap, subst, ◌∙◌, arith, inl, inr}
+use Rattle.std.proofs.Common.{◌++◌, length, refl, sym, subst, ◌∙◌, arith, inl, inr}
 use Rattle.std.specs.Prelude.{filter, if◌then◌else◌, None, Option, Some}
-use Rattle.std.proofs.lemmas.Bool.{cases_Bool, eqb-true}
+use Rattle.std.proofs.lemmas.Bool.{cases_Bool, eq-eqb, eqb-true}
 use Rattle.std.proofs.Math.Nat.{mul-suc}
 use Rattle.tl_beat.specs.declared.beat.Beat.{Beat}
 use Rattle.tl_beat.specs.declared.beat.Beat.TheVariants as beat
 use Rattle.tl_beat.specs.declared.beat.BeatA.{BeatA}
 use Rattle.tl_beat.specs.declared.beat.BeatD.{BeatD}
 use Rattle.tl_beat.specs.declared.beat.Link.{Link}
+use Rattle.tl_beat.specs.statement.Opcode.{a_carries_data}
 use Rattle.tl_params.specs.declared.perm.Perm.TheVariants as perm
 use Rattle.tl_rules.specs.statement.Conformance.{Trace, on_link}
 use Rattle.tl_rules.specs.statement.History.{block_at}
 use Rattle.tl_rules.specs.statement.Windows.{is_free}
-use Rattle.tl_bytes.specs.declared.block_bytes.BlockBytes.{BlockBytes}
 use Rattle.tl_bytes.specs.declared.windows.WritingWindows.{WritingWindows}
 use Rattle.tl_bytes.specs.declared.write.Write.{Write}
 use Rattle.tl_bytes.specs.statement.Bytes.{Access, asked_by, ends_request, last_window}
-use Rattle.tl_bytes.specs.statement.Bytes.{pending_accesses, told_as, window_began}
+use Rattle.tl_bytes.specs.statement.Bytes.{pending_accesses, window_began}
 use Rattle.tl_bytes.specs.statement.Bytes.{windows_since}
-use Rattle.tl_bytes.specs.statement.Known.{count_of, IsWrite, KnowsBlock, KnowsRead, KnowsWindows, tellings_at}
+use Rattle.tl_bytes.specs.statement.Known.{count_of, IsWrite, KnowsBlock, KnowsRead, KnowsWindows, may_bring}
 use Rattle.tl_bytes.proofs.Since.{closed_after}
 use Rattle.tl_memory.specs.code.Elsewhere.{WritesNot}
-use Rattle.tl_memory.specs.code.Writers.{AreRenewed, AreWatched, staying, writers_staying}
+use Rattle.tl_memory.specs.code.Writers.{AreRenewed, AreWatched, keeps, nothing, staying, told_by, written_by}
 use Rattle.tl_memory.specs.declared.access.Asked.{Asked}
 use Rattle.tl_memory.specs.declared.block.BlockState.{BlockState}
 use Rattle.tl_memory.specs.declared.expected.Expected.{Expected}
 use Rattle.tl_memory.specs.declared.pending.PendingAccess.{PendingAccess}
 use Rattle.tl_memory.specs.declared.writer.Writer.{Writer}
-use Rattle.tl_memory.specs.statement.Known.{AnyIsTo, AreKnown, AreWritersOf, Expects, IsAsked, IsLawful, IsPendingWrite}
-use Rattle.tl_memory.specs.statement.Known.{is_to, KnowsAccess, KnowsState, WritesInside}
+use Rattle.tl_memory.specs.statement.Known.{AnyIsTo, AreKnown, Expects, IsAsked, IsLawful, IsPendingWrite}
+use Rattle.tl_memory.specs.statement.Known.{is_to, KnowsAccess, KnowsAccesses, KnowsState, WritesInside}
 use Rattle.tl_memory.proofs.Elsewhere.{free-first, last-kept, windows-kept}
-use Rattle.tl_memory.proofs.Keeping.{asked-more, IsFound, keeps, keeps-all, renewed-all, renewed-each, watched-each}
+use Rattle.tl_memory.proofs.Growing.{told-grows, written-each}
+use Rattle.tl_memory.proofs.Writing.{no_data}
+use Rattle.tl_memory.proofs.Keeping.{asked-more, copied-each, IsFound, keeps-all, nothing-more, renewed-all, watched-each}
 
 -- a block of which nothing was carried
 pub state-first : {w : ℕ} (s : BlockState w) (n block : ℕ) → KnowsBlock {w = w} s.bytes n block []
@@ -46,14 +48,6 @@ state-first {w} s n block bytes none free = record {
   where
     differ : true ≡ false → ⊥
     differ e = cc
-
--- the same bytes
-pub copy-known : {w : ℕ} (a b : BlockBytes) (n block : ℕ) (t : Trace w) → b.told.items ≡ a.told.items
-    → b.last ≡ a.last → KnowsBlock a n block t → KnowsBlock b n block t
-copy-known a b n block t items last k = record {
-  bytes_are = λ p lt. ap (tellings_at p) items ∙ k.bytes_are p lt;
-  last_is = rw last k.last_is;
-}
 
 -- ---- the access with a source on a link
 
@@ -83,33 +77,32 @@ pub expects-some : {w : ℕ} (expected : Expected) (p : PendingAccess w) (n bloc
     (o : Option (Access w)) (t : Trace w)
     → o ≡ Some access → KnowsAccess p n block access t t
     → expected.address ≡ p.writer.asked.request.address → expected.size ≡ p.writer.asked.request.size
-    → expected.bytes.told.items ≡ p.read.told.items → Expects (Some expected) n block o t
-expects-some expected p n block access o t found k address size items = rw found (
+    → ((place byte : ℕ) → may_bring expected.bytes place byte ≡ may_bring p.read place byte)
+    → Expects (Some expected) n block o t
+expects-some expected p n block access o t found k address size same = rw found (
   address ∙ k.asked_is.address_is,
   size ∙ k.asked_is.size_is,
-  λ place byte lt. ap (λ l. told_as byte (tellings_at place l)) items ∙ k.read_is place byte lt,
+  λ place byte lt. same place byte ∙ k.read_is place byte lt,
 )
 
 -- ---- one more beat
 
-pub renewed-state : {w : ℕ} (s old : BlockState w) (n block : ℕ) (gone : Option (Link × ℕ))
-    (writers written begun : List (Writer w)) (one two start more : List (PendingAccess w)) (x : Link × Beat w)
-    (t : Trace w)
-    → KnowsState old n block t t → pending_accesses (x ∷ t) ≡ filter (keeps gone) (pending_accesses t)
-    → KnowsBlock s.bytes n block (x ∷ t) → writers ≡ written → written ≡ begun ++ writers_staying gone one
-    → begun ≡ [] → one ≡ old.accesses.items → s.accesses.items ≡ start ++ more → start ≡ []
-    → AreRenewed s.bytes writers (staying gone two) more → two ≡ old.accesses.items
+-- with these bytes, where some accesses are gone, or none
+pub told-state : {w : ℕ} (s old : BlockState w) (n block : ℕ) (gone : Option (Link × ℕ))
+    (one start copies more : List (PendingAccess w)) (x : Link × Beat w) (t : Trace w)
+    → KnowsState old n block t t → KnowsBlock s.bytes n block (x ∷ t)
+    → pending_accesses (x ∷ t) ≡ filter (keeps gone) (pending_accesses t)
+    → one ≡ old.accesses.items → start ≡ [] → copies ≡ start ++ more → AreRenewed nothing (staying gone one) more
+    → AreRenewed (told_by s.bytes) copies s.accesses.items
     → s.free ≡ old.free → s.last_free ≡ old.last_free → KnowsState s n block t (x ∷ t)
-renewed-state s old n block gone writers written begun one two start more x t k stay bytes is are none same items first
-    renewed too free last = record {
-      bytes_are = bytes;
-      accesses_are = rw (items, first) (renewed-all n block gone s.bytes writers t x t old.accesses.items more
-          k.accesses_are stay (omega arith) bytes
-          (is ∙ are ∙ ap (λ l. l ++ writers_staying gone one) none ∙ ap (writers_staying gone) same)
-          (rw too at renewed));
-      free_is = free ∙ k.free_is;
-      last_is = λ off. last ∙ k.last_is (sym free ∙ off);
-    }
+told-state s old n block gone one start copies more x t k bytes stay same none items copied renewed free last = record {
+  bytes_are = bytes;
+  accesses_are = renewed-all n block gone (told_by s.bytes) x t old.accesses.items more s.accesses.items
+      k.accesses_are stay (told-grows n block gone s.bytes x t bytes stay) (rw same at copied)
+      (rw (items, none) at renewed);
+  free_is = free ∙ k.free_is;
+  last_is = λ off. last ∙ k.last_is (sym free ∙ off);
+}
 
 pub at-block : {w : ℕ} (write : Write) (here block : ℕ) (access : Access w) (burst : List (Beat w)) → block ≡ here
     → IsWrite write here access burst → IsWrite write block access burst
@@ -117,6 +110,10 @@ at-block write here block access burst e k = rw e k
 
 pub writes-none : {w : ℕ} (address : ℕ) (o : Option (Access w)) → o ≡ None → WritesNot address o
 writes-none address o none = rw none tt
+
+pub reads-only : {w : ℕ} (address : ℕ) (o : Option (Access w)) (access : Access w) → o ≡ Some access
+    → a_carries_data access.request.opcode ≡ false → WritesNot address o
+reads-only address o access found none = rw found (no_data access.request.opcode access.request address none)
 
 pub pending-answered : {w : ℕ} (link : Link) (source : ℕ) (y : BeatD w) (t : Trace w)
     → ends_request y (on_link link.0 t) ≡ true → source ≡ y.source
@@ -194,27 +191,49 @@ asked-access first writer windows n block access x t same same_windows asked law
   read_is = read;
 }
 
-pub asked-state : {w : ℕ} (s old : BlockState w) (n block : ℕ) (writers : List (Writer w)) (first : PendingAccess w)
-    (more : List (PendingAccess w)) (access : Access w) (x : Link × Beat w) (t : Trace w)
+-- an access writes nothing beside itself
+own-write : {w : ℕ} (writer : Writer w) (first : PendingAccess w) → first.writer ≡ writer → (p v : ℕ)
+    → written_by writer first p v ≡ false
+own-write writer first same p v = rw (
+  same,
+  eq-eqb writer.asked.link.0 writer.asked.link.0 refl,
+  eq-eqb writer.asked.request.source writer.asked.request.source refl,
+) refl
+
+pub asked-state : {w : ℕ} (s old : BlockState w) (n block : ℕ) (writer : Writer w) (first : PendingAccess w)
+    (one copies more : List (PendingAccess w)) (access : Access w) (x : Link × Beat w) (t : Trace w)
     → KnowsState old n block t t → pending_accesses (x ∷ t) ≡ access ∷ pending_accesses t
-    → is_to block access ≡ true → WritesInside access
+    → is_to block access ≡ true → WritesInside access → IsAsked writer.asked access
+    → IsPendingWrite writer.write block access
     → is_free n None perm.Trunk block (x ∷ t) ≡ is_free n None perm.Trunk block t
-    → KnowsBlock s.bytes n block (x ∷ t) → AreWritersOf writers block (x ∷ t)
-    → KnowsAccess first n block access (x ∷ t) (x ∷ t)
-    → AreRenewed s.bytes writers (staying None old.accesses.items) more → s.accesses.items ≡ first ∷ more
+    → KnowsBlock s.bytes n block t → KnowsBlock s.bytes n block (x ∷ t)
+    → KnowsAccess first n block access (x ∷ t) (x ∷ t) → first.writer ≡ writer
+    → one ≡ old.accesses.items → AreRenewed nothing (staying None one) more → copies ≡ first ∷ more
+    → AreRenewed (written_by writer) copies s.accesses.items
     → s.free ≡ old.free → s.last_free ≡ old.last_free → KnowsState s n block (x ∷ t) (x ∷ t)
-asked-state s old n block writers first more access x t k pending to inside same bytes are one renewed items free last =
-    record {
+asked-state {w} s old n block writer first one copies more access x t k pending to inside asked write same before bytes
+    known is_first is_old copied items renewed free last = record {
       bytes_are = bytes;
-      accesses_are = rw items (asked-more n block first more access x t pending to inside k.accesses_are.inside one
-          (windows-kept n block more (filter (is_to block) (pending_accesses t)) x t same
-          (subst (λ l. AreKnown more n block l t (x ∷ t)) (sym (keeps-all (filter (is_to block) (pending_accesses t))))
-          (renewed-each n block s.bytes writers t x t (omega arith) bytes are None old.accesses.items more
-          (filter (is_to block) (pending_accesses t)) k.accesses_are.accesses_are renewed))));
+      accesses_are = all s.accesses.items (rw items at renewed);
       free_is = free ∙ k.free_is ∙ sym same;
       last_is = λ off. last ∙ k.last_is (sym free ∙ off)
           ∙ sym (last-kept n block x t same (sym k.free_is ∙ sym free ∙ off));
     }
+  where
+    others : AreKnown more n block (filter (is_to block) (pending_accesses t)) t t
+    others = subst (λ l. AreKnown more n block l t t) (sym (keeps-all
+        (filter (is_to block) (pending_accesses t))))
+        (copied-each n block t t None old.accesses.items more
+        (filter (is_to block) (pending_accesses t)) k.accesses_are.accesses_are (rw is_old at copied))
+
+    all : (new : List (PendingAccess w)) → AreRenewed (written_by writer) (first ∷ more) new
+        → KnowsAccesses new n block (x ∷ t) (x ∷ t)
+    all [] r = absurd r
+    all (z ∷ rest) r = asked-more n block z rest access x t pending to inside k.accesses_are.inside
+        (nothing-more n block (x ∷ t) (x ∷ t) (written_by writer) first z access r.0 (own-write writer first is_first)
+        known)
+        (windows-kept n block rest (filter (is_to block) (pending_accesses t)) x t same
+        (written-each n block s.bytes writer access x t more rest before bytes pending asked write others r.1))
 
 -- the access that was asked for at a moment
 pub at-moment : {w : ℕ} (asked : Asked w) (link : ℕ) (y : BeatA w) (burst : List (Beat w)) (m k : ℕ) → m ≡ k

@@ -7,8 +7,7 @@ use Rattle.tl_beat.specs.declared.beat.BeatA.{BeatA}
 use Rattle.tl_beat.specs.declared.beat.BeatC.{BeatC}
 use Rattle.tl_beat.specs.declared.beat.BeatD.{BeatD}
 use Rattle.tl_beat.specs.declared.beat.Link.{Link}
-use Rattle.tl_beat.specs.declared.channel.Channel.TheVariants as channel
-use Rattle.tl_burst.specs.statement.Messages.{History, on}
+use Rattle.tl_burst.specs.statement.Messages.{History}
 use Rattle.tl_params.specs.declared.perm.Perm.TheVariants as perm
 use Rattle.tl_rules.specs.code.Open.{open_request}
 use Rattle.tl_rules.specs.declared.past.Request.{Request}
@@ -18,6 +17,7 @@ use Rattle.tl_rules.specs.statement.Windows.{is_free}
 use Rattle.tl_memory.specs.code.Elsewhere.{block_asked, block_borne}
 use Rattle.tl_memory.specs.code.Taking.{IsLegalBeat, IsNext, IsResponse, IsSeen}
 use Rattle.tl_memory.specs.declared.block.BlockState.{BlockState}
+use Rattle.tl_memory.proofs.Elsewhere.{free-kept, freedom-kept}
 
 true_false : {X : Type 0} → true ≡ false → X
 true_false e = absurd cc
@@ -30,14 +30,17 @@ pub seen-request : {w : ℕ} (next : Option (BlockState w)) (free : Option Bool)
 seen-request next None n block link y t seen is = is
 seen-request next (Some f) n block link y t seen is = true_false seen.0
 
--- with one of another channel it is
+-- with one of another channel it is, or doesn't change
 pub seen-other : {w : ℕ} (next : Option (BlockState w)) (free : Option Bool) (n block : ℕ) (x : Link × Beat w)
     (t : Trace w)
-    → on channel.A x.1 ≡ false → IsSeen free n block x t
+    → IsSeen free n block x t
     → ((f : Bool) → f ≡ is_free n None perm.Trunk block (x ∷ t) → IsNext next (Some f) n block x t)
     → IsNext next free n block x t
-seen-other next None n block x t off seen is = true_false (sym seen ∙ off)
-seen-other next (Some f) n block x t off seen is = is f seen.1
+seen-other None None n block x t same is =
+    record { elsewhere = (is (is_free n None perm.Trunk block (x ∷ t)) refl).0; held_is = same }
+seen-other (Some s) None n block x t same is =
+    freedom-kept s n block x t (free-kept n block x t same) (is (is_free n None perm.Trunk block (x ∷ t)) refl).0
+seen-other next (Some f) n block x t seen is = is f seen.1
 
 pub same-block : (k block : ℕ) → Some k ≡ Some block → k ≡ block
 same-block k block e = cc

@@ -5,10 +5,14 @@ use Rattle.std.proofs.Common.{refl, sym, ap, ◌∙◌, arith, inl, inr, get_or,
 use Rattle.std.proofs.lemmas.List.{take_more}
 use Rattle.std.specs.Prelude.{if◌then◌else◌, filter, is_some, nat_lt, None, Option, Some, ◌==◌}
 use Rattle.std.proofs.lemmas.Bool.{cases_Bool, eq-eqb, lt-ltb}
+use Rattle.tl_beat.specs.declared.beat.Beat.{Beat}
+use Rattle.tl_beat.specs.declared.beat.Link.{Link}
 use Rattle.tl_beat.specs.declared.opcode.OpA.{OpA}
 use Rattle.tl_beat.specs.declared.opcode.OpA.TheVariants as a
+use Rattle.tl_beat.specs.statement.Opcode.{a_carries_data}
+use Rattle.tl_burst.specs.declared.message.MessageA.{MessageA}
 use Rattle.tl_bytes.specs.code.Tellings.{is_written, leaves, value_at, left_as}
-use Rattle.tl_bytes.specs.statement.Bytes.{Access, access_writes, could_be, is_of, pending_value, value_written}
+use Rattle.tl_bytes.specs.statement.Bytes.{Access, access_writes, could_be, is_of, pending_value, value_written, writes}
 use Rattle.tl_bytes.specs.statement.Known.{count_of, MayWrite, others, windowed}
 use Rattle.tl_bytes.specs.statement.Bytes.{windows_since}
 use Rattle.tl_memory.specs.declared.pending.PendingAccess.{PendingAccess}
@@ -17,7 +21,7 @@ use Rattle.tl_memory.specs.declared.writer.Writer.{Writer}
 use Rattle.tl_rules.specs.statement.Conformance.{Trace}
 use Rattle.tl_bytes.specs.statement.Bytes.{pending_accesses, written_as}
 use Rattle.tl_memory.specs.declared.access.Asked.{Asked}
-use Rattle.tl_memory.specs.statement.Known.{AllWriteInside, AreWriters, AreWritersOf, IsAsked, is_put, is_to}
+use Rattle.tl_memory.specs.statement.Known.{AllWriteInside, IsAsked, is_put, is_to}
 use Rattle.tl_memory.specs.statement.Known.{WritesInside}
 use Rattle.tl_memory.specs.statement.Known.{AreKnown, KnowsAccesses}
 
@@ -52,6 +56,18 @@ other_pending a.Get access address e = refl
 other_pending a.Intent access address e = refl
 other_pending a.AcquireBlock access address e = refl
 other_pending a.AcquirePerm access address e = refl
+
+-- what carries no data writes nothing
+pub no_data : {w : ℕ} (op : OpA) (m : MessageA w) (address : ℕ) → a_carries_data op ≡ false
+    → writes op m address ≡ false
+no_data a.PutFullData m address e = absurd cc
+no_data a.PutPartialData m address e = absurd cc
+no_data a.ArithmeticData m address e = absurd cc
+no_data a.LogicalData m address e = absurd cc
+no_data a.Get m address e = refl
+no_data a.Intent m address e = refl
+no_data a.AcquireBlock m address e = refl
+no_data a.AcquirePerm m address e = refl
 
 -- ---- what those write that are kept
 
@@ -98,7 +114,7 @@ named link source writer access k = ap (λ l. (l == link) && (writer.asked.reque
     ∙ ap (λ s. (access.link == link) && (s == source)) k.source_is
 
 -- it may leave the bytes that the access may write
-leaves-is : {w : ℕ} (block place byte : ℕ) (writer : Writer w) (access : Access w) → place < 64
+pub leaves-is : {w : ℕ} (block place byte : ℕ) (writer : Writer w) (access : Access w) → place < 64
     → ((is_written writer.write place ≡ access_writes (64 * block + place) access)
     × (is_written writer.write place ≡ true
     → value_at writer.write place ≡ pending_value access.request.opcode access (64 * block + place)))
@@ -122,22 +138,23 @@ first_of true false x y o p e f = absurd cc
 first_of false true x y o p e f = absurd cc
 
 -- what others write is what the accesses may write that are others
-pub others-write : {w : ℕ} (link source block : ℕ) (writers : List (Writer w)) (accesses : List (Access w))
-    → AreWriters writers block accesses
-    → MayWrite (writes_but link source writers) block (filter (λ other. not (is_of link source other)) accesses)
+others-write : {w : ℕ} (n link source block : ℕ) (seen t : Trace w) (pending : List (PendingAccess w))
+    (accesses : List (Access w))
+    → AreKnown pending n block accesses seen t
+    → MayWrite (writes_but link source pending) block (filter (λ other. not (is_of link source other)) accesses)
 unfolding picked
-others-write link source block [] [] are place byte lt = refl
-others-write link source block [] (x ∷ accesses) are place byte lt = absurd are
-others-write link source block (x ∷ writers) [] are place byte lt = absurd are
-others-write link source block (x ∷ writers) (y ∷ accesses) are place byte lt =
-    let more = others-write link source block writers accesses are.2 place byte lt in
-    let same = named link source x y are.0 in
+others-write n link source block seen t [] [] are place byte lt = refl
+others-write n link source block seen t [] (x ∷ accesses) are place byte lt = absurd are
+others-write n link source block seen t (x ∷ pending) [] are place byte lt = absurd are
+others-write n link source block seen t (x ∷ pending) (y ∷ accesses) are place byte lt =
+    let more = others-write n link source block seen t pending accesses are.1 place byte lt in
+    let same = named link source x.writer y are.0.asked_is in
     elim (cases_Bool (is_of link source y)) [
       | inl own ↦ rw (same ∙ own, own) more
       | inr other ↦
           rw (same ∙ other, other)
-          (first_of (leaves place byte x.write) _ x.write y _ _
-          (leaves-is block place byte x y lt (are.1 place lt)) more)
+          (first_of (leaves place byte x.writer.write) _ x.writer.write y _ _
+          (leaves-is block place byte x.writer y lt (are.0.write_is place lt)) more)
     ]
 
 -- what is elsewhere writes nothing here
@@ -180,18 +197,28 @@ written-here block place byte keep (x ∷ accesses) lt inside =
       ]
     ]
 
--- what others may write than an access that is pending
-pub others-may-write : {w : ℕ} (writers : List (Writer w)) (block : ℕ) (asked : Asked w) (access : Access w)
-    (t : Trace w)
-    → IsAsked asked access → AreWritersOf writers block t
-    → MayWrite (writes_but asked.link.0 asked.request.source writers) block (others access t)
-others-may-write writers block asked access t k are place byte lt =
-    ap (λ l. left_as place byte (writes_but l asked.request.source writers)) k.link_is
-    ∙ ap (λ s. left_as place byte (writes_but access.link s writers)) k.source_is
-    ∙ others-write access.link access.request.source block writers (filter (is_to block) (pending_accesses t))
-    are.writers_are place byte lt
+own-left : {w : ℕ} (access : Access w) (accesses : List (Access w))
+    → filter (λ other. not (is_of access.link access.request.source other)) (access ∷ accesses)
+    ≡ filter (λ other. not (is_of access.link access.request.source other)) accesses
+own-left access accesses =
+    rw (eq-eqb access.link access.link refl, eq-eqb access.request.source access.request.source refl) refl
+
+-- what others may write than an access whose request is complete
+pub others-may-write : {w : ℕ} (n block : ℕ) (asked : Asked w) (access : Access w) (x : Link × Beat w) (t : Trace w)
+    (pending : List (PendingAccess w))
+    → IsAsked asked access → KnowsAccesses pending n block t t
+    → pending_accesses (x ∷ t) ≡ access ∷ pending_accesses t
+    → MayWrite (writes_but asked.link.0 asked.request.source pending) block (others access (x ∷ t))
+others-may-write n block asked access x t pending k known more place byte lt =
+    ap (λ l. left_as place byte (writes_but l asked.request.source pending)) k.link_is
+    ∙ ap (λ s. left_as place byte (writes_but access.link s pending)) k.source_is
+    ∙ others-write n access.link access.request.source block t t pending (filter (is_to block) (pending_accesses t))
+    known.accesses_are place byte lt
     ∙ written-here block place byte (λ other. not (is_of access.link access.request.source other)) (pending_accesses t)
-    lt are.inside
+    lt known.inside
+    ∙ ap (written_as (64 * block + place) byte) (sym (own-left access (pending_accesses t)))
+    ∙ ap (λ l. written_as (64 * block + place) byte
+    (filter (λ other. not (is_of access.link access.request.source other)) l)) (sym more)
 
 -- ---- what those may write that have had a window
 

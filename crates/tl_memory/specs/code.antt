@@ -2,5 +2,6 @@ pub mod Allowed
 pub mod Changing
 pub mod Elsewhere
 pub mod Expected
+pub mod Passing
 pub mod Taking
 pub mod Writers

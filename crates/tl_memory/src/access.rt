@@ -60,6 +60,18 @@ pub fn payload_of(bytes: &[Option<u8>; 64]) -> [u8; 64]
     payload
 }
 
+/// The payload of a request that brought these bytes: of one that carries data, those that are known, and zeros.
+fn payload_asked(opcode: OpA, bytes: &[Option<u8>; 64]) -> [u8; 64]
+    ensures { a_carries_data opcode ≡ true → (place : ℕ) → place < 64 →
+        slice_index result place ≡ unwrap_or (slice_index_or bytes.now place None) 0 }
+{
+    if opcode.carries_data() {
+        payload_of(bytes)
+    } else {
+        [0; 64]
+    }
+}
+
 /// Whether a bit of a mask is set.
 fn is_set(mask: u64, bit: usize) -> bool
     ensures { result ≡ (nat_lt bit 64 && burst.bit mask bit) }
@@ -98,7 +110,7 @@ impl<const W: usize> Asked<W> {
                 size: x.size,
                 source: x.source,
                 address: x.address,
-                payload: payload_of(brought.bytes.bytes()),
+                payload: payload_asked(x.opcode, brought.bytes.bytes()),
                 mask: brought.mask,
                 corrupt: 0,
             },
@@ -157,6 +169,9 @@ pub fn places_of<const W: usize>(asked: &Asked<W>) -> [bool; 64]
         slice_index_or result place false ≡ access_writes (64 * block_at access.request.address + place) access }
 {
     let mut places = [false; 64];
+    if !asked.request.opcode.carries_data() {
+        return places;
+    }
     for place in 0..64usize {
         places[place] = asked.writes(place);
     }

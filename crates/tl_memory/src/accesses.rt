@@ -1,7 +1,8 @@
 //! The accesses to a block that are pending.
 
 ghost use Rattle.std.specs.Prelude.{ℕ, ◌++◌, ◌≡◌, List, find, IfOk, OnOk, option_copied};
-ghost use Rattle.tl_memory.specs.code.Writers.{AreRenewed, AreWatched, is_named, staying, writers_staying};
+ghost use Rattle.tl_memory.specs.code.Writers.{AreRenewed, AreWatched, is_named, nothing, staying};
+ghost use Rattle.tl_memory.specs.code.Writers.{told_by, written_by};
 ghost use Rattle.tl_memory.specs.code.Writers as writers;
 ghost use Rattle.tl_memory.specs.declared.pending.PendingAccess.{PendingAccess};
 
@@ -37,39 +38,46 @@ fn stays<const W: usize>(access: &PendingAccess<W>, gone: Option<(Link, u8)>) ->
     }
 }
 
-/// Appends what those may write that stay.
-pub fn append_writers<const W: usize>(
-    writers: &mut Vec<Writer<W>>,
+/// Appends copies of those that stay.
+pub fn append_staying<const W: usize>(
+    alloc: Global,
+    copies: &mut Vec<PendingAccess<W>>,
     accesses: &[PendingAccess<W>],
     gone: Option<(Link, u8)>,
 ) -> Result<(), AllocError>
-    ensures { OnOk result (writers.new.items ≡ writers.old.items ++ writers_staying gone accesses.now) }
+    ensures { OnOk result ((more : List (PendingAccess W)) × (copies.new.items ≡ copies.old.items ++ more)
+        × AreRenewed nothing (staying gone accesses.now) more) }
 {
     for access in accesses {
         if stays(access, gone) {
-            writers.push(access.writer)?;
+            copies.push(access.copy(alloc)?)?;
         }
     }
     Ok(())
 }
 
-/// Appends those that stay with one more beat, with which these are the bytes of the block, and what may
-/// be written there.
-pub fn append_renewed<const W: usize>(
-    alloc: Global,
-    renewed: &mut Vec<PendingAccess<W>>,
-    accesses: &[PendingAccess<W>],
-    gone: Option<(Link, u8)>,
+/// Adds to what each may bring what is told of the block.
+pub fn tell<const W: usize>(
+    accesses: &mut Vec<PendingAccess<W>>,
     bytes: &BlockBytes,
-    writers: &[Writer<W>],
 ) -> Result<(), AllocError>
-    ensures { OnOk result ((more : List (PendingAccess W)) × (renewed.new.items ≡ renewed.old.items ++ more)
-        × AreRenewed bytes.now writers.now (staying gone accesses.now) more) }
+    ensures { OnOk result (AreRenewed (told_by bytes.now) accesses.old.items accesses.new.items) }
 {
-    for access in accesses {
-        if stays(access, gone) {
-            renewed.push(access.with(alloc, bytes, writers)?)?;
-        }
+    for n in 0..accesses.len() {
+        accesses[n].tell(bytes)?;
+    }
+    Ok(())
+}
+
+/// Adds to what each may bring what another writes.
+pub fn write<const W: usize>(
+    accesses: &mut Vec<PendingAccess<W>>,
+    writer: &Writer<W>,
+) -> Result<(), AllocError>
+    ensures { OnOk result (AreRenewed (written_by writer.now) accesses.old.items accesses.new.items) }
+{
+    for n in 0..accesses.len() {
+        accesses[n].write(writer)?;
     }
     Ok(())
 }

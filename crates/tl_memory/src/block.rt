@@ -1,7 +1,7 @@
 //! What is kept of a block.
 
 ghost use Rattle.std.specs.Prelude.{ℕ, suc, true, false, not, None, [], ◌∷◌, ◌≡◌, ◌&&◌, ◌-◌, length, find, IfOk};
-ghost use Rattle.std.specs.Prelude.{if◌then◌else◌, unwrap_or};
+ghost use Rattle.std.specs.Prelude.{if◌then◌else◌, filter, unwrap_or};
 ghost use Rattle.tl_beat.specs.declared.beat.Beat.{Beat};
 ghost use Rattle.tl_beat.specs.declared.beat.Beat.TheVariants as beat;
 ghost use Rattle.tl_beat.specs.declared.beat.BeatA.{BeatA};
@@ -16,9 +16,10 @@ ghost use Rattle.tl_rules.specs.statement.History.{block_at};
 ghost use Rattle.tl_rules.specs.statement.Windows.{is_free};
 ghost use Rattle.tl_bytes.specs.statement.Bytes.{Access, ends_request, is_of, pending_accesses, tells};
 ghost use Rattle.tl_bytes.specs.statement.Known.{AreCarried, KnowsBlock, KnowsGrant};
+ghost use Rattle.tl_memory.specs.code.Writers.{keeps};
 
 use crate::access::Asked;
-use crate::accesses::{append_renewed, append_writers, find, watch};
+use crate::accesses::{append_staying, find, tell, watch, write};
 use crate::expected::Expected;
 use crate::granted::granted;
 use crate::message::CarriedMessage;
@@ -62,7 +63,7 @@ impl<const W: usize> BlockState<W> {
         ensures { IfOk result (λ s. (n block : ℕ) → KnowsState s n block [] []) }
     {
         Ok(BlockState {
-            bytes: BlockBytes::new(alloc)?,
+            bytes: BlockBytes::new(alloc),
             accesses: Vec::new(alloc),
             free: true,
             last_free: 0,
@@ -98,6 +99,29 @@ impl<const W: usize> BlockState<W> {
         }))
     }
 
+    /// It with a beat with which these are its bytes, and the access with this source on a link is gone, where
+    /// one is.
+    fn with_bytes(
+        &self,
+        alloc: Global,
+        bytes: BlockBytes,
+        gone: Option<(Link, u8)>,
+    ) -> Result<Self, AllocError>
+        ensures { IfOk result (λ s. (n block : ℕ) (x : Link × Beat W) (t : Trace W) → KnowsState self.now n block t t →
+            KnowsBlock bytes n block (x ∷ t) → pending_accesses (x ∷ t) ≡ filter (keeps gone) (pending_accesses t) →
+            KnowsState s n block t (x ∷ t)) }
+    {
+        let mut accesses = Vec::new(alloc);
+        append_staying(alloc, &mut accesses, self.accesses.as_slice(), gone)?;
+        tell(&mut accesses, &bytes)?;
+        Ok(BlockState {
+            bytes,
+            accesses,
+            free: self.free,
+            last_free: self.last_free,
+        })
+    }
+
     /// It with a beat, after so many, that tells what its bytes are.
     pub fn told(
         &self,
@@ -110,25 +134,8 @@ impl<const W: usize> BlockState<W> {
             pending_accesses (x ∷ t) ≡ pending_accesses t → moment ≡ length t → AreCarried values.now x t →
             KnowsState s n block t (x ∷ t)) }
     {
-        let mut bytes = self.bytes.copy(alloc)?;
-        bytes.tell(alloc, values, moment)?;
-        let mut writers = Vec::new(alloc);
-        append_writers(&mut writers, self.accesses.as_slice(), None)?;
-        let mut accesses = Vec::new(alloc);
-        append_renewed(
-            alloc,
-            &mut accesses,
-            self.accesses.as_slice(),
-            None,
-            &bytes,
-            writers.as_slice(),
-        )?;
-        Ok(BlockState {
-            bytes,
-            accesses,
-            free: self.free,
-            last_free: self.last_free,
-        })
+        let bytes = BlockBytes::told(alloc, values, moment)?;
+        self.with_bytes(alloc, bytes, None)
     }
 
     /// What its bytes may be with a beat, after so many, that completes this answer to the access with this
@@ -149,13 +156,15 @@ impl<const W: usize> BlockState<W> {
             KnowsMessage answer.now (beat.D y ∷ unfinished channel.D (on_link link.0 t)) → moment ≡ length t →
             KnowsBlock b n block ((link, beat.D y) ∷ t)) }
     {
-        let mut bytes = self.bytes.copy(alloc)?;
-        if let Some(access) = find(self.accesses.as_slice(), link, source) {
-            let standing = self.bytes.standing(&access.windows);
-            let write = written(&access.writer.asked, answer);
-            bytes.write(alloc, &write, standing, moment)?;
+        let Some(access) = find(self.accesses.as_slice(), link, source) else {
+            return self.bytes.copy(alloc);
+        };
+        if !access.writer.asked.request.opcode.carries_data() {
+            return self.bytes.copy(alloc);
         }
-        Ok(bytes)
+        let standing = self.bytes.standing(&access.windows);
+        let write = written(&access.writer.asked, answer);
+        self.bytes.with(alloc, &write, standing, moment)
     }
 
     /// It with a beat, after so many, that completes this answer to the access with this source on a link,
@@ -177,24 +186,7 @@ impl<const W: usize> BlockState<W> {
             KnowsState s n block t ((link, beat.D y) ∷ t)) }
     {
         let bytes = self.bytes_answered(alloc, link, source, answer, moment)?;
-        let gone = Some((link, source));
-        let mut writers = Vec::new(alloc);
-        append_writers(&mut writers, self.accesses.as_slice(), gone)?;
-        let mut accesses = Vec::new(alloc);
-        append_renewed(
-            alloc,
-            &mut accesses,
-            self.accesses.as_slice(),
-            gone,
-            &bytes,
-            writers.as_slice(),
-        )?;
-        Ok(BlockState {
-            bytes,
-            accesses,
-            free: self.free,
-            last_free: self.last_free,
-        })
+        self.with_bytes(alloc, bytes, Some((link, source)))
     }
 
     /// Sees whether it is free for writing with a beat, at this moment.
@@ -223,21 +215,12 @@ impl<const W: usize> BlockState<W> {
             asked,
             write: pending_write(&asked),
         };
-        let mut writers = Vec::new(alloc);
-        writers.push(writer)?;
-        append_writers(&mut writers, self.accesses.as_slice(), None)?;
         let windows = WritingWindows::new(self.free, asked.moment, self.last_free);
-        let first = PendingAccess::new(alloc, &writer, windows, &bytes, writers.as_slice())?;
+        let before = self.accesses.as_slice();
         let mut accesses = Vec::new(alloc);
-        accesses.push(first)?;
-        append_renewed(
-            alloc,
-            &mut accesses,
-            self.accesses.as_slice(),
-            None,
-            &bytes,
-            writers.as_slice(),
-        )?;
+        accesses.push(PendingAccess::new(alloc, &writer, windows, &bytes, before)?)?;
+        append_staying(alloc, &mut accesses, before, None)?;
+        write(&mut accesses, &writer)?;
         Ok(BlockState {
             bytes,
             accesses,
@@ -245,6 +228,7 @@ impl<const W: usize> BlockState<W> {
             last_free: self.last_free,
         })
     }
+
     /// This state, or the one that was.
     fn put(&mut self, next: Option<Self>)
         ensures { self.new ≡ unwrap_or next.entry self.old }

@@ -13,6 +13,7 @@ pub mod links;
 pub mod memory;
 pub mod message;
 pub mod next;
+pub mod passing;
 pub mod pending;
 pub mod performed;
 pub mod typed;

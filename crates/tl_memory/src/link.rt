@@ -55,10 +55,10 @@ impl LinkMessages {
         match beat {
             Beat::A(x) => {
                 prove_request(x);
-                self.a = self.a.after(beat);
+                self.a.take(beat);
             }
-            Beat::C(_) => self.c = self.c.after(beat),
-            Beat::D(_) => self.d = self.d.after(beat),
+            Beat::C(_) => self.c.take(beat),
+            Beat::D(_) => self.d.take(beat),
             _ => {}
         }
     }

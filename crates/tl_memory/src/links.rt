@@ -1,16 +1,19 @@
 //! What is kept of all links of a manager.
 
-ghost use Rattle.std.specs.Prelude.{ℕ, [], ◌∷◌, ◌≡◌, List, length, None, IfOk, option_copied, slice_get};
+ghost use Rattle.std.specs.Prelude.{ℕ, [], ◌∷◌, ◌≡◌, List, length, None, IfOk, IsTrue, option_copied, slice_get};
 ghost use Rattle.tl_beat.specs.declared.beat.Link.{Link};
 ghost use Rattle.tl_beat.specs.statement.Width.{IsWidth};
+ghost use Rattle.tl_burst.specs.statement.Part;
 ghost use Rattle.tl_params.specs.declared.level.Level.{Level};
 ghost use Rattle.tl_params.specs.declared.profile.Profile.{Profile};
-ghost use Rattle.tl_rules.specs.statement.Conformance.{Trace, broken_on_link};
+ghost use Rattle.tl_rules.specs.statement.Conformance.{Trace, broken_on_link, on_link};
 ghost use Rattle.tl_memory.specs.code.Changing.{ExpectsBegun};
+ghost use Rattle.tl_memory.specs.code.Passing as passing;
 ghost use Rattle.tl_memory.specs.statement.Links.{AreLegal};
 
 use crate::expected::Expected;
 use crate::link::LinkState;
+use crate::passing::passes_by;
 use std::alloc::{AllocError, Global};
 use tl_beat::beat::{Beat, Link};
 
@@ -39,6 +42,20 @@ impl Links {
         ensures { option_copied result ≡ slice_get self.now.states.items link.0 }
     {
         self.states.get(usize::from(link.0))
+    }
+
+    /// Whether a beat of a link passes each block by, and no response begins with it.
+    pub fn passes_by<const W: usize>(&self, link: Link, x: &Beat<W>) -> bool
+        requires width { IsWidth W }
+        requires small { IsTrue (Part.is_small x.now) }
+        ensures { (levels : List Level) (p : Profile) (t : Trace W) → KnowsLinks self.now (length levels) t →
+            AreLegal levels p t → broken_on_link levels p (link, x.now) t ≡ None →
+            result ≡ passing.passes_by x.now (on_link link.0 t) }
+    {
+        match self.get(link) {
+            Some(state) => passes_by(x, &state.messages),
+            None => true,
+        }
     }
 
     /// Takes a beat, where this is what the response may bring that begins with it.

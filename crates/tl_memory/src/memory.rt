@@ -1,17 +1,20 @@
 //! What is kept of the bytes of memory.
 
-ghost use Rattle.std.specs.Prelude.{ℕ, suc, true, [], ◌∷◌, ◌≡◌, List, length, is_some, None, Some, IfOk, IsTrue};
+ghost use Rattle.std.specs.Prelude.{ℕ, suc, true, [], ◌∷◌, ◌≡◌, if◌then◌else◌, List, length, is_some, option_map};
+ghost use Rattle.std.specs.Prelude.{None, Some, IfOk, IsTrue};
 ghost use Rattle.tl_beat.specs.declared.beat.Beat.TheVariants as beat;
 ghost use Rattle.tl_beat.specs.declared.beat.Link.{Link};
 ghost use Rattle.tl_beat.specs.statement.Width.{IsWidth};
 ghost use Rattle.tl_burst.specs.statement.Messages.{History};
 ghost use Rattle.tl_burst.specs.statement.Part;
 ghost use Rattle.tl_params.specs.declared.level.Level.{Level};
+ghost use Rattle.tl_params.specs.declared.perm.Perm.TheVariants as perm;
 ghost use Rattle.tl_params.specs.declared.profile.Profile.{Profile};
 ghost use Rattle.tl_rules.specs.statement.Conformance.{Trace, broken_on_link, on_link};
+ghost use Rattle.tl_rules.specs.statement.Windows.{is_free};
 ghost use Rattle.tl_bytes.specs.statement.Bytes as bytes;
 ghost use Rattle.tl_memory.specs.code.Elsewhere as elsewhere;
-ghost use Rattle.tl_memory.specs.code.Taking.{IsSeen, request_answered};
+ghost use Rattle.tl_memory.specs.code.Taking.{request_answered};
 
 use crate::begun::begun_with;
 use crate::block::BlockState;
@@ -20,6 +23,7 @@ use crate::expected::Expected;
 use crate::links::Links;
 use crate::message::is_small;
 use crate::next::after_beat;
+use crate::passing::changes_held;
 use crate::typed::prove_typed;
 use std::alloc::{AllocError, Global};
 use tl_beat::beat::{Beat, BeatD, Link};
@@ -57,11 +61,20 @@ fn block_borne<const W: usize>(beat: &Beat<W>, asked: Option<Request>) -> Option
     }
 }
 
+/// The block that a beat bears on, where its link may hold more or less of it with the beat.
+fn held_of(block: u32, changes: bool) -> Option<u32>
+    ensures { result ≡ (if changes then Some block else None) }
+{
+    if changes { Some(block) } else { None }
+}
+
 /// What a beat changes of what is kept.
 #[derive(Drop)]
 pub struct Change<const W: usize> {
-    /// The block that it bears on.
-    pub block: Option<u32>,
+    /// The block that it bears on; none where it passes each by.
+    block: Option<u32>,
+    /// The same, where its link may hold more or less of it with the beat.
+    pub held: Option<u32>,
     /// The state of that block with it, where more of it changes than how free it is.
     next: Option<BlockState<W>>,
     /// What the response may bring that begins with it.
@@ -69,13 +82,15 @@ pub struct Change<const W: usize> {
 }
 
 impl<const W: usize> Change<W> {
-    /// That of a beat that bears on no block.
+    /// That of a beat that passes each block by.
     fn none() -> Self
         ensures block { result.block ≡ None }
+        ensures held { result.held ≡ None }
         ensures expected { result.expected ≡ None }
     {
         Change {
             block: None,
+            held: None,
             next: None,
             expected: None,
         }
@@ -136,6 +151,7 @@ impl<const W: usize> Memory<W> {
         let expected = begun_with(self.alloc, state, link, x, &known.messages.d, block)?;
         Ok(Change {
             block: Some(block),
+            held: held_of(block, changes_held(x, &known.messages)),
             next,
             expected,
         })
@@ -161,6 +177,9 @@ impl<const W: usize> Memory<W> {
         if !is_small(x) {
             return Ok(Change::none());
         }
+        if self.links.passes_by(link, x) {
+            return Ok(Change::none());
+        }
         let Some(block) = block_borne(x, asked) else {
             return Ok(Change::none());
         };
@@ -182,8 +201,8 @@ impl<const W: usize> Memory<W> {
         }
     }
 
-    /// Takes a beat, at this moment, where this is what the beat changes. Whether the block that it bears on is free
-    /// for writing with it is told beside that, but with a beat of channel A, which changes nothing of that.
+    /// Takes a beat, at this moment, where this is what the beat changes. Whether the block of which its link may hold
+    /// more or less is free for writing with it is told beside that.
     pub fn take(
         &mut self,
         change: Change<W>,
@@ -196,7 +215,8 @@ impl<const W: usize> Memory<W> {
         ensures { (levels : List Level) (p : Profile) (t : Trace W) → KnowsMemory self.old (length levels) t →
             AreLegal levels p t → broken_on_link levels p (link, x.now) t ≡ None → moment ≡ suc (length t) →
             IsChange change.entry self.old (length levels) (link, x.now) t →
-            ((block : ℕ) → change.entry.block ≡ Some block → IsSeen free (length levels) block (link, x.now) t) →
+            free ≡ option_map (λ block. is_free (length levels) None perm.Trunk block ((link, x.now) ∷ t))
+            change.entry.held →
             KnowsMemory self.new (length levels) ((link, x.now) ∷ t) }
     {
         prove_typed(x);

@@ -90,32 +90,48 @@ impl CarriedMessage {
         }
     }
 
+    /// Adds what the next beat brings.
+    fn add<const W: usize>(&mut self, beat: &Beat<W>)
+        requires { IsWidth W }
+        ensures { (burst : List (Beat W)) → KnowsMessage self.old burst → HasRoom beat.now burst →
+            KnowsMessage self.new (beat.now ∷ burst) }
+    {
+        self.mask = self.mask_with(beat);
+        self.spoiled = either(is_spoiled(beat), self.spoiled);
+        self.bytes.add(beat);
+    }
+
     /// What they have brought with the next beat.
     pub fn with<const W: usize>(&self, beat: &Beat<W>) -> Self
         requires { IsWidth W }
         ensures { (burst : List (Beat W)) → KnowsMessage self.now burst → HasRoom beat.now burst →
             KnowsMessage result (beat.now ∷ burst) }
     {
-        let mut bytes = self.bytes;
-        bytes.add(beat);
-        CarriedMessage {
-            bytes,
-            mask: self.mask_with(beat),
-            spoiled: either(is_spoiled(beat), self.spoiled),
+        let mut all = *self;
+        all.add(beat);
+        all
+    }
+
+    /// Nothing is brought of the next message.
+    fn clear(&mut self)
+        ensures { (w : ℕ) (burst : List (Beat w)) → KnowsMessage self.old burst → KnowsMessage {w = w} self.new [] }
+    {
+        if self.bytes.count() > 0 {
+            *self = CarriedMessage::new();
         }
     }
 
-    /// The same, or nothing, where that is the last.
-    pub fn after<const W: usize>(&self, beat: &Beat<W>) -> Self
+    /// Takes the next beat. Behind the last nothing is brought.
+    pub fn take<const W: usize>(&mut self, beat: &Beat<W>)
         requires width { IsWidth W }
         requires small { IsTrue (Part.is_small beat.now) }
-        ensures { (burst : List (Beat W)) → KnowsMessage self.now burst → HasRoom beat.now burst →
-            KnowsMessage result (grown beat.now burst) }
+        ensures { (burst : List (Beat W)) → KnowsMessage self.old burst → HasRoom beat.now burst →
+            KnowsMessage self.new (grown beat.now burst) }
     {
         if self.completes(beat) {
-            CarriedMessage::new()
+            self.clear();
         } else {
-            self.with(beat)
+            self.add(beat);
         }
     }
 }

@@ -1,16 +1,17 @@
 //! What an access leaves in its block.
 
 ghost use Rattle.std.specs.Prelude.{ℕ, true, false, ◌+◌, ◌*◌, ◌/◌, ◌%◌, ◌^◌, ◌<◌, ◌≡◌, ◌==◌, List};
-ghost use Rattle.std.specs.Prelude.{if◌then◌else◌, slice_index, unwrap_or};
+ghost use Rattle.std.specs.Prelude.{if◌then◌else◌, slice_index};
 ghost use Rattle.tl_beat.specs.declared.beat.Beat.{Beat};
 ghost use Rattle.tl_beat.specs.statement.Width.{IsWidth};
 ghost use Rattle.tl_burst.specs.declared.message.Message.TheVariants as message;
 ghost use Rattle.tl_rules.specs.statement.Effect.{Memory, IsBlock, after, effect};
 ghost use Rattle.tl_rules.specs.statement.History.{block_at};
-ghost use Rattle.tl_bytes.specs.statement.Bytes.{Access, access_writes, carried_byte, found_memory};
+ghost use Rattle.tl_bytes.specs.statement.Bytes.{Access, access_writes, found_memory};
+ghost use Rattle.tl_bytes.specs.statement.Known.{HasBytes};
 ghost use Rattle.tl_memory.specs.statement.Known.{IsAsked, IsPerformable, IsWhole, is_atomic, is_put};
 
-use crate::access::Asked;
+use crate::access::{Asked, payload_of};
 use tl_beat::channel::Channel;
 use tl_beat::opcode::OpA;
 use tl_burst::message::{Message, MessageA};
@@ -59,10 +60,10 @@ pub fn is_put(opcode: OpA) -> bool
 }
 
 /// The bytes of its block that an access leaves which writes, where its answer brought these.
-pub fn performed<const W: usize>(asked: &Asked<W>, found: &[u8; 64]) -> [u8; 64]
+pub fn performed<const W: usize>(asked: &Asked<W>, found: &[Option<u8>; 64]) -> [u8; 64]
     requires { IsWidth W }
     ensures { (access : Access W) (answer : List (Beat W)) → IsAsked asked.now access →
-        ((place : ℕ) → place < 64 → slice_index found.now place ≡ unwrap_or (carried_byte answer place) 0) →
+        HasBytes found.now answer →
         access.spoiled ≡ false →
         IsPerformable W access.request.opcode access.request.param access.request.size access.request.address →
         IsWhole access → (place : ℕ) → place < 64 →
@@ -74,7 +75,7 @@ pub fn performed<const W: usize>(asked: &Asked<W>, found: &[u8; 64]) -> [u8; 64]
     if is_put(asked.request.opcode) {
         return move_up(&asked.request.payload, base);
     }
-    let mut block = move_up(found, base);
+    let mut block = move_up(&payload_of(found), base);
     perform_atomic(&asked.request, &mut block);
     block
 }

@@ -1,20 +1,17 @@
 //! What accesses write in their blocks.
 
-ghost use Rattle.std.specs.Prelude.{ℕ, true, ◌+◌, ◌*◌, ◌<◌, ◌≡◌, List, None, Some, IfOk};
+ghost use Rattle.std.specs.Prelude.{ℕ, true, ◌+◌, ◌*◌, ◌<◌, ◌≡◌, List, None, Some};
 ghost use Rattle.std.specs.Prelude.{slice_index, slice_index_or};
 ghost use Rattle.tl_beat.specs.declared.beat.Beat.{Beat};
 ghost use Rattle.tl_beat.specs.statement.Width.{IsWidth};
 ghost use Rattle.tl_rules.specs.statement.History.{block_at};
 ghost use Rattle.tl_bytes.specs.statement.Bytes.{Access, access_writes, value_written};
 ghost use Rattle.tl_bytes.specs.statement.Known.{IsWrite};
-ghost use Rattle.tl_memory.specs.code.Writers.{writes_but};
 ghost use Rattle.tl_memory.specs.statement.Known.{IsAsked, IsLawful, IsPendingWrite, KnowsMessage};
 
-use crate::access::{Asked, payload_of, places_of};
+use crate::access::{Asked, places_of};
 use crate::message::{CarriedMessage, either};
 use crate::performed::{is_put, performed};
-use std::alloc::{AllocError, Global};
-use tl_beat::beat::Link;
 use tl_bytes::write::Write;
 
 /// Bytes that are known.
@@ -48,7 +45,7 @@ fn values_written<const W: usize>(asked: &Asked<W>, answer: &CarriedMessage) -> 
     if either(asked.spoiled, answer.spoiled) {
         return nothing_known();
     }
-    known(&performed(asked, &payload_of(answer.bytes.bytes())))
+    known(&performed(asked, answer.bytes.bytes()))
 }
 
 /// What an access writes, where this is its answer: where a beat of one of them is corrupt, anything.
@@ -84,22 +81,4 @@ pub fn pending_write<const W: usize>(asked: &Asked<W>) -> Write
 pub struct Writer<const W: usize> {
     pub asked: Asked<W>,
     pub write: Write,
-}
-
-/// What others may write than the access with this source on a link.
-pub fn writes_of_others<const W: usize>(
-    alloc: Global,
-    writers: &[Writer<W>],
-    link: Link,
-    source: u8,
-) -> Result<Vec<Write>, AllocError>
-    ensures { IfOk result (λ writes. writes.items ≡ writes_but link.0 source writers.now) }
-{
-    let mut writes = Vec::new(alloc);
-    for writer in writers {
-        if !writer.asked.is_of(link, source) {
-            writes.push(writer.write)?;
-        }
-    }
-    Ok(writes)
 }

@@ -62,14 +62,14 @@ unnoted j j' levels p t closed k e links moment m asked windows memory = record 
 
 -- a beat was noted, and refused for want of memory
 pub still : {w : ℕ} (j j' : Judge w) (levels : List Level) (p : Profile) (t : Trace w) (closed : Bool) (link : Link)
-    (x : Beat w) (next : ℕ) → Knows j levels p t closed
+    (x : Beat w) (next : ℕ) (held : Option ℕ) → Knows j levels p t closed
     → j.closed ≡ false → j'.closed ≡ false → j'.links ≡ j.links → j'.moment ≡ j.moment
     → of_link.Knows j'.monitor levels p t false
     → NotesRequest j.monitor j.asked.items j'.asked.items link x next
-    → NotesWindow j.monitor j.links j.moment j.windows j'.windows link x
+    → NotesWindow j.monitor j.links j.moment held j.windows j'.windows
     → ((n : ℕ) (t : Trace w) → KnowsMemory j.memory n t → KnowsMemory j'.memory n t)
     → Knows j' levels p t closed
-still j j' levels p t closed link x next k e e' links moment m asked windows memory =
+still j j' levels p t closed link x next held k e e' links moment m asked windows memory =
     let o = open_still j levels p t closed k e in
     let known = asked.1 levels p t o.monitor_is o.tables_are o.asked_are in
     let seen = windows levels p t o.monitor_is o.links_are o.moment_is o.windows_are in
@@ -89,15 +89,16 @@ still j j' levels p t closed link x next k e e' links moment m asked windows mem
 
 -- a beat was taken
 pub taken : {w : ℕ} (j j' : Judge w) (levels : List Level) (p : Profile) (t : Trace w) (closed : Bool) (link : Link)
-    (x : Beat w) (next : ℕ) → Knows j levels p t closed
+    (x : Beat w) (next : ℕ) (held : Option ℕ) → Knows j levels p t closed
     → j.closed ≡ false → j'.closed ≡ false → j'.links ≡ j.links → next ≡ j.moment + 1 → j'.moment ≡ next
     → broken_on_link levels p (link, x) t ≡ None
     → of_link.Knows j'.monitor levels p ((link, x) ∷ t) false
     → NotesRequest j.monitor j.asked.items j'.asked.items link x next
-    → NotesWindow j.monitor j.links j.moment j.windows j'.windows link x
+    → NotesWindow j.monitor j.links j.moment held j.windows j'.windows
+    → of_link.LeavesOthers held x (on_link link.0 t)
     → KnowsMemory j'.memory (length levels) ((link, x) ∷ t)
     → Knows j' levels p ((link, x) ∷ t) false
-taken j j' levels p t closed link x next k e e' links next_is moment fine m asked windows memory =
+taken j j' levels p t closed link x next held k e e' links next_is moment fine m asked windows others memory =
     let o = open_still j levels p t closed k e in
     let known = asked.1 levels p t o.monitor_is o.tables_are o.asked_are in
     let seen = windows levels p t o.monitor_is o.links_are o.moment_is o.windows_are in
@@ -110,7 +111,7 @@ taken j j' levels p t closed link x next k e e' links next_is moment fine m aske
         monitor_is = m;
         tables_are = asked.0 ∙ o.tables_are;
         asked_are = known.1 more fine;
-        windows_are = seen.1 fine;
+        windows_are = seen.1 link x others;
         memory_is = memory;
         legal = (fine, o.legal);
       };
@@ -164,22 +165,23 @@ refused j levels p t closed link x fault f k e a f_is =
     (of_link_rule (broken_on_link levels p (link, x) t) (broken_memory (length levels) link.0 x t) fault a))
 
 pub refused_knows : {w : ℕ} (j j' : Judge w) (levels : List Level) (p : Profile) (t : Trace w) (closed : Bool)
-    (link : Link) (x : Beat w) (next : ℕ) (fault : MonitorFault) (f : JudgeFault)
+    (link : Link) (x : Beat w) (next : ℕ) (held : Option ℕ) (fault : MonitorFault) (f : JudgeFault)
     → Knows j levels p t closed → j.closed ≡ false → f ≡ fault_of_monitor fault → j'.closed ≡ closes fault
     → j'.links ≡ j.links → j'.moment ≡ j.moment
     → of_link.Knows j'.monitor levels p (of_link.recorded_after (Err fault) (link, x) t)
     (of_link.closed_after (Err fault))
     → NotesRequest j.monitor j.asked.items j'.asked.items link x next
-    → NotesWindow j.monitor j.links j.moment j.windows j'.windows link x
+    → NotesWindow j.monitor j.links j.moment held j.windows j'.windows
     → ((n : ℕ) (t : Trace w) → KnowsMemory j.memory n t → KnowsMemory j'.memory n t)
     → Knows j' levels p t (closed_after closed (Err f))
-refused_knows j j' levels p t closed link x next monitor.Memory f k e f_is e' links moment m asked windows memory =
-    rw f_is (still j j' levels p t closed link x next k e e' links moment m asked windows memory)
-refused_knows j j' levels p t closed link x next monitor.Levels f k e f_is e' links moment m asked windows memory =
+refused_knows j j' levels p t closed link x next held monitor.Memory f k e f_is e' links moment m asked windows memory =
+    rw f_is (still j j' levels p t closed link x next held k e e' links moment m asked windows memory)
+refused_knows j j' levels p t closed link x next held monitor.Levels f k e f_is e' links moment m asked windows memory =
     rw f_is (shut j' levels p t e')
-refused_knows j j' levels p t closed link x next monitor.Closed f k e f_is e' links moment m asked windows memory =
+refused_knows j j' levels p t closed link x next held monitor.Closed f k e f_is e' links moment m asked windows memory =
     rw f_is (shut j' levels p t e')
-refused_knows j j' levels p t closed link x next (monitor.Broken r) f k e f_is e' links moment m asked windows memory =
+refused_knows j j' levels p t closed link x next held (monitor.Broken r) f k e f_is e' links moment m asked windows
+    memory =
     rw f_is (shut j' levels p t e')
 
 none_yet : (w : ℕ) (entries : List (ℕ × Window)) (n : ℕ) → entries ≡ [] → KnowsWindows {w = w} entries n []

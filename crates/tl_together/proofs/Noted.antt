@@ -23,6 +23,12 @@ use Rattle.tl_rules.specs.statement.Conformance.{comes_in_request}
 use Rattle.tl_rules.specs.statement.History.{begins, ends, held, pending, request_of, is_release_ack}
 use Rattle.tl_rules.proofs.Tables.{request-next}
 use Rattle.tl_monitor.proofs.Judged.{continues}
+use Rattle.tl_memory.specs.code.Changing.{IsChange}
+use Rattle.tl_memory.specs.code.Elsewhere.{LeavesHeld}
+use Rattle.tl_memory.specs.code.Passing.{changes_held}
+use Rattle.tl_memory.specs.declared.memory.Change.{Change}
+use Rattle.tl_memory.specs.declared.memory.Memory.{Memory}
+use Rattle.tl_memory.proofs.PassedBy.{held-left}
 use Rattle.tl_monitor.specs.code.LinkState.{is_block}
 use Rattle.tl_monitor.specs.statement.Knows.{Knows, LeavesOthers, request_on}
 use Rattle.tl_monitor.specs.declared.monitor.Monitor.{Monitor}
@@ -197,6 +203,21 @@ windows_more n block entries link x t still leaves' noted given b gone = elim (c
   ]
 ]
 
+-- where this is what a beat changes of what is kept of memory, it leaves what is held of the other blocks
+pub held_others : {w : ℕ} (change : Change w) (m : Memory w) (n : ℕ) (link : Link) (x : Beat w) (t : Trace w)
+    → IsChange change m n (link, x) t → LeavesOthers change.held x (on_link link.0 t)
+held_others change m n link x t is b apart = go (changes_held x (on_link link.0 t)) refl
+  where
+    go : (c : Bool) → changes_held x (on_link link.0 t) ≡ c → LeavesHeld b (link, x) t
+    go false e = held-left b link x t e
+    go true e = (is.block_is b other).held_is
+      where
+        other : change.block ≢ Some b
+        other own =
+            let held : change.held ≡ Some b = is.held_is ∙ rw (e, own) refl in
+            let none : is_block b (Some b) ≡ false = rw held at apart in
+            true_false (sym (eq-eqb b b refl) ∙ none)
+
 -- ---- what the functions note
 
 drop_all : {X : Type 0} (p : Bool) (a b : X) → (if p && false then a else b) ≡ b
@@ -289,24 +310,19 @@ its_source {w} x y z levels link t e f some = ap (λ (v : BeatA w). is_some (req
     of_a e = cc
 
 -- the window of a block, set anew
-pub notes_window : {w : ℕ} (m : Monitor w) (links moment b r v : ℕ) (old new : List (ℕ × Window)) (link : Link)
-    (x : Beat w)
-    → ((levels : List Level) (p : Profile) (t : Trace w) → Knows m levels p t false
-    → broken_on_link levels p (link, x) t ≡ None → LeavesOthers (Some b) x (on_link link.0 t))
-    → (rf wf : Bool)
+pub notes_window : {w : ℕ} (m : Monitor w) (links moment b r v : ℕ) (old new : List (ℕ × Window)) (rf wf : Bool)
     → ((levels : List Level) (p : Profile) (t : Trace w) → Knows m levels p t false → links ≡ length levels
     → rf ≡ is_free links None perm.Branch b t)
     → ((levels : List Level) (p : Profile) (t : Trace w) → Knows m levels p t false → links ≡ length levels
     → wf ≡ is_free links None perm.Trunk b t)
     → r ≡ (if rf then moment else (window_in old b).reading) → v ≡ (if wf then moment else (window_in old b).writing)
     → ((k : ℕ) → window_in new k ≡ (if k == b then record { reading = r; writing = v } else window_in old k))
-    → NotesWindow m links moment old new link x
-notes_window {w} m links moment b r v old new link x leaves' rf wf reads writes r_is v_is set levels p t k links_is
-    moment_is still = (
-      also,
-      λ fine. windows_more (length levels) (Some b) new link x t also (leaves' levels p t k fine)
-          (λ given c here free some. own given c (eqb-true c b here) free some),
-    )
+    → NotesWindow m links moment (Some b) old new
+notes_window {w} m links moment b r v old new rf wf reads writes r_is v_is set levels p t k links_is moment_is still = (
+  also,
+  λ link x leaves'. windows_more (length levels) (Some b) new link x t also leaves'
+      (λ given c here free some. own given c (eqb-true c b here) free some),
+)
   where
     free_is : (given : Perm) (f : Bool) → f ≡ is_free links None given b t → f ≡ is_free (length levels) None given b t
     free_is given f e = e ∙ ap (λ n. is_free n None given b t) links_is
@@ -366,12 +382,10 @@ notes_window {w} m links moment b r v old new link x leaves' rf wf reads writes 
       | inr ne ↦ ap (last_in perm.Trunk) (elsewhere c ne) ∙ still perm.Trunk c closed
     ]
 
-pub notes_no_window : {w : ℕ} (m : Monitor w) (links moment : ℕ) (old : List (ℕ × Window)) (link : Link) (x : Beat w)
-    → ((levels : List Level) (p : Profile) (t : Trace w) → Knows m levels p t false
-    → broken_on_link levels p (link, x) t ≡ None → LeavesOthers None x (on_link link.0 t))
-    → NotesWindow m links moment old old link x
-notes_no_window m links moment old link x leaves' levels p t k links_is moment_is still = (
+pub notes_no_window : {w : ℕ} (m : Monitor w) (links moment : ℕ) (old : List (ℕ × Window))
+    → NotesWindow m links moment None old old
+notes_no_window m links moment old levels p t k links_is moment_is still = (
   still,
-  λ fine. windows_more (length levels) None old link x t still (leaves' levels p t k fine)
+  λ link x leaves'. windows_more (length levels) None old link x t still leaves'
       (λ given c here free some. true_false (sym here)),
 )

@@ -1,16 +1,14 @@
 //! For whom a block is free: what the links of a manager leave of it.
 
-ghost use Rattle.std.specs.Prelude.{ℕ, Bool, false, [], ◌∷◌, List, None, Some, length, ◌&&◌, ◌||◌, ◌≡◌};
-ghost use Rattle.tl_beat.specs.declared.beat.Link as beat_link;
+ghost use Rattle.std.specs.Prelude.{ℕ, Bool, false, List, None, length, option_map, ◌&&◌, ◌||◌, ◌≡◌};
 ghost use Rattle.tl_params.specs.declared.level.Level.{Level};
 ghost use Rattle.tl_params.specs.declared.perm.Perm.TheVariants as perm;
 ghost use Rattle.tl_params.specs.declared.profile.Profile.{Profile};
 ghost use Rattle.tl_rules.specs.statement.Conformance.{Trace};
 ghost use Rattle.tl_rules.specs.statement.Windows as window;
-ghost use Rattle.tl_memory.specs.code.Taking.{IsSeen};
 ghost use Rattle.tl_monitor.specs.statement.Knows as of_link;
 
-use tl_beat::beat::{Beat, Link};
+use tl_beat::beat::Link;
 use tl_monitor::monitor::Monitor;
 use tl_rules::perm::Perm;
 
@@ -69,22 +67,13 @@ pub fn is_free<const W: usize>(
     free
 }
 
-/// Whether the block that a beat bears on is free for one who writes it, after that beat, where the beat may
-/// change how free it is: one of channel A doesn't.
-pub fn freed<const W: usize>(
-    monitor: &Monitor<W>,
-    links: u8,
-    block: Option<u32>,
-    beat: &Beat<W>,
-) -> Option<bool>
-    ensures { (levels : List Level) (p : Profile) (t : Trace W) (link : beat_link.Link) →
-        of_link.Knows monitor.now levels p ((link, beat.now) ∷ t) false → links ≡ length levels →
-        (its : ℕ) → block ≡ Some its → IsSeen result (length levels) its (link, beat.now) t }
+/// Whether this block, where there is one, is free for one who writes it.
+pub fn freed<const W: usize>(monitor: &Monitor<W>, links: u8, held: Option<u32>) -> Option<bool>
+    ensures { (levels : List Level) (p : Profile) (t : Trace W) →
+        of_link.Knows monitor.now levels p t false → links ≡ length levels →
+        result ≡ option_map (λ block. window.is_free (length levels) None perm.Trunk block t) held }
 {
-    if let Beat::A(_) = beat {
-        return None;
-    }
-    let block = block?;
+    let block = held?;
     Some(is_free(monitor, links, None, Perm::Trunk, block))
 }
 

@@ -322,8 +322,7 @@ impl<const W: usize> Judge<W> {
             &self.monitor,
             self.links,
             self.moment,
-            link,
-            beat,
+            change.held,
         );
         let Ok(()) = noted else {
             return Err(JudgeFault::Memory);
@@ -336,7 +335,7 @@ impl<const W: usize> Judge<W> {
                 return Err(of_monitor(fault));
             }
         }
-        let free = freed(&self.monitor, self.links, change.block, beat);
+        let free = freed(&self.monitor, self.links, change.held);
         self.memory.take(change, link, beat, free, next);
         self.moment = next;
         if let Some(rule) = broken {

@@ -47,21 +47,19 @@ pub fn note_request<const W: usize>(
     }
 }
 
-/// Notes that the block of which a beat may change what is held is free, where it is. What is known of
-/// the beats so far stays known.
+/// Notes that the block of which a link may hold more or less with a beat is free, where it is. What is known
+/// of the beats so far stays known.
 pub fn note_window<const W: usize>(
     windows: &mut Windows,
     monitor: &Monitor<W>,
     links: u8,
     moment: u64,
-    link: Link,
-    beat: &Beat<W>,
+    held: Option<u32>,
 ) -> Result<(), AllocError>
-    ensures noted { OnOk result (NotesWindow monitor.now links moment
-        windows.old windows.new link beat.now) }
+    ensures noted { OnOk result (NotesWindow monitor.now links moment held windows.old windows.new) }
     ensures unchanged { OnErr result (windows.new ≡ windows.old) }
 {
-    let Some(block) = monitor.block_of(link, beat) else {
+    let Some(block) = held else {
         return Ok(());
     };
     let old = windows.get(block);

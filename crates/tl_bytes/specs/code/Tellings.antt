@@ -1,6 +1,8 @@
--- How what is told of the bytes of a block is kept: in one list, each byte's last telling first.
-use Rattle.std.specs.Prelude.{ℕ, zero, suc, Bool, true, false, not, [], ◌∷◌, ◌++◌, ◌==◌, ◌&&◌, if◌then◌else◌, List}
+-- How what is told of the bytes of a block is kept: each byte's last telling by its place, and in one list what
+-- was told before that.
+use Rattle.std.specs.Prelude.{ℕ, zero, suc, Bool, true, false, not, [], ◌∷◌, ◌++◌, ◌&&◌, if◌then◌else◌, List}
 use Rattle.std.specs.Prelude.{filter, find, is_some, nat_le, Option, Some, None, slice_index_or}
+use Rattle.tl_bytes.specs.declared.telling.Telling.{Telling}
 use Rattle.tl_bytes.specs.declared.telling.Told.{Told}
 use Rattle.tl_bytes.specs.declared.write.Write.{Write}
 use Rattle.tl_bytes.specs.statement.Bytes.{could_be, same_value}
@@ -13,26 +15,39 @@ is_written write place = slice_index_or write.places place false
 abbrev pub value_at : Write → ℕ → Option ℕ
 value_at write place = slice_index_or write.values place None
 
--- what is told of the first so many places that are written
-unfoldable pub news : ℕ → Write → ℕ → List Told
-news zero write moment = []
-news (suc k) write moment =
-    if is_written write k
-    then news k write moment
-    ++ record { place = k; telling = record { value = value_at write k; moment = moment } } ∷ []
-    else news k write moment
+-- what was told last of a place: anything where there is nothing
+abbrev pub telling_at : List Telling → ℕ → Telling
+telling_at latest place = slice_index_or latest place (record { value = None; moment = 0 })
 
--- what was told stays beside what is written elsewhere; where it is of a place that is written, if it is
--- another value and was told no sooner than this moment
+-- what was told of a place that is written stays beside that, if it is another value and was told no sooner
+-- than this moment
+abbrev pub outlives : Write → ℕ → Told → Bool
+outlives write since x = nat_le since x.telling.moment && not (same_value x.telling.value (value_at write x.place))
+
+-- and what was told of others stays
 abbrev pub stays : Write → ℕ → Told → Bool
-stays write since x =
-    if is_written write x.place
-    then nat_le since x.telling.moment && not (same_value x.telling.value (value_at write x.place))
-    else true
+stays write since x = if is_written write x.place then outlives write since x else true
 
--- what is written, and what stays of what was told before
-abbrev pub renewed : Write → ℕ → ℕ → List Told → List Told
-renewed write moment since before = news 64 write moment ++ filter (stays write since) before
+-- what was told last of a place that is written, and stays
+abbrev pub is_displaced : Write → ℕ → Told → Bool
+is_displaced write since x = if is_written write x.place then outlives write since x else false
+
+-- what was told last of those of the first so many places
+unfoldable pub displaced : ℕ → List Telling → Write → ℕ → List Told
+displaced zero latest write since = []
+displaced (suc k) latest write since =
+    if is_displaced write since (record { place = k; telling = telling_at latest k })
+    then displaced k latest write since ++ record { place = k; telling = telling_at latest k } ∷ []
+    else displaced k latest write since
+
+-- what the bytes may be beside what is told last of them with what is written
+abbrev pub outlived : List Telling → List Told → Write → ℕ → List Told
+outlived latest earlier write since = displaced 64 latest write since ++ filter (stays write since) earlier
+
+-- what is told last of a place with what is written at this moment
+abbrev pub written_at : List Telling → Write → ℕ → ℕ → Telling
+written_at latest write moment place =
+    if is_written write place then record { value = value_at write place; moment = moment } else telling_at latest place
 
 -- it may leave this byte at a place
 abbrev pub leaves : ℕ → ℕ → Write → Bool
@@ -42,19 +57,7 @@ leaves place byte write = is_written write place && could_be byte (value_at writ
 abbrev pub left_as : ℕ → ℕ → List Write → Bool
 left_as place byte writes = is_some (find (leaves place byte) writes)
 
--- what is told of all that these write
-unfoldable pub told_by : List Write → List Told
-told_by [] = []
-told_by (write ∷ writes) = news 64 write 0 ++ told_by writes
-
--- one telling lets its byte be all that another does
+-- what may be the first may be all that may be the second
 abbrev pub covers_value : Option ℕ → Option ℕ → Bool
 covers_value None other = true
 covers_value (Some u) other = same_value (Some u) other
-
-abbrev pub covers : Told → Told → Bool
-covers one other = (one.place == other.place) && covers_value one.telling.value other.telling.value
-
--- one of these does
-abbrev pub is_covered : List Told → Told → Bool
-is_covered told other = is_some (find (λ x. covers x other) told)

@@ -1,6 +1,7 @@
 -- What is known of the bytes of a block, after what all links of a manager have carried.
-use Rattle.std.specs.Prelude.{ℕ, zero, suc, true, false, [], ◌∷◌, ◌==◌, ◌+◌, ◌*◌, ◌<◌, ◌≡◌, if◌then◌else◌, List}
-use Rattle.std.specs.Prelude.{filter, length, nat_lt, Option, Some, None, slice_index_or, not}
+use Rattle.std.specs.Prelude.{ℕ, zero, suc, Bool, true, false, not, [], ◌∷◌, ◌==◌, ◌&&◌, ◌||◌, ◌+◌, ◌*◌, ◌<◌, ◌≡◌}
+use Rattle.std.specs.Prelude.{if◌then◌else◌, List, filter, find, is_some, length, nat_lt, Option, Some, None}
+use Rattle.std.specs.Prelude.{slice_index_or}
 use Rattle.tl_beat.specs.declared.beat.Beat.{Beat}
 use Rattle.tl_beat.specs.declared.beat.Link.{Link}
 use Rattle.tl_burst.specs.statement.Messages.{channel_of, unfinished}
@@ -8,18 +9,19 @@ use Rattle.tl_params.specs.declared.perm.Perm.TheVariants as perm
 use Rattle.tl_rules.specs.statement.Conformance.{Trace, on_link}
 use Rattle.tl_rules.specs.statement.Windows.{is_free}
 use Rattle.tl_bytes.specs.declared.block_bytes.BlockBytes.{BlockBytes}
-use Rattle.tl_bytes.specs.code.Tellings.{is_written, left_as, value_at}
+use Rattle.tl_bytes.specs.code.Tellings.{is_written, left_as, telling_at, value_at}
 use Rattle.tl_bytes.specs.declared.carried.CarriedBytes.{CarriedBytes}
 use Rattle.tl_bytes.specs.declared.read_bytes.ReadBytes.{ReadBytes}
 use Rattle.tl_bytes.specs.declared.standing.Standing.{Standing}
 use Rattle.tl_bytes.specs.declared.write.Write.{Write}
 use Rattle.tl_bytes.specs.declared.standing.Standing.TheVariants as standing
+use Rattle.tl_bytes.specs.declared.telling.Possible.{Possible}
 use Rattle.tl_bytes.specs.declared.telling.Telling.{Telling}
 use Rattle.tl_bytes.specs.declared.telling.Told.{Told}
 use Rattle.tl_bytes.specs.declared.windows.WindowCount.{WindowCount}
 use Rattle.tl_bytes.specs.declared.windows.WindowCount.TheVariants as count
 use Rattle.tl_bytes.specs.declared.windows.WritingWindows.{WritingWindows}
-use Rattle.tl_bytes.specs.statement.Bytes.{is_of, may_grant, may_read, pending_accesses, told_as, written_as}
+use Rattle.tl_bytes.specs.statement.Bytes.{could_be, is_of, may_grant, may_read, pending_accesses, written_as}
 use Rattle.tl_bytes.specs.statement.Bytes.{Access, access_writes, carried_byte, may_be, value_written}
 use Rattle.tl_bytes.specs.statement.Bytes.{windows_since, window_began, last_window, last_told}
 
@@ -28,9 +30,13 @@ unfoldable pub tellings_at : ℕ → List Told → List Telling
 tellings_at place [] = []
 tellings_at place (x ∷ told) = if x.place == place then x.telling ∷ tellings_at place told else tellings_at place told
 
+-- what is kept of the byte at a place
+abbrev pub tellings_of : BlockBytes → ℕ → List Telling
+tellings_of b place = telling_at b.latest.items place ∷ tellings_at place b.earlier.items
+
 -- of each byte of the block what it may be after t
-abbrev pub KnowsBytes : {w : ℕ} → List Told → ℕ → ℕ → Trace w → Type 0
-KnowsBytes told n block t = (place : ℕ) → place < 64 → tellings_at place told ≡ may_be n (64 * block + place) t
+abbrev pub KnowsBytes : {w : ℕ} → BlockBytes → ℕ → ℕ → Trace w → Type 0
+KnowsBytes b n block t = (place : ℕ) → place < 64 → tellings_of b place ≡ may_be n (64 * block + place) t
 
 -- the number of beats with the one before which there were so many; 0 where there is none
 abbrev pub moment_of : Option ℕ → ℕ
@@ -39,7 +45,7 @@ moment_of (Some before) = suc before
 
 -- and when they were last granted, or given back
 pub record KnowsBlock {w : ℕ} (b : BlockBytes) (n block : ℕ) (t : Trace w) : Type 0 where
-  pub bytes_are : KnowsBytes b.told.items n block t
+  pub bytes_are : KnowsBytes b n block t
   pub last_is : moment_of b.last ≡ last_told block t
 
 -- these are the bytes that the beats have brought, the newest of which is first, by their places; none
@@ -75,15 +81,24 @@ windowed n block t = filter (λ x. nat_lt 0 (windows_since n block x.asked t)) (
 abbrev pub others : {w : ℕ} → Access w → Trace w → List (Access w)
 others access t = filter (λ other. not (is_of access.link access.request.source other)) (pending_accesses t)
 
+-- one of these lets the byte at a place be this one
+abbrev pub is_listed : ℕ → ℕ → List Possible → Bool
+is_listed place byte possible = is_some (find (λ x. (x.place == place) && could_be byte x.value) possible)
+
+-- so does what is kept of what a read may bring
+abbrev pub may_bring : ReadBytes → ℕ → ℕ → Bool
+may_bring read place byte =
+    could_be byte (slice_index_or read.first.items place None) || is_listed place byte read.more.items
+
 -- what a read may bring of each byte of the block is kept
 abbrev pub KnowsRead : {w : ℕ} → ReadBytes → ℕ → ℕ → Access w → Trace w → Type 0
 KnowsRead read n block access t = (place byte : ℕ) → place < 64
-    → told_as byte (tellings_at place read.told.items) ≡ may_read n access t (64 * block + place) byte
+    → may_bring read place byte ≡ may_read n access t (64 * block + place) byte
 
 -- what may be granted of each byte of the block is kept
 abbrev pub KnowsGrant : {w : ℕ} → ReadBytes → ℕ → ℕ → Trace w → Type 0
 KnowsGrant read n block t = (place byte : ℕ) → place < 64
-    → told_as byte (tellings_at place read.told.items) ≡ may_grant n t (64 * block + place) byte
+    → may_bring read place byte ≡ may_grant n t (64 * block + place) byte
 
 -- how an access to the block, which is answered, stands to its windows and to what was told of it
 abbrev pub standing_of : {w : ℕ} → ℕ → ℕ → Access w → Trace w → Standing

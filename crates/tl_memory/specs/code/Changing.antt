@@ -1,12 +1,13 @@
 -- What a beat changes of what is known of the bytes of memory.
-use Rattle.std.specs.Prelude.{ℕ, Bool, true, ◌≡◌, is_some, Option, Some}
+use Rattle.std.specs.Prelude.{ℕ, Bool, true, ◌≡◌, ◌≢◌, if◌then◌else◌, is_some, Option, Some, None}
 use Rattle.tl_beat.specs.declared.beat.Beat.{Beat}
 use Rattle.tl_beat.specs.declared.beat.Beat.TheVariants as beat
 use Rattle.tl_beat.specs.declared.beat.BeatD.{BeatD}
 use Rattle.tl_beat.specs.declared.beat.Link.{Link}
 use Rattle.tl_rules.specs.statement.Conformance.{Trace, on_link}
 use Rattle.tl_rules.specs.statement.History.{begins}
-use Rattle.tl_memory.specs.code.Elsewhere.{block_borne}
+use Rattle.tl_memory.specs.code.Elsewhere.{PassesBy}
+use Rattle.tl_memory.specs.code.Passing.{changes_held}
 use Rattle.tl_memory.specs.code.Taking.{IsNext, IsSeen}
 use Rattle.tl_memory.specs.declared.expected.Expected.{Expected}
 use Rattle.tl_memory.specs.declared.memory.Change.{Change}
@@ -14,15 +15,20 @@ use Rattle.tl_memory.specs.declared.memory.Memory.{Memory}
 use Rattle.tl_memory.specs.statement.Blocks.{state_in}
 use Rattle.tl_memory.specs.statement.Expecting.{ExpectsResponse}
 
+-- the beat leaves each block as it is but this one, where there is one
+abbrev pub IsBorne : {w : ℕ} → Option ℕ → Link × Beat w → Trace w → Type 0
+IsBorne own x t = (block : ℕ) → own ≢ Some block → PassesBy block x t
+
 -- this is what the response may bring that begins with the beat, where one does
 abbrev pub ExpectsBegun : {w : ℕ} → Option Expected → ℕ → Link × Beat w → Trace w → Type 0
 ExpectsBegun {w} expected n x t = (y : BeatD w) → x.1 ≡ beat.D y → begins (beat.D y) (on_link x.0.0 t) ≡ true
     → ExpectsResponse expected n x.0.0 y.opcode y.source t t
 
--- This is what the beat changes: the state of the block that it bears on, of which one is kept, and what the
--- response may bring that begins with it.
+-- This is what the beat changes: the state of one block, of which one is kept, or of none, what its link holds of
+-- that block, and what the response may bring that begins with it.
 pub record IsChange {w : ℕ} (change : Change w) (m : Memory w) (n : ℕ) (x : Link × Beat w) (t : Trace w) : Type 0 where
-  pub block_is : change.block ≡ block_borne x.1 (on_link x.0.0 t)
+  pub block_is : IsBorne change.block x t
+  pub held_is : change.held ≡ (if changes_held x.1 (on_link x.0.0 t) then change.block else None)
   pub kept : (block : ℕ) → change.block ≡ Some block → is_some (state_in m.blocks block) ≡ true
   pub next_is : (block : ℕ) (free : Option Bool) → change.block ≡ Some block → IsSeen free n block x t
       → IsNext change.next free n block x t

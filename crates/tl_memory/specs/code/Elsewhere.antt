@@ -8,7 +8,7 @@ use Rattle.tl_burst.specs.statement.Messages.{History}
 use Rattle.tl_rules.specs.code.Open.{open_request}
 use Rattle.tl_rules.specs.declared.past.Request.{Request}
 use Rattle.tl_rules.specs.statement.Conformance.{Trace, on_link}
-use Rattle.tl_rules.specs.statement.History.{block_at, ends, is_release_ack, says_held}
+use Rattle.tl_rules.specs.statement.History.{block_at, held, is_release_ack}
 use Rattle.tl_bytes.specs.statement.Bytes.{Access, access_writes, ends_request, is_of, pending_accesses, tells}
 use Rattle.tl_memory.specs.statement.Known.{AllWriteInside, is_to}
 
@@ -37,14 +37,14 @@ pub record IsElsewhere {w : ℕ} (block : ℕ) (x : Link × Beat w) (t : Trace w
   pub pending_stay : filter (is_to block) (pending_accesses (x ∷ t)) ≡ filter (is_to block) (pending_accesses t)
   pub inside : AllWriteInside (pending_accesses (x ∷ t))
 
--- no message that is complete with the beat says how much of the block its link holds
-abbrev pub IsSilent : {w : ℕ} → ℕ → Link × Beat w → Trace w → Type 0
-IsSilent block x t = ends x.1 (on_link x.0.0 t) ≡ true → says_held block x.1 (on_link x.0.0 t) ≡ None
+-- its link holds as much of the block with the beat as before it
+abbrev pub LeavesHeld : {w : ℕ} → ℕ → Link × Beat w → Trace w → Type 0
+LeavesHeld block x t = held block (x.1 ∷ on_link x.0.0 t) ≡ held block (on_link x.0.0 t)
 
 -- the beat changes nothing of what is kept of the block
 pub record PassesBy {w : ℕ} (block : ℕ) (x : Link × Beat w) (t : Trace w) : Type 0 where
   pub elsewhere : IsElsewhere block x t
-  pub silent : IsSilent block x t
+  pub held_is : LeavesHeld block x t
 
 -- the block of the request, where there is one
 abbrev pub block_asked : Option Request → Option ℕ

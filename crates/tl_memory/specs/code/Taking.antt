@@ -18,7 +18,7 @@ use Rattle.tl_rules.specs.statement.Conformance.{Trace, answers, on_link}
 use Rattle.tl_rules.specs.statement.History.{block_at, ends, is_release_ack}
 use Rattle.tl_rules.specs.statement.Windows.{is_free}
 use Rattle.tl_bytes.specs.statement.Bytes.{Access, asked_by, is_access, is_of, is_perm_only, pending_accesses}
-use Rattle.tl_memory.specs.code.Elsewhere.{IsElsewhere, PassesBy}
+use Rattle.tl_memory.specs.code.Elsewhere.{IsElsewhere, LeavesHeld, PassesBy}
 use Rattle.tl_memory.specs.declared.block.BlockState.{BlockState}
 use Rattle.tl_memory.specs.statement.Known.{AreWide, HasRoom, IsLawful, KnowsState, WritesInside}
 
@@ -31,10 +31,10 @@ IsNext (Some s) None n block x t = KnowsState s n block (x ∷ t) (x ∷ t)
 IsNext (Some s) (Some free) n block x t =
     KnowsState s n block t (x ∷ t) × (free ≡ is_free n None perm.Trunk block (x ∷ t))
 
--- How free the block is for writing with a beat is told beside its state, but with a beat of channel A, which
--- changes nothing of that.
+-- How free the block is for writing with a beat is told beside its state, where its link may hold more or less of
+-- the block than before: with a beat of channel A it never does.
 abbrev pub IsSeen : {w : ℕ} → Option Bool → ℕ → ℕ → Link × Beat w → Trace w → Type 0
-IsSeen None n block x t = on channel.A x.1 ≡ true
+IsSeen None n block x t = LeavesHeld block x t
 IsSeen (Some free) n block x t = (on channel.A x.1 ≡ false) × (free ≡ is_free n None perm.Trunk block (x ∷ t))
 
 -- the request that is open with the source of a response

@@ -1,5 +1,5 @@
 -- The accesses that are kept, and what is kept of those that pass a test.
-use Rattle.std.specs.Prelude.{ℕ, Bool, true, false, not, [], ◌∷◌, ◌==◌, ◌&&◌, ◌≤◌, ◌≡◌, if◌then◌else◌, List}
+use Rattle.std.specs.Prelude.{ℕ, Bool, true, false, not, [], ◌∷◌, ◌==◌, ◌&&◌, ◌||◌, ◌<◌, ◌≤◌, ◌≡◌, if◌then◌else◌, List}
 use Rattle.std.specs.List.{AllZip}
 use Rattle.std.specs.Prelude.{length, Option, Some, None}
 use Rattle.tl_beat.specs.declared.beat.Beat.{Beat}
@@ -7,16 +7,16 @@ use Rattle.tl_beat.specs.declared.beat.Link.{Link}
 use Rattle.tl_params.specs.declared.perm.Perm.TheVariants as perm
 use Rattle.tl_rules.specs.statement.Conformance.{Trace}
 use Rattle.tl_rules.specs.statement.Windows.{is_free}
+use Rattle.tl_bytes.specs.code.Tellings.{leaves}
 use Rattle.tl_bytes.specs.declared.block_bytes.BlockBytes.{BlockBytes}
 use Rattle.tl_bytes.specs.declared.windows.WindowCount.{WindowCount}
 use Rattle.tl_bytes.specs.declared.windows.WindowCount.TheVariants as count
 use Rattle.tl_bytes.specs.declared.write.Write.{Write}
-use Rattle.tl_bytes.specs.statement.Bytes.{Access}
-use Rattle.tl_bytes.specs.statement.Known.{KnowsBlock, KnowsRead, KnowsWindows}
+use Rattle.tl_bytes.specs.statement.Bytes.{Access, is_of, told_as}
+use Rattle.tl_bytes.specs.statement.Known.{KnowsWindows, may_bring, tellings_of}
 use Rattle.tl_memory.specs.declared.access.Asked.{Asked}
 use Rattle.tl_memory.specs.declared.pending.PendingAccess.{PendingAccess}
 use Rattle.tl_memory.specs.declared.writer.Writer.{Writer}
-use Rattle.tl_memory.specs.statement.Known.{AreWritersOf, IsAsked}
 
 -- what is picked of those of a list that are kept
 unfoldable pub picked : {X Y : Type 0} → (X → Bool) → (X → Y) → List X → List Y
@@ -28,8 +28,8 @@ abbrev pub names : {w : ℕ} → ℕ → ℕ → Asked w → Bool
 names link source asked = (asked.link.0 == link) && (asked.request.source == source)
 
 -- what those write that haven't
-abbrev pub writes_but : {w : ℕ} → ℕ → ℕ → List (Writer w) → List Write
-writes_but link source writers = picked (λ x. not (names link source x.asked)) (λ x. x.write) writers
+abbrev pub writes_but : {w : ℕ} → ℕ → ℕ → List (PendingAccess w) → List Write
+writes_but link source accesses = picked (λ x. not (names link source x.writer.asked)) (λ x. x.writer.write) accesses
 
 -- there was a window
 abbrev pub some_window : WindowCount → Bool
@@ -55,25 +55,35 @@ stays (Some gone) x = not (is_named gone.0.0 gone.1 x)
 abbrev pub staying : {w : ℕ} → Option (Link × ℕ) → List (PendingAccess w) → List (PendingAccess w)
 staying gone accesses = picked (stays gone) (λ x. x) accesses
 
--- and their writers
-abbrev pub writers_staying : {w : ℕ} → Option (Link × ℕ) → List (PendingAccess w) → List (Writer w)
-writers_staying gone accesses = picked (stays gone) (λ x. x.writer) accesses
+-- so for accesses themselves
+abbrev pub keeps : {w : ℕ} → Option (Link × ℕ) → Access w → Bool
+keeps None access = true
+keeps (Some gone) access = not (is_of gone.0.0 gone.1 access)
 
--- what is kept of an access that may bring more with one more beat, with which these are the bytes of its
--- block, and these may write there
-pub record IsRenewed {w : ℕ} (bytes : BlockBytes) (writers : List (Writer w)) (old new : PendingAccess w) : Type 0
-  where
-    pub writer_is : new.writer ≡ old.writer
-    pub windows_are : new.windows ≡ old.windows
-    pub read_is : (n number : ℕ) (access : Access w) (x : Link × Beat w) (t : Trace w)
-        → IsAsked old.writer.asked access → access.asked ≤ length t → KnowsRead old.read n number access t
-        → KnowsBlock bytes n number (x ∷ t) → AreWritersOf writers number (x ∷ t)
-        → KnowsRead new.read n number access (x ∷ t)
+-- what is kept of an access that may bring more
+pub record IsRenewed {w : ℕ} (more : PendingAccess w → ℕ → ℕ → Bool) (old new : PendingAccess w) : Type 0 where
+  pub writer_is : new.writer ≡ old.writer
+  pub windows_are : new.windows ≡ old.windows
+  pub read_is : (place byte : ℕ) → place < 64
+      → may_bring new.read place byte ≡ (may_bring old.read place byte || more old place byte)
 
 -- of each of them
-abbrev pub AreRenewed : {w : ℕ} → BlockBytes → List (Writer w) → List (PendingAccess w) → List (PendingAccess w)
+abbrev pub AreRenewed : {w : ℕ} → (PendingAccess w → ℕ → ℕ → Bool) → List (PendingAccess w) → List (PendingAccess w)
     → Type 0
-AreRenewed bytes writers old new = AllZip (IsRenewed bytes writers) old new
+AreRenewed more old new = AllZip (IsRenewed more) old new
+
+-- nothing more
+abbrev pub nothing : {w : ℕ} → PendingAccess w → ℕ → ℕ → Bool
+nothing x place byte = false
+
+-- what is told of the block
+abbrev pub told_by : {w : ℕ} → BlockBytes → PendingAccess w → ℕ → ℕ → Bool
+told_by bytes x place byte = told_as byte (tellings_of bytes place)
+
+-- what an access writes, of each other
+abbrev pub written_by : {w : ℕ} → Writer w → PendingAccess w → ℕ → ℕ → Bool
+written_by writer x place byte =
+    not (names x.writer.asked.link.0 x.writer.asked.request.source writer.asked) && leaves place byte writer.write
 
 -- what is kept of an access whose block is free with one more beat, at this moment, or isn't
 pub record IsWatched {w : ℕ} (free : Bool) (moment : ℕ) (old new : PendingAccess w) : Type 0 where

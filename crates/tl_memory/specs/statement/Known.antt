@@ -24,7 +24,6 @@ use Rattle.tl_memory.specs.declared.expected.Expected.{Expected}
 use Rattle.tl_memory.specs.declared.pending.PendingAccess.{PendingAccess}
 use Rattle.tl_memory.specs.declared.access.Asked.{Asked}
 use Rattle.tl_memory.specs.declared.message.CarriedMessage.{CarriedMessage}
-use Rattle.tl_memory.specs.declared.writer.Writer.{Writer}
 
 -- ---- messages
 
@@ -105,13 +104,6 @@ IsPendingWrite write block access = (place : ℕ) → place < 64
     × (is_written write place ≡ true
     → value_at write place ≡ pending_value access.request.opcode access (64 * block + place))
 
--- these are the accesses, and what they may write in the block, one by one
-abbrev pub AreWriters : {w : ℕ} → List (Writer w) → ℕ → List (Access w) → Type 0
-AreWriters [] block [] = ⊤
-AreWriters (writer ∷ writers) block (access ∷ accesses) =
-    IsAsked writer.asked access × IsPendingWrite writer.write block access × AreWriters writers block accesses
-AreWriters _ block _ = ⊥
-
 -- the access is to the block
 abbrev pub is_to : {w : ℕ} → ℕ → Access w → Bool
 is_to block access = block_at access.request.address == block
@@ -125,12 +117,6 @@ WritesInside access = (address : ℕ) → access_writes address access ≡ true
 abbrev pub AllWriteInside : {w : ℕ} → List (Access w) → Type 0
 AllWriteInside [] = ⊤
 AllWriteInside (access ∷ accesses) = WritesInside access × AllWriteInside accesses
-
--- these are the accesses to the block that are pending after t, and what they may write; each that is
--- pending writes in its own block alone
-pub record AreWritersOf {w : ℕ} (writers : List (Writer w)) (block : ℕ) (t : Trace w) : Type 0 where
-  pub writers_are : AreWriters writers block (filter (is_to block) (pending_accesses t))
-  pub inside : AllWriteInside (pending_accesses t)
 
 -- This is kept of an access to the block that is pending after t. Its windows are those that it had before a
 -- beat of which it isn't seen yet whether the block is free with it: those after the trace that was seen.

@@ -13,7 +13,7 @@ use Rattle.tl_beat.specs.declared.beat.Link.{Link}
 use Rattle.tl_params.specs.declared.level.Level.{Level}
 use Rattle.tl_params.specs.declared.profile.Profile.{Profile}
 use Rattle.tl_monitor.specs.declared.monitor.Monitor.{Monitor}
-use Rattle.tl_monitor.specs.statement.Knows.{Knows}
+use Rattle.tl_monitor.specs.statement.Knows.{Knows, LeavesOthers}
 use Rattle.tl_monitor.specs.code.Count.{at}
 use Rattle.tl_monitor.specs.declared.fault.MonitorFault.{MonitorFault}
 use Rattle.tl_monitor.specs.declared.fault.MonitorFault.TheVariants as monitor
@@ -82,12 +82,14 @@ NotesRequest {w} m old new link x next = (length new ≡ length old)
     × (next ≡ suc (length t) → broken_on_link levels p (link, x) t ≡ None
     → KnowsAsked new (length levels) ((link, x) ∷ t)))
 
-abbrev pub NotesWindow : {w : ℕ} → Monitor w → ℕ → ℕ → List (ℕ × Window) → List (ℕ × Window) → Link → Beat w → Type 0
-NotesWindow {w} m links moment old new link x =
+-- The same of the table of windows, with a beat that changes what is held of no other block.
+abbrev pub NotesWindow : {w : ℕ} → Monitor w → ℕ → ℕ → Option ℕ → List (ℕ × Window) → List (ℕ × Window) → Type 0
+NotesWindow {w} m links moment held old new =
     (levels : List Level) (p : Profile) (t : Trace w) → Knows m levels p t false → links ≡ length levels
     → moment ≡ length t → KnowsWindows old (length levels) t
     → KnowsWindows new (length levels) t
-    × (broken_on_link levels p (link, x) t ≡ None → KnowsWindows new (length levels) ((link, x) ∷ t))
+    × ((link : Link) (x : Beat w) → LeavesOthers held x (on_link link.0 t)
+    → KnowsWindows new (length levels) ((link, x) ∷ t))
 
 -- a monitor is closed after this refusal
 abbrev pub closes : MonitorFault → Bool

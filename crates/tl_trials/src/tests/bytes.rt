@@ -33,7 +33,8 @@ fn put(
     moment: u64,
 ) -> Result<(), AllocError> {
     let standing = block.standing(&windows);
-    block.write(alloc, &eight(byte), standing, moment)
+    *block = block.with(alloc, &eight(byte), standing, moment)?;
+    Ok(())
 }
 
 /// The windows of an access whose request is complete at this moment, while nobody holds its block.
@@ -53,19 +54,19 @@ fn may_be(rt: &impl Abort, block: &BlockBytes, place: u8, possible: [bool; 3]) {
 
 #[test]
 fn bytes_that_are_told(rt: HostRuntime) -> Result<(), Fail> {
-    let mut block = BlockBytes::new(rt.alloc())?;
+    let mut block = BlockBytes::new(rt.alloc());
     may_be(&rt, &block, 0, [true, true, true]);
-    block.tell(rt.alloc(), &[Some(9); 64], 4)?;
+    block = BlockBytes::told(rt.alloc(), &[Some(9); 64], 4)?;
     may_be(&rt, &block, 0, [false, false, true]);
     may_be(&rt, &block, 63, [false, false, true]);
-    block.tell(rt.alloc(), &[None; 64], 8)?;
+    block = BlockBytes::told(rt.alloc(), &[None; 64], 8)?;
     may_be(&rt, &block, 63, [true, true, true]);
     Ok(())
 }
 
 #[test]
 fn a_put_in_its_only_window(rt: HostRuntime) -> Result<(), Fail> {
-    let mut block = BlockBytes::new(rt.alloc())?;
+    let mut block = BlockBytes::new(rt.alloc());
     put(rt.alloc(), &mut block, 7, opened(1), 1)?;
     may_be(&rt, &block, 7, [false, true, false]);
     may_be(&rt, &block, 8, [true, true, true]);
@@ -74,7 +75,7 @@ fn a_put_in_its_only_window(rt: HostRuntime) -> Result<(), Fail> {
 
 #[test]
 fn of_two_puts_that_overlap_either_came_last(rt: HostRuntime) -> Result<(), Fail> {
-    let mut block = BlockBytes::new(rt.alloc())?;
+    let mut block = BlockBytes::new(rt.alloc());
     put(rt.alloc(), &mut block, 7, opened(2), 2)?;
     put(rt.alloc(), &mut block, 5, opened(1), 3)?;
     may_be(&rt, &block, 0, [true, true, false]);
@@ -83,7 +84,7 @@ fn of_two_puts_that_overlap_either_came_last(rt: HostRuntime) -> Result<(), Fail
 
 #[test]
 fn of_two_puts_one_after_the_other_the_second_came_last(rt: HostRuntime) -> Result<(), Fail> {
-    let mut block = BlockBytes::new(rt.alloc())?;
+    let mut block = BlockBytes::new(rt.alloc());
     put(rt.alloc(), &mut block, 5, opened(1), 1)?;
     put(rt.alloc(), &mut block, 7, opened(3), 3)?;
     may_be(&rt, &block, 0, [false, true, false]);
@@ -92,13 +93,12 @@ fn of_two_puts_one_after_the_other_the_second_came_last(rt: HostRuntime) -> Resu
 
 #[test]
 fn a_put_beside_a_copy(rt: HostRuntime) -> Result<(), Fail> {
-    let mut block = BlockBytes::new(rt.alloc())?;
-    block.tell(rt.alloc(), &[Some(9); 64], 1)?;
+    let mut block = BlockBytes::told(rt.alloc(), &[Some(9); 64], 1)?;
     let windows = opened(3).after(false, 4);
     assert_eq!(rt; block.standing(&windows), Standing::Anywhere);
     put(rt.alloc(), &mut block, 7, windows, 5)?;
     may_be(&rt, &block, 0, [false, true, true]);
-    block.tell(rt.alloc(), &[Some(5); 64], 7)?;
+    block = BlockBytes::told(rt.alloc(), &[Some(5); 64], 7)?;
     assert_eq!(rt; block.standing(&windows), Standing::Told);
     put(rt.alloc(), &mut block, 7, windows, 8)?;
     may_be(&rt, &block, 0, [true, false, false]);
@@ -121,17 +121,16 @@ fn may_bring(rt: &impl Abort, read: &ReadBytes, place: u8, possible: [bool; 3]) 
 
 #[test]
 fn a_read_beside_a_put(rt: HostRuntime) -> Result<(), Fail> {
-    let mut block = BlockBytes::new(rt.alloc())?;
-    block.tell(rt.alloc(), &[Some(5); 64], 1)?;
+    let mut block = BlockBytes::told(rt.alloc(), &[Some(5); 64], 1)?;
     let mut read = ReadBytes::new(rt.alloc(), &block, &[])?;
     may_bring(&rt, &read, 0, [true, false, false]);
-    read.add(rt.alloc(), &block, &[eight(7)])?;
+    read.write(&eight(7))?;
     may_bring(&rt, &read, 0, [true, true, false]);
     may_bring(&rt, &read, 8, [true, false, false]);
     let mut late = ReadBytes::new(rt.alloc(), &block, &[eight(7)])?;
     put(rt.alloc(), &mut block, 7, opened(2), 5)?;
-    block.tell(rt.alloc(), &[Some(9); 64], 9)?;
-    late.add(rt.alloc(), &block, &[])?;
+    block = BlockBytes::told(rt.alloc(), &[Some(9); 64], 9)?;
+    late.tell(&block)?;
     may_bring(&rt, &late, 0, [true, true, true]);
     may_bring(&rt, &late, 8, [true, false, true]);
     let after = ReadBytes::new(rt.alloc(), &block, &[])?;
@@ -141,8 +140,7 @@ fn a_read_beside_a_put(rt: HostRuntime) -> Result<(), Fail> {
 
 #[test]
 fn a_grant_beside_a_put(rt: HostRuntime) -> Result<(), Fail> {
-    let mut block = BlockBytes::new(rt.alloc())?;
-    block.tell(rt.alloc(), &[Some(9); 64], 1)?;
+    let block = BlockBytes::told(rt.alloc(), &[Some(9); 64], 1)?;
     assert!(rt; block.may_grant(0, 9, &[eight(7)]));
     assert!(rt; block.may_grant(0, 7, &[eight(7)]));
     assert!(rt; !block.may_grant(0, 5, &[eight(7)]));
@@ -175,8 +173,7 @@ fn bytes_that_are_given_back(rt: HostRuntime) -> Result<(), Fail> {
     ] {
         carried.add(&beat);
     }
-    let mut block = BlockBytes::new(rt.alloc())?;
-    block.tell(rt.alloc(), carried.bytes(), 3)?;
+    let block = BlockBytes::told(rt.alloc(), carried.bytes(), 3)?;
     may_be(&rt, &block, 15, [true, false, false]);
     may_be(&rt, &block, 16, [true, true, true]);
     may_be(&rt, &block, 32, [false, true, false]);

@@ -1,7 +1,7 @@
 use Rattle.std.proofs.Common.{arith, ap, ◌∙◌, set}
 use Rattle.std.specs.Prelude.{None, slice_index, slice_index_or, unwrap_or}
 use Rattle.std.proofs.lemmas.List.{length-set}
-use Rattle.tl_memory.proofs.Payloads.{one_filled}
+use Rattle.tl_bytes.proofs.Filled.{one_filled}
 use Rattle.tl_memory.proofs.access.payload_of.Goals as goal
 
 pub loop-place-preserved : goal.loop-place-preserved

@@ -1,4 +1,5 @@
 use Rattle.std.proofs.Common.{ap, sym, ◌∙◌}
+use Rattle.std.specs.Prelude.{unwrap_or}
 use Rattle.tl_rules.specs.code.Place.{base_of}
 use Rattle.tl_memory.specs.statement.Known.{is_put}
 use Rattle.tl_bytes.specs.statement.Bytes.{found_memory}
@@ -18,7 +19,8 @@ pub returns : goal.returns
 returns g c = λ access answer k found sound lawful whole place lt written.
     let put = ap is_put (sym k.opcode_is) ∙ sym c.is_put.ensures ∙ c.if-is_put.false in
     let carries = (atomic-writes access.request.opcode access.request _ put written).2 in
-    atomic-leaves access c.args.asked.now.request c.args.found.now c.move_up-block.result c.perform_atomic.new.block
+    atomic-leaves access c.args.asked.now.request c.payload_of.result c.move_up-block.result c.perform_atomic.new.block
     c.base-base.result place answer c.requires k.opcode_is k.param_is k.size_is k.address_is put
-    (c.base-base.ensures.value ∙ ap (base_of g.row.W) k.address_is) c.move_up-block.ensures.value found
+    (c.base-base.ensures.value ∙ ap (base_of g.row.W) k.address_is) c.move_up-block.ensures.value
+    (λ p less. c.payload_of.ensures p less ∙ ap (λ o. unwrap_or o 0) (found p less))
     (k.payload_is carries sound) lawful (whole carries) c.perform_atomic.ensures lt written

@@ -1,7 +1,7 @@
 use Rattle.std.proofs.Common.{arith, ◌∙◌}
 use Rattle.std.specs.Prelude.{None, Some, slice_index}
 use Rattle.std.proofs.lemmas.List.{length-set}
-use Rattle.tl_memory.proofs.Payloads.{one_filled}
+use Rattle.tl_bytes.proofs.Filled.{one_filled}
 use Rattle.tl_memory.proofs.writer.known.Goals as goal
 
 pub loop-place-preserved : goal.loop-place-preserved

@@ -1,5 +1,5 @@
 use Rattle.std.proofs.Common.{ap, sym, ◌∙◌, ◌≡◌, ◌||◌, true, false}
-use Rattle.std.specs.Prelude.{find, is_some, Some, unwrap_or}
+use Rattle.std.specs.Prelude.{find, is_some, Some}
 use Rattle.tl_rules.specs.statement.Admission.{is_spoiled}
 use Rattle.tl_memory.proofs.Writing.{both_false, sound_value, spoiled_value}
 use Rattle.tl_memory.proofs.writer.values_written.Goals as goal
@@ -17,7 +17,6 @@ returns g c = λ access burst k m lawful place lt written.
     ap (λ b. b || is_some (find is_spoiled burst)) (sym k.spoiled_is)
     ∙ ap (λ b. c.args.asked.now.spoiled || b) (sym m.spoiled_is) ∙ sym c.either.ensures ∙ c.if-either.false in
     c.known.ensures place lt
-    ∙ ap Some (c.performed.ensures access burst k
-    (λ p less. c.payload_of.ensures p less ∙ ap (λ o. unwrap_or o 0) (c.bytes.ensures g.row.W burst m.bytes_are p less))
+    ∙ ap Some (c.performed.ensures access burst k (c.bytes.ensures g.row.W burst m.bytes_are)
     (both_false access.spoiled _ sound) lawful.0 lawful.1 place lt written)
     ∙ sym (sound_value _ _ sound)

@@ -1,25 +1,20 @@
-use Rattle.std.proofs.Common.{ap, ◌∙◌, subst}
+use Rattle.std.proofs.Common.{ap, sym, ◌∙◌, subst}
 use Rattle.std.specs.Prelude.{if◌then◌else◌}
 use Rattle.std.proofs.lemmas.Result.{on_ok_weaker}
-use Rattle.tl_monitor.specs.statement.Knows.{LeavesOthers}
-use Rattle.tl_rules.specs.statement.Conformance.{on_link}
+use Rattle.tl_together.specs.code.Windows.{NotesWindow}
 use Rattle.tl_together.proofs.Noted.{notes_window, notes_no_window}
 use Rattle.tl_together.proofs.notes.note_window.Goals as goal
 
 pub returns-in_default-clause-noted : goal.returns-in_default-clause-noted
 returns-in_default-clause-noted g c =
-    notes_no_window c.args.monitor.now c.args.links c.args.moment c.args.windows.now c.args.link
-    c.args.beat.now
-    (λ levels p t k fine. subst (λ o. LeavesOthers o c.args.beat.now (on_link c.args.link.0 t)) c.in_default.is
-    (c.block_of.ensures levels p t _ k fine))
+    subst (λ o. NotesWindow c.args.monitor.now c.args.links c.args.moment o c.args.windows.now c.args.windows.now)
+    (sym c.in_default.is) (notes_no_window c.args.monitor.now c.args.links c.args.moment c.args.windows.now)
 
 pub returns-clause-noted : goal.returns-clause-noted
 returns-clause-noted g c =
     on_ok_weaker c.set.result
-    (λ h. notes_window c.args.monitor.now c.args.links c.args.moment c.in-Some.block c.latest.result c.latest-2.result
-    c.args.windows.now _ c.args.link c.args.beat.now
-    (λ levels p t k fine. subst (λ o. LeavesOthers o c.args.beat.now (on_link c.args.link.0 t)) c.in-Some.is
-    (c.block_of.ensures levels p t _ k fine))
+    (λ h. rw c.in-Some.is (notes_window c.args.monitor.now c.args.links c.args.moment c.in-Some.block
+    c.latest.result c.latest-2.result c.args.windows.now _
     c.freedom_of-free.result.reading c.freedom_of-free.result.writing
     (λ levels p t k links_is. (c.freedom_of-free.ensures levels p t k links_is).0)
     (λ levels p t k links_is. (c.freedom_of-free.ensures levels p t k links_is).1)
@@ -27,5 +22,5 @@ returns-clause-noted g c =
     c.get-old.ensures)
     (c.latest-2.ensures ∙ ap (λ v. if c.freedom_of-free.result.writing then c.args.moment else v.writing)
     c.get-old.ensures)
-    h)
+    h))
     c.set.ensures.changed

@@ -1,6 +1,10 @@
+use Rattle.std.proofs.lemmas.Result.{IfOk-weaker}
+use Rattle.tl_bytes.specs.statement.Known.{may_bring}
 use Rattle.tl_bytes.proofs.Reading.{granted-is}
 use Rattle.tl_bytes.proofs.read_bytes.ReadBytes.granted.Goals as goal
 
 pub returns : goal.returns
-returns c = λ w n number t k written. granted-is n number t c.in_ok-told.told.items c.as_slice.result.now
-    c.args.block.now c.args.writes.now c.in_ok-told.ensures c.as_slice.ensures.value k written
+returns c = IfOk-weaker c.gathered.result _ _
+    (λ read all w n number t k written at v lt.
+    granted-is n number t c.args.block.now c.args.writes.now at v (may_bring read at v) (all at v lt) k written lt)
+    c.gathered.ensures

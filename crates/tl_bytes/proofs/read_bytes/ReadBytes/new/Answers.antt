@@ -1,7 +1,11 @@
+use Rattle.std.proofs.lemmas.Result.{IfOk-weaker}
+use Rattle.tl_bytes.specs.statement.Known.{may_bring}
 use Rattle.tl_bytes.proofs.Reading.{read-first}
 use Rattle.tl_bytes.proofs.read_bytes.ReadBytes.new.Goals as goal
 
 pub returns : goal.returns
-returns c = λ w n number access x t k written now.
-    read-first n number access x t c.in_ok-told.told.items c.as_slice.result.now c.args.block.now c.args.writes.now
-    c.in_ok-told.ensures c.as_slice.ensures.value now k written
+returns c = IfOk-weaker c.gathered.result _ _
+    (λ read all w n number access x t k written now at v lt.
+    read-first n number access x t c.args.block.now c.args.writes.now at v (may_bring read at v) (all at v lt) now k
+    written lt)
+    c.gathered.ensures

@@ -4,7 +4,8 @@ use Rattle.tl_beat.specs.declared.beat.Beat.TheVariants as beat
 use Rattle.std.specs.Prelude.{length, ◌*◌}
 use Rattle.tl_burst.specs.statement.Burst.{bit}
 use Rattle.tl_bytes.specs.statement.Bytes.{carried_byte}
-use Rattle.tl_memory.proofs.Payloads.{bit_below, known, wide-bytes, wide-length, width_positive}
+use Rattle.tl_bytes.proofs.Brought.{width_positive}
+use Rattle.tl_memory.proofs.Payloads.{bit_below, known, wide-bytes, wide-length}
 use Rattle.tl_memory.proofs.access.Asked.new.Goals as goal
 
 pub returns : goal.returns
@@ -23,7 +24,7 @@ returns g c = λ older k wide room.
       few = λ carries. omega (arith, wide-length burst (wide carries), room);
       payload_is = λ carries sound p lt.
           let inside : p < 64 = omega (arith, wide-length burst (wide carries), room, lt) in
-          c.payload_of.ensures p inside
+          c.payload_asked.ensures carries p inside
           ∙ ap (λ o. unwrap_or o 0) (c.bytes.ensures g.row.W burst k.bytes_are p inside)
           ∙ known (carried_byte burst p) _
           (wide-bytes burst (width_positive g.row.W c.requires.width) (wide carries) sound p lt);

@@ -3,4 +3,4 @@ use Rattle.tl_memory.proofs.States.{state-first}
 use Rattle.tl_memory.proofs.block.BlockState.new.Goals as goal
 
 pub returns : goal.returns
-returns g c = λ n block. state-first _ n block (c.in_ok-new.ensures g.row.W n block) c.new-2.ensures.items refl
+returns g c = λ n block. state-first _ n block (c.new.ensures g.row.W n block) c.new-2.ensures.items refl

@@ -1,10 +1,12 @@
-use Rattle.std.proofs.Common.{rules, sym, ◌∙◌, ◌≡◌, false, length}
+use Rattle.std.proofs.Common.{rules, sym, ◌∙◌, ◌≡◌, true, false, length}
+use Rattle.std.specs.Prelude.{None}
 use Rattle.std.proofs.lemmas.Result.{IfOk-weaker}
 use Rattle.tl_burst.specs.statement.Part.{is_small}
 use Rattle.tl_rules.specs.statement.Conformance.{on_link}
 use Rattle.tl_memory.proofs.LinkBeats.{large-breaks}
-use Rattle.tl_memory.proofs.Memories.{links-legal, nothing-changed}
+use Rattle.tl_memory.proofs.Memories.{is-borne, links-legal, none-expected, nothing-changed}
 use Rattle.tl_memory.proofs.OpenAccesses.{is-fine, legal-on}
+use Rattle.tl_memory.proofs.PassedBy.{none-begins, passed-by}
 use Rattle.tl_memory.proofs.memory.Memory.change.Goals as goal
 
 pub returns-then-not-is_small-clause-change : goal.returns-then-not-is_small-clause-change
@@ -16,14 +18,27 @@ returns-then-not-is_small-clause-change g c = λ levels p t k legal fine asked n
     large-breaks f.level p x (on_link link.0 t) c.requires (legal-on levels p link.0 f.level t f.has_level legal) f.fine
     large
 
+pub returns-then-passes_by-clause-change : goal.returns-then-passes_by-clause-change
+returns-then-passes_by-clause-change g c = λ levels p t k legal fine asked now.
+    let link = c.args.link in
+    let x = c.args.x.now in
+    let yes : c.passes_by.result ≡ true = search rules in
+    let passing = sym (c.passes_by.ensures levels p t k.links_are legal fine) ∙ yes in
+    nothing-changed c.none-then-passes_by.result c.args.self.now (length levels) (link, x) t
+    c.none-then-passes_by.ensures.block c.none-then-passes_by.ensures.held c.none-then-passes_by.ensures.expected
+    (λ block other. passed-by block link x t k.blocks_are.inside passing)
+    (none-begins (length levels) link x t passing)
+
 pub returns-in_default-clause-change : goal.returns-in_default-clause-change
 returns-in_default-clause-change g c = λ levels p t k legal fine asked now.
     let link = c.args.link in
     let x = c.args.x.now in
-    nothing-changed c.none-in_default.result c.args.self.now (length levels) link x t
-    c.none-in_default.ensures.block c.none-in_default.ensures.expected
-    (links-legal levels p link x t c.requires legal fine c.args.self.now.links k.links_are c.prove_typed.ensures.typed)
-    (sym (c.block_borne.ensures (on_link link.0 t) asked) ∙ c.in_default.is)
+    let its = links-legal levels p link x t c.requires legal fine c.args.self.now.links k.links_are
+    c.prove_typed.ensures.typed in
+    let unborne = sym (c.block_borne.ensures (on_link link.0 t) asked) ∙ c.in_default.is in
+    nothing-changed c.none-in_default.result c.args.self.now (length levels) (link, x) t
+    c.none-in_default.ensures.block c.none-in_default.ensures.held c.none-in_default.ensures.expected
+    (is-borne None link x t k.blocks_are.inside its unborne) (none-expected link x (length levels) t its unborne)
 
 pub returns-in_err-meet-clause-known : goal.returns-in_err-meet-clause-known
 returns-in_err-meet-clause-known g c = λ n t k. record {

@@ -1,5 +1,8 @@
-use Rattle.std.proofs.Common.{sym, length}
-use Rattle.tl_memory.proofs.Memories.{links-legal}
+use Rattle.std.proofs.Common.{sym, ap, ◌∙◌, length}
+use Rattle.std.specs.Prelude.{if◌then◌else◌, Some, None}
+use Rattle.tl_rules.specs.statement.Conformance.{on_link}
+use Rattle.tl_memory.proofs.LegalBeats.{few-before}
+use Rattle.tl_memory.proofs.Memories.{is-borne, links-legal}
 use Rattle.tl_memory.proofs.Tables.{some-kept}
 use Rattle.tl_memory.proofs.Taken.{same-block}
 use Rattle.tl_memory.proofs.memory.Memory.changed.Goals as goal
@@ -16,7 +19,9 @@ returns g c = λ levels p t k legal fine asked now borne there.
     let its = links-legal levels p link x t c.requires.width legal fine c.args.self.now.links k.links_are
     c.prove_typed.ensures.typed in
     record {
-      block_is = sym borne;
+      block_is = is-borne (Some block) link x t k.blocks_are.inside its borne;
+      held_is = c.held_of.ensures ∙ ap (λ b. if b then Some block else None) (c.changes_held.ensures (on_link link.0 t)
+          messages (few-before levels p link t c.requires.width legal x fine));
       kept = λ other e. rw (← same-block block other e) there;
       next_is = λ other free e seen.
           let same = same-block block other e in

@@ -1,9 +1,8 @@
-use Rattle.std.proofs.Common.{ap, ◌∙◌, ◌∷◌}
+use Rattle.std.proofs.Common.{ap, ◌∙◌}
 use Rattle.tl_bytes.specs.code.Tellings.{left_as}
-use Rattle.tl_memory.proofs.Writing.{others-may-write}
 use Rattle.tl_memory.proofs.pending.PendingAccess.new.Goals as goal
 
 pub returns-clause-read : goal.returns-clause-read
-returns-clause-read g c = λ n number access x t k now block are. c.in_ok-read.ensures g.row.W n number access x t block
-    (λ place byte lt. ap (left_as place byte) (c.as_slice.ensures.value ∙ c.in_ok-others.ensures)
-    ∙ others-may-write c.args.writers.now number c.args.writer.now.asked access (x ∷ t) k are place byte lt) now
+returns-clause-read g c = λ n number access x t now block written. c.in_ok-read.ensures g.row.W n number access x t block
+    (λ place byte lt. ap (left_as place byte) (c.as_slice.ensures.value ∙ c.in_ok-writes.ensures)
+    ∙ written place byte lt) now

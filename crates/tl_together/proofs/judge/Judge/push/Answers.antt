@@ -4,7 +4,7 @@ use Rattle.tl_together.specs.statement.Coherence.{first_broken}
 use Rattle.tl_together.specs.statement.Knows.{broken}
 use Rattle.tl_together.proofs.Judging.{fine_on_link, judged_fault, next_moment, open_still, refused, refused_knows}
 use Rattle.tl_together.proofs.Judging.{remembered, taken, unnoted}
-use Rattle.tl_together.proofs.Noted.{in_levels}
+use Rattle.tl_together.proofs.Noted.{held_others, in_levels}
 use Rattle.tl_together.proofs.judge.Judge.push.Goals as goal
 
 pub returns-in_default-change-clause-knows : goal.returns-in_default-change-clause-knows
@@ -26,8 +26,8 @@ returns-in-Err-clause-answer g c = λ levels p t closed k.
 pub returns-in-Err-clause-knows : goal.returns-in-Err-clause-knows
 returns-in-Err-clause-knows g c = λ levels p t closed k.
     let o = open_still c.args.self.now levels p t closed k c.if-self.false in
-    refused_knows c.args.self.now _ levels p t closed c.args.link c.args.beat.now c.in-Some.next c.in-Err.fault
-    c.of_monitor.result k c.if-self.false
+    refused_knows c.args.self.now _ levels p t closed c.args.link c.args.beat.now c.in-Some.next
+    c.in-Ok.change.held c.in-Err.fault c.of_monitor.result k c.if-self.false
     c.of_monitor.ensures c.closes-self.ensures refl refl (c.in-Err.ensures.knows levels p t _ o.monitor_is)
     c.note_request.ensures c.in-Ok-noted.ensures.noted c.change.ensures.known
 
@@ -57,10 +57,11 @@ returns-clause-knows g c = λ levels p t closed k.
     let change = c.in-Ok.ensures.change levels p t o.memory_is o.legal fine
     (c.answered-asked.ensures levels p t o.monitor_is lt) now in
     let pushed = c.in-Ok-push.ensures.knows levels p t _ o.monitor_is in
-    taken c.args.self.now _ levels p t closed c.args.link c.args.beat.now c.in-Some.next k c.if-self.false
-    c.if-self.false refl next_is refl fine pushed c.note_request.ensures c.in-Ok-noted.ensures.noted
+    taken c.args.self.now _ levels p t closed c.args.link c.args.beat.now c.in-Some.next c.in-Ok.change.held k
+    c.if-self.false c.if-self.false refl next_is refl fine pushed c.note_request.ensures c.in-Ok-noted.ensures.noted
+    (held_others c.in-Ok.change _ (length levels) c.args.link c.args.beat.now t change)
     (c.take.ensures levels p t (c.change.ensures.known (length levels) t o.memory_is) o.legal fine now change
-    (c.freed-free.ensures levels p t c.args.link pushed o.links_are))
+    (c.freed-free.ensures levels p _ pushed o.links_are))
 
 pub returns-in-Some-broken-clause-answer : goal.returns-in-Some-broken-clause-answer
 returns-in-Some-broken-clause-answer g c = λ levels p t closed k.

@@ -1,0 +1,50 @@
+//! Beats that pass each block by, and those that change what their link holds.
+
+ghost use Rattle.std.specs.Prelude.{◌<◌, ◌≡◌, IsTrue, length};
+ghost use Rattle.tl_beat.specs.statement.Width.{IsWidth};
+ghost use Rattle.tl_burst.specs.statement.Messages.{History, channel_of, unfinished};
+ghost use Rattle.tl_burst.specs.statement.Part;
+ghost use Rattle.tl_memory.specs.code.Passing as passing;
+ghost use Rattle.tl_memory.specs.statement.Links.{KnowsMessages};
+
+use crate::access::is_access;
+use crate::link::LinkMessages;
+use crate::message::either;
+use tl_beat::beat::Beat;
+use tl_rules::kind::is_grant;
+
+/// Whether a beat passes each block by, and no response begins with it: these are the messages that aren't complete
+/// on its link.
+pub fn passes_by<const W: usize>(x: &Beat<W>, messages: &LinkMessages) -> bool
+    requires width { IsWidth W }
+    requires small { IsTrue (Part.is_small x.now) }
+    ensures { (t : History W) → KnowsMessages messages.now t → length (unfinished (channel_of x.now) t) < 64 →
+        result ≡ passing.passes_by x.now t }
+{
+    match x {
+        Beat::A(y) => either(!is_access(y.opcode), !messages.a.completes(x)),
+        Beat::C(_) => !messages.c.completes(x),
+        Beat::D(_) => !either(messages.d.bytes.count() == 0, messages.d.completes(x)),
+        _ => true,
+    }
+}
+
+/// Whether with a beat its link may hold more or less of the block that it bears on: these are the messages that
+/// aren't complete there.
+pub fn changes_held<const W: usize>(x: &Beat<W>, messages: &LinkMessages) -> bool
+    requires width { IsWidth W }
+    requires small { IsTrue (Part.is_small x.now) }
+    ensures { (t : History W) → KnowsMessages messages.now t → length (unfinished (channel_of x.now) t) < 64 →
+        result ≡ passing.changes_held x.now t }
+{
+    match x {
+        Beat::C(_) => messages.c.completes(x),
+        Beat::D(y) => {
+            if !is_grant(y.opcode) {
+                return false;
+            }
+            messages.d.completes(x)
+        }
+        _ => false,
+    }
+}

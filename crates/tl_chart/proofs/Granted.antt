@@ -10,7 +10,7 @@ use Rattle.tl_chart.specs.code.Gathered.{KnowsBlocks, granted_next}
 use Rattle.tl_chart.specs.declared.blocks.LinkBlocks.{LinkBlocks}
 use Rattle.tl_chart.specs.statement.Messages.{block_granted, message_block}
 use Rattle.tl_explain.proofs.follows.Links.{blocks_taken}
-use Rattle.tl_explain.specs.code.Recorded.{AreBlocks, asked_next, block_asked, block_of, block_released, released_next}
+use Rattle.tl_explain.specs.code.Recorded.{asked_next, block_asked, block_released, released_next}
 use Rattle.tl_monitor.specs.code.Count.{at}
 use Rattle.tl_rules.specs.statement.History.{begins, is_release_ack, release_of, request_of}
 
@@ -32,7 +32,7 @@ pub first_ack : (w : ℕ) (x : BeatE) → None ≡ message_block {w = w} (beat.E
 first_ack w x = sym (granted_none w x.sink)
 
 granted_step : {w : ℕ} (y : Beat w) (h : History w) (s : ℕ)
-    → granted_next (begins y h) y (block_of y h) s (block_granted s h) ≡ block_granted s (y ∷ h)
+    → granted_next (begins y h) y (message_block y h) s (block_granted s h) ≡ block_granted s (y ∷ h)
 unfolding block_granted
 granted_step (beat.A x) h s = refl
 granted_step (beat.B x) h s = refl
@@ -41,12 +41,12 @@ granted_step (beat.D x) h s = refl
 granted_step (beat.E x) h s = refl
 
 pub granted_taken : {w : ℕ} (b c : LinkBlocks) (y : Beat w) (h : History w) (first : Bool) (block : Option ℕ)
-    → first ≡ begins y h → (AreBlocks b.blocks h → block ≡ block_of y h)
+    → first ≡ begins y h → (KnowsBlocks b h → block ≡ message_block y h)
     → ((s : ℕ) → at c.granted s ≡ granted_next first y block s (at b.granted s))
     → ((s : ℕ) → at c.blocks.asked s ≡ asked_next first y s (at b.blocks.asked s))
     → ((s : ℕ) → at c.blocks.released s ≡ released_next first y s (at b.blocks.released s))
     → KnowsBlocks b h → KnowsBlocks c (y ∷ h)
 granted_taken b c y h first block is of granted asked released knows = record {
   blocks_are = blocks_taken b.blocks c.blocks y h first is asked released knows.blocks_are;
-  granted_are = λ s. granted s ∙ rw (is, of knows.blocks_are, knows.granted_are s) (granted_step y h s);
+  granted_are = λ s. granted s ∙ rw (is, of knows, knows.granted_are s) (granted_step y h s);
 }

@@ -1,13 +1,14 @@
 -- The blocks of all links, with one more beat.
 use Rattle.std.proofs.Common.{◌≡◌, ◌≢◌, ◌<◌, ◌≤◌, ℕ, zero, suc, ◌==◌, Bool, true, List, [], ◌∷◌, ◌++◌, length}
 use Rattle.std.proofs.Common.{refl, sym, ap, ◌∙◌, arith, inl, inr, subst}
-use Rattle.std.specs.Prelude.{slice_index_or, slice_set}
+use Rattle.std.specs.Prelude.{slice_index_or, slice_set, Option}
 use Rattle.std.proofs.lemmas.Bool.{cases_eq, ne_eqb}
 use Rattle.std.proofs.lemmas.List.{get_or-set_other, get_or-set_same, length-set}
 use Rattle.tl_beat.specs.declared.beat.Beat.{Beat}
 use Rattle.tl_beat.specs.declared.beat.Link.{Link}
 use Rattle.tl_chart.specs.code.Gathered.{CarryAll, KnowLinks, KnowsBlocks}
 use Rattle.tl_chart.specs.declared.blocks.LinkBlocks.{LinkBlocks}
+use Rattle.tl_chart.specs.statement.Messages.{message_block}
 use Rattle.tl_explain.proofs.follows.Links.{on_own_link}
 use Rattle.tl_burst.specs.statement.Messages.{History}
 use Rattle.tl_rules.specs.statement.Conformance.{Trace, on_link}
@@ -57,6 +58,16 @@ links_taken links i old b x t first own within was is next know = λ n d lt. eli
       let elsewhere : x.0.0 ≢ n = λ e. other (sym e ∙ sym own) in
       rw (get_or-set_other, on_other n x t elsewhere) (know n d short)
 ]
+
+-- the block of a beat's message
+pub link_block : {w : ℕ} (links : List LinkBlocks) (i : ℕ) (b : LinkBlocks) (x : Link × Beat w) (t : Trace w)
+    (block : Option ℕ) → i ≡ x.0.0 → i < length links → b ≡ slice_index_or links i b
+    → ((h : History w) → KnowsBlocks b h → block ≡ message_block x.1 h) → KnowLinks links t
+    → block ≡ message_block x.1 (on_link x.0.0 t)
+link_block links i b x t block own within is of know =
+    let here : KnowsBlocks b (on_link i t) =
+    subst (λ (y : LinkBlocks). KnowsBlocks y (on_link i t)) (sym is) (know i b within) in
+    of (on_link i t) here ∙ ap (λ (k : ℕ). message_block x.1 (on_link k t)) own
 
 -- a beat of a link that isn't among them
 pub links_kept : {w : ℕ} (links : List LinkBlocks) (x : Link × Beat w) (t : Trace w) → length links ≤ x.0.0

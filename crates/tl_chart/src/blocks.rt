@@ -42,14 +42,16 @@ impl LinkBlocks {
         }
     }
 
-    /// Takes a beat, which begins a message or doesn't.
-    pub fn take<const W: usize>(&mut self, beat: &Beat<W>, first: bool)
-        ensures { (t : History W) → KnowsBlocks self.old t → first ≡ begins beat.now t →
+    /// Takes a beat, which begins a message or doesn't: the block of its message.
+    pub fn take<const W: usize>(&mut self, beat: &Beat<W>, first: bool) -> Option<u32>
+        ensures known { (t : History W) → KnowsBlocks self.old t → first ≡ begins beat.now t →
             KnowsBlocks self.new (beat.now ∷ t) }
+        ensures block { (t : History W) → KnowsBlocks self.old t → result ≡ message_block beat.now t }
     {
-        let block = self.blocks.of(beat);
+        let block = self.of(beat);
         grant(&mut self.granted, beat, first, block);
         self.blocks.take(beat, first);
+        block
     }
 }
 

@@ -4,6 +4,7 @@ ghost use Rattle.std.specs.Prelude.{ℕ, [], ◌∷◌, ◌++◌, ◌≡◌, not
 ghost use Rattle.tl_beat.specs.declared.beat.Beat.{Beat};
 ghost use Rattle.tl_beat.specs.statement.Width.{IsWidth};
 ghost use Rattle.tl_chart.specs.code.Gathered.{marked};
+ghost use Rattle.tl_chart.specs.code.Lasting.{AreLasting};
 ghost use Rattle.tl_chart.specs.code.Moment.{IsMoment, change_of};
 ghost use Rattle.tl_chart.specs.statement.Drawn.{is_open, marks_with, open_by, with_beat, within};
 ghost use Rattle.tl_chart.specs.statement.Messages.{beats_in, continued, fault_from, message_block, message_from};
@@ -180,10 +181,11 @@ pub fn draw_message<const W: usize>(
     requires { IsWidth W }
     ensures { OnOk result ((t : Trace W) → IsMoment moment (moment.link, beat.now) t →
         block ≡ message_block beat.now (on_link moment.link.0 t) →
+        AreLasting window moment.line arrows.old.items →
         arrows.new.items
         ≡ within window (moment.link, beat.now) t (with_beat window (moment.link, beat.now) t arrows.old.items)) }
 {
-    if moment.line < window.first {
+    if moment.line < window.first && moment.lets_go(beat) {
         draw_open(window, arrows, moment, beat, block)?;
         keep_open(arrows, moment, beat, block);
         return Ok(());

@@ -5,6 +5,7 @@ ghost use Rattle.std.specs.Prelude.{◌&&◌, false, true};
 ghost use Rattle.tl_beat.specs.declared.beat.Beat.{Beat};
 ghost use Rattle.tl_beat.specs.statement.Width.{IsWidth};
 ghost use Rattle.tl_chart.specs.code.Gathered.{CarryAll, Gathers, KnowLinks, drawn_of, is_over, watched};
+ghost use Rattle.tl_chart.specs.code.Lasting.{AreLasting};
 ghost use Rattle.tl_chart.specs.code.Moment.{IsMoment, change_of};
 ghost use Rattle.tl_chart.specs.statement.Drawn.{closes, drawn_more, fault_drawn, shows, skipped};
 ghost use Rattle.tl_chart.specs.statement.Messages.{message_block};
@@ -47,15 +48,23 @@ fn new_links(alloc: Global, count: usize) -> Result<Vec<LinkBlocks>, AllocError>
     Ok(links)
 }
 
-/// Notes a beat among the blocks of its link.
-fn note_blocks<const W: usize>(links: &mut Vec<LinkBlocks>, moment: Moment, beat: &Beat<W>)
+/// Takes a beat among the blocks of its link: the block of its message.
+fn take_block<const W: usize>(
+    links: &mut Vec<LinkBlocks>,
+    moment: Moment,
+    beat: &Beat<W>,
+) -> Option<u32>
     ensures known { (t : Trace W) → IsMoment moment (moment.link, beat.now) t → KnowLinks links.old.items t →
         KnowLinks links.new.items ((moment.link, beat.now) ∷ t) }
+    ensures block { (t : Trace W) → KnowLinks links.old.items t → CarryAll links.old.items t →
+        result ≡ message_block beat.now (on_link moment.link.0 t) }
     ensures many { length links.new.items ≡ length links.old.items }
 {
     let n = usize::from(moment.link.0);
     if n < links.len() {
-        links[n].take(beat, moment.first);
+        links[n].take(beat, moment.first)
+    } else {
+        first_block(beat)
     }
 }
 
@@ -142,7 +151,7 @@ impl Gatherer {
         ensures drawn { OnOk result ((t : Trace W) → IsMoment moment (moment.link, beat.now) t →
             block ≡ message_block beat.now (on_link moment.link.0 t) →
             change ≡ change_of self.old.window.block (moment.link, beat.now) t →
-            self.old.closed ≡ false →
+            self.old.closed ≡ false → AreLasting self.old.window moment.line self.old.arrows.items →
             drawn_of self.new ≡ drawn_more self.old.window (moment.link, beat.now) t (drawn_of self.old)) }
         ensures window { self.new.window ≡ self.old.window }
         ensures links { self.new.links ≡ self.old.links }
@@ -185,9 +194,8 @@ impl Gatherer {
         if self.is_over() {
             return self.count(moment.first);
         }
-        let block = self.block_of(moment.link, beat);
+        let block = take_block(&mut self.links, moment, beat);
         let begins = is_start(self.window, moment, block);
-        note_blocks(&mut self.links, moment, beat);
         if self.closes(moment.line, begins) {
             self.skip(begins)
         } else {

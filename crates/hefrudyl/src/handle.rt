@@ -1,6 +1,7 @@
 //! What C holds.
 
 ghost use Rattle.std.specs.Prelude.{◌≡◌, ◌⊎◌, Option, Some, None, is_some, option_map, IsTrue};
+ghost use Rattle.std.specs.Coded.{coded_option};
 ghost use Rattle.hefrudyl.specs.code.Owned.{owned};
 ghost use Rattle.hefrudyl.specs.declared.session.Session.{Session};
 ghost use Rattle.hefrudyl.specs.contracts.session.Session.{the_row};
@@ -25,7 +26,7 @@ pub struct Opaque {
 pub struct Place {
     at: *mut Opaque,
     alloc: Global,
-    pub ghost value: { Option Session },
+    pub ghost value: { Option Session } by { coded_option the_row.coded },
 }
 
 impl Model for Place {

@@ -119,9 +119,9 @@ impl Arrow {
     }
 
     /// The message with one more beat, where that is of it.
-    pub fn with<const W: usize>(self, moment: Moment, beat: &Beat<W>) -> Arrow
-        ensures { (t : Trace W) → IsMoment moment (moment.link, beat.now) t →
-            result ≡ continued (moment.link, beat.now) t self }
+    pub fn with<const W: usize>(self, moment: &Moment, beat: &Beat<W>) -> Arrow
+        ensures { (t : Trace W) → IsMoment moment.now (moment.now.link, beat.now) t →
+            result ≡ continued (moment.now.link, beat.now) t self }
     {
         if self.is_of(moment.link, beat) {
             Arrow {
@@ -138,15 +138,15 @@ impl Arrow {
     /// answer.
     pub fn is_open<const W: usize>(
         &self,
-        moment: Moment,
+        moment: &Moment,
         beat: &Beat<W>,
         block: Option<u32>,
     ) -> bool
-        ensures { result ≡ Drawn.open_by moment.link moment.last beat.now block self.now }
+        ensures { result ≡ Drawn.open_by moment.now.link moment.now.last beat.now block self.now }
     {
         let answered = self.link.0 == moment.link.0
             && moment.last
             && answers(beat, block, &self.control, self.block);
-        !self.complete || wants_answer(&self.control) && !answered
+        !self.complete || !answered && wants_answer(&self.control)
     }
 }

@@ -33,11 +33,11 @@ fn beats_of<const W: usize>(beat: &Beat<W>) -> u8
 }
 
 /// The message that begins with a beat, of this block.
-fn arrow_from<const W: usize>(moment: Moment, beat: &Beat<W>, block: Option<u32>) -> Arrow
+fn arrow_from<const W: usize>(moment: &Moment, beat: &Beat<W>, block: Option<u32>) -> Arrow
     requires { IsWidth W }
-    ensures { (t : Trace W) → IsMoment moment (moment.link, beat.now) t →
-        block ≡ message_block beat.now (on_link moment.link.0 t) →
-        result ≡ message_from (moment.link, beat.now) t }
+    ensures { (t : Trace W) → IsMoment moment.now (moment.now.link, beat.now) t →
+        block ≡ message_block beat.now (on_link moment.now.link.0 t) →
+        result ≡ message_from (moment.now.link, beat.now) t }
 {
     Arrow {
         link: moment.link,
@@ -74,9 +74,9 @@ pub fn fault_from<const W: usize>(
 
 /// The messages with one more beat of one of them.
 #[inline(never)]
-fn continue_arrows<const W: usize>(arrows: &mut [Arrow], moment: Moment, beat: &Beat<W>)
-    ensures { (t : Trace W) → IsMoment moment (moment.link, beat.now) t →
-        arrows.new ≡ map (continued (moment.link, beat.now) t) arrows.old }
+fn continue_arrows<const W: usize>(arrows: &mut [Arrow], moment: &Moment, beat: &Beat<W>)
+    ensures { (t : Trace W) → IsMoment moment.now (moment.now.link, beat.now) t →
+        arrows.new ≡ map (continued (moment.now.link, beat.now) t) arrows.old }
 {
     for arrow in arrows.iter_mut() {
         *arrow = arrow.with(moment, beat);
@@ -87,16 +87,16 @@ fn continue_arrows<const W: usize>(arrows: &mut [Arrow], moment: Moment, beat: &
 #[inline(never)]
 fn keep_open<const W: usize>(
     arrows: &mut Vec<Arrow>,
-    moment: Moment,
+    moment: &Moment,
     beat: &Beat<W>,
     block: Option<u32>,
 )
     ensures { arrows.new.items
-        ≡ filter (open_by moment.link moment.last beat.now block) arrows.old.items }
+        ≡ filter (open_by moment.now.link moment.now.last beat.now block) arrows.old.items }
 {
     arrows.retain(
         |earlier|
-            ensures { result ≡ open_by moment.link moment.last beat.entry.now block earlier.now }
+            ensures { result ≡ open_by moment.entry.now.link moment.entry.now.last beat.entry.now block earlier.now }
         { earlier.is_open(moment, beat, block) },
     );
 }
@@ -112,14 +112,14 @@ fn keep_others(marks: &mut Vec<Mark>, link: Link)
 #[inline(never)]
 fn draw_begun<const W: usize>(
     arrows: &mut Vec<Arrow>,
-    moment: Moment,
+    moment: &Moment,
     beat: &Beat<W>,
     block: Option<u32>,
 ) -> Result<(), AllocError>
     requires { IsWidth W }
-    ensures { OnOk result ((t : Trace W) → IsMoment moment (moment.link, beat.now) t →
-        block ≡ message_block beat.now (on_link moment.link.0 t) →
-        arrows.new.items ≡ arrows.old.items ++ message_from (moment.link, beat.now) t ∷ []) }
+    ensures { OnOk result ((t : Trace W) → IsMoment moment.now (moment.now.link, beat.now) t →
+        block ≡ message_block beat.now (on_link moment.now.link.0 t) →
+        arrows.new.items ≡ arrows.old.items ++ message_from (moment.now.link, beat.now) t ∷ []) }
 {
     arrows.push(arrow_from(moment, beat, block))?;
     Ok(())
@@ -130,14 +130,14 @@ fn draw_begun<const W: usize>(
 fn draw_beat<const W: usize>(
     window: Window,
     arrows: &mut Vec<Arrow>,
-    moment: Moment,
+    moment: &Moment,
     beat: &Beat<W>,
     block: Option<u32>,
 ) -> Result<(), AllocError>
     requires { IsWidth W }
-    ensures { OnOk result ((t : Trace W) → IsMoment moment (moment.link, beat.now) t →
-        block ≡ message_block beat.now (on_link moment.link.0 t) →
-        arrows.new.items ≡ with_beat window (moment.link, beat.now) t arrows.old.items) }
+    ensures { OnOk result ((t : Trace W) → IsMoment moment.now (moment.now.link, beat.now) t →
+        block ≡ message_block beat.now (on_link moment.now.link.0 t) →
+        arrows.new.items ≡ with_beat window (moment.now.link, beat.now) t arrows.old.items) }
 {
     if !moment.first {
         continue_arrows(arrows, moment, beat);
@@ -154,15 +154,15 @@ fn draw_beat<const W: usize>(
 fn draw_open<const W: usize>(
     window: Window,
     arrows: &mut Vec<Arrow>,
-    moment: Moment,
+    moment: &Moment,
     beat: &Beat<W>,
     block: Option<u32>,
 ) -> Result<(), AllocError>
     requires { IsWidth W }
-    ensures { OnOk result ((t : Trace W) → IsMoment moment (moment.link, beat.now) t →
-        block ≡ message_block beat.now (on_link moment.link.0 t) →
-        filter (is_open (moment.link, beat.now) t) arrows.new.items
-        ≡ filter (is_open (moment.link, beat.now) t) (with_beat window (moment.link, beat.now) t arrows.old.items)) }
+    ensures { OnOk result ((t : Trace W) → IsMoment moment.now (moment.now.link, beat.now) t →
+        block ≡ message_block beat.now (on_link moment.now.link.0 t) →
+        filter (is_open (moment.now.link, beat.now) t) arrows.new.items
+        ≡ filter (is_open (moment.now.link, beat.now) t) (with_beat window (moment.now.link, beat.now) t arrows.old.items)) }
 {
     if moment.first && moment.last && !wants_answer(&beat.control()) {
         return Ok(());
@@ -174,16 +174,16 @@ fn draw_open<const W: usize>(
 pub fn draw_message<const W: usize>(
     window: Window,
     arrows: &mut Vec<Arrow>,
-    moment: Moment,
+    moment: &Moment,
     beat: &Beat<W>,
     block: Option<u32>,
 ) -> Result<(), AllocError>
     requires { IsWidth W }
-    ensures { OnOk result ((t : Trace W) → IsMoment moment (moment.link, beat.now) t →
-        block ≡ message_block beat.now (on_link moment.link.0 t) →
-        AreLasting window moment.line arrows.old.items →
+    ensures { OnOk result ((t : Trace W) → IsMoment moment.now (moment.now.link, beat.now) t →
+        block ≡ message_block beat.now (on_link moment.now.link.0 t) →
+        AreLasting window moment.now.line arrows.old.items →
         arrows.new.items
-        ≡ within window (moment.link, beat.now) t (with_beat window (moment.link, beat.now) t arrows.old.items)) }
+        ≡ within window (moment.now.link, beat.now) t (with_beat window (moment.now.link, beat.now) t arrows.old.items)) }
 {
     if moment.line < window.first && moment.lets_go(beat) {
         draw_open(window, arrows, moment, beat, block)?;
@@ -216,12 +216,12 @@ fn mark(
 pub fn draw_change(
     window: Window,
     marks: &mut Vec<Mark>,
-    moment: Moment,
+    moment: &Moment,
     change: Option<Perm>,
 ) -> Result<(), AllocError>
-    ensures { OnOk result ((w : ℕ) (beat : Beat w) (t : Trace w) → IsMoment moment (moment.link, beat) t →
-        change ≡ change_of window.block (moment.link, beat) t →
-        marks.new.items ≡ marks_with window (moment.link, beat) t marks.old.items) }
+    ensures { OnOk result ((w : ℕ) (beat : Beat w) (t : Trace w) → IsMoment moment.now (moment.now.link, beat) t →
+        change ≡ change_of window.block (moment.now.link, beat) t →
+        marks.new.items ≡ marks_with window (moment.now.link, beat) t marks.old.items) }
 {
     match change {
         None => Ok(()),

@@ -51,13 +51,13 @@ fn new_links(alloc: Global, count: usize) -> Result<Vec<LinkBlocks>, AllocError>
 /// Takes a beat among the blocks of its link: the block of its message.
 fn take_block<const W: usize>(
     links: &mut Vec<LinkBlocks>,
-    moment: Moment,
+    moment: &Moment,
     beat: &Beat<W>,
 ) -> Option<u32>
-    ensures known { (t : Trace W) → IsMoment moment (moment.link, beat.now) t → KnowLinks links.old.items t →
-        KnowLinks links.new.items ((moment.link, beat.now) ∷ t) }
+    ensures known { (t : Trace W) → IsMoment moment.now (moment.now.link, beat.now) t → KnowLinks links.old.items t →
+        KnowLinks links.new.items ((moment.now.link, beat.now) ∷ t) }
     ensures block { (t : Trace W) → KnowLinks links.old.items t → CarryAll links.old.items t →
-        result ≡ message_block beat.now (on_link moment.link.0 t) }
+        result ≡ message_block beat.now (on_link moment.now.link.0 t) }
     ensures many { length links.new.items ≡ length links.old.items }
 {
     let n = usize::from(moment.link.0);
@@ -69,8 +69,8 @@ fn take_block<const W: usize>(
 }
 
 /// Whether a message that is drawn begins.
-fn is_start(window: Window, moment: Moment, block: Option<u32>) -> bool
-    ensures { result ≡ (moment.first && shows window.block block) }
+fn is_start(window: Window, moment: &Moment, block: Option<u32>) -> bool
+    ensures { result ≡ (moment.now.first && shows window.block block) }
 {
     moment.first && window.shows(block)
 }
@@ -142,17 +142,17 @@ impl Gatherer {
     /// Draws a beat.
     fn draw<const W: usize>(
         &mut self,
-        moment: Moment,
+        moment: &Moment,
         beat: &Beat<W>,
         block: Option<u32>,
         change: Option<Perm>,
     ) -> Result<(), AllocError>
         requires { IsWidth W }
-        ensures drawn { OnOk result ((t : Trace W) → IsMoment moment (moment.link, beat.now) t →
-            block ≡ message_block beat.now (on_link moment.link.0 t) →
-            change ≡ change_of self.old.window.block (moment.link, beat.now) t →
-            self.old.closed ≡ false → AreLasting self.old.window moment.line self.old.arrows.items →
-            drawn_of self.new ≡ drawn_more self.old.window (moment.link, beat.now) t (drawn_of self.old)) }
+        ensures drawn { OnOk result ((t : Trace W) → IsMoment moment.now (moment.now.link, beat.now) t →
+            block ≡ message_block beat.now (on_link moment.now.link.0 t) →
+            change ≡ change_of self.old.window.block (moment.now.link, beat.now) t →
+            self.old.closed ≡ false → AreLasting self.old.window moment.now.line self.old.arrows.items →
+            drawn_of self.new ≡ drawn_more self.old.window (moment.now.link, beat.now) t (drawn_of self.old)) }
         ensures window { self.new.window ≡ self.old.window }
         ensures links { self.new.links ≡ self.old.links }
     {
@@ -179,15 +179,15 @@ impl Gatherer {
     #[inline(never)]
     pub fn take<const W: usize>(
         &mut self,
-        moment: Moment,
+        moment: &Moment,
         beat: &Beat<W>,
         change: Option<Perm>,
     ) -> Result<(), AllocError>
         requires { IsWidth W }
-        ensures gathers { OnOk result ((t : Trace W) → IsMoment moment (moment.link, beat.now) t →
-            moment.link.0 < length self.old.links.items →
-            change ≡ change_of (watched self.old) (moment.link, beat.now) t →
-            Gathers self.old t → Gathers self.new ((moment.link, beat.now) ∷ t)) }
+        ensures gathers { OnOk result ((t : Trace W) → IsMoment moment.now (moment.now.link, beat.now) t →
+            moment.now.link.0 < length self.old.links.items →
+            change ≡ change_of (watched self.old) (moment.now.link, beat.now) t →
+            Gathers self.old t → Gathers self.new ((moment.now.link, beat.now) ∷ t)) }
         ensures window { OnOk result (self.new.window ≡ self.old.window) }
         ensures many { OnOk result (length self.new.links.items ≡ length self.old.links.items) }
     {

@@ -171,7 +171,7 @@ impl<const W: usize> Charting<W> {
             last: self.monitor.begins(link, beat),
         };
         let change = held_change(&self.monitor, link, self.gatherer.watched(), before);
-        self.gatherer.take(moment, beat, change)
+        self.gatherer.take(&moment, beat, change)
     }
 
     /// Draws the beat of a line that breaks a rule.

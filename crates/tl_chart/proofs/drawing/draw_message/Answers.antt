@@ -8,8 +8,8 @@ use Rattle.tl_chart.proofs.drawing.draw_message.Goals as goal
 pub returns : goal.returns
 returns g c = on_ok c.draw_beat.result (λ so t is of lasting. so t is of ∙ elim c.else-moment-window.branch [
   | else-moment-window-via-then-moment-window+else-lets_go w ↦
-      all_stays c.args.window c.args.moment (c.args.moment.link, c.args.beat.now) t c.args.arrows.now.items is
+      all_stays c.args.window c.args.moment.now (c.args.moment.now.link, c.args.beat.now) t c.args.arrows.now.items is
       (sym w.lets_go.ensures ∙ w.if-lets_go.false) w.if-moment-window.true lasting
   | else-moment-window-via-else-moment-window w ↦
-      all_inside c.args.window c.args.moment (c.args.moment.link, c.args.beat.now) t _ is w.if-moment-window.false
+      all_inside c.args.window c.args.moment.now (c.args.moment.now.link, c.args.beat.now) t _ is w.if-moment-window.false
 ]) c.draw_beat.ensures

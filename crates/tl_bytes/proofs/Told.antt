@@ -306,7 +306,8 @@ pub written-within : (write : Write) (moment since p : ℕ) (old new : BlockByte
 written-within write moment since p old new lt latest earlier =
     ap₂ (λ e l. e ∷ tellings_at p l) latest earlier ∙ elim (cases_Bool (is_written write p)) [
       | inr off ↦
-          rw off (ap (λ l. telling_at old.latest.items p ∷ l) (outlived-off write since old.latest.items old.earlier.items p off))
+          rw off (ap (λ l. telling_at old.latest.items p ∷ l)
+          (outlived-off write since old.latest.items old.earlier.items p off))
       | inl on ↦
           rw on (ap (λ l. record { value = value_at write p; moment = moment } ∷ l)
           (outlived-on write since old.latest.items old.earlier.items p lt on

@@ -1,7 +1,7 @@
 //! What the bytes of a block may be.
 
-ghost use Rattle.std.specs.Prelude.{ℕ, Bool, true, false, [], ◌∷◌, ◌++◌, ◌+◌, ◌*◌, ◌<◌, ◌≡◌, List, Option, Some, None};
-ghost use Rattle.std.specs.Prelude.{filter, find, length, IfOk};
+ghost use Rattle.std.specs.Prelude.{ℕ, true, false, [], ◌∷◌, ◌+◌, ◌*◌, ◌<◌, ◌≡◌, Option, Some, None};
+ghost use Rattle.std.specs.Prelude.{find, length, IfOk};
 ghost use Rattle.tl_beat.specs.declared.beat.Beat.{Beat};
 ghost use Rattle.tl_beat.specs.declared.beat.Beat.TheVariants as beat;
 ghost use Rattle.tl_beat.specs.declared.beat.BeatD.{BeatD};

@@ -1,6 +1,6 @@
 //! What was told of the bytes of a block: of each what was told last, and what it may be beside that.
 
-ghost use Rattle.std.specs.Prelude.{ℕ, ◌∷◌, ◌++◌, ◌<◌, ◌≡◌, List, None, IfOk, OnOk, filter, is_some, slice_index_or};
+ghost use Rattle.std.specs.Prelude.{ℕ, ◌++◌, ◌<◌, ◌≡◌, None, IfOk, OnOk, filter, slice_index_or};
 ghost use Rattle.tl_bytes.specs.code.Tellings.{displaced, is_displaced, outlived, outlives, stays, telling_at};
 ghost use Rattle.tl_bytes.specs.code.Tellings.{written_at};
 ghost use Rattle.tl_bytes.specs.statement.Bytes.{told_as};

@@ -133,6 +133,24 @@ pub fn latest_with(latest: &[Telling], write: &Write, moment: u64) -> [Telling; 
     all
 }
 
+/// What is told last of all places where these values are told of them at this moment.
+pub fn latest_told(values: &[Option<u8>; 64], moment: u64) -> [Telling; 64]
+    ensures { (place : ℕ) → place < 64 → telling_at result place
+        ≡ record { value = slice_index_or values.now place None; moment = moment } }
+{
+    let mut all = [Telling {
+        value: None,
+        moment: 0,
+    }; 64];
+    for place in 0..64usize {
+        all[place] = Telling {
+            value: values[place],
+            moment,
+        };
+    }
+    all
+}
+
 /// What was told last of all places.
 pub fn values_of(latest: &[Telling]) -> [Option<u8>; 64]
     ensures { (place : ℕ) → place < 64 → slice_index_or result place None ≡ (telling_at latest.now place).value }

@@ -42,16 +42,6 @@ module _ {X : Type 0} (test : ℕ → Bool) (fill : ℕ → X) (old : List X) (d
     | inr ne ↦ get_or-set_other now k p (fill k) d ne ∙ so_far p lt ∙ same-elsewhere k p ne
   ]
 
-  pub one-left : (k : ℕ) (now : List X) → test k ≡ false
-      → ((p : ℕ) → p < 64 → get_or now p d ≡ after k p)
-      → (p : ℕ) → p < 64 → get_or now p d ≡ after (k + 1) p
-  one-left k now off so_far p lt = elim (cases_eq p k) [
-    | inl same ↦
-        so_far p lt ∙ ap (after k) same ∙ rw (le-ltb k k (omega arith), lt-ltb k (k + 1) (omega arith), off) refl
-        ∙ sym (ap (after (k + 1)) same)
-    | inr ne ↦ so_far p lt ∙ same-elsewhere k p ne
-  ]
-
 -- all are
 pub one_filled : {X : Type 0} (f : ℕ → X) (k : ℕ) (xs : List X) (d : X) → k < length xs
     → ((p : ℕ) → p < k → get_or xs p d ≡ f p) → (p : ℕ) → p < k + 1 → get_or (set xs k (f k)) p d ≡ f p

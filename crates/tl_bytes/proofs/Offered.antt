@@ -73,8 +73,8 @@ covered-listed place v value (x ∷ more) e could = elim (cases_Bool ((x.place =
 has-brought : (read : ReadBytes) (place v : ℕ) (value : Option ℕ) → has read place value ≡ true
     → could_be v value ≡ true → may_bring read place v ≡ true
 has-brought read place v value e could =
-    elim (or_cases (covers_value (slice_index_or read.first.items place None) value) (is_covered place value read.more.items)
-    e) [
+    elim (or_cases (covers_value (slice_index_or read.first.items place None) value)
+    (is_covered place value read.more.items) e) [
       | inl first ↦
           or_left (could_be v (slice_index_or read.first.items place None)) (is_listed place v read.more.items)
           (covers-could v (slice_index_or read.first.items place None) value first could)

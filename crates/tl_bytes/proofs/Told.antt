@@ -175,23 +175,19 @@ place-of : (block p : ℕ) → p < 64 → (64 * block + p) % 64 ≡ p
 place-of block p lt = omega arith
 
 -- a block that was told of
-pub told-is : {w : ℕ} (write : Write) (latest : List Telling) (moment n block : ℕ) (b : BlockBytes)
-    (x : Link × Beat w) (t : Trace w)
-    → ((p : ℕ) → p < 64 → telling_at b.latest.items p ≡ written_at latest write moment p)
-    → ((p : ℕ) → p < 64 → is_written write p ≡ true)
+pub told-is : {w : ℕ} (values : List (Option ℕ)) (moment n block : ℕ) (b : BlockBytes) (x : Link × Beat w)
+    (t : Trace w)
+    → ((p : ℕ) → p < 64
+    → telling_at b.latest.items p ≡ record { value = get_or values p None; moment = moment })
     → b.earlier.items ≡ [] → b.last ≡ Some moment
-    → tells block x.1 (on_link x.0.0 t) ≡ true → moment ≡ length t → AreCarried write.values x t
+    → tells block x.1 (on_link x.0.0 t) ≡ true → moment ≡ length t → AreCarried values x t
     → KnowsBlock b n block (x ∷ t)
 unfolding may_be last_told tellings_at
-told-is write latest moment n block b x t last all none when told now carried = record {
-  bytes_are = λ p lt. ap₂ (λ e l. e ∷ tellings_at p l) (last p lt ∙ all-written p (all p lt)) none
+told-is values moment n block b x t last none when told now carried = record {
+  bytes_are = λ p lt. ap₂ (λ e l. e ∷ tellings_at p l) (last p lt) none
       ∙ rw (block-of block p lt, place-of block p lt, told, carried p lt, now) refl;
   last_is = rw (when, told) (ap suc now);
 }
-  where
-    all-written : (p : ℕ) → is_written write p ≡ true
-        → written_at latest write moment p ≡ record { value = value_at write p; moment = moment }
-    all-written p on = rw on refl
 
 -- a block of which nothing was
 pub untold-is : {w : ℕ} (n block : ℕ) (b : BlockBytes) → b.latest.items ≡ [] → b.earlier.items ≡ [] → b.last ≡ None
@@ -306,7 +302,8 @@ pub written-within : (write : Write) (moment since p : ℕ) (old new : BlockByte
 written-within write moment since p old new lt latest earlier =
     ap₂ (λ e l. e ∷ tellings_at p l) latest earlier ∙ elim (cases_Bool (is_written write p)) [
       | inr off ↦
-          rw off (ap (λ l. telling_at old.latest.items p ∷ l) (outlived-off write since old.latest.items old.earlier.items p off))
+          rw off (ap (λ l. telling_at old.latest.items p ∷ l)
+          (outlived-off write since old.latest.items old.earlier.items p off))
       | inl on ↦
           rw on (ap (λ l. record { value = value_at write p; moment = moment } ∷ l)
           (outlived-on write since old.latest.items old.earlier.items p lt on

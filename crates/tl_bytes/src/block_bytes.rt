@@ -1,7 +1,7 @@
 //! What the bytes of a block may be.
 
-ghost use Rattle.std.specs.Prelude.{ℕ, Bool, true, false, [], ◌∷◌, ◌++◌, ◌+◌, ◌*◌, ◌<◌, ◌≡◌, List, Option, Some, None};
-ghost use Rattle.std.specs.Prelude.{filter, find, length, IfOk};
+ghost use Rattle.std.specs.Prelude.{ℕ, true, false, [], ◌∷◌, ◌+◌, ◌*◌, ◌<◌, ◌≡◌, Option, Some, None};
+ghost use Rattle.std.specs.Prelude.{find, length, IfOk};
 ghost use Rattle.tl_beat.specs.declared.beat.Beat.{Beat};
 ghost use Rattle.tl_beat.specs.declared.beat.Beat.TheVariants as beat;
 ghost use Rattle.tl_beat.specs.declared.beat.BeatD.{BeatD};
@@ -14,7 +14,7 @@ ghost use Rattle.tl_bytes.specs.statement.Bytes.{Access, ends_request, is_of, pe
 
 use crate::standing::Standing;
 use crate::telling::{Telling, Told, could_be};
-use crate::tellings::{is_told_as, last_at, latest_with, outlived};
+use crate::tellings::{is_told_as, last_at, latest_told, latest_with, outlived};
 use crate::windows::{WindowCount, WritingWindows};
 use crate::write::{Write, is_left_as};
 use std::alloc::{AllocError, Global};
@@ -104,11 +104,7 @@ impl BlockBytes {
             tells block x.1 (on_link x.0.0 t) ≡ true → moment ≡ length t → AreCarried values.now x t →
             KnowsBlock b n block (x ∷ t)) }
     {
-        let write = Write {
-            places: [true; 64],
-            values: *values,
-        };
-        let latest = latest_with(&[], &write, moment);
+        let latest = latest_told(values, moment);
         Ok(BlockBytes {
             latest: Vec::from_slice(alloc, &latest)?,
             earlier: Vec::new(alloc),

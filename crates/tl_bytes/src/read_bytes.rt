@@ -1,6 +1,6 @@
 //! What a read may bring.
 
-ghost use Rattle.std.specs.Prelude.{ℕ, suc, [], ◌∷◌, ◌+◌, ◌*◌, ◌<◌, ◌≤◌, ◌≡◌, ◌==◌, ◌&&◌, ◌||◌, List, None, length};
+ghost use Rattle.std.specs.Prelude.{ℕ, suc, ◌∷◌, ◌+◌, ◌*◌, ◌<◌, ◌≡◌, ◌==◌, ◌&&◌, ◌||◌, None, length};
 ghost use Rattle.std.specs.Prelude.{IfOk, OnOk, slice_index_or};
 ghost use Rattle.tl_beat.specs.declared.beat.Beat.{Beat};
 ghost use Rattle.tl_beat.specs.declared.beat.Link.{Link};

@@ -1,6 +1,6 @@
 //! What was told of the bytes of a block: of each what was told last, and what it may be beside that.
 
-ghost use Rattle.std.specs.Prelude.{ℕ, ◌∷◌, ◌++◌, ◌<◌, ◌≡◌, List, None, IfOk, OnOk, filter, is_some, slice_index_or};
+ghost use Rattle.std.specs.Prelude.{ℕ, ◌++◌, ◌<◌, ◌≡◌, None, IfOk, OnOk, filter, slice_index_or};
 ghost use Rattle.tl_bytes.specs.code.Tellings.{displaced, is_displaced, outlived, outlives, stays, telling_at};
 ghost use Rattle.tl_bytes.specs.code.Tellings.{written_at};
 ghost use Rattle.tl_bytes.specs.statement.Bytes.{told_as};
@@ -129,6 +129,24 @@ pub fn latest_with(latest: &[Telling], write: &Write, moment: u64) -> [Telling; 
     }; 64];
     for place in 0..BLOCK_BYTES {
         all[usize::from(place)] = written_at(latest, write, moment, place);
+    }
+    all
+}
+
+/// What is told last of all places where these values are told of them at this moment.
+pub fn latest_told(values: &[Option<u8>; 64], moment: u64) -> [Telling; 64]
+    ensures { (place : ℕ) → place < 64 → telling_at result place
+        ≡ record { value = slice_index_or values.now place None; moment = moment } }
+{
+    let mut all = [Telling {
+        value: None,
+        moment: 0,
+    }; 64];
+    for place in 0..64usize {
+        all[place] = Telling {
+            value: values[place],
+            moment,
+        };
     }
     all
 }

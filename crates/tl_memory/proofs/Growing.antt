@@ -122,7 +122,8 @@ written-grows {w} n block bytes writer new x y t before now more asked write old
     (ap (λ l. told_as v l || (written_as a v (others access (x ∷ y ∷ t)) || may_read n access (y ∷ t) a v)) same
     ∙ ap (λ b. told_as v (may_be n a (y ∷ t)) || (b || may_read n access (y ∷ t) a v))
     (ap (λ l. written_as a v (filter other l)) more ∙ others-more a v access new (pending_accesses (y ∷ t))
-    ∙ ap (λ b. b || written_as a v (others access (y ∷ t))) (written-is block p v writer new access old lt asked write k))
+    ∙ ap (λ b. b || written_as a v (others access (y ∷ t)))
+    (written-is block p v writer new access old lt asked write k))
     ∙ gained (told_as v (may_be n a (y ∷ t))) (written_as a v (others access (y ∷ t))) (written_by writer old p v)
     (may_read n access (y ∷ t) a v) told-brought (written-brought n access (y ∷ t) a v le))
   where

@@ -33,7 +33,8 @@ use Rattle.tl_memory.specs.statement.Known.{is_to, KnowsAccess, KnowsAccesses, K
 use Rattle.tl_memory.proofs.Elsewhere.{free-first, last-kept, windows-kept}
 use Rattle.tl_memory.proofs.Growing.{told-grows, written-each}
 use Rattle.tl_memory.proofs.Writing.{no_data}
-use Rattle.tl_memory.proofs.Keeping.{asked-more, copied-each, IsFound, keeps-all, nothing-more, renewed-all, watched-each}
+use Rattle.tl_memory.proofs.Keeping.{asked-more, copied-each, IsFound, keeps-all, nothing-more, renewed-all}
+use Rattle.tl_memory.proofs.Keeping.{watched-each}
 
 -- a block of which nothing was carried
 pub state-first : {w : ℕ} (s : BlockState w) (n block : ℕ) → KnowsBlock {w = w} s.bytes n block []

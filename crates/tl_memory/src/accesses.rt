@@ -1,6 +1,6 @@
 //! The accesses to a block that are pending.
 
-ghost use Rattle.std.specs.Prelude.{ℕ, ◌++◌, ◌≡◌, List, find, IfOk, OnOk, option_copied};
+ghost use Rattle.std.specs.Prelude.{◌++◌, ◌≡◌, List, find, OnOk, option_copied};
 ghost use Rattle.tl_memory.specs.code.Writers.{AreRenewed, AreWatched, is_named, nothing, staying};
 ghost use Rattle.tl_memory.specs.code.Writers.{told_by, written_by};
 ghost use Rattle.tl_memory.specs.code.Writers as writers;

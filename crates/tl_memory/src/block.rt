@@ -59,15 +59,15 @@ impl<const W: usize> BlockState<W> {
     ghost use Rattle.tl_memory.specs.statement.Known.{KnowsState, WritesInside};
 
     /// A block of which nothing was told, and to which no access is pending: it is free.
-    pub fn new(alloc: Global) -> Result<Self, AllocError>
-        ensures { IfOk result (λ s. (n block : ℕ) → KnowsState s n block [] []) }
+    pub fn new(alloc: Global) -> Self
+        ensures { (n block : ℕ) → KnowsState result n block [] [] }
     {
-        Ok(BlockState {
+        BlockState {
             bytes: BlockBytes::new(alloc),
             accesses: Vec::new(alloc),
             free: true,
             last_free: 0,
-        })
+        }
     }
 
     /// What may be granted of it.
@@ -163,7 +163,7 @@ impl<const W: usize> BlockState<W> {
             return self.bytes.copy(alloc);
         }
         let standing = self.bytes.standing(&access.windows);
-        let write = written(&access.writer.asked, answer);
+        let write = written(&access.writer, answer);
         self.bytes.with(alloc, &write, standing, moment)
     }
 

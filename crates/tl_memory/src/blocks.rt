@@ -44,8 +44,7 @@ impl<const W: usize> Blocks<W> {
         if self.states.contains_key(&block) {
             return Ok(());
         }
-        let state = BlockState::new(alloc)?;
-        match self.states.insert(block, state) {
+        match self.states.insert(block, BlockState::new(alloc)) {
             Ok(_) => Ok(()),
             Err(_) => Err(AllocError),
         }

@@ -5,7 +5,7 @@ ghost use Rattle.std.specs.Prelude.{slice_index, slice_index_or};
 ghost use Rattle.tl_beat.specs.declared.beat.Beat.{Beat};
 ghost use Rattle.tl_beat.specs.statement.Width.{IsWidth};
 ghost use Rattle.tl_rules.specs.statement.History.{block_at};
-ghost use Rattle.tl_bytes.specs.statement.Bytes.{Access, access_writes, value_written};
+ghost use Rattle.tl_bytes.specs.statement.Bytes.{Access, access_writes, pending_value, value_written};
 ghost use Rattle.tl_bytes.specs.statement.Known.{IsWrite};
 ghost use Rattle.tl_memory.specs.statement.Known.{IsAsked, IsLawful, IsPendingWrite, KnowsMessage};
 
@@ -48,17 +48,18 @@ fn values_written<const W: usize>(asked: &Asked<W>, answer: &CarriedMessage) -> 
     known(&performed(asked, answer.bytes.bytes()))
 }
 
-/// What an access writes, where this is its answer: where a beat of one of them is corrupt, anything.
-pub fn written<const W: usize>(asked: &Asked<W>, answer: &CarriedMessage) -> Write
+/// The bytes of its block that an access which writes may leave while it is pending: of an atomic none is known.
+fn pending_values<const W: usize>(asked: &Asked<W>) -> [Option<u8>; 64]
     requires { IsWidth W }
-    ensures { (access : Access W) (burst : List (Beat W)) → IsAsked asked.now access →
-        KnowsMessage answer.now burst → IsLawful access →
-        IsWrite result (block_at access.request.address) access burst }
+    ensures { (access : Access W) → IsAsked asked.now access → IsLawful access → (place : ℕ) → place < 64 →
+        access_writes (64 * block_at access.request.address + place) access ≡ true →
+        slice_index_or result place None
+        ≡ pending_value access.request.opcode access (64 * block_at access.request.address + place) }
 {
-    Write {
-        places: places_of(asked),
-        values: values_written(asked, answer),
+    if is_put(asked.request.opcode) {
+        return values_written(asked, &CarriedMessage::new());
     }
+    nothing_known()
 }
 
 /// What an access may write while it is pending: of an atomic, anything.
@@ -67,12 +68,9 @@ pub fn pending_write<const W: usize>(asked: &Asked<W>) -> Write
     ensures { (access : Access W) → IsAsked asked.now access → IsLawful access →
         IsPendingWrite result (block_at access.request.address) access }
 {
-    if is_put(asked.request.opcode) {
-        return written(asked, &CarriedMessage::new());
-    }
     Write {
         places: places_of(asked),
-        values: nothing_known(),
+        values: pending_values(asked),
     }
 }
 
@@ -81,4 +79,18 @@ pub fn pending_write<const W: usize>(asked: &Asked<W>) -> Write
 pub struct Writer<const W: usize> {
     pub asked: Asked<W>,
     pub write: Write,
+}
+
+/// What an access writes, where this is its answer: where a beat of one of them is corrupt, anything.
+pub fn written<const W: usize>(writer: &Writer<W>, answer: &CarriedMessage) -> Write
+    requires { IsWidth W }
+    ensures { (access : Access W) (burst : List (Beat W)) → IsAsked writer.now.asked access →
+        IsPendingWrite writer.now.write (block_at access.request.address) access →
+        KnowsMessage answer.now burst → IsLawful access →
+        IsWrite result (block_at access.request.address) access burst }
+{
+    Write {
+        places: writer.write.places,
+        values: values_written(&writer.asked, answer),
+    }
 }

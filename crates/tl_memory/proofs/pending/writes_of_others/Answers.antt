@@ -16,14 +16,15 @@ loop-access-preserved g c = elim c.if-not-is_of.branch [
       let pushed : c.if-not-is_of.writes.items ≡ c.loop-access.writes.items ++ c.access-item.result.writer.write ∷ [] =
       search rules in
       pushed ∙ ap (λ l. l ++ c.access-item.result.writer.write ∷ []) c.loop-access.invariant
-      ∙ one_kept (λ x. not (names c.args.link.0 c.args.source x.writer.asked)) (λ x. x.writer.write) c.loop-access.access-index
-      c.args.accesses.now c.access-item.result c.access-item.result c.access-item.is c.loop-access-test.true
+      ∙ one_kept (λ x. not (names c.args.link.0 c.args.source x.writer.asked)) (λ x. x.writer.write)
+      c.loop-access.access-index c.args.accesses.now c.access-item.result c.access-item.result c.access-item.is c.loop-access-test.true
       (ap not kept)
   | else-not-is_of w ↦
       let own : names c.args.link.0 c.args.source c.access-item.result.writer.asked ≡ true = search rules in
       ap (λ v. v.items) w.writes-is ∙ c.loop-access.invariant
-      ∙ one_left (λ x. not (names c.args.link.0 c.args.source x.writer.asked)) (λ x. x.writer.write) c.loop-access.access-index
-      c.args.accesses.now c.access-item.result c.access-item.result c.access-item.is c.loop-access-test.true (ap not own)
+      ∙ one_left (λ x. not (names c.args.link.0 c.args.source x.writer.asked)) (λ x. x.writer.write)
+      c.loop-access.access-index c.args.accesses.now c.access-item.result c.access-item.result c.access-item.is c.loop-access-test.true
+      (ap not own)
 ]
 
 pub returns : goal.returns

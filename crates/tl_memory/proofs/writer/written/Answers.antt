@@ -2,6 +2,6 @@ use Rattle.std.proofs.Common.{sym, ◌∙◌}
 use Rattle.tl_memory.proofs.writer.written.Goals as goal
 
 pub returns : goal.returns
-returns g c = λ access burst k m lawful place lt.
-    let places = c.places_of.ensures access k place lt in
-    (places, λ written. c.values_written.ensures access burst k m lawful place lt (sym places ∙ written))
+returns g c = λ access burst k write message lawful place lt.
+    let here = (write place lt).0 in
+    (here, λ w. c.values_written.ensures access burst k message lawful place lt (sym here ∙ w))

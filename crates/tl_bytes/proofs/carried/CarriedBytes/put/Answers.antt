@@ -13,7 +13,8 @@ returns-then-end-gt64-clause-bytes g c = λ p lt.
     let many = length c.args.lanes.now in
     let pos = width_positive w c.requires in
     let old = c.args.self.now.bytes in
-    none-done (is_lane w n many) (λ q. slice_get c.args.lanes.now (q % w)) old None 0 p (λ less. absurd (omega (arith, less)))
+    none-done (is_lane w n many) (λ q. slice_get c.args.lanes.now (q % w)) old None 0 p
+    (λ less. absurd (omega (arith, less)))
     ∙ all-done (is_lane w n many) (λ q. slice_get c.args.lanes.now (q % w)) old None 0 p
     (λ least. lane-off w n many p pos
     (λ from to. omega (

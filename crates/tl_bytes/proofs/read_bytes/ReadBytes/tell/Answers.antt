@@ -9,6 +9,7 @@ pub returns : goal.returns
 returns c = λ at v lt.
     let last = telling_at c.args.block.now.latest.items at in
     told-more _ _ _ _ _ _ (c.in_ok-offer_latest.ensures at v lt
-    ∙ ap (λ l. may_bring c.args.self.now at v || could_be v (telling_at l at).value) c.as_slice.ensures.value) (c.in_ok-offer_earlier.ensures at v)
+    ∙ ap (λ l. may_bring c.args.self.now at v || could_be v (telling_at l at).value) c.as_slice.ensures.value)
+    (c.in_ok-offer_earlier.ensures at v)
     (ap (λ l. could_be v last.value || told_as v (tellings_at at l)) c.as_slice-2.ensures.value
     ∙ told-either v last (tellings_at at c.args.block.now.earlier.items))

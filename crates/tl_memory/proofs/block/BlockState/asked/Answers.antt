@@ -21,10 +21,11 @@ returns g c = λ n block link y access t k more asked lawful inside at now.
     let before = c.in_ok-bytes.ensures g.row.W n block t k.bytes_are in
     let bytes = bytes-kept n block c.in_ok-bytes.bytes (link, beat.A y) t before refl (λ p lt. tt) in
     let write = asked-write c.pending_write.result block access at (c.pending_write.ensures access asked lawful) in
-    let written : MayWrite (writes_but c.args.asked.link.0 c.args.asked.request.source c.as_slice-before.result.now) block
+    let written : MayWrite
+    (writes_but c.args.asked.link.0 c.args.asked.request.source c.as_slice-before.result.now) block
     (others access ((link, beat.A y) ∷ t)) =
-    rw c.as_slice-before.ensures.value (others-may-write n block c.args.asked access (link, beat.A y) t old.accesses.items
-    asked k.accesses_are more) in
+    rw c.as_slice-before.ensures.value (others-may-write n block c.args.asked access (link, beat.A y) t
+    old.accesses.items asked k.accesses_are more) in
     let windows = c.new-windows.ensures g.row.W n block (link, beat.A y) t (k.free_is ∙ sym same)
     (asked.moment_is ∙ now)
     (λ off. k.last_is off ∙ sym (last-kept n block (link, beat.A y) t same (sym k.free_is ∙ off))) in

@@ -1,4 +1,4 @@
-use Rattle.std.proofs.Common.{rules, ap, sym, ◌∙◌, ◌≡◌, ◌∷◌, ◌+◌, ◌*◌, ◌/◌, find, false}
+use Rattle.std.proofs.Common.{rules, ap, subst, sym, ◌∙◌, ◌≡◌, ◌∷◌, ◌+◌, ◌*◌, ◌/◌, find, false}
 use Rattle.std.specs.Prelude.{None, Some}
 use Rattle.std.proofs.lemmas.Result.{IfOk-weaker}
 use Rattle.tl_beat.specs.declared.beat.Beat.TheVariants as beat
@@ -8,6 +8,7 @@ use Rattle.tl_burst.specs.statement.Messages.{unfinished}
 use Rattle.tl_rules.specs.statement.Conformance.{on_link}
 use Rattle.tl_bytes.specs.statement.Bytes.{is_of, pending_accesses}
 use Rattle.tl_memory.specs.code.Writers.{is_named}
+use Rattle.tl_memory.specs.statement.Known.{IsPendingWrite}
 use Rattle.tl_memory.proofs.Elsewhere.{bytes-kept}
 use Rattle.tl_memory.proofs.Keeping.{finds}
 use Rattle.tl_memory.proofs.States.{at-block, is-found, none-found, reads-only, writes-none}
@@ -54,5 +55,5 @@ returns g c =
     (at-block c.written-write.result (one.0.request.address / 64) block one.0
     (beat.D y ∷ unfinished channel.D (on_link c.args.link.0 t)) one.3
     (c.written-write.ensures one.0 (beat.D y ∷ unfinished channel.D (on_link c.args.link.0 t)) one.2.asked_is
-    message one.2.lawful)))
+    (subst (λ b. IsPendingWrite c.in-Some.access.now.writer.write b one.0) one.3 one.2.write_is) message one.2.lawful)))
     c.with.ensures

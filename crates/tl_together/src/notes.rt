@@ -4,7 +4,7 @@ ghost use Rattle.std.specs.Prelude.{ℕ, Some, OnOk, OnErr, length, nat_lt, if�
 ghost use Rattle.tl_together.specs.code.Windows.{asked_in, NotesRequest, NotesWindow};
 
 use crate::free::freedom_of;
-use crate::windows::{Window, Windows};
+use crate::windows::Windows;
 use std::alloc::AllocError;
 use tl_beat::beat::{Beat, Link};
 use tl_monitor::byte_table::ByteTable;
@@ -20,13 +20,6 @@ fn note_asked(asked: &mut Vec<ByteTable<u64>>, link: usize, source: u8, moment: 
     if link < asked.len() {
         asked[link].set(source, Some(moment));
     }
-}
-
-/// This moment where a block is free now, or else the one before.
-fn latest(free: bool, moment: u64, before: u64) -> u64
-    ensures { result ≡ (if free then moment else before) }
-{
-    if free { moment } else { before }
 }
 
 /// Notes at which moment a request is complete that may be so with this beat. What is known of the beats
@@ -62,11 +55,5 @@ pub fn note_window<const W: usize>(
     let Some(block) = held else {
         return Ok(());
     };
-    let old = windows.get(block);
-    let free = freedom_of(monitor, links, block);
-    let window = Window {
-        reading: latest(free.reading, moment, old.reading),
-        writing: latest(free.writing, moment, old.writing),
-    };
-    windows.set(block, window)
+    windows.note(block, freedom_of(monitor, links, block), moment)
 }

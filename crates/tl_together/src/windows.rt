@@ -1,7 +1,9 @@
 //! When blocks were last free.
 
 ghost use Rattle.std.specs.Prelude.{ℕ, [], OnOk, OnErr, if◌then◌else◌, ◌==◌, ◌≡◌};
+ghost use Rattle.tl_together.specs.code.Windows.{latest_window};
 
+use crate::free::Freedom;
 use std::alloc::{AllocError, Global};
 use std::collections::BTreeMap;
 use std::marker::Model;
@@ -12,6 +14,29 @@ use std::marker::Model;
 pub struct Window {
     pub reading: u64,
     pub writing: u64,
+}
+
+/// The last moments of a block of which none was noted.
+const NONE_NOTED: Window = Window {
+    reading: 0,
+    writing: 0,
+};
+
+/// This moment where a block is free now, or else the one before.
+fn latest(free: bool, moment: u64, before: u64) -> u64
+    ensures { result ≡ (if free then moment else before) }
+{
+    if free { moment } else { before }
+}
+
+/// The last moments of a block with this one, for which it is free now.
+fn latest_window(free: Freedom, moment: u64, before: Window) -> Window
+    ensures { result ≡ latest_window free moment before }
+{
+    Window {
+        reading: latest(free.reading, moment, before.reading),
+        writing: latest(free.writing, moment, before.writing),
+    }
 }
 
 /// The last moments at which blocks were free; of a block that always was, none is kept.
@@ -46,20 +71,22 @@ impl Windows {
         ensures { result ≡ window_in self.now block }
     {
         match self.moments.get(&block) {
-            None => Window {
-                reading: 0,
-                writing: 0,
-            },
+            None => NONE_NOTED,
             Some(window) => *window,
         }
     }
 
-    /// Writes the last moments of a block. Without memory nothing changes.
-    pub fn set(&mut self, block: u32, window: Window) -> Result<(), AllocError>
+    /// Notes at this moment for whom a block is free. Without memory nothing changes.
+    pub fn note(&mut self, block: u32, free: Freedom, moment: u64) -> Result<(), AllocError>
         ensures changed { OnOk result ((k : ℕ) → window_in self.new k
-            ≡ (if k == block then window else window_in self.old k)) }
+            ≡ (if k == block then latest_window free moment (window_in self.old block) else window_in self.old k)) }
         ensures unchanged { OnErr result (self.new ≡ self.old) }
     {
+        if let Some(window) = self.moments.get_mut(&block) {
+            *window = latest_window(free, moment, *window);
+            return Ok(());
+        }
+        let window = latest_window(free, moment, NONE_NOTED);
         match self.moments.insert(block, window) {
             Ok(_) => Ok(()),
             Err(_) => Err(AllocError),

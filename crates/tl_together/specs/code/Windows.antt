@@ -20,6 +20,7 @@ use Rattle.tl_monitor.specs.declared.fault.MonitorFault.TheVariants as monitor
 use Rattle.tl_together.specs.declared.breach.Breach.TheVariants.{OfLink}
 use Rattle.tl_together.specs.declared.fault.JudgeFault.{JudgeFault}
 use Rattle.tl_together.specs.declared.fault.JudgeFault.TheVariants as judge
+use Rattle.tl_together.specs.declared.free.Freedom.{Freedom}
 use Rattle.tl_together.specs.declared.windows.Window.{Window}
 use Rattle.tl_rules.specs.statement.Windows.{is_free}
 
@@ -48,6 +49,13 @@ window_or_none (Some window) = window
 
 abbrev pub window_in : List (ℕ × Window) → ℕ → Window
 window_in entries block = window_or_none (lookup (is_at (nat_cmp block)) entries)
+
+-- the last moments of a block with this one, for which it is free now
+abbrev pub latest_window : Freedom → ℕ → Window → Window
+latest_window free moment before = record {
+  reading = if free.reading then moment else before.reading;
+  writing = if free.writing then moment else before.writing;
+}
 
 -- the moment at which a block was last free for one who needs so much
 abbrev pub last_in : Perm → Window → ℕ

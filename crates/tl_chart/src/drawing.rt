@@ -84,7 +84,6 @@ fn continue_arrows<const W: usize>(arrows: &mut [Arrow], moment: &Moment, beat: 
 }
 
 /// The messages of which something is still to come.
-#[inline(never)]
 fn keep_open<const W: usize>(
     arrows: &mut Vec<Arrow>,
     moment: &Moment,

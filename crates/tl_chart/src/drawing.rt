@@ -84,7 +84,6 @@ fn continue_arrows<const W: usize>(arrows: &mut [Arrow], moment: &Moment, beat: 
 }
 
 /// The messages of which something is still to come.
-#[inline(never)]
 fn keep_open<const W: usize>(
     arrows: &mut Vec<Arrow>,
     moment: &Moment,
@@ -162,7 +161,8 @@ fn draw_open<const W: usize>(
     ensures { OnOk result ((t : Trace W) → IsMoment moment.now (moment.now.link, beat.now) t →
         block ≡ message_block beat.now (on_link moment.now.link.0 t) →
         filter (is_open (moment.now.link, beat.now) t) arrows.new.items
-        ≡ filter (is_open (moment.now.link, beat.now) t) (with_beat window (moment.now.link, beat.now) t arrows.old.items)) }
+        ≡ filter (is_open (moment.now.link, beat.now) t)
+        (with_beat window (moment.now.link, beat.now) t arrows.old.items)) }
 {
     if moment.first && moment.last && !wants_answer(&beat.control()) {
         return Ok(());
@@ -183,7 +183,8 @@ pub fn draw_message<const W: usize>(
         block ≡ message_block beat.now (on_link moment.now.link.0 t) →
         AreLasting window moment.now.line arrows.old.items →
         arrows.new.items
-        ≡ within window (moment.now.link, beat.now) t (with_beat window (moment.now.link, beat.now) t arrows.old.items)) }
+        ≡ within window (moment.now.link, beat.now) t
+        (with_beat window (moment.now.link, beat.now) t arrows.old.items)) }
 {
     if moment.line < window.first && moment.lets_go(beat) {
         draw_open(window, arrows, moment, beat, block)?;

@@ -12,8 +12,9 @@ SHARE = pathlib.Path(__file__).resolve().parent.parent / "share"
 HELP = "help"
 RULES = [*(f"L{it}" for it in range(1, 8)), "S1", *(f"H{it}" for it in range(1, 14))]
 TRACE = [*(f"F{it}" for it in range(1, 8)), *RULES]
+TOGETHER = [*TRACE, *(f"M{it}" for it in range(1, 5))]
 # The codes that each command can write.
-CODES = {"decode": [f"F{it}" for it in range(1, 7)], "monitor": TRACE, "explain": TRACE, "chart": TRACE, "coherent": [*TRACE, *(f"M{it}" for it in range(1, 5))], "run": ["F1", "F7", "F8"], "random": []}
+CODES = {"decode": [f"F{it}" for it in range(1, 7)], "monitor": TRACE, "explain": TOGETHER, "chart": TRACE, "coherent": TOGETHER, "run": ["F1", "F7", "F8"], "random": []}
 
 
 def section(text, name):

@@ -33,7 +33,7 @@ for rule in RULES:
 memory = open("crates/tl_explain/src/memory.rt").read()
 for rule in ["M1", "M2", "M3", "M4"]:
     teller = re.search(r"MemoryRule::%s => (\w+)\(\)," % rule, memory).group(1)
-    text = re.search(r"fn %s\(\) -> Explanation \{(.*?)\n\}" % teller, memory, re.S).group(1)
+    text = re.search(r"fn %s\(\) -> Explanation\b[^{]*\{[^}]*\}\n\{(.*?)\n\}" % teller, memory, re.S).group(1)
     field = lambda name: re.sub(r"\\\n\s*", "", re.search(r"\b%s: \"(.*?)\"," % name, text, re.S).group(1)).replace("\\n", "\n")
     row = re.search(r"^\| %s \| ([^|]*) \| ([^|]*) \| [^|]* \|$" % rule, protocol, re.M)
     if row is None or (field("messages"), field("sentence")) != row.groups():

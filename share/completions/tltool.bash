@@ -18,7 +18,7 @@ _tltool() {
     decode) options='--width --help -h' ;;
     monitor) options='--help -h' ;;
     coherent) options='--help -h' ;;
-    explain) options='--help -h' ;;
+    explain) options='--coherent --help -h' ;;
     chart) options='--lines --block --help -h' ;;
     run) options='--trace --help -h' ;;
     random) options='--seed --events --contend --clients --blocks --trackers --width --profile --help -h' ;;

@@ -12,6 +12,7 @@ complete -c tltool -n __fish_use_subcommand -s V -l version -d 'show the version
 complete -c tltool -n '__fish_seen_subcommand_from decode' -l width -x -a '4 8 16' -d 'bytes of data that a beat carries'
 complete -c tltool -n '__fish_seen_subcommand_from chart' -l lines -x -d 'the first line and the last'
 complete -c tltool -n '__fish_seen_subcommand_from chart' -l block -x -d 'the one block'
+complete -c tltool -n '__fish_seen_subcommand_from explain' -l coherent -d 'judge all links of a manager together'
 complete -c tltool -n '__fish_seen_subcommand_from run' -l trace -d 'write the trace of the beats that move'
 complete -c tltool -n '__fish_seen_subcommand_from random' -l seed -x -d 'the seed'
 complete -c tltool -n '__fish_seen_subcommand_from random' -l events -x -d 'lines behind the header'

@@ -11,8 +11,8 @@ pub enum Command {
     Monitor,
     /// Judges a recorded trace of all links of a manager together.
     Coherent,
-    /// Judges a recorded trace, and says why its first line at fault is so.
-    Explain,
+    /// Judges a recorded trace, each link by itself or all together, and says why its first line at fault is so.
+    Explain { coherent: bool },
     /// Plays a schedule: writes what comes of each event, or the trace of it.
     Run { trace: bool },
 }

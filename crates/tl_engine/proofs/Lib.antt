@@ -22,6 +22,7 @@ pub mod Playing
 pub mod SaidLines
 pub mod SoFar
 pub mod Writable
+pub mod Testifying
 mod Told
 mod TraceClean
 mod TraceCoherent

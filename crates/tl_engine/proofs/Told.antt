@@ -3,6 +3,7 @@ use Rattle.std.proofs.Common.{ℕ, List, refl}
 use Rattle.tl_command.specs.declared.command.Command.{Command}
 use Rattle.tl_command.specs.declared.command.Command.TheVariants.{Coherent, Decode, Explain, Monitor, Run}
 use Rattle.tl_params.specs.declared.width.Width.TheVariants.{Four, Eight, Sixteen}
+use Rattle.tl_engine.specs.code.Watching.{faults_by, said_by}
 use Rattle.tl_engine.specs.declared.status.Status.{Status}
 use Rattle.tl_engine.specs.statement.Coherent.{coherent_text, faults_together}
 use Rattle.tl_engine.specs.statement.Judged.{clean_text, faults_of_links}
@@ -19,7 +20,7 @@ pub told-once : (command : Command) (lines : List (List ℕ)) (text other : List
     → text_told command lines other another → AreOne text other status another
 told-once (Decode width) = decodes_once (bytes_of width) 1 (is_width_of width)
 told-once Monitor = judged_once faults_of_links clean_text
-told-once Explain = judged_once faults_of_links clean_text
+told-once (Explain together) = judged_once (faults_by together) (said_by together)
 told-once Coherent = judged_once faults_together coherent_text
 told-once (Run trace) = played-once trace
 
@@ -29,6 +30,6 @@ always-told (Decode Four) = decodes 4 1 (judged_line 4 refl)
 always-told (Decode Eight) = decodes 8 1 (judged_line 8 refl)
 always-told (Decode Sixteen) = decodes 16 1 (judged_line 16 refl)
 always-told Monitor = judged_whole faults_of_links clean_text
-always-told Explain = judged_whole faults_of_links clean_text
+always-told (Explain together) = judged_whole (faults_by together) (said_by together)
 always-told Coherent = judged_whole faults_together coherent_text
 always-told (Run trace) = played-whole trace

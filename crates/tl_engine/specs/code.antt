@@ -8,6 +8,7 @@ pub mod Playing
 pub mod Progress
 pub mod Replaying
 pub mod Run
+pub mod Testifying
 pub mod PlayableWorld
 pub mod TraceReading
 pub mod Watching

@@ -13,6 +13,7 @@ use std::alloc::{AllocError, Global};
 use tl_beat::beat::{Beat, Link};
 use tl_monitor::fault::MonitorFault;
 use tl_monitor::monitor::Monitor;
+use tl_rules::past::Request;
 use tl_together::fault::JudgeFault;
 use tl_together::judge::Judge;
 
@@ -57,6 +58,14 @@ impl<const W: usize> BeatJudge<W> {
                 Err(JudgeFault::Broken(breach)) => Ok(Some(Fault::of_breach(breach))),
                 Err(_) => Err(AllocError),
             },
+        }
+    }
+
+    /// The request with this source that is pending and complete on a link.
+    pub fn request(&self, link: Link, source: u8) -> Option<Request> {
+        match self {
+            BeatJudge::OfLinks(monitor) => monitor.request(link, source),
+            BeatJudge::OfAll(judge) => judge.request(link, source),
         }
     }
 }

@@ -1,23 +1,30 @@
 //! Judges a recorded trace, and notes what an explanation of its first fault starts from.
 
-ghost use Rattle.std.specs.Prelude.{◌≡◌, IfOk, true, ⊤};
+ghost use Rattle.std.specs.Prelude.{◌≡◌, [], IfErr, IfOk, true, ⊤};
 ghost use Rattle.tl_beat.specs.statement.Width.{IsWidth};
-ghost use Rattle.tl_engine.specs.statement.Judged.{Judged};
 ghost use Rattle.tl_engine.specs.code.Explaining.{IsVerdict, fault_of};
-ghost use Rattle.tl_engine.specs.code.Watching.{KnowsLines};
+ghost use Rattle.tl_engine.specs.code.Watching.{JudgedSo, KnowsLines, is_together};
+ghost use Rattle.tl_engine.specs.statement.Unexplained.{IsUnjudged, Reaches};
 
 use crate::beat_judge::BeatJudge;
+use crate::engine::handle_input;
+use crate::explain::in_memory;
+use crate::explain_fault::ExplainFault;
 use crate::fault::{Fault, append_fault};
 use crate::header::{Header, read_header};
 use crate::line_handler::LineHandler;
 use crate::monitor_lines::MonitorLines;
 use crate::status::Status;
 use std::alloc::{AllocError, Global};
+use std::io::Read;
 use tl_beat::beat::Beat;
 use tl_beat::fault::LineFault;
 use tl_beat::read::read_line;
 use tl_explain::told::Spelling;
 use tl_rules::rule::Rule;
+
+/// Where the channel stands in a line.
+const CHANNEL: usize = 3;
 
 /// What was found in a trace.
 #[derive(Drop)]
@@ -27,7 +34,7 @@ pub struct Found {
     pub header: Option<Header>,
     /// The line at fault, where it has an LF and at most 256 bytes, and what it is at fault for.
     pub fault: Option<(Fault, Spelling)>,
-    /// The block of the request that a Grant at fault answers.
+    /// The block of the request that is answered, of a Grant at fault or of a beat that breaks a rule of memory.
     pub block: Option<u32>,
 }
 
@@ -35,17 +42,20 @@ pub struct Found {
 fn block_asked<const W: usize>(judge: &BeatJudge<W>, line: &[u8]) -> Option<u32>
     requires { IsWidth W }
 {
-    let BeatJudge::OfLinks(monitor) = judge else {
-        return None;
-    };
     match read_line::<W>(line) {
-        Ok((link, Beat::D(x))) => Some(monitor.request(link, x.source)?.block),
+        Ok((link, Beat::D(x))) => Some(judge.request(link, x.source)?.block),
         _ => None,
     }
 }
 
 /// The block of the request that the next line's beat answers.
-fn block_granted(monitor_lines: &MonitorLines<0>, line: &[u8]) -> Option<u32> {
+fn block_answered<const TOGETHER: usize>(
+    monitor_lines: &MonitorLines<TOGETHER>,
+    line: &[u8],
+) -> Option<u32> {
+    if line.get(CHANNEL) != Some(&b'D') {
+        return None;
+    }
     match monitor_lines {
         MonitorLines::Waiting(_) => None,
         MonitorLines::Four(judge) => block_asked(judge, line),
@@ -106,34 +116,35 @@ impl Found {
         self.good = self.good.saturating_add(1);
     }
 
-    /// Notes the line at fault.
-    fn note_fault(&mut self, line: &[u8], fault: Fault, monitor_lines: &MonitorLines<0>) {
+    /// Notes the line at fault, whose beat answers a request of this block.
+    fn note_fault(&mut self, line: &[u8], fault: Fault, block: Option<u32>) {
         self.fault = Some((fault, Spelling::of(line)));
-        if fault == Fault::Rule(Rule::H6) {
-            self.block = block_granted(monitor_lines, line);
+        if matches!(fault, Fault::Rule(Rule::H6) | Fault::MemoryRule(_)) {
+            self.block = block;
         }
     }
 }
 
 /// Judges the lines of a trace as a watcher does, and notes what it finds.
 #[derive(Drop)]
-pub struct Examiner<'a> {
-    pub monitor_lines: MonitorLines<0>,
+pub struct Examiner<'a, const TOGETHER: usize> {
+    pub monitor_lines: MonitorLines<TOGETHER>,
     pub found: &'a mut Found,
 }
 
-impl LineHandler for Examiner<'_> {
+impl<const TOGETHER: usize> LineHandler for Examiner<'_, TOGETHER> {
     ghost knows = { λ e lines text. KnowsLines e.monitor_lines lines text };
 
-    ghost tells = { Judged };
+    ghost tells = { JudgedSo (is_together TOGETHER) };
 
     ghost ends = { λ _ _. ⊤ };
 
     fn handle_line(&mut self, line: &[u8], out: &mut Vec<u8>) -> Result<Option<Fault>, AllocError> {
+        let block = block_answered(&self.monitor_lines, line);
         let fault = self.monitor_lines.handle_line(line, out)?;
         match fault {
             None => self.found.note_good(line),
-            Some(fault) => self.found.note_fault(line, fault, &self.monitor_lines),
+            Some(fault) => self.found.note_fault(line, fault, block),
         }
         Ok(fault)
     }
@@ -144,5 +155,49 @@ impl LineHandler for Examiner<'_> {
 
     fn finish(&self, count: u64, out: &mut Vec<u8>) -> Result<Option<Fault>, AllocError> {
         self.monitor_lines.finish(count, out)
+    }
+}
+
+/// Judges what a reader gives, each link by itself, or all together where `TOGETHER` is 1. Answers what is found,
+/// beside its verdict.
+fn examine_by<const TOGETHER: usize, R: Read>(
+    alloc: Global,
+    reader: &mut R,
+    verdict: &mut Vec<u8>,
+) -> Result<(Found, Status), ExplainFault>
+    requires { verdict.old.items ≡ [] }
+    ensures ok { IfOk result (λ both. Reaches (is_together TOGETHER) (R.remaining reader.old) (R.remaining reader.new)
+        verdict.new.items both.1 × IsVerdict both.0 both.1 verdict.new.items) }
+    ensures fault { IfErr result (IsUnjudged (is_together TOGETHER) (R.remaining reader.old) (R.remaining reader.new)) }
+{
+    let mut found = Found::new();
+    let examiner = Examiner {
+        monitor_lines: MonitorLines::<TOGETHER>::Waiting(alloc),
+        found: &mut found,
+    };
+    let status = in_memory(handle_input(alloc, examiner, reader, verdict))?;
+    if found.is_verdict(alloc, status, verdict.as_slice())? {
+        Ok((found, status))
+    } else {
+        Err(ExplainFault::Changed)
+    }
+}
+
+/// Judges what a reader gives, as `monitor` does or as `coherent` does. Answers what is found, beside its verdict.
+pub fn examine<R: Read>(
+    alloc: Global,
+    coherent: bool,
+    reader: &mut R,
+    verdict: &mut Vec<u8>,
+) -> Result<(Found, Status), ExplainFault>
+    requires { verdict.old.items ≡ [] }
+    ensures ok { IfOk result (λ both. Reaches coherent (R.remaining reader.old) (R.remaining reader.new)
+        verdict.new.items both.1 × IsVerdict both.0 both.1 verdict.new.items) }
+    ensures fault { IfErr result (IsUnjudged coherent (R.remaining reader.old) (R.remaining reader.new)) }
+{
+    if coherent {
+        examine_by::<1, R>(alloc, reader, verdict)
+    } else {
+        examine_by::<0, R>(alloc, reader, verdict)
     }
 }

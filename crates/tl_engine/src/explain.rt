@@ -8,21 +8,21 @@ ghost use Rattle.tl_beat.specs.declared.beat.Link.{Link};
 ghost use Rattle.tl_beat.specs.statement.Line.{Spells};
 ghost use Rattle.tl_beat.specs.statement.Width.{IsWidth};
 ghost use Rattle.tl_explain.specs.statement.Reasons.{IsSubject};
-ghost use Rattle.tl_engine.specs.code.Explaining.{ExplainsFound, ExplainsStatus, IsVerdict};
+ghost use Rattle.tl_engine.specs.code.Explaining.{ExplainsFound, ExplainsStatus};
 ghost use Rattle.tl_engine.specs.code.Parts.{AppendsShort};
 ghost use Rattle.tl_engine.specs.code.Replaying.{KnowsReplay};
 ghost use Rattle.tl_engine.specs.statement.Explained.{Explains, IsExplained, IsNamed};
 ghost use Rattle.tl_engine.specs.statement.Explained.{broken_alone, front_text, is_of_order};
-ghost use Rattle.tl_engine.specs.statement.Unexplained.{GivesUpExplaining, IsUnjudged, Reaches};
+ghost use Rattle.tl_engine.specs.statement.Unexplained.{GivesUpExplaining, Reaches};
 ghost use Rattle.tl_engine.specs.declared.status.Status.{Status};
 
 use crate::engine::handle_input;
-use crate::examiner::{Examiner, Found};
+use crate::examiner::{Found, examine};
 use crate::explain_fault::ExplainFault;
+use crate::explain_memory::explain_memory;
 use crate::fault::Fault;
 use crate::header::Header;
 use crate::malformed::{explain_header, explain_spelling, fetch};
-use crate::monitor_lines::MonitorLines;
 use crate::output::write_all;
 use crate::replay::{Listing, Replay};
 use crate::reread::read_again;
@@ -63,7 +63,7 @@ pub(crate) fn in_memory(outcome: Result<Status, ToolFault>) -> Result<Status, To
 }
 
 /// The number of the line behind so many.
-fn number_behind(good: u64) -> Result<u64, ExplainFault>
+pub(crate) fn number_behind(good: u64) -> Result<u64, ExplainFault>
     ensures number { IfOk result (λ number. number ≡ good + 1) }
     ensures fault { IfErr result (λ fault. fault ≢ ExplainFault.Tool ToolFault.Write) }
 {
@@ -224,13 +224,19 @@ fn explain_order<const W: usize, R: Read>(
     Ok(())
 }
 
-/// What `clean` doesn't say.
-const UNSAID: &str =
-    "  clean says that no beat breaks a rule of its own link; it says nothing of two links together, nor of the data\n";
+/// What `clean` doesn't say, and what `coherent` doesn't.
+fn unsaid(coherent: bool) -> &'static str {
+    if coherent {
+        "  coherent says that no beat breaks a rule of its own link or of memory; it says nothing of what never comes, nor of a link that isn't in the trace\n"
+    } else {
+        "  clean says that no beat breaks a rule of its own link; it says nothing of two links together, nor of the data\n"
+    }
+}
 
 /// Tells what is pending at the end of a trace without a fault.
 fn explain_clean<const W: usize, R: Read>(
     alloc: Global,
+    coherent: bool,
     reader: &mut R,
     header: &Header,
     good: u64,
@@ -251,7 +257,7 @@ fn explain_clean<const W: usize, R: Read>(
         return Err(ExplainFault::Changed);
     }
     ledger.tell::<W>(out)?;
-    io::Write::write_all(out, UNSAID.as_bytes())?;
+    io::Write::write_all(out, unsaid(coherent).as_bytes())?;
     Ok(())
 }
 
@@ -259,6 +265,7 @@ fn explain_clean<const W: usize, R: Read>(
 /// Explains what was found behind a header.
 fn explain_found<const W: usize, R: Read>(
     alloc: Global,
+    coherent: bool,
     reader: &mut R,
     header: &Header,
     found: &Found,
@@ -273,7 +280,9 @@ fn explain_found<const W: usize, R: Read>(
 {
     let number = number_behind(found.good)?;
     match (status, &found.fault) {
-        (Status::Clean, _) => explain_clean::<W, R>(alloc, reader, header, found.good, out),
+        (Status::Clean, _) => {
+            explain_clean::<W, R>(alloc, coherent, reader, header, found.good, out)
+        }
         (Status::Broken, None) => {
             explain_spelling::<W, R>(alloc, reader, number, LineFault::F1, out)
         }
@@ -287,6 +296,9 @@ fn explain_found<const W: usize, R: Read>(
                 explain_order::<W, R>(alloc, reader, header, found, *rule, line, out)
             }
         }
+        (Status::Broken, Some((Fault::MemoryRule(rule), line))) => {
+            explain_memory::<W, R>(alloc, reader, header, found, *rule, line, out)
+        }
         (Status::Broken, Some(_)) => Err(ExplainFault::Changed),
     }
 }
@@ -294,6 +306,7 @@ fn explain_found<const W: usize, R: Read>(
 /// Reads a trace again, and appends why it is judged so.
 fn reasons<R: Read>(
     alloc: Global,
+    coherent: bool,
     reader: &mut R,
     found: &Found,
     status: Status,
@@ -307,34 +320,16 @@ fn reasons<R: Read>(
     match &found.header {
         None => explain_header(alloc, reader, out),
         Some(header) => match header.width {
-            Width::Four => explain_found::<4, R>(alloc, reader, header, found, status, out),
-            Width::Eight => explain_found::<8, R>(alloc, reader, header, found, status, out),
-            Width::Sixteen => explain_found::<16, R>(alloc, reader, header, found, status, out),
+            Width::Four => {
+                explain_found::<4, R>(alloc, coherent, reader, header, found, status, out)
+            }
+            Width::Eight => {
+                explain_found::<8, R>(alloc, coherent, reader, header, found, status, out)
+            }
+            Width::Sixteen => {
+                explain_found::<16, R>(alloc, coherent, reader, header, found, status, out)
+            }
         },
-    }
-}
-
-/// Judges what a reader gives. Answers what is found, beside its verdict.
-fn judge<R: Read>(
-    alloc: Global,
-    reader: &mut R,
-    verdict: &mut Vec<u8>,
-) -> Result<(Found, Status), ExplainFault>
-    requires { verdict.old.items ≡ [] }
-    ensures ok { IfOk result (λ both. Reaches (R.remaining reader.old) (R.remaining reader.new) verdict.new.items both.1
-        × IsVerdict both.0 both.1 verdict.new.items) }
-    ensures fault { IfErr result (IsUnjudged (R.remaining reader.old) (R.remaining reader.new)) }
-{
-    let mut found = Found::new();
-    let examiner = Examiner {
-        monitor_lines: MonitorLines::Waiting(alloc),
-        found: &mut found,
-    };
-    let status = in_memory(handle_input(alloc, examiner, reader, verdict))?;
-    if found.is_verdict(alloc, status, verdict.as_slice())? {
-        Ok((found, status))
-    } else {
-        Err(ExplainFault::Changed)
     }
 }
 
@@ -350,7 +345,7 @@ fn write_both<W: Write>(verdict: &[u8], reasons: &[u8], writer: &mut W) -> Resul
 }
 
 #[tactic(auto, using(crate::proofs::Explaining::explains))]
-/// Writes what `monitor` says of a trace, and behind it why. The two readers are of the same file, each
+/// Writes what `monitor` says of a trace, or what `coherent` says, and behind it why. The two readers are of the same file, each
 /// at its front; the second is read up to the line at fault. Where they differ nothing is written. Where
 /// a rule of order is broken, what the second reader gave has a reason in it for that line and that rule.
 ///
@@ -359,21 +354,22 @@ fn write_both<W: Write>(verdict: &[u8], reasons: &[u8], writer: &mut W) -> Resul
 /// nothing was read again, or of the second; `Changed` comes behind the verdict.
 pub fn explain_input<R: Read, S: Read, W: Write>(
     alloc: Global,
+    coherent: bool,
     first: &mut R,
     second: &mut S,
     writer: &mut W,
 ) -> Result<Status, ExplainFault>
     ensures ok { IfOk result (λ status. (verdict reasons : List ℕ)
-        × Reaches (R.remaining first.old) (R.remaining first.new) verdict status
+        × Reaches coherent (R.remaining first.old) (R.remaining first.new) verdict status
         × Explains (S.remaining second.old) (S.remaining second.new) verdict reasons status
         × Appends (W.contents writer.old) (W.contents writer.new) (verdict ++ reasons)) }
-    ensures fault { IfErr result (GivesUpExplaining (R.remaining first.old) (R.remaining first.new)
+    ensures fault { IfErr result (GivesUpExplaining coherent (R.remaining first.old) (R.remaining first.new)
         (S.remaining second.old) (S.remaining second.new) (W.contents writer.old) (W.contents writer.new)) }
 {
     let mut verdict = Vec::new(alloc);
-    let (found, status) = judge(alloc, first, &mut verdict)?;
+    let (found, status) = examine(alloc, coherent, first, &mut verdict)?;
     let mut why = Vec::new(alloc);
-    reasons(alloc, second, &found, status, &mut why)?;
+    reasons(alloc, coherent, second, &found, status, &mut why)?;
     write_both(&verdict, &why, writer)?;
     Ok(status)
 }

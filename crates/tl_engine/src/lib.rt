@@ -9,6 +9,7 @@ pub mod engine;
 pub mod examiner;
 pub mod explain;
 pub mod explain_fault;
+mod explain_memory;
 pub mod fault;
 pub mod header;
 pub mod law;
@@ -22,6 +23,7 @@ mod replay;
 mod reread;
 pub mod run_lines;
 pub mod status;
+mod testimony;
 pub mod tool;
 pub mod trace_header;
 

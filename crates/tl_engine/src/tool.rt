@@ -49,8 +49,11 @@ pub fn run_tool<R: Read, W: Write>(
         Command::Monitor => {
             handle_input(alloc, MonitorLines::<0>::Waiting(alloc), reader, writer)
         }
-        Command::Explain => {
+        Command::Explain { coherent: false } => {
             handle_input(alloc, MonitorLines::<0>::Waiting(alloc), reader, writer)
+        }
+        Command::Explain { coherent: true } => {
+            handle_input(alloc, MonitorLines::<1>::Waiting(alloc), reader, writer)
         }
         Command::Coherent => {
             handle_input(alloc, MonitorLines::<1>::Waiting(alloc), reader, writer)

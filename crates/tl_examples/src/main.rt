@@ -192,21 +192,23 @@ fn tell_all(rt: &HostRuntime, command: Command, names: &[&str], separator: &[u8]
     true
 }
 
-/// Writes the name of a trace, and explains what it is judged.
+/// Writes the name of a trace, a separator, and explains what it is judged.
 fn explain<R: Read, S: Read, W: Write>(
     alloc: Global,
+    coherent: bool,
     name: &str,
     first: &mut R,
     second: &mut S,
     output: &mut W,
 ) -> Result<Status, ExplainFault> {
     write_all(output, name.as_bytes())?;
-    write_all(output, b": ")?;
-    explain_input(alloc, first, second, output)
+    let separator: &[u8] = if coherent { b" coherent: " } else { b": " };
+    write_all(output, separator)?;
+    explain_input(alloc, coherent, first, second, output)
 }
 
 /// Explains each of the traces with these names. Answers whether all could be read and explained.
-fn explain_all(rt: &HostRuntime, names: &[&str]) -> bool {
+fn explain_all(rt: &HostRuntime, coherent: bool, names: &[&str]) -> bool {
     for name in names {
         let Ok(mut first) = fs::open(rt, *name) else {
             return false;
@@ -216,6 +218,7 @@ fn explain_all(rt: &HostRuntime, names: &[&str]) -> bool {
         };
         if explain(
             rt.alloc(),
+            coherent,
             name,
             &mut first,
             &mut second,
@@ -250,9 +253,10 @@ fn main(rt: HostRuntime) -> ExitCode {
         && tell_all(&rt, Command::Coherent, &TOGETHER, b" coherent: ")
         && tell_all(&rt, run, &SCHEDULES, b":\n")
         && tell_all(&rt, trace, &TRACED, b" --trace:\n")
-        && explain_all(&rt, &TRACES)
-        && explain_all(&rt, &FAULTS)
-        && explain_all(&rt, &PENDING)
+        && explain_all(&rt, false, &TRACES)
+        && explain_all(&rt, false, &FAULTS)
+        && explain_all(&rt, false, &PENDING)
+        && explain_all(&rt, true, &TOGETHER)
         && tell_names(&rt, &NAMES)
     {
         ExitCode::SUCCESS

@@ -1,6 +1,6 @@
 -- A request, Release or Probe that is pending is told of, and what is told has its fields.
 use Rattle.std.proofs.Common.{◌≡◌, ℕ, ◌==◌, ◌&&◌, ◌||◌, true, false, Bool, not, refl, sym, ap, ap₂, ◌∙◌}
-use Rattle.std.proofs.Common.{arith, subst, inl, inr, ◌⊎◌}
+use Rattle.std.proofs.Common.{subst, inl, inr, ◌⊎◌}
 use Rattle.std.specs.Prelude.{Option, Some, None, is_some}
 use Rattle.tl_beat.specs.declared.beat.Beat.{Beat}
 use Rattle.tl_beat.specs.declared.beat.Beat.TheVariants as beat

@@ -1,4 +1,5 @@
 pub mod Chosen
 pub mod Cuts
 pub mod Recorded
+pub mod Said
 pub mod Spelled

@@ -1,6 +1,8 @@
 //! What each rule of memory says, in the words of docs/PROTOCOL.md, with a shortest trace that breaks it, as
 //! crates/tl_examples/data/rules has it.
 
+ghost use Rattle.tl_explain.specs.code.Said.{Says};
+
 use crate::example::Example;
 use tl_together::breach::MemoryRule;
 
@@ -33,7 +35,9 @@ pub fn rule_named(name: &str) -> Option<MemoryRule> {
 }
 
 /// What is said of a rule.
-pub fn explanation_of(rule: MemoryRule) -> Explanation {
+pub fn explanation_of(rule: MemoryRule) -> Explanation
+    ensures { Says rule result }
+{
     match rule {
         MemoryRule::M1 => grant_beside_a_holder(),
         MemoryRule::M2 => stale_grant(),
@@ -42,7 +46,9 @@ pub fn explanation_of(rule: MemoryRule) -> Explanation {
     }
 }
 
-fn grant_beside_a_holder() -> Explanation {
+fn grant_beside_a_holder() -> Explanation
+    ensures { Says MemoryRule.M1 result }
+{
     Explanation {
         messages: "Grant, GrantData",
         sentence: "the cap is toT and another link holds something of the block, or toB and another link holds Trunk of it",
@@ -67,7 +73,9 @@ fn grant_beside_a_holder() -> Explanation {
     }
 }
 
-fn stale_grant() -> Explanation {
+fn stale_grant() -> Explanation
+    ensures { Says MemoryRule.M2 result }
+{
     Explanation {
         messages: "GrantData",
         sentence: "a byte isn't one that it may be at the first beat, by what was told of it and by the Puts and atomics that are pending",
@@ -89,7 +97,9 @@ fn stale_grant() -> Explanation {
     }
 }
 
-fn stale_answer() -> Explanation {
+fn stale_answer() -> Explanation
+    ensures { Says MemoryRule.M3 result }
+{
     Explanation {
         messages: "AccessAckData",
         sentence: "a byte that was asked for isn't one that it may have been from the request's last beat to the answer's first, by what was told of it and by the Puts and atomics that were pending",
@@ -111,7 +121,9 @@ fn stale_answer() -> Explanation {
     }
 }
 
-fn answer_without_a_window() -> Explanation {
+fn answer_without_a_window() -> Explanation
+    ensures { Says MemoryRule.M4 result }
+{
     Explanation {
         messages: "AccessAck, AccessAckData",
         sentence: "all the while since the request was complete a link has held what excludes it: Trunk of the block for a Get, anything of it for a Put or an atomic",

@@ -1,7 +1,7 @@
 //! What a rule or a fault says, by its name.
 
 ghost use Rattle.std.specs.Prelude.{◌≡◌, ◌++◌, codes, OnOk};
-ghost use Rattle.tl_explain.specs.statement.Sentences.{in_brackets, rule_line};
+ghost use Rattle.tl_explain.specs.statement.Sentences.{in_brackets, memory_rule_line, rule_line};
 
 use crate::example::{Example, example_of};
 use crate::memory;
@@ -113,6 +113,15 @@ pub fn append_sentence(rule: Rule, out: &mut Vec<u8>) -> Result<(), AllocError>
     append_said(rule.name(), judged_messages(rule), sentence(rule), out)
 }
 
+#[tactic(auto, unfolding(crate::specs::statement::Sentences::memory_rule_line))]
+/// Appends the name of a rule of memory, with the messages that it judges, and its sentence.
+pub fn append_memory_sentence(rule: MemoryRule, out: &mut Vec<u8>) -> Result<(), AllocError>
+    ensures { OnOk result (out.new.items ≡ out.old.items ++ memory_rule_line rule) }
+{
+    let said = memory::explanation_of(rule);
+    append_said(rule.name(), said.messages, said.sentence, out)
+}
+
 fn append_basis(basis: &str, out: &mut Vec<u8>) -> io::Result<()> {
     write!(out, "judged by: {basis}\n")
 }
@@ -140,7 +149,7 @@ fn tell_rule(rule: Rule, out: &mut Vec<u8>) -> io::Result<()> {
 
 fn tell_memory_rule(rule: MemoryRule, out: &mut Vec<u8>) -> io::Result<()> {
     let said = memory::explanation_of(rule);
-    append_said(rule.name(), said.messages, said.sentence, out)?;
+    append_memory_sentence(rule, out)?;
     append_basis(said.basis, out)?;
     append_example(&said.example, out)
 }

@@ -6,7 +6,7 @@ ghost use Rattle.tl_beat.specs.declared.beat.Link.{Link};
 ghost use Rattle.tl_beat.specs.statement.Line.{Spells};
 ghost use Rattle.tl_beat.specs.statement.Width.{IsWidth};
 ghost use Rattle.tl_explain.specs.code.Spelled.{spelled};
-ghost use Rattle.tl_explain.specs.statement.Sentences.{beat_line};
+ghost use Rattle.tl_explain.specs.statement.Sentences.{beat_line, perm_name};
 
 use crate::text::append_text;
 use crate::told::Told;
@@ -19,7 +19,9 @@ use tl_params::key::Key;
 use tl_params::perm::Perm;
 
 /// The name of what is held.
-pub fn perm_name(perm: Perm) -> &'static str {
+pub fn perm_name(perm: Perm) -> &'static str
+    ensures { result.now ≡ perm_name perm }
+{
     match perm {
         Perm::None => "None",
         Perm::Branch => "Branch",

@@ -11,6 +11,7 @@ pub mod Expecting
 pub mod Growing
 pub mod Judging
 pub mod Keeping
+pub mod Kept
 pub mod Lanes
 pub mod Lawful
 pub mod LegalBeats

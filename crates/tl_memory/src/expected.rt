@@ -30,7 +30,7 @@ impl Expected {
     ghost use Rattle.tl_memory.specs.statement.Known.{Expects, is_to};
 
     /// Whether it may bring this byte at a place of its block: any where its request doesn't reach.
-    fn allows(&self, place: usize, byte: u8) -> bool
+    pub fn allows(&self, place: usize, byte: u8) -> bool
         ensures { place < 64 → result ≡ allows self.now (64 * block_at self.now.address + place) byte }
     {
         if place >= 64 || !reaches(self.address, self.size, place) {

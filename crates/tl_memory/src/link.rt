@@ -1,17 +1,19 @@
 //! What is kept of a link.
 
-ghost use Rattle.std.specs.Prelude.{ℕ, true, [], ◌∷◌, ◌≡◌, List, None};
+ghost use Rattle.std.specs.Prelude.{ℕ, true, [], ◌∷◌, ◌≡◌, List, None, length, option_copied};
 ghost use Rattle.tl_beat.specs.declared.beat.Beat.{Beat};
 ghost use Rattle.tl_beat.specs.declared.beat.Beat.TheVariants as beat;
 ghost use Rattle.tl_beat.specs.declared.beat.BeatD.{BeatD};
 ghost use Rattle.tl_beat.specs.declared.beat.Link.{Link};
+ghost use Rattle.tl_beat.specs.declared.channel.Channel.TheVariants as channel;
 ghost use Rattle.tl_beat.specs.statement.Width.{IsWidth};
-ghost use Rattle.tl_burst.specs.statement.Messages.{History};
+ghost use Rattle.tl_burst.specs.statement.Messages.{History, unfinished};
 ghost use Rattle.tl_params.specs.declared.level.Level.{Level};
 ghost use Rattle.tl_params.specs.declared.profile.Profile.{Profile};
 ghost use Rattle.tl_rules.specs.statement.Conformance.{Trace, broken_after, broken_on_link, is_legal, on_link};
 ghost use Rattle.tl_rules.specs.statement.History.{begins};
 ghost use Rattle.tl_bytes.specs.statement.Bytes as bytes;
+ghost use Rattle.tl_bytes.specs.statement.Bytes.{before_last};
 ghost use Rattle.tl_memory.specs.code.Allowed as allowed;
 
 use crate::expected::Expected;
@@ -145,6 +147,23 @@ impl LinkState {
                 }
             }
             _ => {}
+        }
+    }
+
+    /// What the response may bring whose beat is next, where this is what it may if it begins with that.
+    pub fn expected<'a>(&'a self, begun: &'a Option<Expected>) -> Option<&'a Expected>
+        ensures { (w n : ℕ) (levels : List Level) (p : Profile) (link : Link) (x : BeatD w) (t : Trace w) →
+            KnowsLink self.now n link.0 t → AreLegal levels p t → broken_on_link levels p (link, beat.D x) t ≡ None →
+            (begins (beat.D x) (on_link link.0 t) ≡ true →
+            ExpectsResponse begun.now n link.0 x.opcode x.source t t) →
+            ExpectsResponse (option_copied result) n link.0 x.opcode x.source t
+            (before_last link.0 (length (unfinished channel.D (on_link link.0 t))) t) }
+    {
+        let beats = self.messages.d.bytes.count();
+        if beats == 0 {
+            begun.as_ref()
+        } else {
+            self.expected.as_ref()
         }
     }
 }

@@ -1,11 +1,13 @@
 //! What is kept of the bytes of memory.
 
-ghost use Rattle.std.specs.Prelude.{ℕ, suc, true, [], ◌∷◌, ◌≡◌, if◌then◌else◌, List, length, is_some, option_map};
-ghost use Rattle.std.specs.Prelude.{None, Some, IfOk, IsTrue};
+ghost use Rattle.std.specs.Prelude.{ℕ, suc, true, [], ◌∷◌, ◌<◌, ◌≡◌, if◌then◌else◌, List, length, is_some, option_map};
+ghost use Rattle.std.specs.Prelude.{None, Some, IfOk, IsTrue, option_copied};
 ghost use Rattle.tl_beat.specs.declared.beat.Beat.TheVariants as beat;
+ghost use Rattle.tl_beat.specs.declared.beat.BeatD.{BeatD};
 ghost use Rattle.tl_beat.specs.declared.beat.Link.{Link};
+ghost use Rattle.tl_beat.specs.declared.channel.Channel.TheVariants as channel;
 ghost use Rattle.tl_beat.specs.statement.Width.{IsWidth};
-ghost use Rattle.tl_burst.specs.statement.Messages.{History};
+ghost use Rattle.tl_burst.specs.statement.Messages.{History, unfinished};
 ghost use Rattle.tl_burst.specs.statement.Part;
 ghost use Rattle.tl_params.specs.declared.level.Level.{Level};
 ghost use Rattle.tl_params.specs.declared.perm.Perm.TheVariants as perm;
@@ -13,6 +15,7 @@ ghost use Rattle.tl_params.specs.declared.profile.Profile.{Profile};
 ghost use Rattle.tl_rules.specs.statement.Conformance.{Trace, broken_on_link, on_link};
 ghost use Rattle.tl_rules.specs.statement.Windows.{is_free};
 ghost use Rattle.tl_bytes.specs.statement.Bytes as bytes;
+ghost use Rattle.tl_bytes.specs.statement.Bytes.{before_last};
 ghost use Rattle.tl_memory.specs.code.Elsewhere as elsewhere;
 ghost use Rattle.tl_memory.specs.code.Taking.{request_answered};
 
@@ -108,6 +111,7 @@ pub struct Memory<const W: usize> {
 impl<const W: usize> Memory<W> {
     ghost use Rattle.tl_memory.specs.code.Changing.{IsChange};
     ghost use Rattle.tl_memory.specs.statement.Blocks.{state_in};
+    ghost use Rattle.tl_memory.specs.statement.Expecting.{ExpectsResponse};
     ghost use Rattle.tl_memory.specs.statement.Links.{AreLegal};
     ghost use Rattle.tl_memory.specs.statement.Memory.{KnowsMemory};
 
@@ -223,6 +227,32 @@ impl<const W: usize> Memory<W> {
         self.links.take(change.expected, link, x);
         if let Some(block) = change.block {
             self.blocks.take(block, change.next, free, moment);
+        }
+    }
+
+    /// What the response may bring whose beat is next on a link, where this is what the beat changes.
+    pub fn expected<'a>(&'a self, change: &'a Change<W>, link: Link) -> Option<&'a Expected>
+        ensures { (levels : List Level) (p : Profile) (x : BeatD W) (t : Trace W) →
+            KnowsMemory self.now (length levels) t → AreLegal levels p t →
+            broken_on_link levels p (link, beat.D x) t ≡ None →
+            IsChange change.now self.now (length levels) (link, beat.D x) t →
+            ExpectsResponse (option_copied result) (length levels) link.0 x.opcode x.source t
+            (before_last link.0 (length (unfinished channel.D (on_link link.0 t))) t) }
+    {
+        match self.links.get(link) {
+            None => None,
+            Some(state) => state.expected(&change.expected),
+        }
+    }
+
+    /// How many beats of the message have come that isn't complete on channel D of a link.
+    pub fn beats_come(&self, link: Link) -> usize
+        ensures { (n : ℕ) (t : Trace W) → KnowsMemory self.now n t → link.0 < n →
+            result ≡ length (unfinished channel.D (on_link link.0 t)) }
+    {
+        match self.links.get(link) {
+            None => 0,
+            Some(state) => state.messages.d.bytes.count(),
         }
     }
 }

@@ -34,7 +34,7 @@ fn is_spared(link: u8, spared: Option<u8>) -> bool
 }
 
 /// Whether a link is spared, or leaves a block to one who has so much of it.
-fn is_left(link: u8, spared: Option<u8>, given: Perm, held: Perm) -> bool
+pub fn is_left(link: u8, spared: Option<u8>, given: Perm, held: Perm) -> bool
     ensures { result ≡ (window.is_spared link spared || window.leaves given held) }
 {
     is_spared(link, spared) || leaves(given, held)

@@ -35,7 +35,7 @@ use tl_rules::perm::Perm;
 use tl_rules::profile::Profile;
 
 /// What an access needs of its block, as one who holds it would.
-fn needs(opcode: OpA) -> Perm
+pub fn needs(opcode: OpA) -> Perm
     ensures { result ≡ window.needs opcode }
 {
     match opcode {
@@ -70,7 +70,11 @@ fn rule_of_bytes(opcode: OpD) -> MemoryRule
 }
 
 /// The request that a beat answers, where it is a response to one.
-fn answered<const W: usize>(monitor: &Monitor<W>, link: Link, beat: &Beat<W>) -> Option<Request>
+pub(crate) fn answered<const W: usize>(
+    monitor: &Monitor<W>,
+    link: Link,
+    beat: &Beat<W>,
+) -> Option<Request>
     ensures { (levels : List Level) (p : Profile) (t : Trace W) → of_link.Knows monitor.now levels p t false →
         link.0 < length levels → result ≡ request_answered beat.now (on_link link.0 t) }
 {
@@ -81,7 +85,7 @@ fn answered<const W: usize>(monitor: &Monitor<W>, link: Link, beat: &Beat<W>) ->
 }
 
 /// When the request with this source was complete on a link, where that was noted.
-fn asked_in(asked: &Vec<ByteTable<u64>>, link: usize, source: u8) -> Option<u64>
+pub(crate) fn asked_in(asked: &Vec<ByteTable<u64>>, link: usize, source: u8) -> Option<u64>
     ensures { result ≡ asked_in asked.now.items link source }
 {
     if link >= asked.len() {
@@ -104,15 +108,15 @@ fn last_in(given: Perm, window: Window) -> u64
 /// what is unfinished, pending and held on each link, and when blocks were last free, and no beat.
 #[derive(Drop)]
 pub struct Judge<const W: usize> {
-    monitor: Monitor<W>,
+    pub(crate) monitor: Monitor<W>,
     links: u8,
     closed: bool,
     /// How many beats were taken.
-    moment: u64,
+    pub(crate) moment: u64,
     /// How many had been when the request with each source was complete, by link.
-    asked: Vec<ByteTable<u64>>,
+    pub(crate) asked: Vec<ByteTable<u64>>,
     windows: Windows,
-    memory: Memory<W>,
+    pub(crate) memory: Memory<W>,
 }
 
 /// Tables of no requests, for so many links.

@@ -1,9 +1,10 @@
 //! What all links of a manager carry together: the rules of memory, and a judge of recorded traces.
 #![tactic(auto)]
 
+pub mod asking;
 pub mod breach;
 pub mod fault;
-mod free;
+pub mod free;
 pub mod judge;
 mod notes;
 pub mod trace;

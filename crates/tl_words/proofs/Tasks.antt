@@ -17,9 +17,9 @@ use Rattle.tl_words.specs.Refused.{AsksNothing, IsFaultOf, IsRefusal}
 use Rattle.tl_words.specs.Tool.{IsTaskOf, command_in, command_named, tool_of, words_in}
 
 -- the same words name the same command
-pub named_alike : (name : Text) {a b c x y z : Option Text} → a ≡ x → b ≡ y → c ≡ z
-    → command_named name x y z ≡ command_named name a b c
-named_alike name p q r = cc
+pub named_alike : (name : Text) {a b c d w x y z : Option Text} → a ≡ w → b ≡ x → c ≡ y → d ≡ z
+    → command_named name w x y z ≡ command_named name a b c d
+named_alike name p q r s = cc
 
 -- the words of options, one by one
 abbrev pub words : Option Text → Option Text → Option Text → Option Text → Option Text → Option Text → Option Text

@@ -32,22 +32,22 @@ monitor_of = with_rule (new_app (codes "monitor")) (new_rule (codes "FILE"))
 abbrev pub coherent_of : App
 coherent_of = with_rule (new_app (codes "coherent")) (new_rule (codes "FILE"))
 
--- `explain [FILE]`
+-- `--NAME`
+abbrev pub flag_rule : Text → Rule
+flag_rule name = record (new_rule name) { long = Some name; action = Some SetTrue }
+
+-- `explain [--coherent] [FILE]`
 abbrev pub explain_of : App
-explain_of = with_rule (new_app (codes "explain")) (new_rule (codes "FILE"))
+explain_of = with_rule (with_rule (new_app (codes "explain")) (flag_rule (codes "coherent"))) (new_rule (codes "FILE"))
 
 -- `chart [--lines A-B] [--block BBB] [FILE]`
 abbrev pub chart_of : App
 chart_of = with_rule (with_rule (with_rule (new_app (codes "chart")) (valued_rule (codes "lines")))
     (valued_rule (codes "block"))) (new_rule (codes "FILE"))
 
--- `--trace`
-abbrev pub trace_rule : Rule
-trace_rule = record (new_rule (codes "trace")) { long = Some (codes "trace"); action = Some SetTrue }
-
 -- `run [--trace] [FILE]`
 abbrev pub run_of : App
-run_of = with_rule (with_rule (new_app (codes "run")) trace_rule) (new_rule (codes "FILE"))
+run_of = with_rule (with_rule (new_app (codes "run")) (flag_rule (codes "trace"))) (new_rule (codes "FILE"))
 
 -- `--seed N`, which has to be given
 abbrev pub seed_rule : Rule
@@ -104,18 +104,18 @@ flag_named None = false
 flag_named (Some word) = bytes_eq word (codes "true")
 
 -- the command of this name, with the words of its width, of its flag and of its file, which `explain` must have
-abbrev pub command_named : Text → Option Text → Option Text → Option Text → Option Command
-command_named name width trace file =
+abbrev pub command_named : Text → Option Text → Option Text → Option Text → Option Text → Option Command
+command_named name width trace coherent file =
     if bytes_eq name (codes "decode") then option_map Decode (width_named width) else
     if bytes_eq name (codes "monitor") then Some Monitor else
     if bytes_eq name (codes "coherent") then Some Coherent else
-    if bytes_eq name (codes "explain") then option_map (λ _. Explain) file else
+    if bytes_eq name (codes "explain") then option_map (λ _. Explain (flag_named coherent)) file else
     if bytes_eq name (codes "run") then Some (Run (flag_named trace)) else None
 
 -- the command and the FILE that a subcommand's name and entries give
 abbrev pub command_in : Text → List Row → Option Command
 command_in name rows = command_named name (first_of (codes "width") rows) (first_of (codes "trace") rows)
-    (first_of (codes "FILE") rows)
+    (first_of (codes "coherent") rows) (first_of (codes "FILE") rows)
 
 abbrev pub file_in : List Row → Option Text
 file_in rows = first_of (codes "FILE") rows

@@ -5,7 +5,7 @@ ghost use Rattle.clap.specs.Words.{app_of, rule_of};
 ghost use Rattle.clap.specs.declared.builder.command.Command.TheViews.{out-Command};
 ghost use Rattle.tl_words.specs.Tool.{chart_of, charting_of, coherent_of, decode_of, drawing_of, explain_of};
 ghost use Rattle.tl_words.specs.Tool.{explaining_of, judging_of, monitor_of, playing_of, random_of, reading_of, run_of};
-ghost use Rattle.tl_words.specs.Tool.{sizing_of, tool_of, valued_rule};
+ghost use Rattle.tl_words.specs.Tool.{flag_rule, sizing_of, tool_of, valued_rule};
 
 use crate::help;
 use clap::{Arg, ArgAction};
@@ -65,10 +65,12 @@ pub fn explain<'a>(alloc: Global) -> Result<clap::Command<'a>, AllocError>
     ensures app { IfOk result (λ c. app_of c ≡ explain_of) }
     ensures local { IfOk result (λ c. (out-Command c).has_globals ≡ false) }
 {
+    let coherent = flag(alloc, "coherent", help::COHERENT);
     let file = Arg::new(alloc, "FILE").help(EXPLAINED_HELP);
     clap::Command::new(alloc, "explain")
         .about("Writes what `monitor` does of FILE, and why; or what a rule says")
-        .after_help(help::TRACE)
+        .after_help(help::EXPLAIN)
+        .arg(coherent)?
         .arg(file)
 }
 
@@ -92,10 +94,11 @@ fn run<'a>(alloc: Global) -> Result<clap::Command<'a>, AllocError>
     ensures app { IfOk result (λ c. app_of c ≡ run_of) }
     ensures local { IfOk result (λ c. (out-Command c).has_globals ≡ false) }
 {
-    let trace = Arg::new(alloc, "trace")
-        .long("trace")
-        .action(ArgAction::SetTrue)
-        .help("Write the trace of the beats that move, with its header");
+    let trace = flag(
+        alloc,
+        "trace",
+        "Write the trace of the beats that move, with its header",
+    );
     let file = Arg::new(alloc, "FILE").help(FILE_HELP);
     clap::Command::new(alloc, "run")
         .about("Plays a schedule: writes what comes of each event")
@@ -159,6 +162,17 @@ fn valued<'a>(alloc: Global, name: &'a str, value: &'a str, help: &'a str) -> Ar
     Arg::new(alloc, name)
         .long(name)
         .value_name(value)
+        .help(help)
+}
+
+/// An option without a value.
+fn flag<'a>(alloc: Global, name: &'a str, help: &'a str) -> Arg<'a>
+    ensures rule { rule_of result ≡ flag_rule name.entry.now }
+    ensures local { result.global ≡ false }
+{
+    Arg::new(alloc, name)
+        .long(name)
+        .action(ArgAction::SetTrue)
         .help(help)
 }
 

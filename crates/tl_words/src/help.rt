@@ -143,7 +143,27 @@ macro_rules! outcomes_of_a_trace {
     };
 }
 
-/// Behind the options of `monitor` and `explain`.
+/// The same of a command that judges all links of a manager together, too.
+macro_rules! outcomes_of_all_links {
+    ($($said:literal,)* ; $($example:literal,)*) => {
+        outcomes_of_a_trace!(
+            $($said,)*
+            ;
+            "  M1   the cap is toT and another link holds something of the block, or toB and another link\n",
+            "       holds Trunk of it\n",
+            "  M2   a byte isn't one that it may be at the first beat, by what was told of it and by the Puts\n",
+            "       and atomics that are pending\n",
+            "  M3   a byte that was asked for isn't one that it may have been from the request's last beat to\n",
+            "       the answer's first, by what was told of it and by the Puts and atomics that were pending\n",
+            "  M4   all the while since the request was complete a link has held what excludes it: Trunk of\n",
+            "       the block for a Get, anything of it for a Put or an atomic\n",
+            ;
+            $($example,)*
+        )
+    };
+}
+
+/// Behind the options of `monitor`.
 pub const TRACE: &str = outcomes_of_a_trace!(
     "`tltool explain FILE` says why.\n",
     ;
@@ -155,23 +175,26 @@ pub const TRACE: &str = outcomes_of_a_trace!(
 );
 
 /// Behind the options of `coherent`.
-pub const TOGETHER: &str = outcomes_of_a_trace!(
+pub const TOGETHER: &str = outcomes_of_all_links!(
     "Judged are the rules of each link and, between them, M1 to M4.\n",
-    "`tltool explain FILE` says why, but for M1 to M4, and `tltool explain M1` what M1 says.\n",
-    ;
-    "  M1   the cap is toT and another link holds something of the block, or toB and another link\n",
-    "       holds Trunk of it\n",
-    "  M2   a byte isn't one that it may be at the first beat, by what was told of it and by the Puts\n",
-    "       and atomics that are pending\n",
-    "  M3   a byte that was asked for isn't one that it may have been from the request's last beat to\n",
-    "       the answer's first, by what was told of it and by the Puts and atomics that were pending\n",
-    "  M4   all the while since the request was complete a link has held what excludes it: Trunk of\n",
-    "       the block for a Get, anything of it for a Put or an atomic\n",
+    "`tltool explain --coherent FILE` says why, and `tltool explain M1` what M1 says.\n",
     ;
     "\n  tltool coherent two_caches.trace",
     "\n  tltool coherent rules/M1.trace",
-    "\n  tltool explain M1",
+    "\n  tltool explain --coherent rules/M1.trace",
     "\n  tltool run --trace schedules/a_writer_becomes_a_reader.schedule | tltool coherent",
+);
+
+/// What help says of `--coherent`.
+pub const COHERENT: &str = "Judge all links of a manager together, as `coherent` does";
+
+/// Behind the options of `explain`.
+pub const EXPLAIN: &str = outcomes_of_all_links!(
+    "M1 to M4 are judged with `--coherent` alone.\n",
+    ;
+    "\n  tltool explain wrong_report.trace",
+    "\n  tltool explain --coherent rules/M1.trace",
+    "\n  tltool explain H12",
 );
 
 /// Behind the options of `chart`.

@@ -1,5 +1,5 @@
 //! Reads the program's words: `tltool decode [--width 4|8|16] [FILE]`, `tltool monitor [FILE]`,
-//! `tltool coherent [FILE]`, `tltool explain FILE`, `tltool chart [--lines A-B] [--block BBB] [FILE]`,
+//! `tltool coherent [FILE]`, `tltool explain [--coherent] FILE`, `tltool chart [--lines A-B] [--block BBB] [FILE]`,
 //! `tltool run [--trace] [FILE]`, `tltool random --seed N` with its options, and those that ask for help or the
 //! version.
 
@@ -75,10 +75,12 @@ fn command_named(
     name: &str,
     width: Option<&str>,
     trace: Option<&str>,
+    coherent: Option<&str>,
     file: Option<&str>,
 ) -> Option<Command>
     ensures { result ≡ command_named name.now (option_map (λ s. s.now) width.entry)
-        (option_map (λ s. s.now) trace.entry) (option_map (λ s. s.now) file.entry) }
+        (option_map (λ s. s.now) trace.entry) (option_map (λ s. s.now) coherent.entry)
+        (option_map (λ s. s.now) file.entry) }
 {
     match name {
         "decode" => {
@@ -89,7 +91,9 @@ fn command_named(
         "coherent" => Some(Command::Coherent),
         "explain" => match file {
             None => None,
-            Some(_) => Some(Command::Explain),
+            Some(_) => Some(Command::Explain {
+                coherent: flag_named(coherent),
+            }),
         },
         "run" => Some(Command::Run {
             trace: flag_named(trace),
@@ -246,8 +250,9 @@ fn read(alloc: Global, name: &str, found: &ArgMatches) -> Result<Task, WordsFaul
 {
     let width = found.get_str("width");
     let trace = found.get_str("trace");
+    let coherent = found.get_str("coherent");
     let name_of_file = found.get_str("FILE");
-    let Some(command) = command_named(name, width, trace, name_of_file) else {
+    let Some(command) = command_named(name, width, trace, coherent, name_of_file) else {
         return Err(WordsFault::Usage(wrong_words(alloc, name, width)?));
     };
     let file = copied(alloc, name_of_file)?;

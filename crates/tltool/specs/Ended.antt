@@ -1,5 +1,5 @@
 -- How the program ends, by its exit status.
-use Rattle.std.specs.Prelude.{◌≡◌, ◌⊎◌, ◌++◌, ℕ, List, Option, Result, Ok, Err, IfErr, IfOk, OnErr, OnOk}
+use Rattle.std.specs.Prelude.{◌≡◌, ◌⊎◌, ◌++◌, ℕ, Bool, List, Option, Result, Ok, Err, IfErr, IfOk, OnErr, OnOk}
 use Rattle.std.specs.Io.KnownBytes.{Appends}
 use Rattle.tl_chart.specs.declared.window.Window.{Window}
 use Rattle.tl_command.specs.declared.command.Command.{Command}
@@ -47,14 +47,15 @@ abbrev pub explain_status : Result Status ExplainFault → ℕ
 explain_status (Ok status) = exit_status (Ok status)
 explain_status (Err fault) = 3
 
--- The status is that of an outcome which an explanation has over what was read, by each of two readers, and written.
-abbrev pub EndsExplained : Option (List ℕ) → Option (List ℕ) → Option (List ℕ) → Option (List ℕ) → Option (List ℕ)
+-- The status is that of an outcome which an explanation, of each link by itself or of all together, has over what was
+-- read, by each of two readers, and written.
+abbrev pub EndsExplained : Bool → Option (List ℕ) → Option (List ℕ) → Option (List ℕ) → Option (List ℕ) → Option (List ℕ)
     → Option (List ℕ) → ℕ → Type 0
-EndsExplained had left had_again left_again held holds status =
+EndsExplained together had left had_again left_again held holds status =
     (outcome : Result Status ExplainFault) × (status ≡ explain_status outcome)
-    × IfOk outcome (λ judged. (verdict reasons : List ℕ) × Reaches had left verdict judged
+    × IfOk outcome (λ judged. (verdict reasons : List ℕ) × Reaches together had left verdict judged
     × Explains had_again left_again verdict reasons judged × Appends held holds (verdict ++ reasons))
-    × IfErr outcome (GivesUpExplaining had left had_again left_again held holds)
+    × IfErr outcome (GivesUpExplaining together had left had_again left_again held holds)
 
 -- The status is that of an outcome which a chart of a window has over what was read and written.
 abbrev pub EndsCharted : Window → Option (List ℕ) → Option (List ℕ) → Option (List ℕ) → Option (List ℕ) → ℕ → Type 0

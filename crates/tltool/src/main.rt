@@ -133,20 +133,21 @@ fn told_explained(rt: &HostRuntime, name: &str, outcome: Result<Status, ExplainF
 /// Explains a file of this name, of which these are two readers.
 fn explain_over<R: Read, S: Read, W: Write>(
     rt: &HostRuntime,
+    coherent: bool,
     name: &str,
     first: &mut R,
     second: &mut S,
     output: &mut W,
 ) -> u8
-    ensures { EndsExplained (R.remaining first.old) (R.remaining first.new) (S.remaining second.old)
+    ensures { EndsExplained coherent (R.remaining first.old) (R.remaining first.new) (S.remaining second.old)
         (S.remaining second.new) (W.contents output.old) (W.contents output.new) result }
 {
-    let outcome = explain_input(rt.alloc(), first, second, output);
+    let outcome = explain_input(rt.alloc(), coherent, first, second, output);
     told_explained(rt, name, outcome)
 }
 
 /// Explains the file of this name, or the rule or fault where there is no such file.
-fn explain(rt: &HostRuntime, name: &str) -> u8 {
+fn explain(rt: &HostRuntime, coherent: bool, name: &str) -> u8 {
     let Ok(mut first) = fs::open(rt, name) else {
         return explain_name(rt, name);
     };
@@ -157,16 +158,23 @@ fn explain(rt: &HostRuntime, name: &str) -> u8 {
     let Ok(mut second) = fs::open(rt, name) else {
         return unopened(rt, name);
     };
-    explain_over(rt, name, &mut first, &mut second, &mut io::writer(rt))
+    explain_over(
+        rt,
+        coherent,
+        name,
+        &mut first,
+        &mut second,
+        &mut io::writer(rt),
+    )
 }
 
 /// Runs a command over standard input, or over the file of this name.
 fn read(rt: &HostRuntime, command: Command, name: Option<String>) -> u8 {
     let mut output = io::writer(rt);
-    match name {
-        None => run_over(rt, command, &mut rt.reader(), &mut output),
-        Some(name) if command == Command::Explain => explain(rt, name.as_str()),
-        Some(name) => {
+    match (command, name) {
+        (_, None) => run_over(rt, command, &mut rt.reader(), &mut output),
+        (Command::Explain { coherent }, Some(name)) => explain(rt, coherent, name.as_str()),
+        (_, Some(name)) => {
             let opened = fs::open(rt, name.as_str());
             run_file(rt, command, name.as_str(), opened, &mut output)
         }

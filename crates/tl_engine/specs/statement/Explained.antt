@@ -14,12 +14,14 @@ use Rattle.tl_rules.specs.statement.Conformance.{Trace}
 use Rattle.tl_rules.specs.statement.Legality.{illegal}
 use Rattle.tl_explain.specs.declared.reason.Reason.{Reason}
 use Rattle.tl_explain.specs.statement.Reasons.{IsEvidence, convicted}
-use Rattle.tl_explain.specs.statement.Sentences.{beat_line, rule_line}
+use Rattle.tl_explain.specs.statement.Sentences.{beat_line, memory_rule_line, rule_line}
+use Rattle.tl_together.specs.declared.breach.MemoryRule.{MemoryRule}
 use Rattle.tl_engine.specs.code.Lines.{lines_of}
 use Rattle.tl_engine.specs.declared.fault.Fault.{Fault}
-use Rattle.tl_engine.specs.declared.fault.Fault.TheVariants.{Rule as Breaks}
+use Rattle.tl_engine.specs.declared.fault.Fault.TheVariants.{Rule as Breaks, MemoryRule as BreaksTogether}
 use Rattle.tl_engine.specs.declared.status.Status.{Status}
 use Rattle.tl_engine.specs.declared.status.Status.TheVariants.{Clean, Broken}
+use Rattle.tl_engine.specs.statement.Coherent.{JudgedTogether}
 use Rattle.tl_engine.specs.statement.Fault.{fault_text}
 use Rattle.tl_engine.specs.statement.Trace.{SpellsHeader}
 use Rattle.tl_engine.specs.statement.Width.{bytes_of}
@@ -81,6 +83,28 @@ IsNamed n rule reasons =
     × Spells line link beat × (broken_alone level beat ≡ Some rule)
     × (reasons ≡ front_text rule n link beat ++ grounds)
 
+-- the same of a rule of memory
+abbrev pub memory_front_text : {w : ℕ} → MemoryRule → ℕ → Link → Beat w → List ℕ
+memory_front_text rule n link beat = codes "  " ++ memory_rule_line rule ++ beat_line n link beat
+
+-- What was read of a file again, from these bytes on, is judged as it was, all links together: its line n, which spells
+-- the beat, breaks the rule of memory. The text behind the verdict begins with what the rule says and that beat.
+pub record IsWitnessed (old new : Option (List ℕ)) (n : ℕ) (rule : MemoryRule) (reasons : List ℕ) : Type 0 where
+  pub read : List ℕ
+  pub consumed : Consumes old new read
+  pub judged : JudgedTogether (lines_of read) (fault_text n (BreaksTogether rule)) Broken
+  pub before : List (List ℕ)
+  pub line : List ℕ
+  pub behind : List (List ℕ)
+  pub stands : lines_of read ≡ before ++ line ∷ behind
+  pub number : n ≡ length before + 1
+  pub bytes : ℕ
+  pub link : Link
+  pub beat : Beat bytes
+  pub spells : Spells line link beat
+  pub grounds : List ℕ
+  pub begins : reasons ≡ memory_front_text rule n link beat ++ grounds
+
 -- the rule isn't one of legality, which a beat breaks by itself
 abbrev pub is_of_order : Rule → Bool
 is_of_order L1 = false
@@ -93,12 +117,12 @@ is_of_order L7 = false
 is_of_order _ = true
 
 -- what was read of a file, and the text behind the verdict, explain why its line n is at fault for this, where a rule
--- of
--- order is broken
+-- is broken
 abbrev pub ExplainsFault : Option (List ℕ) → Option (List ℕ) → ℕ → List ℕ → Fault → Type 0
 ExplainsFault old new n reasons (Breaks rule) =
     (is_of_order rule ≡ true → IsExplained old new n rule reasons)
     × (is_of_order rule ≡ false → IsNamed n rule reasons)
+ExplainsFault old new n reasons (BreaksTogether rule) = IsWitnessed old new n rule reasons
 ExplainsFault old new n reasons _ = ⊤
 
 -- what was read of a file, and the text behind the verdict, explain it, where it is that a beat breaks a rule

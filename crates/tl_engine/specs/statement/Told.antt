@@ -2,6 +2,7 @@
 use Rattle.std.specs.Prelude.{◌≡◌, ◌⊎◌, ◌-◌, ℕ, List, [], ◌++◌, length}
 use Rattle.tl_command.specs.declared.command.Command.{Command}
 use Rattle.tl_command.specs.declared.command.Command.TheVariants.{Coherent, Decode, Explain, Monitor, Run}
+use Rattle.tl_engine.specs.code.Watching.{JudgedSo, said_by}
 use Rattle.tl_engine.specs.declared.status.Status.{Status}
 use Rattle.tl_engine.specs.declared.status.Status.TheVariants.{Clean}
 use Rattle.tl_engine.specs.statement.Coherent.{JudgedTogether, coherent_text}
@@ -14,7 +15,7 @@ use Rattle.tl_engine.specs.statement.Width.{bytes_of}
 abbrev pub text_told : Command → List (List ℕ) → List ℕ → Status → Type 0
 text_told (Decode width) = DecodesTo (bytes_of width)
 text_told Monitor = Judged
-text_told Explain = Judged
+text_told (Explain together) = JudgedSo together
 text_told Coherent = JudgedTogether
 text_told (Run trace) = Played trace
 
@@ -22,7 +23,7 @@ text_told (Run trace) = Played trace
 abbrev pub end_text : Command → ℕ → List ℕ
 end_text (Decode width) n = []
 end_text Monitor n = clean_text (n - 1)
-end_text Explain n = clean_text (n - 1)
+end_text (Explain together) n = said_by together (n - 1)
 end_text Coherent n = coherent_text (n - 1)
 end_text (Run trace) n = []
 

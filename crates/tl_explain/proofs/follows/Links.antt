@@ -31,7 +31,7 @@ use Rattle.tl_explain.specs.statement.Evidence.{last_saying, last_where, burst_o
 use Rattle.tl_explain.specs.code.Recorded.{AreBlocks, AreTurns, IsBegun, IsMoment, IsRecord, IsTurn, asked_next}
 use Rattle.tl_explain.specs.code.Recorded.{burst_after, burst_on, burst_with, channel_in, completes_burst}
 use Rattle.tl_explain.specs.code.Recorded.{released_next, same_channel, block_asked, block_of, block_released}
-use Rattle.tl_explain.proofs.follows.Keys.{here, sink_is}
+use Rattle.tl_explain.proofs.follows.Keys.{here}
 use Rattle.tl_explain.proofs.Plain.{same_true}
 
 module _ {w : ℕ} (n : ℕ) (x : Link × Beat w) (t : Trace w) (elsewhere : (x.0.0 == n) ≡ false) where

@@ -23,7 +23,6 @@ use Rattle.tl_rules.specs.statement.Conformance.{prunes_from}
 use Rattle.tl_rules.specs.statement.History.{block_at, is_acquire, is_grant, is_probe}
 use Rattle.tl_rules.specs.statement.History.{is_probe_ack, is_release, is_release_ack}
 use Rattle.tl_beat.specs.statement.Control.{control_of}
-use Rattle.tl_params.specs.declared.perm.Perm.TheVariants as perm
 use Rattle.tl_explain.specs.declared.reason.Reason.{Reason}
 use Rattle.tl_explain.specs.declared.recorder.Recorder.{Recorder}
 use Rattle.tl_explain.specs.declared.told.Told.{Told}
@@ -39,7 +38,7 @@ use Rattle.tl_explain.specs.statement.Reasons.{block_named, comes_in}
 use Rattle.tl_explain.specs.statement.Reasons.{rule_of_held}
 use Rattle.tl_explain.proofs.sound.Openings.{open_since}
 use Rattle.tl_explain.proofs.sound.Keys.{IsSound, first_sound, missing_sound, pending_sound, unfinished_sound}
-use Rattle.tl_explain.proofs.sound.Messages.{grant_sound, held_told, kind_sound, probe_is, probe_sound, release_size_sound, report_sound, request_size_sound}
+use Rattle.tl_explain.proofs.sound.Messages.{grant_sound, held_told, kind_sound, probe_sound, release_size_sound, report_sound, request_size_sound}
 use Rattle.tl_explain.proofs.Plain.{same_true}
 
 pub by_flag : {A : Type 0} (P : A → Type 0) (b : Bool) (u v : A) → (b ≡ true → P u) → (b ≡ false → P v)

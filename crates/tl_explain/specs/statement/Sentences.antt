@@ -3,10 +3,15 @@ use Rattle.std.specs.Prelude.{ℕ, List, [], ◌++◌, ◌==◌, codes, if◌the
 use Rattle.std.specs.Fmt.{decimal}
 use Rattle.tl_beat.specs.declared.beat.Beat.{Beat}
 use Rattle.tl_beat.specs.declared.beat.Link.{Link}
+use Rattle.tl_params.specs.declared.perm.Perm.{Perm}
+use Rattle.tl_params.specs.declared.perm.Perm.TheVariants as perm
 use Rattle.tl_params.specs.declared.rule.Rule.{Rule}
 use Rattle.tl_params.specs.declared.rule.Rule.TheVariants.{L1, L2, L3, L4, L5, L6, L7, S1, A1, A2, A3}
 use Rattle.tl_params.specs.declared.rule.Rule.TheVariants.{H1, H2, H3, H4, H5, H6, H7, H8, H9, H10, H11, H12, H13}
 use Rattle.tl_params.specs.statement.Names.{rule_name}
+use Rattle.tl_together.specs.declared.breach.MemoryRule.{MemoryRule}
+use Rattle.tl_together.specs.declared.breach.MemoryRule.TheVariants.{M1, M2, M3, M4}
+use Rattle.tl_together.specs.statement.Names.{memory_rule_name}
 use Rattle.tl_explain.specs.statement.Text.{text_of}
 
 -- the messages that a rule of the order of messages judges, and nothing for another rule
@@ -58,6 +63,24 @@ rule_sentence A1 = codes "an agent's own rule, which no trace is judged by"
 rule_sentence A2 = codes "an agent's own rule, which no trace is judged by"
 rule_sentence A3 = codes "an agent's own rule, which no trace is judged by"
 
+-- the messages that a rule of memory judges
+abbrev pub messages_judged_together : MemoryRule → List ℕ
+messages_judged_together M1 = codes "Grant, GrantData"
+messages_judged_together M2 = codes "GrantData"
+messages_judged_together M3 = codes "AccessAckData"
+messages_judged_together M4 = codes "AccessAck, AccessAckData"
+
+-- where a rule of memory is broken
+abbrev pub memory_sentence : MemoryRule → List ℕ
+memory_sentence M1 = codes
+    "the cap is toT and another link holds something of the block, or toB and another link holds Trunk of it"
+memory_sentence M2 = codes
+    "a byte isn't one that it may be at the first beat, by what was told of it and by the Puts and atomics that are pending"
+memory_sentence M3 = codes
+    "a byte that was asked for isn't one that it may have been from the request's last beat to the answer's first, by what was told of it and by the Puts and atomics that were pending"
+memory_sentence M4 = codes
+    "all the while since the request was complete a link has held what excludes it: Trunk of the block for a Get, anything of it for a Put or an atomic"
+
 -- the messages in brackets, where there are some
 abbrev pub in_brackets : List ℕ → List ℕ
 in_brackets text = if length text == 0 then [] else codes " (" ++ text ++ codes ")"
@@ -66,6 +89,18 @@ in_brackets text = if length text == 0 then [] else codes " (" ++ text ++ codes 
 unfoldable pub rule_line : Rule → List ℕ
 rule_line rule =
     rule_name rule ++ in_brackets (messages_judged rule) ++ codes ": " ++ rule_sentence rule ++ codes "\n"
+
+-- the line of a rule of memory
+unfoldable pub memory_rule_line : MemoryRule → List ℕ
+memory_rule_line rule =
+    memory_rule_name rule ++ in_brackets (messages_judged_together rule) ++ codes ": " ++ memory_sentence rule
+    ++ codes "\n"
+
+-- the name of what is held
+abbrev pub perm_name : Perm → List ℕ
+perm_name perm.None = codes "None"
+perm_name perm.Branch = codes "Branch"
+perm_name perm.Trunk = codes "Trunk"
 
 -- the words of a beat, behind the number of its line
 unfoldable pub beat_line : {w : ℕ} → ℕ → Link → Beat w → List ℕ

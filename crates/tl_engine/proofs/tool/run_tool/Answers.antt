@@ -28,8 +28,11 @@ handle_input-requires-in-Sixteen-clause-total g c = λ handler. decodes_more 16 
 pub handle_input-requires-in-Monitor-clause-total : goal.handle_input-requires-in-Monitor-clause-total
 handle_input-requires-in-Monitor-clause-total g c = judged_total 0
 
-pub handle_input-requires-in-Explain-clause-total : goal.handle_input-requires-in-Explain-clause-total
-handle_input-requires-in-Explain-clause-total g c = judged_total 0
+pub handle_input-requires-in-Explain-false-clause-total : goal.handle_input-requires-in-Explain-false-clause-total
+handle_input-requires-in-Explain-false-clause-total g c = judged_total 0
+
+pub handle_input-requires-in-Explain-true-clause-total : goal.handle_input-requires-in-Explain-true-clause-total
+handle_input-requires-in-Explain-true-clause-total g c = judged_total 1
 
 pub handle_input-requires-in-Coherent-clause-total : goal.handle_input-requires-in-Coherent-clause-total
 handle_input-requires-in-Coherent-clause-total g c = judged_total 1
@@ -64,11 +67,19 @@ returns-in-Monitor-clause-fault g c =
     (λ lines text known. judged_so_far 0 known.0 lines text known.1)
     _ _ _ _ _ c.handle_input-in-Monitor.ensures.fault)
 
-pub returns-in-Explain-clause-fault : goal.returns-in-Explain-clause-fault
-returns-in-Explain-clause-fault g c =
-    rw c.in-Explain.is (given_up_told (KnowsLines {n = 0}) Judged (text_so_far Explain)
+pub returns-in-Explain-false-clause-fault : goal.returns-in-Explain-false-clause-fault
+returns-in-Explain-false-clause-fault g c =
+    let apart : c.in-Explain-false.coherent ≡ false = search rules in
+    rw (c.in-Explain-false.is, apart) (given_up_told (KnowsLines {n = 0}) Judged (text_so_far (Explain false))
     (λ lines text known. judged_so_far 0 known.0 lines text known.1)
-    _ _ _ _ _ c.handle_input-in-Explain.ensures.fault)
+    _ _ _ _ _ c.handle_input-in-Explain-false.ensures.fault)
+
+pub returns-in-Explain-true-clause-fault : goal.returns-in-Explain-true-clause-fault
+returns-in-Explain-true-clause-fault g c =
+    let together : c.in-Explain-true.coherent ≡ true = search rules in
+    rw (c.in-Explain-true.is, together) (given_up_told (KnowsLines {n = 1}) JudgedTogether (text_so_far (Explain true))
+    (λ lines text known. judged_so_far 1 known.0 lines text known.1)
+    _ _ _ _ _ c.handle_input-in-Explain-true.ensures.fault)
 
 pub returns-in-Coherent-clause-fault : goal.returns-in-Coherent-clause-fault
 returns-in-Coherent-clause-fault g c =

@@ -10,6 +10,7 @@ returns-in_default-clause-wrong c = (
       (named_alike c.args.name.now
       (c.get_str-width.ensures ∙ first_value-rows (found_of c.args.found.now) (codes "width"))
       (c.get_str-trace.ensures ∙ first_value-rows (found_of c.args.found.now) (codes "trace"))
+      (c.get_str-coherent.ensures ∙ first_value-rows (found_of c.args.found.now) (codes "coherent"))
       (c.get_str-name_of_file.ensures ∙ first_value-rows (found_of c.args.found.now) (codes "FILE")) ∙ sym
       c.in_default.ensures)
       c.requires.random
@@ -22,6 +23,7 @@ returns-clause-read c = (
   named_alike c.args.name.now
       (c.get_str-width.ensures ∙ first_value-rows (found_of c.args.found.now) (codes "width"))
       (c.get_str-trace.ensures ∙ first_value-rows (found_of c.args.found.now) (codes "trace"))
+      (c.get_str-coherent.ensures ∙ first_value-rows (found_of c.args.found.now) (codes "coherent"))
       (c.get_str-name_of_file.ensures ∙ first_value-rows (found_of c.args.found.now) (codes "FILE")) ∙ sym
       c.in-Some.ensures,
   c.in_ok-file.ensures ∙ c.get_str-name_of_file.ensures ∙ first_value-rows (found_of c.args.found.now) (codes "FILE"),

@@ -2,14 +2,14 @@ use Rattle.std.specs.Prelude.{Some}
 use Rattle.std.proofs.lemmas.Result.{err_from_is_err_and}
 use Rattle.tl_engine.proofs.Judged.{judged_total}
 use Rattle.tl_engine.proofs.Unexplained.{unjudged_for}
-use Rattle.tl_engine.proofs.explain.judge.Goals as goal
+use Rattle.tl_engine.proofs.examiner.examine_by.Goals as goal
 
 pub handle_input-requires-clause-total : goal.handle_input-requires-clause-total
-handle_input-requires-clause-total g c = λ e. judged_total 0 e.monitor_lines
+handle_input-requires-clause-total g c = λ e. judged_total g.row.TOGETHER e.monitor_lines
 
 pub returns-in_err-status-clause-fault : goal.returns-in_err-status-clause-fault
 returns-in_err-status-clause-fault g c =
     let p = err_from_is_err_and c.from_residual.result c.from_residual.ensures.1 in
-    rw (p.1, p.2) (unjudged_for c.in_err-status.field-0.0 c.handle_input.result _ _
+    rw (p.1, p.2) (unjudged_for g.row.TOGETHER c.in_err-status.field-0.0 c.handle_input.result _ _
     (Some c.args.verdict.now.items) (Some c.handle_input.new.writer.items) c.in_err-status.ensures.fault
     c.in_err-status.ensures.read c.handle_input.ensures.ok c.handle_input.ensures.err c.handle_input.ensures.fault)

@@ -1,0 +1,83 @@
+//! What a judge answers of the trace that it knows.
+
+ghost use Rattle.std.specs.Prelude.{Bool, true, false, List, Some, IfOk, length, is_some, option_copied, ◌≡◌, ◌<◌};
+ghost use Rattle.tl_beat.specs.declared.beat.Beat.TheVariants as beat;
+ghost use Rattle.tl_beat.specs.declared.beat.BeatD.{BeatD};
+ghost use Rattle.tl_beat.specs.declared.channel.Channel.TheVariants as channel;
+ghost use Rattle.tl_beat.specs.statement.Width.{IsWidth};
+ghost use Rattle.tl_burst.specs.statement.Messages.{unfinished};
+ghost use Rattle.tl_bytes.specs.statement.Bytes.{before_last};
+ghost use Rattle.tl_memory.specs.code.Changing.{IsChange};
+ghost use Rattle.tl_memory.specs.statement.Expecting.{ExpectsResponse};
+ghost use Rattle.tl_params.specs.declared.level.Level.{Level};
+ghost use Rattle.tl_params.specs.declared.profile.Profile.{Profile};
+ghost use Rattle.tl_rules.specs.code.Open.{open_request};
+ghost use Rattle.tl_rules.specs.statement.Conformance.{Trace, broken_on_link, on_link};
+ghost use Rattle.tl_monitor.specs.statement.Knows.{request_on};
+ghost use Rattle.tl_together.specs.code.Windows.{asked_at};
+
+use crate::fault::JudgeFault;
+use crate::judge::{Judge, answered, asked_in};
+use tl_beat::beat::{Beat, Link};
+use tl_memory::expected::Expected;
+use tl_memory::memory::Change;
+use tl_rules::past::Request;
+
+impl<const W: usize> Judge<W> {
+    ghost use Rattle.tl_together.specs.statement.Knows.{Knows};
+
+    /// The request with this source that is pending and complete on a link; none on a link without a level.
+    pub fn request(&self, link: Link, source: u8) -> Option<Request>
+        ensures { (levels : List Level) (p : Profile) (t : Trace W) → Knows self.now levels p t false →
+            result ≡ request_on levels link source t }
+    {
+        self.monitor.request(link, source)
+    }
+
+    /// How many beats had been taken with the last beat of the request with this source that is pending on a link.
+    pub fn asked(&self, link: Link, source: u8) -> Option<u64>
+        ensures { (levels : List Level) (p : Profile) (t : Trace W) → Knows self.now levels p t false →
+            link.0 < length levels → is_some (open_request source (on_link link.0 t)) ≡ true →
+            result ≡ Some (asked_at link.0 source t) }
+    {
+        asked_in(&self.asked, usize::from(link.0), source)
+    }
+
+    /// What a beat would change of what is kept of memory. What is known stays so.
+    pub fn change(&mut self, link: Link, beat: &Beat<W>) -> Result<Change<W>, JudgeFault>
+        requires { IsWidth W }
+        ensures knows { (levels : List Level) (p : Profile) (t : Trace W) (closed : Bool) →
+            Knows self.old levels p t closed → Knows self.new levels p t closed }
+        ensures change { IfOk result (λ change. (levels : List Level) (p : Profile) (t : Trace W) →
+            Knows self.old levels p t false → broken_on_link levels p (link, beat.now) t ≡ None →
+            IsChange change self.new.memory (length levels) (link, beat.now) t) }
+    {
+        let Some(next) = self.moment.checked_add(1) else {
+            return Err(JudgeFault::Memory);
+        };
+        let asked = answered(&self.monitor, link, beat);
+        match self.memory.change(link, beat, asked, next) {
+            Ok(change) => Ok(change),
+            Err(_) => Err(JudgeFault::Memory),
+        }
+    }
+
+    /// What the response may bring whose beat is next on a link, where this is what the beat changes.
+    pub fn expected<'a>(&'a self, change: &'a Change<W>, link: Link) -> Option<&'a Expected>
+        ensures { (levels : List Level) (p : Profile) (x : BeatD W) (t : Trace W) → Knows self.now levels p t false →
+            broken_on_link levels p (link, beat.D x) t ≡ None →
+            IsChange change.now self.now.memory (length levels) (link, beat.D x) t →
+            ExpectsResponse (option_copied result) (length levels) link.0 x.opcode x.source t
+            (before_last link.0 (length (unfinished channel.D (on_link link.0 t))) t) }
+    {
+        self.memory.expected(change, link)
+    }
+
+    /// How many beats of the message have come that isn't complete on channel D of a link.
+    pub fn beats_come(&self, link: Link) -> usize
+        ensures { (levels : List Level) (p : Profile) (t : Trace W) → Knows self.now levels p t false →
+            link.0 < length levels → result ≡ length (unfinished channel.D (on_link link.0 t)) }
+    {
+        self.memory.beats_come(link)
+    }
+}

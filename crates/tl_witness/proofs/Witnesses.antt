@@ -1,0 +1,190 @@
+-- A witness with one more beat, and what it tells of links.
+use Rattle.std.proofs.Common.{◌≡◌, ℕ, suc, zero, pred, List, [], ◌∷◌, ◌++◌, ◌+◌, ◌<◌, ◌^◌, ◌⊎◌, length, inl, inr, refl, sym}
+use Rattle.std.proofs.Common.{ap, ◌∙◌, Bool, true, false, Option, Some, None, slice_get, slice_set, arith}
+use Rattle.std.proofs.Common.{append_assoc}
+use Rattle.std.specs.Prelude.{◌||◌}
+use Rattle.std.proofs.lemmas.Bool.{ne_eqb}
+use Rattle.std.proofs.lemmas.List.{append-nil, length-set}
+use Rattle.std.proofs.lemmas.Option.{same_Some}
+use Rattle.tl_beat.specs.declared.beat.Beat.{Beat}
+use Rattle.tl_beat.specs.declared.beat.Link.{Link}
+use Rattle.tl_params.specs.declared.perm.Perm.{Perm}
+use Rattle.tl_rules.specs.statement.Conformance.{Trace, on_link}
+use Rattle.tl_rules.specs.statement.History.{held}
+use Rattle.tl_rules.specs.statement.Windows.{is_spared, leaves}
+use Rattle.tl_explain.specs.code.Recorded.{IsRecord}
+use Rattle.tl_explain.specs.declared.reason.Held.{Held}
+use Rattle.tl_explain.specs.declared.recorder.Recorder.{Recorder}
+use Rattle.tl_explain.specs.declared.told.Mention.{Mention}
+use Rattle.tl_explain.specs.declared.turns.Subject.{Subject}
+use Rattle.tl_explain.specs.code.Chosen.{held_by}
+use Rattle.tl_explain.specs.statement.Evidence.{last_saying, mention_of}
+use Rattle.tl_explain.specs.statement.Since.{IsHeldSince}
+use Rattle.tl_explain.proofs.follows.Links.{record_kept}
+use Rattle.tl_explain.proofs.sound.Messages.{held_told}
+use Rattle.tl_rules.specs.declared.past.Request.{Request}
+use Rattle.tl_rules.specs.statement.Windows.{needs}
+use Rattle.tl_together.specs.code.Windows.{asked_at}
+use Rattle.tl_witness.specs.code.Witness.{IsFresh, KnowsWitness, Records}
+use Rattle.tl_witness.specs.declared.witness.Witness.{Witness}
+use Rattle.tl_witness.specs.statement.Grounds.{access_text, asked_line, holder_line, holder_text, holders_text}
+
+-- ---- elements of lists
+
+-- one that is found was put there, or was found before
+found-set : {X : Type 0} (xs : List X) (i k : ℕ) (y x : X) → slice_get (slice_set xs i y) k ≡ Some x
+    → ((k ≡ i) × (x ≡ y)) ⊎ ((k ≡ i → ⊥) × (slice_get xs k ≡ Some x))
+found-set [] i k y x e = absurd cc
+found-set (z ∷ xs) zero zero y x e = inl (refl, sym (same_Some y x e))
+found-set (z ∷ xs) zero (suc k) y x e = inr ((λ n. absurd (omega (arith, n))), e)
+found-set (z ∷ xs) (suc i) zero y x e = inr ((λ n. absurd (omega (arith, n))), e)
+found-set (z ∷ xs) (suc i) (suc k) y x e = elim (found-set xs i k y x e) [
+  | inl here ↦ inl (ap suc here.0, here.1)
+  | inr apart ↦ inr ((λ n. apart.0 (ap pred n)), apart.1)
+]
+
+found-append : {X : Type 0} (xs : List X) (k : ℕ) (y x : X) → slice_get (xs ++ y ∷ []) k ≡ Some x
+    → (slice_get xs k ≡ Some x) ⊎ ((k ≡ length xs) × (x ≡ y))
+found-append [] zero y x e = inr (refl, sym (same_Some y x e))
+found-append [] (suc k) y x e = absurd cc
+found-append (z ∷ xs) zero y x e = inl e
+found-append (z ∷ xs) (suc k) y x e = elim (found-append xs k y x e) [
+  | inl before ↦ inl before
+  | inr last ↦ inr (ap suc last.0, last.1)
+]
+
+-- ---- recorders that have seen no beat
+
+-- each is one of its link
+pub record AreFresh (recorders : List Recorder) (block : ℕ) : Type 0 where
+  pub each : (k : ℕ) (r : Recorder) → slice_get recorders k ≡ Some r → IsFresh r k block
+
+pub none-fresh : (block : ℕ) → AreFresh [] block
+none-fresh block = record { each = λ k r e. absurd cc }
+
+pub one-fresh : (recorders : List Recorder) (n block : ℕ) (r : Recorder) → AreFresh recorders block
+    → length recorders ≡ n → IsFresh r n block → AreFresh (recorders ++ r ∷ []) block
+one-fresh recorders n block r are count fresh = record {
+  each = λ k x e. elim (found-append recorders k r x e) [
+    | inl before ↦ are.each k x before
+    | inr last ↦ rw (last.1, last.0, count) fresh
+  ];
+}
+
+pub first-knows : (h : Witness) (w n block : ℕ) → h.block ≡ block → block < 2 ^ 26 → h.links ≡ n
+    → length h.recorders.items ≡ n → AreFresh h.recorders.items block → KnowsWitness {w = w} h n block []
+first-knows h w n block is addressed links count are = record {
+  block_is = is;
+  addressed = addressed;
+  links_is = links;
+  count_is = count;
+  each = λ link r e. are.each link r e w;
+}
+
+-- ---- one more beat
+
+kept : {w : ℕ} (r : Recorder) (link block : ℕ) (x : Link × Beat w) (t : Trace w) → (x.0.0 ≡ link → ⊥)
+    → Records r link block t → Records r link block (x ∷ t)
+kept r link block x t apart is = record {
+  recorded = record_kept r x t (rw is.link_is (ne_eqb x.0.0 link apart)) is.recorded;
+  link_is = is.link_is;
+  block_is = is.block_is;
+}
+
+pub taken : {w : ℕ} (h new : Witness) (old next : Recorder) (n block : ℕ) (link : Link) (x : Beat w) (t : Trace w)
+    → new.block ≡ h.block → new.links ≡ h.links → new.recorders.items ≡ slice_set h.recorders.items link.0 next
+    → slice_get h.recorders.items link.0 ≡ Some old → next.subject ≡ old.subject
+    → (IsRecord old t → IsRecord next ((link, x) ∷ t)) → KnowsWitness h n block t
+    → KnowsWitness new n block ((link, x) ∷ t)
+taken h new old next n block link x t block_is links set there subject records k = record {
+  block_is = block_is ∙ k.block_is;
+  addressed = k.addressed;
+  links_is = links ∙ k.links_is;
+  count_is = ap length set ∙ length-set h.recorders.items link.0 next ∙ k.count_is;
+  each = λ c r e. elim (found-set h.recorders.items link.0 c next r (rw set at e)) [
+    | inl here ↦
+        let before = k.each link.0 old there in
+        rw (here.1, here.0) (record {
+          recorded = records before.recorded;
+          link_is = ap (λ (s : Subject). s.link.0) subject ∙ before.link_is;
+          block_is = ap (λ (s : Subject). s.block) subject ∙ before.block_is;
+        })
+    | inr apart ↦ kept r c block (link, x) t (λ own. apart.0 (sym own)) (k.each c r apart.1)
+  ];
+}
+
+-- a beat of a link that there isn't
+pub passed : {w : ℕ} (h : Witness) (n block : ℕ) (link : Link) (x : Beat w) (t : Trace w)
+    → slice_get h.recorders.items link.0 ≡ None → KnowsWitness h n block t → KnowsWitness h n block ((link, x) ∷ t)
+passed h n block link x t none k = record {
+  block_is = k.block_is;
+  addressed = k.addressed;
+  links_is = k.links_is;
+  count_is = k.count_is;
+  each = λ c r e. kept r c block (link, x) t
+      (λ own. let no : None ≡ Some r = sym none ∙ ap (slice_get h.recorders.items) own ∙ e in cc)
+      (k.each c r e);
+}
+
+-- ---- what is told of links
+
+perm-held : {w : ℕ} (link block : ℕ) (p : Perm) (m : Option Mention) (t : Trace w) → IsHeldSince link block p m t
+    → p ≡ held block (on_link link t)
+perm-held link block p None t is = is.0
+perm-held link block p (Some m) t is = is.0
+
+-- what a recorder has of its link
+pub said-is : {w : ℕ} (r : Recorder) (h : Held) (link block : ℕ) (t : Trace w) → h ≡ held_by r.turns.said
+    → Records r link block t → mention_of h.since ≡ last_saying link block t
+said-is r h link block t is rec =
+    rw (is, ← rec.link_is, ← rec.block_is) rec.recorded.turns_are.said_is
+
+pub since-is : {w : ℕ} (r : Recorder) (h : Held) (link block : ℕ) (t : Trace w) → h ≡ held_by r.turns.said
+    → Records r link block t → IsHeldSince link block h.perm (mention_of h.since) t
+since-is r h link block t is rec =
+    rw (is, ← rec.link_is, ← rec.block_is)
+    (held_told r.subject.link.0 r.subject.block t r.turns.said rec.recorded.turns_are.said_is)
+
+-- a link that leaves the block is told nothing of
+pub holder-left : {w : ℕ} (link block : ℕ) (spared : Option ℕ) (given p : Perm) (m : Option Mention) (left : Bool)
+    (t : Trace w) → IsHeldSince link block p m t → left ≡ (is_spared link spared || leaves given p) → left ≡ true
+    → [] ≡ holder_text link spared given block t
+holder-left link block spared given p m left t since is leaving =
+    let test : is_spared link spared || leaves given (held block (on_link link t)) ≡ true =
+    rw (perm-held link block p m t since) at (sym is ∙ leaving) in
+    rw test refl
+
+-- another is told of
+pub holder-told : {w : ℕ} (link block : ℕ) (spared : Option ℕ) (given p : Perm) (m : Option Mention) (left : Bool)
+    (t : Trace w) → IsHeldSince link block p m t → m ≡ last_saying link block t
+    → left ≡ (is_spared link spared || leaves given p) → left ≡ false
+    → holder_line link block p m ≡ holder_text link spared given block t
+holder-told link block spared given p m left t since said is excluding =
+    let test : is_spared link spared || leaves given (held block (on_link link t)) ≡ false =
+    rw (perm-held link block p m t since) at (sym is ∙ excluding) in
+    rw (test, perm-held link block p m t since, said) refl
+
+-- none of no links
+pub holders-none : {w : ℕ} (spared : Option ℕ) (given : Perm) (block : ℕ) (t : Trace w) (out : List ℕ)
+    → out ≡ out ++ holders_text 0 spared given block t
+unfolding holders_text
+holders-none spared given block t out = sym (append-nil out)
+
+-- and of one more
+pub holders-more : {w : ℕ} (n m : ℕ) (spared : Option ℕ) (given : Perm) (block : ℕ) (t : Trace w)
+    (first before after : List ℕ) → m ≡ suc n → before ≡ first ++ holders_text n spared given block t
+    → after ≡ before ++ holder_text n spared given block t
+    → after ≡ first ++ holders_text m spared given block t
+unfolding holders_text
+holders-more n m spared given block t first before after next so_far more =
+    rw (more, so_far, next)
+    (append_assoc first (holders_text n spared given block t) (holder_text n spared given block t))
+
+-- and in which line the request was complete
+pub access-told : {w : ℕ} (n link source : ℕ) (asked other : Request) (block moment : ℕ) (given : Perm) (t : Trace w)
+    (out mid new : List ℕ) → other ≡ asked → given ≡ needs other.opcode → moment ≡ asked_at link source t
+    → mid ≡ out ++ asked_line (moment + 1) → new ≡ mid ++ holders_text n None given block t
+    → new ≡ out ++ access_text n link source asked block t
+access-told n link source asked other block moment given t out mid new same given_is at first more =
+    rw (more, first, given_is, at, same)
+    (append_assoc out (asked_line (asked_at link source t + 1)) (holders_text n None (needs asked.opcode) block t))

@@ -1,0 +1,22 @@
+use Rattle.std.proofs.Common.{sym}
+use Rattle.tl_memory.proofs.Kept.{link-kept}
+use Rattle.tl_witness.proofs.Witnesses.{said-is, since-is}
+use Rattle.tl_witness.proofs.witness.Witness.held.Goals as goal
+
+pub returns-in-None-clause-said : goal.returns-in-None-clause-said
+returns-in-None-clause-said c = λ w n block t k lt. absurd
+    (link-kept c.args.self.now.recorders.items c.args.link n k.count_is lt c.in-None.ensures)
+
+pub returns-in-None-clause-since : goal.returns-in-None-clause-since
+returns-in-None-clause-since c = λ w n block t k lt. absurd
+    (link-kept c.args.self.now.recorders.items c.args.link n k.count_is lt c.in-None.ensures)
+
+pub returns-in-Some-clause-said : goal.returns-in-Some-clause-said
+returns-in-Some-clause-said c = λ w n block t k lt.
+    said-is c.in-Some.recorder.now c.held_of.result c.args.link block t c.held_of.ensures
+    (k.each c.args.link c.in-Some.recorder.now (sym c.in-Some.ensures))
+
+pub returns-in-Some-clause-since : goal.returns-in-Some-clause-since
+returns-in-Some-clause-since c = λ w n block t k lt.
+    since-is c.in-Some.recorder.now c.held_of.result c.args.link block t c.held_of.ensures
+    (k.each c.args.link c.in-Some.recorder.now (sym c.in-Some.ensures))

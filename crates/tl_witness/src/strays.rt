@@ -1,0 +1,200 @@
+//! Bytes of a response that it may not bring, and what they may be.
+
+ghost use Rattle.std.specs.Prelude.{ℕ, suc, Bool, false, ◌+◌, ◌*◌, ◌<◌, ◌≤◌, ◌≡◌, ◌++◌, ◌∷◌, List, IfOk, OnOk};
+ghost use Rattle.tl_beat.specs.statement.Width.{IsWidth};
+ghost use Rattle.tl_memory.specs.code.Expected.{allows};
+ghost use Rattle.tl_rules.specs.code.Place.{base_of};
+ghost use Rattle.tl_rules.specs.statement.History as history;
+ghost use Rattle.tl_witness.specs.statement.Strays.{lead_text, more_text, next_line, stray_line, strays_text};
+ghost use Rattle.tl_witness.specs.statement.Strays.{values_text};
+
+use crate::text::{append_hex, append_number};
+use std::alloc::AllocError;
+use tl_memory::expected::Expected;
+use tl_rules::place::base;
+
+/// The most bytes that are told of.
+const TOLD: u8 = 8;
+
+/// The values of a byte.
+const VALUES: u16 = 256;
+
+/// What stands before a value, where others stand before it or none does.
+fn lead(any: bool) -> &'static str
+    ensures { result.now ≡ lead_text any }
+{
+    if any { " or " } else { ", and may be " }
+}
+
+/// Appends a value where the byte at a place may be that. Answers whether any stands there now.
+fn append_value(
+    expected: &Expected,
+    place: u8,
+    value: u8,
+    any: bool,
+    out: &mut Vec<u8>,
+) -> Result<bool, AllocError>
+    requires { place < 64 }
+    ensures { IfOk result (λ now. (n : ℕ) →
+        out.new.items ++ values_text
+        (allows expected.now (64 * history.block_at expected.now.address + place)) now n (value + 1)
+        ≡ out.old.items ++ values_text
+        (allows expected.now (64 * history.block_at expected.now.address + place)) any (suc n) value) }
+{
+    if !expected.allows(usize::from(place), value) {
+        return Ok(any);
+    }
+    out.extend_from_slice(lead(any).as_bytes())?;
+    append_hex(u32::from(value), 2, out)?;
+    Ok(true)
+}
+
+#[tactic(auto, unfolding(crate::specs::statement::Strays::values_text))]
+/// Appends that nothing is told, where nothing is.
+fn append_nothing(any: bool, out: &mut Vec<u8>) -> Result<(), AllocError>
+    ensures { OnOk result ((test : ℕ → Bool) (v : ℕ) →
+        out.new.items ≡ out.old.items ++ values_text test any 0 v) }
+{
+    if any {
+        return Ok(());
+    }
+    out.extend_from_slice(b", and nothing told of it")
+}
+
+/// Appends what the byte at a place may be.
+fn append_values(expected: &Expected, place: u8, out: &mut Vec<u8>) -> Result<(), AllocError>
+    requires { place < 64 }
+    ensures { OnOk result (out.new.items ≡ out.old.items ++ values_text
+        (allows expected.now (64 * history.block_at expected.now.address + place)) false 256 0) }
+{
+    let mut any = false;
+    for value in 0..VALUES {
+        any = append_value(expected, place, value as u8, any, out)?;
+    }
+    append_nothing(any, out)
+}
+
+/// The address of a place in the block of an address.
+fn address_at(address: u32, place: u8) -> u32
+    requires { place < 64 }
+    ensures { result ≡ 64 * history.block_at address + place }
+{
+    address - address % 64 + u32::from(place)
+}
+
+#[tactic(auto, unfolding(crate::specs::statement::Strays::stray_line))]
+/// Appends the byte at a place of its block, and what it may be.
+fn append_stray(
+    expected: &Expected,
+    place: u8,
+    byte: u8,
+    out: &mut Vec<u8>,
+) -> Result<(), AllocError>
+    requires { place < 64 }
+    ensures { OnOk result (out.new.items ≡ out.old.items
+        ++ stray_line (64 * history.block_at expected.now.address + place) byte
+        (allows expected.now (64 * history.block_at expected.now.address + place))) }
+{
+    out.extend_from_slice(b"  byte ")?;
+    append_hex(address_at(expected.address, place), 8, out)?;
+    out.extend_from_slice(b" is ")?;
+    append_hex(u32::from(byte), 2, out)?;
+    append_values(expected, place, out)?;
+    out.push(b'\n')?;
+    Ok(())
+}
+
+/// Appends a line for the byte at a place of its block, behind so many others, where it is one of the first eight.
+fn append_counted(
+    expected: &Expected,
+    place: u8,
+    byte: u8,
+    count: u8,
+    out: &mut Vec<u8>,
+) -> Result<(), AllocError>
+    requires { place < 64 }
+    ensures { OnOk result (out.new.items ≡ out.old.items
+        ++ next_line count (64 * history.block_at expected.now.address + place) byte
+        (allows expected.now (64 * history.block_at expected.now.address + place))) }
+{
+    if count >= TOLD {
+        return Ok(());
+    }
+    append_stray(expected, place, byte, out)
+}
+
+/// Appends a line for the byte at a place of its block, behind so many others, where the response may not bring it.
+/// Answers how many there are now.
+fn tell_lane(
+    expected: &Expected,
+    place: u8,
+    byte: u8,
+    count: u8,
+    out: &mut Vec<u8>,
+) -> Result<u8, AllocError>
+    requires place { place < 64 }
+    requires count { count < 64 }
+    ensures told { IfOk result (λ now. (rest : List ℕ) → out.new.items
+        ++ strays_text (allows expected.now) now (64 * history.block_at expected.now.address + place + 1) rest
+        ≡ out.old.items ++ strays_text (allows expected.now) count
+        (64 * history.block_at expected.now.address + place) (byte ∷ rest)) }
+    ensures few { IfOk result (λ now. now ≤ count + 1) }
+{
+    if expected.allows(usize::from(place), byte) {
+        return Ok(count);
+    }
+    append_counted(expected, place, byte, count, out)?;
+    Ok(count + 1)
+}
+
+/// Appends how many more there are than those that are told of.
+fn append_more(count: u8, out: &mut Vec<u8>) -> Result<(), AllocError>
+    ensures { OnOk result (out.new.items ≡ out.old.items ++ more_text count) }
+{
+    if count <= TOLD {
+        return Ok(());
+    }
+    out.extend_from_slice(b"  and ")?;
+    append_number(u128::from(count - TOLD), out)?;
+    out.extend_from_slice(b" more\n")
+}
+
+/// Appends a line for each of these bytes, from a place of their block on, that the response may not bring: for the
+/// first eight of them, and how many more there are.
+fn tell_lanes<const W: usize>(
+    expected: &Expected,
+    first: usize,
+    lanes: &[u8; W],
+    out: &mut Vec<u8>,
+) -> Result<(), AllocError>
+    requires width { IsWidth W }
+    requires inside { first + W ≤ 64 }
+    ensures { OnOk result (out.new.items ≡ out.old.items
+        ++ strays_text (allows expected.now) 0 (64 * history.block_at expected.now.address + first) lanes.now) }
+{
+    let mut count = 0u8;
+    for lane in 0..W {
+        count = tell_lane(expected, (first + lane) as u8, lanes[lane], count, out)?;
+    }
+    append_more(count, out)
+}
+
+/// Appends a line for each byte of a beat, before which so many of the response came, that it may not bring: for the
+/// first eight of them, and how many more there are.
+pub(crate) fn tell_strays<const W: usize>(
+    expected: &Expected,
+    beats: usize,
+    lanes: &[u8; W],
+    out: &mut Vec<u8>,
+) -> Result<(), AllocError>
+    requires { IsWidth W }
+    ensures { OnOk result (base_of W expected.now.address + W * beats + W ≤ 64 →
+        out.new.items ≡ out.old.items ++ strays_text (allows expected.now) 0
+        (64 * history.block_at expected.now.address + (base_of W expected.now.address + W * beats)) lanes.now) }
+{
+    let first = base::<W>(expected.address).saturating_add(W.saturating_mul(beats));
+    if first.saturating_add(W) > 64 {
+        return Ok(());
+    }
+    tell_lanes(expected, first, lanes, out)
+}

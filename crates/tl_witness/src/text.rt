@@ -1,0 +1,79 @@
+//! The lines that tell what a rule of memory rests on.
+
+ghost use Rattle.std.specs.Prelude.{◌+◌, ◌*◌, ◌^◌, ◌<◌, ◌≤◌, ◌≡◌, ◌++◌, OnOk};
+ghost use Rattle.std.specs.Fmt.{decimal};
+ghost use Rattle.tl_beat.specs.statement.Digits.{digits};
+ghost use Rattle.tl_explain.specs.statement.Evidence.{mention_of};
+ghost use Rattle.tl_witness.specs.statement.Grounds.{asked_line, holder_line, since_text};
+
+use arrayvec::ArrayVec;
+use itoa::Buffer;
+use std::alloc::AllocError;
+use tl_beat::text::append_digits;
+use tl_explain::reason::Held;
+use tl_explain::told::Told;
+use tl_explain::words::perm_name;
+
+/// Appends the lowest hexadecimal digits of a number, this many of them, the highest first.
+pub(crate) fn append_hex(number: u32, count: u8, out: &mut Vec<u8>) -> Result<(), AllocError>
+    requires { count ≤ 8 }
+    ensures { OnOk result (out.new.items ≡ out.old.items ++ digits count number) }
+{
+    let mut text = ArrayVec::<u8, 64>::new();
+    append_digits(&mut text, number, count);
+    out.extend_from_slice(text.as_slice())
+}
+
+/// Appends the number of a line.
+pub(crate) fn append_number(number: u128, out: &mut Vec<u8>) -> Result<(), AllocError>
+    ensures { OnOk result (out.new.items ≡ out.old.items ++ decimal number) }
+{
+    let mut digits = Buffer::new();
+    out.extend_from_slice(digits.format(number).as_bytes())
+}
+
+/// Appends since which line a block is held so, where a message has left it so.
+fn append_since(since: &Option<Told>, out: &mut Vec<u8>) -> Result<(), AllocError>
+    ensures { OnOk result (out.new.items ≡ out.old.items ++ since_text (mention_of since.now)) }
+{
+    match since {
+        None => Ok(()),
+        Some(told) => {
+            out.extend_from_slice(b" since line ")?;
+            append_number(u128::from(told.mention.line), out)
+        }
+    }
+}
+
+#[tactic(auto, unfolding(crate::specs::statement::Grounds::holder_line))]
+/// Appends what a link holds of a block, and since which line.
+pub(crate) fn append_holder(
+    link: u8,
+    block: u32,
+    held: &Held,
+    out: &mut Vec<u8>,
+) -> Result<(), AllocError>
+    ensures { OnOk result (block < 2 ^ 26 →
+        out.new.items ≡ out.old.items ++ holder_line link block held.now.perm (mention_of held.now.since)) }
+{
+    out.extend_from_slice(b"  link ")?;
+    append_hex(u32::from(link), 2, out)?;
+    out.extend_from_slice(b" holds ")?;
+    out.extend_from_slice(perm_name(held.perm).as_bytes())?;
+    out.extend_from_slice(b" of block ")?;
+    append_hex(block.saturating_mul(64), 8, out)?;
+    append_since(&held.since, out)?;
+    out.push(b'\n')?;
+    Ok(())
+}
+
+#[tactic(auto, unfolding(crate::specs::statement::Grounds::asked_line))]
+/// Appends in which line a request was complete.
+pub(crate) fn append_asked(line: u128, out: &mut Vec<u8>) -> Result<(), AllocError>
+    ensures { OnOk result (out.new.items ≡ out.old.items ++ asked_line line) }
+{
+    out.extend_from_slice(b"  its request was complete in line ")?;
+    append_number(line, out)?;
+    out.push(b'\n')?;
+    Ok(())
+}

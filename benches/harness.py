@@ -15,7 +15,7 @@ SV = ["sv/tl_pkg.sv", "sv/tl_manager_recorder.sv", "sv/tl_link_recorder.sv"]
 EXAMPLE = ["example/tl_cache.sv", "example/tl_home.sv", "example/tl_device.sv", "example/bench_recorded.sv"]
 
 # Each bug of example/tl_home.sv, and the rule of memory that finds it.
-HOME_BUGS = {1: "M1", 2: "M4"}
+HOME_BUGS = {1: "M1", 2: "M4", 3: "M2"}
 
 # Each bug of example/tl_cache.sv: the rule that finds it, and what the bench itself says of the run.
 BUGS = {

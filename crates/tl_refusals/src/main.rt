@@ -3,6 +3,7 @@
 #![tactic(auto)]
 
 mod calls;
+mod judges;
 mod worlds;
 
 use std::println;
@@ -35,6 +36,8 @@ fn main(rt: HostRuntime) -> ExitCode {
         ("write_line", calls::appends(alloc)),
         ("Monitor::new", calls::makes_a_monitor(alloc)),
         ("Monitor::push", calls::pushes(alloc)),
+        ("Judge::new", judges::makes_a_judge(alloc)),
+        ("Judge::push", judges::judges(alloc)),
         ("Caching::new", calls::makes_a_cache(alloc)),
         ("agents_of", calls::makes_clients(alloc)),
         ("BitDirectory::new", calls::makes_words(alloc)),

@@ -8,4 +8,5 @@ pub mod Pending
 pub mod Reading
 pub mod Since
 pub mod Told
+pub mod ToldLines
 pub mod WorkedBeats

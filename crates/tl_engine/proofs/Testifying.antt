@@ -157,7 +157,8 @@ pub witnessed : {w : ℕ} (old new : Option (List ℕ)) (i : Inquiry) (good numb
     → number ≡ good + 1 → Spells (spelled i.line) link x → was ≡ []
     → front ≡ was ++ memory_front_text rule number link x → reasons ≡ front ++ grounds
     → IsWitnessed old new (good + 1) rule reasons
-witnessed {w} old new i good number rule verdict status link x was front reasons grounds (read, consumed, judged, stands)
+witnessed {w} old new i good number rule verdict status link x was front reasons grounds
+    (read, consumed, judged, stands)
     said reached is_good is_number spells none first text =
     let (before, behind, is, many) = stands reached in
     let so : JudgedTogether (lines_of read) (fault_text number (BreaksTogether rule)) Broken =
@@ -166,7 +167,8 @@ witnessed {w} old new i good number rule verdict status link x was front reasons
     record {
       read = read;
       consumed = consumed;
-      judged = subst (λ (n : ℕ). JudgedTogether (lines_of read) (fault_text n (BreaksTogether rule)) Broken) is_number so;
+      judged = subst (λ (n : ℕ). JudgedTogether (lines_of read) (fault_text n (BreaksTogether rule)) Broken) is_number
+          so;
       before = before;
       line = spelled i.line;
       behind = behind;

@@ -345,9 +345,10 @@ fn write_both<W: Write>(verdict: &[u8], reasons: &[u8], writer: &mut W) -> Resul
 }
 
 #[tactic(auto, using(crate::proofs::Explaining::explains))]
-/// Writes what `monitor` says of a trace, or what `coherent` says, and behind it why. The two readers are of the same file, each
-/// at its front; the second is read up to the line at fault. Where they differ nothing is written. Where
-/// a rule of order is broken, what the second reader gave has a reason in it for that line and that rule.
+/// Writes what `monitor` says of a trace, or what `coherent` says, and behind it why. The two readers are of the same
+/// file, each at its front; the second is read up to the line at fault. Where they differ nothing is written. Where
+/// a rule of order is broken, what the second reader gave has a reason in it for that line and that rule; where a rule
+/// of memory is, what it gave is judged so too.
 ///
 /// Nothing is written before both readings have come to their end: `Write` alone comes behind that, where
 /// some of the text is left. `Read` and `Memory` come of the first reading, before its verdict, where

@@ -1,9 +1,32 @@
--- What is kept of a link that there is.
-use Rattle.std.proofs.Common.{◌≡◌, ◌<◌, ℕ, List, length, Some, None, slice_get, ◌∙◌, arith, inl, inr}
+-- What is kept of a link that there is, and of a block that was met.
+use Rattle.std.proofs.Common.{◌≡◌, ◌<◌, ◌+◌, ◌*◌, ℕ, List, length, Option, Some, None, slice_get, sym, subst, ◌∙◌}
+use Rattle.std.proofs.Common.{arith, inl, inr}
+use Rattle.std.specs.Prelude.{IfSome}
 use Rattle.std.proofs.lemmas.Option.{slice_get_cases}
+use Rattle.tl_rules.specs.statement.Conformance.{Trace}
+use Rattle.tl_bytes.specs.statement.Bytes.{may_be}
+use Rattle.tl_bytes.specs.statement.Known.{tellings_of}
+use Rattle.tl_bytes.specs.statement.Lines.{told_moment}
+use Rattle.tl_bytes.proofs.ToldLines.{told-known}
+use Rattle.tl_memory.specs.declared.block.BlockState.{BlockState}
+use Rattle.tl_memory.specs.declared.memory.Memory.{Memory}
+use Rattle.tl_memory.specs.statement.Blocks.{KnowsKept, state_in}
+use Rattle.tl_memory.specs.statement.Known.{KnowsState}
+use Rattle.tl_memory.specs.statement.Memory.{KnowsMemory}
 
 pub link-kept : {X : Type 0} (xs : List X) (i n : ℕ) → length xs ≡ n → i < n → None ≡ slice_get xs i → ⊥
 link-kept xs i n count lt none = elim (slice_get_cases xs i).1 [
   | inl found ↦ let no : None ≡ Some found.0 = none ∙ found.2 in cc
   | inr past ↦ omega (arith, past.0, count, lt)
 ]
+
+-- what is told of a byte is what it may be, by which beat
+pub told-sound : {w : ℕ} (m : Memory w) (s : BlockState w) (block place v : ℕ) (moment : Option ℕ)
+    → Some s ≡ state_in m.blocks block → moment ≡ told_moment v (tellings_of s.bytes place)
+    → IfSome moment (λ k. (n : ℕ) (t : Trace w) → KnowsMemory m n t → place < 64
+    → told_moment v (may_be n (64 * block + place) t) ≡ Some k)
+told-sound m s block place v None there is = tt
+told-sound m s block place v (Some k) there is = λ n t knows small.
+    let kept : KnowsState s n block t t =
+    subst (λ o. KnowsKept o n block t) (sym there) (knows.blocks_are.states_are block) in
+    sym (told-known s.bytes n block place v t (Some k) is kept.bytes_are small)

@@ -17,6 +17,8 @@ ghost use Rattle.tl_rules.specs.statement.Windows.{is_free};
 ghost use Rattle.tl_bytes.specs.statement.Bytes.{Access, ends_request, is_of, pending_accesses, tells};
 ghost use Rattle.tl_bytes.specs.statement.Known.{AreCarried, KnowsBlock, KnowsGrant};
 ghost use Rattle.tl_memory.specs.code.Writers.{keeps};
+ghost use Rattle.tl_bytes.specs.statement.Known.{tellings_of};
+ghost use Rattle.tl_bytes.specs.statement.Lines.{told_moment};
 
 use crate::access::Asked;
 use crate::accesses::{append_staying, find, tell, watch, write};
@@ -68,6 +70,13 @@ impl<const W: usize> BlockState<W> {
             free: true,
             last_free: 0,
         }
+    }
+
+    /// The number of beats before the one that told this value of the byte at a place, where it may be that still.
+    pub fn told_at(&self, place: u8, byte: u8) -> Option<u64>
+        ensures { result ≡ told_moment byte (tellings_of self.now.bytes place) }
+    {
+        self.bytes.told_at(place, byte)
     }
 
     /// What may be granted of it.

@@ -1,7 +1,7 @@
 //! What is kept of the bytes of memory.
 
 ghost use Rattle.std.specs.Prelude.{ℕ, suc, true, [], ◌∷◌, ◌<◌, ◌≡◌, if◌then◌else◌, List, length, is_some, option_map};
-ghost use Rattle.std.specs.Prelude.{None, Some, IfOk, IsTrue, option_copied};
+ghost use Rattle.std.specs.Prelude.{None, Some, IfOk, IfSome, IsTrue, option_copied, ◌+◌, ◌*◌};
 ghost use Rattle.tl_beat.specs.declared.beat.Beat.TheVariants as beat;
 ghost use Rattle.tl_beat.specs.declared.beat.BeatD.{BeatD};
 ghost use Rattle.tl_beat.specs.declared.beat.Link.{Link};
@@ -16,7 +16,9 @@ ghost use Rattle.tl_rules.specs.statement.Conformance.{Trace, broken_on_link, on
 ghost use Rattle.tl_rules.specs.statement.Windows.{is_free};
 ghost use Rattle.tl_bytes.specs.statement.Bytes as bytes;
 ghost use Rattle.tl_bytes.specs.statement.Bytes.{before_last};
+ghost use Rattle.tl_bytes.specs.statement.Lines.{told_moment};
 ghost use Rattle.tl_memory.specs.code.Elsewhere as elsewhere;
+ghost use Rattle.tl_memory.specs.code.Lines.{told_by};
 ghost use Rattle.tl_memory.specs.code.Taking.{request_answered};
 
 use crate::begun::begun_with;
@@ -253,6 +255,19 @@ impl<const W: usize> Memory<W> {
         match self.links.get(link) {
             None => 0,
             Some(state) => state.messages.d.bytes.count(),
+        }
+    }
+
+    /// The number of beats before the one that told this value of the byte at a place of a block, where it may be that
+    /// still.
+    pub fn told_at(&self, block: u32, place: u8, byte: u8) -> Option<u64>
+        ensures kept { result ≡ told_by (state_in self.now.blocks block) place byte }
+        ensures told { IfSome result (λ moment. (n : ℕ) (t : Trace W) → KnowsMemory self.now n t → place < 64 →
+            told_moment byte (bytes.may_be n (64 * block + place) t) ≡ Some moment) }
+    {
+        match self.blocks.get(block) {
+            None => None,
+            Some(state) => state.told_at(place, byte),
         }
     }
 }

@@ -1,13 +1,17 @@
 //! What a judge answers of the trace that it knows.
 
-ghost use Rattle.std.specs.Prelude.{Bool, true, false, List, Some, IfOk, length, is_some, option_copied, ◌≡◌, ◌<◌};
+ghost use Rattle.std.specs.Prelude.{Bool, true, false, List, Some, IfOk, IfSome, length, is_some, option_copied};
+ghost use Rattle.std.specs.Prelude.{◌≡◌, ◌<◌, ◌+◌, ◌*◌};
 ghost use Rattle.tl_beat.specs.declared.beat.Beat.TheVariants as beat;
 ghost use Rattle.tl_beat.specs.declared.beat.BeatD.{BeatD};
 ghost use Rattle.tl_beat.specs.declared.channel.Channel.TheVariants as channel;
 ghost use Rattle.tl_beat.specs.statement.Width.{IsWidth};
 ghost use Rattle.tl_burst.specs.statement.Messages.{unfinished};
-ghost use Rattle.tl_bytes.specs.statement.Bytes.{before_last};
+ghost use Rattle.tl_bytes.specs.statement.Bytes.{before_last, may_be};
+ghost use Rattle.tl_bytes.specs.statement.Lines.{told_moment};
 ghost use Rattle.tl_memory.specs.code.Changing.{IsChange};
+ghost use Rattle.tl_memory.specs.code.Lines.{told_by};
+ghost use Rattle.tl_memory.specs.statement.Blocks.{state_in};
 ghost use Rattle.tl_memory.specs.statement.Expecting.{ExpectsResponse};
 ghost use Rattle.tl_params.specs.declared.level.Level.{Level};
 ghost use Rattle.tl_params.specs.declared.profile.Profile.{Profile};
@@ -79,5 +83,16 @@ impl<const W: usize> Judge<W> {
             link.0 < length levels → result ≡ length (unfinished channel.D (on_link link.0 t)) }
     {
         self.memory.beats_come(link)
+    }
+
+    /// The number of beats before the one that told this value of the byte at a place of a block, where it may be that
+    /// still.
+    pub fn told_at(&self, block: u32, place: u8, byte: u8) -> Option<u64>
+        ensures kept { result ≡ told_by (state_in self.now.memory.blocks block) place byte }
+        ensures told { IfSome result (λ moment. (levels : List Level) (p : Profile) (t : Trace W) →
+            Knows self.now levels p t false → place < 64 →
+            told_moment byte (may_be (length levels) (64 * block + place) t) ≡ Some moment) }
+    {
+        self.memory.told_at(block, place, byte)
     }
 }

@@ -1,5 +1,6 @@
 -- A witness with one more beat, and what it tells of links.
-use Rattle.std.proofs.Common.{◌≡◌, ℕ, suc, zero, pred, List, [], ◌∷◌, ◌++◌, ◌+◌, ◌<◌, ◌^◌, ◌⊎◌, length, inl, inr, refl, sym}
+use Rattle.std.proofs.Common.{◌≡◌, ℕ, suc, zero, pred, List, [], ◌∷◌, ◌++◌, ◌+◌, ◌<◌, ◌^◌, ◌⊎◌}
+use Rattle.std.proofs.Common.{length, inl, inr, refl, sym}
 use Rattle.std.proofs.Common.{ap, ◌∙◌, Bool, true, false, Option, Some, None, slice_get, slice_set, arith}
 use Rattle.std.proofs.Common.{append_assoc}
 use Rattle.std.specs.Prelude.{◌||◌}

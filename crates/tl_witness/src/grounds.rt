@@ -76,7 +76,7 @@ fn tell_bytes<const W: usize>(
     match judge.expected(&change, link) {
         None => Ok(()),
         Some(expected) => {
-            tell_strays(expected, judge.beats_come(link), lanes, out)?;
+            tell_strays(expected, judge, judge.beats_come(link), lanes, out)?;
             Ok(())
         }
     }

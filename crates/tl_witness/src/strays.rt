@@ -1,17 +1,20 @@
 //! Bytes of a response that it may not bring, and what they may be.
 
-ghost use Rattle.std.specs.Prelude.{ℕ, suc, Bool, false, ◌+◌, ◌*◌, ◌<◌, ◌≤◌, ◌≡◌, ◌++◌, ◌∷◌, List, IfOk, OnOk};
+ghost use Rattle.std.specs.Prelude.{ℕ, suc, Bool, false, ◌+◌, ◌*◌, ◌<◌, ◌≤◌, ◌≡◌, ◌++◌, ◌∷◌, List, Option, IfOk, OnOk};
 ghost use Rattle.tl_beat.specs.statement.Width.{IsWidth};
 ghost use Rattle.tl_memory.specs.code.Expected.{allows};
 ghost use Rattle.tl_rules.specs.code.Place.{base_of};
 ghost use Rattle.tl_rules.specs.statement.History as history;
+ghost use Rattle.tl_witness.specs.code.Strays.{told_of};
 ghost use Rattle.tl_witness.specs.statement.Strays.{lead_text, more_text, next_line, stray_line, strays_text};
-ghost use Rattle.tl_witness.specs.statement.Strays.{values_text};
+ghost use Rattle.tl_witness.specs.statement.Strays.{told_text, value_text, values_text};
 
 use crate::text::{append_hex, append_number};
 use std::alloc::AllocError;
 use tl_memory::expected::Expected;
+use tl_rules::key::block_at;
 use tl_rules::place::base;
+use tl_together::judge::Judge;
 
 /// The most bytes that are told of.
 const TOLD: u8 = 8;
@@ -23,12 +26,32 @@ const VALUES: u16 = 256;
 fn lead(any: bool) -> &'static str
     ensures { result.now ≡ lead_text any }
 {
-    if any { " or " } else { ", and may be " }
+    if any { ", or " } else { ", and may be " }
+}
+
+/// Appends in which line a value was told, where it may be that still, by the number of beats before that line's.
+fn append_told(moment: Option<u64>, out: &mut Vec<u8>) -> Result<(), AllocError>
+    ensures { OnOk result (out.new.items ≡ out.old.items ++ told_text moment) }
+{
+    let Some(moment) = moment else {
+        return Ok(());
+    };
+    out.extend_from_slice(b", told in line ")?;
+    append_number(u128::from(moment) + 2, out)
+}
+
+/// Appends a value, and in which line it was told.
+fn append_value(value: u8, moment: Option<u64>, out: &mut Vec<u8>) -> Result<(), AllocError>
+    ensures { OnOk result (out.new.items ≡ out.old.items ++ value_text value moment) }
+{
+    append_hex(u32::from(value), 2, out)?;
+    append_told(moment, out)
 }
 
 /// Appends a value where the byte at a place may be that. Answers whether any stands there now.
-fn append_value(
+fn append_allowed<const W: usize>(
     expected: &Expected,
+    judge: &Judge<W>,
     place: u8,
     value: u8,
     any: bool,
@@ -37,23 +60,26 @@ fn append_value(
     requires { place < 64 }
     ensures { IfOk result (λ now. (n : ℕ) →
         out.new.items ++ values_text
-        (allows expected.now (64 * history.block_at expected.now.address + place)) now n (value + 1)
+        (allows expected.now (64 * history.block_at expected.now.address + place))
+        (told_of judge.now (64 * history.block_at expected.now.address + place)) now n (value + 1)
         ≡ out.old.items ++ values_text
-        (allows expected.now (64 * history.block_at expected.now.address + place)) any (suc n) value) }
+        (allows expected.now (64 * history.block_at expected.now.address + place))
+        (told_of judge.now (64 * history.block_at expected.now.address + place)) any (suc n) value) }
 {
     if !expected.allows(usize::from(place), value) {
         return Ok(any);
     }
+    let moment = judge.told_at(block_at(expected.address), place, value);
     out.extend_from_slice(lead(any).as_bytes())?;
-    append_hex(u32::from(value), 2, out)?;
+    append_value(value, moment, out)?;
     Ok(true)
 }
 
 #[tactic(auto, unfolding(crate::specs::statement::Strays::values_text))]
 /// Appends that nothing is told, where nothing is.
 fn append_nothing(any: bool, out: &mut Vec<u8>) -> Result<(), AllocError>
-    ensures { OnOk result ((test : ℕ → Bool) (v : ℕ) →
-        out.new.items ≡ out.old.items ++ values_text test any 0 v) }
+    ensures { OnOk result ((test : ℕ → Bool) (told : ℕ → Option ℕ) (v : ℕ) →
+        out.new.items ≡ out.old.items ++ values_text test told any 0 v) }
 {
     if any {
         return Ok(());
@@ -62,14 +88,20 @@ fn append_nothing(any: bool, out: &mut Vec<u8>) -> Result<(), AllocError>
 }
 
 /// Appends what the byte at a place may be.
-fn append_values(expected: &Expected, place: u8, out: &mut Vec<u8>) -> Result<(), AllocError>
+fn append_values<const W: usize>(
+    expected: &Expected,
+    judge: &Judge<W>,
+    place: u8,
+    out: &mut Vec<u8>,
+) -> Result<(), AllocError>
     requires { place < 64 }
     ensures { OnOk result (out.new.items ≡ out.old.items ++ values_text
-        (allows expected.now (64 * history.block_at expected.now.address + place)) false 256 0) }
+        (allows expected.now (64 * history.block_at expected.now.address + place))
+        (told_of judge.now (64 * history.block_at expected.now.address + place)) false 256 0) }
 {
     let mut any = false;
     for value in 0..VALUES {
-        any = append_value(expected, place, value as u8, any, out)?;
+        any = append_allowed(expected, judge, place, value as u8, any, out)?;
     }
     append_nothing(any, out)
 }
@@ -84,8 +116,9 @@ fn address_at(address: u32, place: u8) -> u32
 
 #[tactic(auto, unfolding(crate::specs::statement::Strays::stray_line))]
 /// Appends the byte at a place of its block, and what it may be.
-fn append_stray(
+fn append_stray<const W: usize>(
     expected: &Expected,
+    judge: &Judge<W>,
     place: u8,
     byte: u8,
     out: &mut Vec<u8>,
@@ -93,20 +126,22 @@ fn append_stray(
     requires { place < 64 }
     ensures { OnOk result (out.new.items ≡ out.old.items
         ++ stray_line (64 * history.block_at expected.now.address + place) byte
-        (allows expected.now (64 * history.block_at expected.now.address + place))) }
+        (allows expected.now (64 * history.block_at expected.now.address + place))
+        (told_of judge.now (64 * history.block_at expected.now.address + place))) }
 {
     out.extend_from_slice(b"  byte ")?;
     append_hex(address_at(expected.address, place), 8, out)?;
     out.extend_from_slice(b" is ")?;
     append_hex(u32::from(byte), 2, out)?;
-    append_values(expected, place, out)?;
+    append_values(expected, judge, place, out)?;
     out.push(b'\n')?;
     Ok(())
 }
 
 /// Appends a line for the byte at a place of its block, behind so many others, where it is one of the first eight.
-fn append_counted(
+fn append_counted<const W: usize>(
     expected: &Expected,
+    judge: &Judge<W>,
     place: u8,
     byte: u8,
     count: u8,
@@ -115,18 +150,20 @@ fn append_counted(
     requires { place < 64 }
     ensures { OnOk result (out.new.items ≡ out.old.items
         ++ next_line count (64 * history.block_at expected.now.address + place) byte
-        (allows expected.now (64 * history.block_at expected.now.address + place))) }
+        (allows expected.now (64 * history.block_at expected.now.address + place))
+        (told_of judge.now (64 * history.block_at expected.now.address + place))) }
 {
     if count >= TOLD {
         return Ok(());
     }
-    append_stray(expected, place, byte, out)
+    append_stray(expected, judge, place, byte, out)
 }
 
 /// Appends a line for the byte at a place of its block, behind so many others, where the response may not bring it.
 /// Answers how many there are now.
-fn tell_lane(
+fn tell_lane<const W: usize>(
     expected: &Expected,
+    judge: &Judge<W>,
     place: u8,
     byte: u8,
     count: u8,
@@ -135,15 +172,16 @@ fn tell_lane(
     requires place { place < 64 }
     requires count { count < 64 }
     ensures told { IfOk result (λ now. (rest : List ℕ) → out.new.items
-        ++ strays_text (allows expected.now) now (64 * history.block_at expected.now.address + place + 1) rest
-        ≡ out.old.items ++ strays_text (allows expected.now) count
+        ++ strays_text (allows expected.now) (told_of judge.now) now
+        (64 * history.block_at expected.now.address + place + 1) rest
+        ≡ out.old.items ++ strays_text (allows expected.now) (told_of judge.now) count
         (64 * history.block_at expected.now.address + place) (byte ∷ rest)) }
     ensures few { IfOk result (λ now. now ≤ count + 1) }
 {
     if expected.allows(usize::from(place), byte) {
         return Ok(count);
     }
-    append_counted(expected, place, byte, count, out)?;
+    append_counted(expected, judge, place, byte, count, out)?;
     Ok(count + 1)
 }
 
@@ -163,6 +201,7 @@ fn append_more(count: u8, out: &mut Vec<u8>) -> Result<(), AllocError>
 /// first eight of them, and how many more there are.
 fn tell_lanes<const W: usize>(
     expected: &Expected,
+    judge: &Judge<W>,
     first: usize,
     lanes: &[u8; W],
     out: &mut Vec<u8>,
@@ -170,11 +209,19 @@ fn tell_lanes<const W: usize>(
     requires width { IsWidth W }
     requires inside { first + W ≤ 64 }
     ensures { OnOk result (out.new.items ≡ out.old.items
-        ++ strays_text (allows expected.now) 0 (64 * history.block_at expected.now.address + first) lanes.now) }
+        ++ strays_text (allows expected.now) (told_of judge.now) 0
+        (64 * history.block_at expected.now.address + first) lanes.now) }
 {
     let mut count = 0u8;
     for lane in 0..W {
-        count = tell_lane(expected, (first + lane) as u8, lanes[lane], count, out)?;
+        count = tell_lane(
+            expected,
+            judge,
+            (first + lane) as u8,
+            lanes[lane],
+            count,
+            out,
+        )?;
     }
     append_more(count, out)
 }
@@ -183,18 +230,19 @@ fn tell_lanes<const W: usize>(
 /// first eight of them, and how many more there are.
 pub(crate) fn tell_strays<const W: usize>(
     expected: &Expected,
+    judge: &Judge<W>,
     beats: usize,
     lanes: &[u8; W],
     out: &mut Vec<u8>,
 ) -> Result<(), AllocError>
     requires { IsWidth W }
     ensures { OnOk result (base_of W expected.now.address + W * beats + W ≤ 64 →
-        out.new.items ≡ out.old.items ++ strays_text (allows expected.now) 0
+        out.new.items ≡ out.old.items ++ strays_text (allows expected.now) (told_of judge.now) 0
         (64 * history.block_at expected.now.address + (base_of W expected.now.address + W * beats)) lanes.now) }
 {
     let first = base::<W>(expected.address).saturating_add(W.saturating_mul(beats));
     if first.saturating_add(W) > 64 {
         return Ok(());
     }
-    tell_lanes(expected, first, lanes, out)
+    tell_lanes(expected, judge, first, lanes, out)
 }

@@ -49,8 +49,8 @@ explain_status (Err fault) = 3
 
 -- The status is that of an outcome which an explanation, of each link by itself or of all together, has over what was
 -- read, by each of two readers, and written.
-abbrev pub EndsExplained : Bool → Option (List ℕ) → Option (List ℕ) → Option (List ℕ) → Option (List ℕ) → Option (List ℕ)
-    → Option (List ℕ) → ℕ → Type 0
+abbrev pub EndsExplained : Bool → Option (List ℕ) → Option (List ℕ) → Option (List ℕ) → Option (List ℕ)
+    → Option (List ℕ) → Option (List ℕ) → ℕ → Type 0
 EndsExplained together had left had_again left_again held holds status =
     (outcome : Result Status ExplainFault) × (status ≡ explain_status outcome)
     × IfOk outcome (λ judged. (verdict reasons : List ℕ) × Reaches together had left verdict judged

@@ -46,4 +46,5 @@ GivesUpExplaining together had left had_again left_again held holds (Tool Write)
     (verdict reasons : List ℕ) × (status : Status) × Reaches together had left verdict status
     × Explains had_again left_again verdict reasons status × AppendsShort held holds (verdict ++ reasons)
 GivesUpExplaining together had left had_again left_again held holds fault =
-    (holds ≡ held) × (((left_again ≡ had_again) × IsUnjudged together had left fault) ⊎ IsUnreasoned together had left fault)
+    (holds ≡ held)
+    × (((left_again ≡ had_again) × IsUnjudged together had left fault) ⊎ IsUnreasoned together had left fault)

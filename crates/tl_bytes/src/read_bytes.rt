@@ -1,6 +1,6 @@
 //! What a read may bring.
 
-ghost use Rattle.std.specs.Prelude.{ℕ, suc, ◌∷◌, ◌+◌, ◌*◌, ◌<◌, ◌≡◌, ◌==◌, ◌&&◌, ◌||◌, None, length};
+ghost use Rattle.std.specs.Prelude.{ℕ, suc, true, ◌∷◌, ◌+◌, ◌*◌, ◌<◌, ◌≡◌, ◌==◌, ◌&&◌, ◌||◌, None, length};
 ghost use Rattle.std.specs.Prelude.{IfOk, OnOk, slice_index_or};
 ghost use Rattle.tl_beat.specs.declared.beat.Beat.{Beat};
 ghost use Rattle.tl_beat.specs.declared.beat.Link.{Link};
@@ -125,9 +125,8 @@ impl ReadBytes {
         ensures { IfOk result (λ read. (at byte : ℕ) → at < 64 → may_bring read at byte
             ≡ (told_as byte (tellings_of block.now at) || left_as at byte writes.now)) }
     {
-        let first = values_of(block.latest.as_slice());
         let mut read = ReadBytes {
-            first: Vec::from_slice(alloc, &first)?,
+            first: values_of(alloc, block.latest.as_slice())?,
             more: Vec::new(alloc),
         };
         read.offer_earlier(block.earlier.as_slice())?;
@@ -184,6 +183,13 @@ impl ReadBytes {
             }
         }
         Ok(())
+    }
+
+    /// Whether nothing is known of what it may bring: then it may bring any byte of each place.
+    pub fn is_open(&self) -> bool
+        ensures { result ≡ true → (place byte : ℕ) → may_bring self.now place byte ≡ true }
+    {
+        self.first.is_empty()
     }
 
     /// Whether it may bring this byte of a place.

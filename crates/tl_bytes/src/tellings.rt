@@ -151,15 +151,19 @@ pub fn latest_told(values: &[Option<u8>; 64], moment: u64) -> [Telling; 64]
     all
 }
 
-/// What was told last of all places.
-pub fn values_of(latest: &[Telling]) -> [Option<u8>; 64]
-    ensures { (place : ℕ) → place < 64 → slice_index_or result place None ≡ (telling_at latest.now place).value }
+/// What was told last of all places: nothing where there is none.
+pub fn values_of(alloc: Global, latest: &[Telling]) -> Result<Vec<Option<u8>>, AllocError>
+    ensures { IfOk result (λ values. (place : ℕ) → place < 64 →
+        slice_index_or values.items place None ≡ (telling_at latest.now place).value) }
 {
+    if latest.is_empty() {
+        return Ok(Vec::new(alloc));
+    }
     let mut values = [None; 64];
     for place in 0..BLOCK_BYTES {
         values[usize::from(place)] = last_at(latest, place).value;
     }
-    values
+    Ok(Vec::from_slice(alloc, &values)?)
 }
 
 /// Whether the byte at a place may be this one, by what is told.

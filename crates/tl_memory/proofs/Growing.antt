@@ -9,13 +9,13 @@ use Rattle.tl_rules.specs.statement.Conformance.{Trace}
 use Rattle.tl_bytes.specs.declared.block_bytes.BlockBytes.{BlockBytes}
 use Rattle.tl_bytes.specs.statement.Bytes.{Access, access_writes, could_be, is_of, may_be, may_read, pending_accesses}
 use Rattle.tl_bytes.specs.statement.Bytes.{pending_value, told_as, written_as}
-use Rattle.tl_bytes.specs.statement.Known.{KnowsBlock, others}
+use Rattle.tl_bytes.specs.statement.Known.{KnowsBlock, may_bring, others}
 use Rattle.tl_bytes.proofs.Offered.{either-some}
-use Rattle.tl_memory.specs.code.Writers.{AreRenewed, keeps, names, told_by, written_by}
+use Rattle.tl_memory.specs.code.Writers.{AreRenewed, keeps, names, nothing, staying, told_by, written_by}
 use Rattle.tl_memory.specs.declared.pending.PendingAccess.{PendingAccess}
 use Rattle.tl_memory.specs.declared.writer.Writer.{Writer}
-use Rattle.tl_memory.specs.statement.Known.{AreKnown, IsAsked, IsPendingWrite, is_to}
-use Rattle.tl_memory.proofs.Keeping.{filters-swap, Grows, renewed-each}
+use Rattle.tl_memory.specs.statement.Known.{AreKnown, IsAsked, IsPendingWrite, is_to, KnowsAccesses}
+use Rattle.tl_memory.proofs.Keeping.{copied-each, filters-swap, Grows, renewed-all, renewed-each}
 use Rattle.tl_memory.proofs.Writing.{leaves-is, named}
 
 -- what others may write it may bring
@@ -26,6 +26,13 @@ written-brought n access [] a v le e = absurd cc
 written-brought n access (y ∷ t) a v le e =
     rw (le-leb access.asked (suc (length t)) le)
     (or_right (told_as v (may_be n a (y ∷ t))) _ (or_left (written_as a v (others access (y ∷ t))) _ e))
+
+-- so may what is told of the block
+told-brought : {w : ℕ} (n : ℕ) (access : Access w) (y : Link × Beat w) (t : Trace w) (a v : ℕ)
+    → access.asked ≤ length (y ∷ t) → told_as v (may_be n a (y ∷ t)) ≡ true → may_read n access (y ∷ t) a v ≡ true
+unfolding may_read
+told-brought n access y t a v le e =
+    rw (le-leb access.asked (suc (length t)) le) (or_left (told_as v (may_be n a (y ∷ t))) _ e)
 
 -- ---- what is told of a block
 
@@ -68,6 +75,53 @@ told-grows {w} n block gone bytes x t known stay old access k le p v lt =
         found-less writes (keeps gone) (filter other (pending_accesses t))
         (ap (λ l. is_some (find writes l)) (filters-swap (keeps gone) other (pending_accesses t))
         ∙ ap (λ l. is_some (find writes (filter other l))) (sym stay) ∙ e)
+
+-- where that is what was told before, nothing more
+quiet-grows : {w : ℕ} (n block : ℕ) (gone : Option (Link × ℕ)) (bytes : BlockBytes) (x y : Link × Beat w) (t : Trace w)
+    → KnowsBlock bytes n block (y ∷ t) → KnowsBlock bytes n block (x ∷ y ∷ t)
+    → pending_accesses (x ∷ y ∷ t) ≡ filter (keeps gone) (pending_accesses (y ∷ t))
+    → Grows n block nothing x (y ∷ t)
+quiet-grows n block gone bytes x y t before now stay old access k le p v lt =
+    told-grows n block gone bytes x (y ∷ t) now stay old access k le p v lt
+    ∙ less (may_read n access (y ∷ t) (64 * block + p) v) (told_by bytes old p v)
+    (λ e. told-brought n access y t (64 * block + p) v le (ap (told_as v) (sym (before.bytes_are p lt)) ∙ e))
+  where
+    less : (had more : Bool) → (more ≡ true → had ≡ true) → (had || more) ≡ (had || false)
+    less true more was = refl
+    less false false was = refl
+    less false true was = absurd (let no : false ≡ true = was refl in cc)
+
+renewed-none : {w : ℕ} (pending : List (PendingAccess w)) → AreRenewed nothing pending pending
+renewed-none [] = tt
+renewed-none (z ∷ pending) = (
+  record { writer_is = refl; windows_are = refl; read_is = λ p v lt. no_more (may_bring z.read p v) },
+  renewed-none pending,
+)
+  where
+    no_more : (b : Bool) → b ≡ (b || false)
+    no_more true = refl
+    no_more false = refl
+
+none-known : {w : ℕ} (n block : ℕ) (pending : List (PendingAccess w)) (s t u : Trace w)
+    → AreKnown pending n block [] s t → AreKnown pending n block [] s u
+none-known n block [] s t u are = tt
+none-known n block (z ∷ pending) s t u are = absurd are
+
+-- so those that stay may bring what they did
+pub quiet-all : {w : ℕ} (n block : ℕ) (gone : Option (Link × ℕ)) (bytes : BlockBytes) (x : Link × Beat w) (t : Trace w)
+    (old more : List (PendingAccess w))
+    → KnowsBlock bytes n block t → KnowsBlock bytes n block (x ∷ t) → KnowsAccesses old n block t t
+    → pending_accesses (x ∷ t) ≡ filter (keeps gone) (pending_accesses t)
+    → AreRenewed nothing (staying gone old) more → KnowsAccesses more n block t (x ∷ t)
+unfolding pending_accesses
+quiet-all n block gone bytes x [] old more before now k stay copied = record {
+  accesses_are = rw stay (none-known n block more [] [] (x ∷ [])
+      (copied-each n block [] [] gone old more [] k.accesses_are copied));
+  inside = rw stay tt;
+}
+quiet-all n block gone bytes x (y ∷ t) old more before now k stay copied =
+    renewed-all n block gone nothing x (y ∷ t) old more more k stay
+    (quiet-grows n block gone bytes x y t before now stay) copied (renewed-none more)
 
 -- ---- what is written
 
@@ -125,12 +179,7 @@ written-grows {w} n block bytes writer new x y t before now more asked write old
     ∙ ap (λ b. b || written_as a v (others access (y ∷ t)))
     (written-is block p v writer new access old lt asked write k))
     ∙ gained (told_as v (may_be n a (y ∷ t))) (written_as a v (others access (y ∷ t))) (written_by writer old p v)
-    (may_read n access (y ∷ t) a v) told-brought (written-brought n access (y ∷ t) a v le))
-  where
-    told-brought : told_as v (may_be n (64 * block + p) (y ∷ t)) ≡ true
-        → may_read n access (y ∷ t) (64 * block + p) v ≡ true
-    told-brought e = rw (le-leb access.asked (suc (length t)) le)
-        (or_left (told_as v (may_be n (64 * block + p) (y ∷ t))) _ e)
+    (may_read n access (y ∷ t) a v) (told-brought n access y t a v le) (written-brought n access (y ∷ t) a v le))
 
 pub written-each : {w : ℕ} (n block : ℕ) (bytes : BlockBytes) (writer : Writer w) (new : Access w)
     (x : Link × Beat w) (t : Trace w) (old more : List (PendingAccess w))

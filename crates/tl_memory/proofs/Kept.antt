@@ -1,6 +1,6 @@
 -- What is kept of a link that there is, and of a block that was met.
-use Rattle.std.proofs.Common.{◌≡◌, ◌<◌, ◌+◌, ◌*◌, ℕ, List, length, Option, Some, None, slice_get, sym, subst, ◌∙◌}
-use Rattle.std.proofs.Common.{arith, inl, inr}
+use Rattle.std.proofs.Common.{◌≡◌, ◌<◌, ◌+◌, ◌*◌, ℕ, List, length, Option, Some, None, slice_get, refl}
+use Rattle.std.proofs.Common.{sym, ap, subst, ◌∙◌, arith, inl, inr}
 use Rattle.std.specs.Prelude.{IfSome}
 use Rattle.std.proofs.lemmas.Option.{slice_get_cases}
 use Rattle.tl_rules.specs.statement.Conformance.{Trace}
@@ -10,15 +10,27 @@ use Rattle.tl_bytes.specs.statement.Lines.{told_moment}
 use Rattle.tl_bytes.proofs.ToldLines.{told-known}
 use Rattle.tl_memory.specs.declared.block.BlockState.{BlockState}
 use Rattle.tl_memory.specs.declared.memory.Memory.{Memory}
-use Rattle.tl_memory.specs.statement.Blocks.{KnowsKept, state_in}
+use Rattle.tl_memory.specs.statement.Blocks.{KnowsKept, place_in, state_at, state_in}
 use Rattle.tl_memory.specs.statement.Known.{KnowsState}
 use Rattle.tl_memory.specs.statement.Memory.{KnowsMemory}
 
-pub link-kept : {X : Type 0} (xs : List X) (i n : ℕ) → length xs ≡ n → i < n → None ≡ slice_get xs i → ⊥
-link-kept xs i n count lt none = elim (slice_get_cases xs i).1 [
+pub item-there : {X : Type 0} (xs : List X) (i n : ℕ) → length xs ≡ n → i < n → None ≡ slice_get xs i → ⊥
+item-there xs i n count lt none = elim (slice_get_cases xs i).1 [
   | inl found ↦ let no : None ≡ Some found.0 = none ∙ found.2 in cc
   | inr past ↦ omega (arith, past.0, count, lt)
 ]
+
+-- a state stands at the place of a block, and is kept of it
+pub place-there : {w : ℕ} (m : Memory w) (n block place : ℕ) (t : Trace w) → KnowsMemory m n t
+    → place_in m.blocks block ≡ Some place → None ≡ slice_get m.blocks.states.items place → ⊥
+place-there m n block place t k at none =
+    item-there m.blocks.states.items place (length m.blocks.states.items) refl
+    (k.blocks_are.table_is.stand block place at) none
+
+pub place-kept : {w : ℕ} (m : Memory w) (s : BlockState w) (n block place : ℕ) (t : Trace w) → KnowsMemory m n t
+    → place_in m.blocks block ≡ Some place → Some s ≡ slice_get m.blocks.states.items place → KnowsState s n block t t
+place-kept m s n block place t k at there =
+    subst (λ o. KnowsKept o n block t) (ap (state_at m.blocks) at ∙ sym there) (k.blocks_are.states_are block)
 
 -- what is told of a byte is what it may be, by which beat
 pub told-sound : {w : ℕ} (m : Memory w) (s : BlockState w) (block place v : ℕ) (moment : Option ℕ)

@@ -2,7 +2,7 @@
 use Rattle.std.proofs.Common.{◌≡◌, ℕ, zero, suc, Bool, true, false, not, ◌||◌, ◌+◌, ◌*◌, ◌/◌, ◌%◌, ◌^◌, ◌<◌, ◌≤◌}
 use Rattle.std.proofs.Common.{List, [], ◌∷◌, length, None, Some, refl, sym, ap, ap₂, ◌∙◌, arith, get_or, drop}
 use Rattle.std.specs.Prelude.{◌&&◌, nat_le, nat_lt}
-use Rattle.std.proofs.lemmas.Bool.{eqb-true, le-leb, lt-ltb}
+use Rattle.std.proofs.lemmas.Bool.{eqb-true, le-leb, lt-ltb, or_right}
 use Rattle.std.proofs.lemmas.List.{at_drop_more}
 use Rattle.std.proofs.Math.Nat.{div-mul-le_self, pow-le-pow_right}
 use Rattle.tl_beat.specs.declared.beat.Beat.TheVariants as beat
@@ -15,7 +15,7 @@ use Rattle.tl_rules.specs.statement.Conformance.{Trace}
 use Rattle.tl_rules.specs.statement.History.{block_at}
 use Rattle.tl_rules.proofs.Rooms.{base_in_memory}
 use Rattle.tl_bytes.specs.statement.Bytes.{Access, each_from, may_grant, may_read}
-use Rattle.tl_bytes.specs.statement.Known.{KnowsGrant}
+use Rattle.tl_bytes.specs.statement.Known.{KnowsGrant, may_bring}
 use Rattle.tl_memory.specs.code.Expected.{allows}
 use Rattle.tl_memory.specs.declared.expected.Expected.{Expected}
 use Rattle.tl_memory.specs.statement.Known.{Expects, is_to}
@@ -51,6 +51,19 @@ pub one-failed : (test : ℕ → ℕ → Bool) (from i : ℕ) (lanes : List ℕ)
     → test (from + i) (get_or lanes i 0) ≡ false
     → each_from test (from + i) (drop i lanes) ≡ false
 one-failed test from i lanes lt e = one_more test from i lanes lt ∙ rw e refl
+
+-- all pass a test that each byte passes
+pub each-passed : (test : ℕ → ℕ → Bool) (from : ℕ) (lanes : List ℕ) → ((address v : ℕ) → test address v ≡ true)
+    → each_from test from lanes ≡ true
+unfolding each_from
+each-passed test from [] all = refl
+each-passed test from (v ∷ lanes) all = rw (all from v) (each-passed test (from + 1) lanes all)
+
+-- any byte is allowed where each place may bring any
+pub open-allows : (e : Expected) → ((place v : ℕ) → may_bring e.bytes place v ≡ true) → (address v : ℕ)
+    → allows e address v ≡ true
+open-allows e all address v =
+    or_right (not (reaches e.address e.size address)) (may_bring e.bytes (address % 64) v) (all (address % 64) v)
 
 -- a byte that is judged by its place
 pub at-lane : (e : Expected) (block first lane place v : ℕ) (b : Bool) → place ≡ first + lane

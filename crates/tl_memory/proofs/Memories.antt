@@ -155,7 +155,7 @@ nothing-changed change m n x t unborne unheld none passed unbegun = record {
   block_is = rw unborne passed;
   held_is = unheld ∙ rw unborne (either_none (changes_held x.1 (on_link x.0.0 t)));
   kept = λ block e. absurd (none-some block (sym unborne ∙ e));
-  next_is = λ block free e seen. absurd (none-some block (sym unborne ∙ e));
+  next_is = λ block free s e there seen. absurd (none-some block (sym unborne ∙ e));
   expected_is = rw none unbegun;
 }
 

@@ -1,6 +1,6 @@
 -- What is known of the state of a block, from what is known of its parts.
 use Rattle.std.proofs.Common.{◌≡◌, ℕ, suc, Bool, true, false, not, ◌&&◌, ◌+◌, ◌-◌, ◌*◌, ◌/◌, ◌≤◌, List, [], ◌∷◌}
-use Rattle.std.proofs.Common.{◌++◌, length, refl, sym, subst, ◌∙◌, arith, inl, inr}
+use Rattle.std.proofs.Common.{length, refl, sym, subst, ◌∙◌, arith, inl, inr}
 use Rattle.std.specs.Prelude.{filter, if◌then◌else◌, None, Option, Some}
 use Rattle.std.proofs.lemmas.Bool.{cases_Bool, eq-eqb, eqb-true}
 use Rattle.std.proofs.Math.Nat.{mul-suc}
@@ -31,7 +31,7 @@ use Rattle.tl_memory.specs.declared.writer.Writer.{Writer}
 use Rattle.tl_memory.specs.statement.Known.{AnyIsTo, AreKnown, Expects, IsAsked, IsLawful, IsPendingWrite}
 use Rattle.tl_memory.specs.statement.Known.{is_to, KnowsAccess, KnowsAccesses, KnowsState, WritesInside}
 use Rattle.tl_memory.proofs.Elsewhere.{free-first, last-kept, windows-kept}
-use Rattle.tl_memory.proofs.Growing.{told-grows, written-each}
+use Rattle.tl_memory.proofs.Growing.{quiet-all, told-grows, written-each}
 use Rattle.tl_memory.proofs.Writing.{no_data}
 use Rattle.tl_memory.proofs.Keeping.{asked-more, copied-each, IsFound, keeps-all, nothing-more, renewed-all}
 use Rattle.tl_memory.proofs.Keeping.{watched-each}
@@ -90,17 +90,31 @@ expects-some expected p n block access o t found k address size same = rw found 
 
 -- with these bytes, where some accesses are gone, or none
 pub told-state : {w : ℕ} (s old : BlockState w) (n block : ℕ) (gone : Option (Link × ℕ))
-    (one start copies more : List (PendingAccess w)) (x : Link × Beat w) (t : Trace w)
+    (copies : List (PendingAccess w)) (x : Link × Beat w) (t : Trace w)
     → KnowsState old n block t t → KnowsBlock s.bytes n block (x ∷ t)
     → pending_accesses (x ∷ t) ≡ filter (keeps gone) (pending_accesses t)
-    → one ≡ old.accesses.items → start ≡ [] → copies ≡ start ++ more → AreRenewed nothing (staying gone one) more
+    → AreRenewed nothing (staying gone old.accesses.items) copies
     → AreRenewed (told_by s.bytes) copies s.accesses.items
     → s.free ≡ old.free → s.last_free ≡ old.last_free → KnowsState s n block t (x ∷ t)
-told-state s old n block gone one start copies more x t k bytes stay same none items copied renewed free last = record {
+told-state s old n block gone copies x t k bytes stay copied renewed free last = record {
   bytes_are = bytes;
-  accesses_are = renewed-all n block gone (told_by s.bytes) x t old.accesses.items more s.accesses.items
-      k.accesses_are stay (told-grows n block gone s.bytes x t bytes stay) (rw same at copied)
-      (rw (items, none) at renewed);
+  accesses_are = renewed-all n block gone (told_by s.bytes) x t old.accesses.items copies s.accesses.items
+      k.accesses_are stay (told-grows n block gone s.bytes x t bytes stay) copied renewed;
+  free_is = free ∙ k.free_is;
+  last_is = λ off. last ∙ k.last_is (sym free ∙ off);
+}
+
+-- with the same bytes
+pub quiet-state : {w : ℕ} (s old : BlockState w) (n block : ℕ) (gone : Option (Link × ℕ)) (x : Link × Beat w)
+    (t : Trace w)
+    → KnowsState old n block t t → KnowsBlock old.bytes n block (x ∷ t)
+    → pending_accesses (x ∷ t) ≡ filter (keeps gone) (pending_accesses t)
+    → AreRenewed nothing (staying gone old.accesses.items) s.accesses.items → s.bytes ≡ old.bytes
+    → s.free ≡ old.free → s.last_free ≡ old.last_free → KnowsState s n block t (x ∷ t)
+quiet-state s old n block gone x t k bytes stay copied same free last = record {
+  bytes_are = rw same bytes;
+  accesses_are = quiet-all n block gone old.bytes x t old.accesses.items s.accesses.items k.bytes_are bytes
+      k.accesses_are stay copied;
   free_is = free ∙ k.free_is;
   last_is = λ off. last ∙ k.last_is (sym free ∙ off);
 }
@@ -116,11 +130,10 @@ pub reads-only : {w : ℕ} (address : ℕ) (o : Option (Access w)) (access : Acc
     → a_carries_data access.request.opcode ≡ false → WritesNot address o
 reads-only address o access found none = rw found (no_data access.request.opcode access.request address none)
 
-pub pending-answered : {w : ℕ} (link : Link) (source : ℕ) (y : BeatD w) (t : Trace w)
-    → ends_request y (on_link link.0 t) ≡ true → source ≡ y.source
-    → pending_accesses ((link, beat.D y) ∷ t) ≡ filter (keeps (Some (link, source))) (pending_accesses t)
+pub pending-answered : {w : ℕ} (link : Link) (y : BeatD w) (t : Trace w) → ends_request y (on_link link.0 t) ≡ true
+    → pending_accesses ((link, beat.D y) ∷ t) ≡ filter (keeps (Some (link, y.source))) (pending_accesses t)
 unfolding pending_accesses
-pending-answered link source y t over same = rw (over, same) refl
+pending-answered link y t over = rw over refl
 
 -- ---- seen whether it is free
 

@@ -15,32 +15,34 @@ use Rattle.tl_rules.specs.statement.Conformance.{Trace, on_link}
 use Rattle.tl_rules.specs.statement.History.{is_release_ack}
 use Rattle.tl_rules.specs.statement.Windows.{is_free}
 use Rattle.tl_memory.specs.code.Elsewhere.{block_asked, block_borne}
-use Rattle.tl_memory.specs.code.Taking.{IsLegalBeat, IsNext, IsResponse, IsSeen}
+use Rattle.tl_memory.specs.code.Taking.{IsLegalBeat, IsNext, IsResponse, IsSeen, with_next}
 use Rattle.tl_memory.specs.declared.block.BlockState.{BlockState}
+use Rattle.tl_memory.specs.declared.block.NextState.{NextState}
 use Rattle.tl_memory.proofs.Elsewhere.{free-kept, freedom-kept}
 
 true_false : {X : Type 0} → true ≡ false → X
 true_false e = absurd cc
 
 -- with a beat of channel A nothing is told of how free it is
-pub seen-request : {w : ℕ} (next : Option (BlockState w)) (free : Option Bool) (n block : ℕ) (link : Link)
-    (y : BeatA w) (t : Trace w)
-    → IsSeen free n block (link, beat.A y) t → IsNext next None n block (link, beat.A y) t
-    → IsNext next free n block (link, beat.A y) t
-seen-request next None n block link y t seen is = is
-seen-request next (Some f) n block link y t seen is = true_false seen.0
+pub seen-request : {w : ℕ} (next : Option (NextState w)) (free : Option Bool) (s : BlockState w) (n block : ℕ)
+    (link : Link) (y : BeatA w) (t : Trace w)
+    → IsSeen free n block (link, beat.A y) t → IsNext next None s n block (link, beat.A y) t
+    → IsNext next free s n block (link, beat.A y) t
+seen-request next None s n block link y t seen is = is
+seen-request next (Some f) s n block link y t seen is = true_false seen.0
 
 -- with one of another channel it is, or doesn't change
-pub seen-other : {w : ℕ} (next : Option (BlockState w)) (free : Option Bool) (n block : ℕ) (x : Link × Beat w)
-    (t : Trace w)
+pub seen-other : {w : ℕ} (next : Option (NextState w)) (free : Option Bool) (s : BlockState w) (n block : ℕ)
+    (x : Link × Beat w) (t : Trace w)
     → IsSeen free n block x t
-    → ((f : Bool) → f ≡ is_free n None perm.Trunk block (x ∷ t) → IsNext next (Some f) n block x t)
-    → IsNext next free n block x t
-seen-other None None n block x t same is =
+    → ((f : Bool) → f ≡ is_free n None perm.Trunk block (x ∷ t) → IsNext next (Some f) s n block x t)
+    → IsNext next free s n block x t
+seen-other None None s n block x t same is =
     record { elsewhere = (is (is_free n None perm.Trunk block (x ∷ t)) refl).0; held_is = same }
-seen-other (Some s) None n block x t same is =
-    freedom-kept s n block x t (free-kept n block x t same) (is (is_free n None perm.Trunk block (x ∷ t)) refl).0
-seen-other next (Some f) n block x t seen is = is f seen.1
+seen-other (Some next) None s n block x t same is =
+    freedom-kept (with_next s next) n block x t (free-kept n block x t same)
+    (is (is_free n None perm.Trunk block (x ∷ t)) refl).0
+seen-other next (Some f) s n block x t seen is = is f seen.1
 
 pub same-block : (k block : ℕ) → Some k ≡ Some block → k ≡ block
 same-block k block e = cc

@@ -16,7 +16,7 @@ ghost use Rattle.tl_rules.specs.statement.History.{block_at};
 ghost use Rattle.tl_rules.specs.statement.Windows.{is_free};
 ghost use Rattle.tl_bytes.specs.statement.Bytes.{Access, ends_request, is_of, pending_accesses, tells};
 ghost use Rattle.tl_bytes.specs.statement.Known.{AreCarried, KnowsBlock, KnowsGrant};
-ghost use Rattle.tl_memory.specs.code.Writers.{keeps};
+ghost use Rattle.tl_memory.specs.code.Writers.{AreRenewed, keeps, nothing, staying};
 ghost use Rattle.tl_bytes.specs.statement.Known.{tellings_of};
 ghost use Rattle.tl_bytes.specs.statement.Lines.{told_moment};
 
@@ -28,7 +28,7 @@ use crate::message::CarriedMessage;
 use crate::pending::PendingAccess;
 use crate::writer::{Writer, pending_write, written};
 use std::alloc::{AllocError, Global};
-use tl_beat::beat::Link;
+use tl_beat::beat::{Beat, BeatD, Link};
 use tl_bytes::block_bytes::BlockBytes;
 use tl_bytes::read_bytes::ReadBytes;
 use tl_bytes::windows::WritingWindows;
@@ -44,6 +44,13 @@ pub struct BlockState<const W: usize> {
     last_free: u64,
 }
 
+/// What a beat makes of the state of a block: its bytes, where it tells of them, and the accesses that are pending.
+#[derive(Drop)]
+pub struct NextState<const W: usize> {
+    bytes: Option<BlockBytes>,
+    accesses: Vec<PendingAccess<W>>,
+}
+
 /// The last moment at which a block was free, where it isn't with one more beat, at this moment.
 fn last_free(was: bool, free: bool, last: u64, moment: u64) -> u64
     ensures { result ≡ (if was && not free then moment - 1 else last) }
@@ -56,8 +63,8 @@ fn last_free(was: bool, free: bool, last: u64, moment: u64) -> u64
 }
 
 impl<const W: usize> BlockState<W> {
-    ghost use Rattle.tl_memory.specs.code.Taking.{IsNext};
-    ghost use Rattle.tl_memory.specs.statement.Known.{AnyIsTo, Expects, IsAsked, IsLawful, KnowsMessage};
+    ghost use Rattle.tl_memory.specs.code.Taking.{IsNext, put_next, with_next};
+    ghost use Rattle.tl_memory.specs.statement.Known.{AnyIsTo, Expects, HasRoom, IsAsked, IsLawful, KnowsMessage};
     ghost use Rattle.tl_memory.specs.statement.Known.{KnowsState, WritesInside};
 
     /// A block of which nothing was told, and to which no access is pending: it is free.
@@ -108,94 +115,116 @@ impl<const W: usize> BlockState<W> {
         }))
     }
 
-    /// It with a beat with which these are its bytes, and the access with this source on a link is gone, where
-    /// one is.
+    /// Copies of the accesses to it that stay, where the one with this source on a link is gone, if one is.
+    fn accesses_staying(
+        &self,
+        alloc: Global,
+        gone: Option<(Link, u8)>,
+    ) -> Result<Vec<PendingAccess<W>>, AllocError>
+        ensures { IfOk result (λ copies. AreRenewed nothing (staying gone self.now.accesses.items) copies.items) }
+    {
+        let mut copies = Vec::new(alloc);
+        append_staying(alloc, &mut copies, self.accesses.as_slice(), gone)?;
+        Ok(copies)
+    }
+
+    /// What a beat makes of it that tells these bytes of it, or none, and with which the access with this source on a
+    /// link is gone, where one is.
     fn with_bytes(
         &self,
         alloc: Global,
-        bytes: BlockBytes,
+        bytes: Option<BlockBytes>,
         gone: Option<(Link, u8)>,
-    ) -> Result<Self, AllocError>
-        ensures { IfOk result (λ s. (n block : ℕ) (x : Link × Beat W) (t : Trace W) → KnowsState self.now n block t t →
-            KnowsBlock bytes n block (x ∷ t) → pending_accesses (x ∷ t) ≡ filter (keeps gone) (pending_accesses t) →
-            KnowsState s n block t (x ∷ t)) }
+    ) -> Result<NextState<W>, AllocError>
+        ensures { IfOk result (λ next. (n block : ℕ) (x : Link × Beat W) (t : Trace W) →
+            KnowsState self.now n block t t → KnowsBlock (unwrap_or bytes self.now.bytes) n block (x ∷ t) →
+            pending_accesses (x ∷ t) ≡ filter (keeps gone) (pending_accesses t) →
+            KnowsState (with_next self.now next) n block t (x ∷ t)) }
     {
-        let mut accesses = Vec::new(alloc);
-        append_staying(alloc, &mut accesses, self.accesses.as_slice(), gone)?;
-        tell(&mut accesses, &bytes)?;
-        Ok(BlockState {
-            bytes,
-            accesses,
-            free: self.free,
-            last_free: self.last_free,
-        })
+        let mut accesses = self.accesses_staying(alloc, gone)?;
+        match bytes {
+            None => Ok(NextState {
+                bytes: None,
+                accesses,
+            }),
+            Some(bytes) => {
+                tell(&mut accesses, &bytes)?;
+                Ok(NextState {
+                    bytes: Some(bytes),
+                    accesses,
+                })
+            }
+        }
     }
 
-    /// It with a beat, after so many, that tells what its bytes are.
+    /// What a beat makes of it, after so many, that tells what its bytes are.
     pub fn told(
         &self,
         alloc: Global,
         values: &[Option<u8>; 64],
         moment: u64,
-    ) -> Result<Self, AllocError>
-        ensures { IfOk result (λ s. (n block : ℕ) (x : Link × Beat W) (t : Trace W) →
+    ) -> Result<NextState<W>, AllocError>
+        ensures { IfOk result (λ next. (n block : ℕ) (x : Link × Beat W) (t : Trace W) →
             KnowsState self.now n block t t → tells block x.1 (on_link x.0.0 t) ≡ true →
             pending_accesses (x ∷ t) ≡ pending_accesses t → moment ≡ length t → AreCarried values.now x t →
-            KnowsState s n block t (x ∷ t)) }
+            KnowsState (with_next self.now next) n block t (x ∷ t)) }
     {
         let bytes = BlockBytes::told(alloc, values, moment)?;
-        self.with_bytes(alloc, bytes, None)
+        self.with_bytes(alloc, Some(bytes), None)
     }
 
-    /// What its bytes may be with a beat, after so many, that completes this answer to the access with this
-    /// source on a link.
+    /// What its bytes may be with a beat, after so many, that completes the answer to an access on a link, where that
+    /// changes them: this is what the beats before it brought.
     fn bytes_answered(
         &self,
         alloc: Global,
         link: Link,
-        source: u8,
-        answer: &CarriedMessage,
+        y: &BeatD<W>,
+        brought: &CarriedMessage,
         moment: u64,
-    ) -> Result<BlockBytes, AllocError>
+    ) -> Result<Option<BlockBytes>, AllocError>
         requires { IsWidth W }
-        ensures { IfOk result (λ b. (n block : ℕ) (y : BeatD W) (t : Trace W) →
-            KnowsState self.now n block t t → tells block (beat.D y) (on_link link.0 t) ≡ false →
-            ends_request y (on_link link.0 t) ≡ true → source ≡ y.source →
-            AnyIsTo block (find (is_of link.0 source) (pending_accesses t)) →
-            KnowsMessage answer.now (beat.D y ∷ unfinished channel.D (on_link link.0 t)) → moment ≡ length t →
-            KnowsBlock b n block ((link, beat.D y) ∷ t)) }
+        ensures { IfOk result (λ bytes. (n block : ℕ) (t : Trace W) →
+            KnowsState self.now n block t t → tells block (beat.D y.now) (on_link link.0 t) ≡ false →
+            ends_request y.now (on_link link.0 t) ≡ true →
+            AnyIsTo block (find (is_of link.0 y.now.source) (pending_accesses t)) →
+            KnowsMessage brought.now (unfinished channel.D (on_link link.0 t)) →
+            HasRoom (beat.D y.now) (unfinished channel.D (on_link link.0 t)) → moment ≡ length t →
+            KnowsBlock (unwrap_or bytes self.now.bytes) n block ((link, beat.D y.now) ∷ t)) }
     {
-        let Some(access) = find(self.accesses.as_slice(), link, source) else {
-            return self.bytes.copy(alloc);
+        let Some(access) = find(self.accesses.as_slice(), link, y.source) else {
+            return Ok(None);
         };
         if !access.writer.asked.request.opcode.carries_data() {
-            return self.bytes.copy(alloc);
+            return Ok(None);
         }
         let standing = self.bytes.standing(&access.windows);
-        let write = written(&access.writer, answer);
-        self.bytes.with(alloc, &write, standing, moment)
+        let write = written(&access.writer, &brought.with(&Beat::D(*y)));
+        let bytes = self.bytes.with(alloc, &write, standing, moment)?;
+        Ok(Some(bytes))
     }
 
-    /// It with a beat, after so many, that completes this answer to the access with this source on a link,
-    /// where one is pending.
+    /// What a beat makes of it, after so many, that completes the answer to an access on a link, where one is pending:
+    /// this is what the beats before it brought.
     pub fn answered(
         &self,
         alloc: Global,
         link: Link,
-        source: u8,
-        answer: &CarriedMessage,
+        y: &BeatD<W>,
+        brought: &CarriedMessage,
         moment: u64,
-    ) -> Result<Self, AllocError>
+    ) -> Result<NextState<W>, AllocError>
         requires { IsWidth W }
-        ensures { IfOk result (λ s. (n block : ℕ) (y : BeatD W) (t : Trace W) →
-            KnowsState self.now n block t t → tells block (beat.D y) (on_link link.0 t) ≡ false →
-            ends_request y (on_link link.0 t) ≡ true → source ≡ y.source →
-            AnyIsTo block (find (is_of link.0 source) (pending_accesses t)) →
-            KnowsMessage answer.now (beat.D y ∷ unfinished channel.D (on_link link.0 t)) → moment ≡ length t →
-            KnowsState s n block t ((link, beat.D y) ∷ t)) }
+        ensures { IfOk result (λ next. (n block : ℕ) (t : Trace W) →
+            KnowsState self.now n block t t → tells block (beat.D y.now) (on_link link.0 t) ≡ false →
+            ends_request y.now (on_link link.0 t) ≡ true →
+            AnyIsTo block (find (is_of link.0 y.now.source) (pending_accesses t)) →
+            KnowsMessage brought.now (unfinished channel.D (on_link link.0 t)) →
+            HasRoom (beat.D y.now) (unfinished channel.D (on_link link.0 t)) → moment ≡ length t →
+            KnowsState (with_next self.now next) n block t ((link, beat.D y.now) ∷ t)) }
     {
-        let bytes = self.bytes_answered(alloc, link, source, answer, moment)?;
-        self.with_bytes(alloc, bytes, Some((link, source)))
+        let bytes = self.bytes_answered(alloc, link, y, brought, moment)?;
+        self.with_bytes(alloc, bytes, Some((link, y.source)))
     }
 
     /// Sees whether it is free for writing with a beat, at this moment.
@@ -209,49 +238,59 @@ impl<const W: usize> BlockState<W> {
         watch(&mut self.accesses, free, moment);
     }
 
-    /// It with a beat that completes the request of an access to it.
-    pub fn asked(&self, alloc: Global, asked: Asked<W>) -> Result<Self, AllocError>
+    /// What a beat makes of it that completes the request of an access to it.
+    pub fn asked(&self, alloc: Global, asked: Asked<W>) -> Result<NextState<W>, AllocError>
         requires { IsWidth W }
-        ensures { IfOk result (λ s. (n block : ℕ) (link : Link) (y : BeatA W) (access : Access W) (t : Trace W) →
+        ensures { IfOk result (λ next. (n block : ℕ) (link : Link) (y : BeatA W) (access : Access W) (t : Trace W) →
             KnowsState self.now n block t t →
             pending_accesses ((link, beat.A y) ∷ t) ≡ access ∷ pending_accesses t →
             IsAsked asked.entry access → IsLawful access → WritesInside access →
             block_at access.request.address ≡ block → access.asked ≡ suc (length t) →
-            KnowsState s n block ((link, beat.A y) ∷ t) ((link, beat.A y) ∷ t)) }
+            KnowsState (with_next self.now next) n block ((link, beat.A y) ∷ t) ((link, beat.A y) ∷ t)) }
     {
-        let bytes = self.bytes.copy(alloc)?;
         let writer = Writer {
             asked,
             write: pending_write(&asked),
         };
         let windows = WritingWindows::new(self.free, asked.moment, self.last_free);
         let before = self.accesses.as_slice();
-        let mut accesses = Vec::new(alloc);
-        accesses.push(PendingAccess::new(alloc, &writer, windows, &bytes, before)?)?;
+        let mut accesses = Vec::with_capacity(alloc, before.len().saturating_add(1))?;
+        accesses.push(PendingAccess::new(alloc, &writer, windows, &self.bytes, before)?)?;
         append_staying(alloc, &mut accesses, before, None)?;
         write(&mut accesses, &writer)?;
-        Ok(BlockState {
-            bytes,
+        Ok(NextState {
+            bytes: None,
             accesses,
-            free: self.free,
-            last_free: self.last_free,
         })
     }
 
-    /// This state, or the one that was.
-    fn put(&mut self, next: Option<Self>)
-        ensures { self.new ≡ unwrap_or next.entry self.old }
+    /// With these bytes, where they are told.
+    fn put_bytes(&mut self, bytes: Option<BlockBytes>)
+        ensures bytes { self.new.bytes ≡ unwrap_or bytes self.old.bytes }
+        ensures accesses { self.new.accesses ≡ self.old.accesses }
+        ensures free { self.new.free ≡ self.old.free }
+        ensures last_free { self.new.last_free ≡ self.old.last_free }
     {
-        if let Some(next) = next {
-            *self = next;
+        if let Some(bytes) = bytes {
+            self.bytes = bytes;
         }
     }
 
-    /// Takes a beat, at this moment: with it this is the state, or it stays as it was. Whether the block is free
-    /// for writing with the beat is told beside it, where that isn't in the state.
-    pub fn take(&mut self, next: Option<Self>, free: Option<bool>, moment: u64)
+    /// With what a beat makes of it, where that is anything.
+    fn put(&mut self, next: Option<NextState<W>>)
+        ensures { self.new ≡ put_next self.old next.entry }
+    {
+        if let Some(NextState { bytes, accesses }) = next {
+            self.put_bytes(bytes);
+            self.accesses = accesses;
+        }
+    }
+
+    /// Takes a beat, at this moment, that makes this of it, or leaves it as it was. Whether the block is free for
+    /// writing with the beat is told beside it, where that isn't in the state.
+    pub fn take(&mut self, next: Option<NextState<W>>, free: Option<bool>, moment: u64)
         ensures { (n block : ℕ) (x : Link × Beat W) (t : Trace W) → KnowsState self.old n block t t →
-            moment ≡ suc (length t) → IsNext next.entry free n block x t →
+            moment ≡ suc (length t) → IsNext next.entry free self.old n block x t →
             KnowsState self.new n block (x ∷ t) (x ∷ t) }
     {
         self.put(next);

@@ -1,31 +1,40 @@
 //! What is kept of all blocks.
 
-ghost use Rattle.std.specs.Prelude.{ℕ, suc, true, false, [], ◌∷◌, ◌≡◌, ◌==◌, length, is_some, OnOk, option_copied};
+ghost use Rattle.std.specs.Prelude.{ℕ, suc, true, false, [], ◌∷◌, ◌≡◌, ◌==◌, length, IfOk, option_copied};
+ghost use Rattle.std.specs.Prelude.{slice_get, Some};
 ghost use Rattle.tl_beat.specs.declared.beat.Beat.{Beat};
 ghost use Rattle.tl_beat.specs.declared.beat.Link.{Link};
 ghost use Rattle.tl_rules.specs.statement.Conformance.{Trace};
+ghost use Rattle.tl_memory.specs.declared.block.BlockState.{BlockState};
 
-use crate::block::BlockState;
+use crate::block::{BlockState, NextState};
 use std::alloc::{AllocError, Global};
 use std::collections::BTreeMap;
 
 /// What is kept of blocks; nothing of one that no beat bore on.
 #[derive(Drop)]
 pub struct Blocks<const W: usize> {
-    states: BTreeMap<u32, BlockState<W>>,
+    /// Their states, in the order in which beats came to bear on them.
+    states: Vec<BlockState<W>>,
+    /// The place of each among these.
+    places: BTreeMap<u32, usize>,
+    /// The block that was met last, and its place.
+    last: Option<(u32, usize)>,
 }
 
 impl<const W: usize> Blocks<W> {
     ghost use Rattle.tl_memory.specs.code.Elsewhere.{PassesBy};
     ghost use Rattle.tl_memory.specs.code.Taking.{IsNext};
-    ghost use Rattle.tl_memory.specs.statement.Blocks.{KnowsBlocks, state_in};
+    ghost use Rattle.tl_memory.specs.statement.Blocks.{KnowsBlocks, place_in, state_in};
 
     /// Nothing of any block.
     pub fn new(alloc: Global) -> Self
         ensures { (n : ℕ) → KnowsBlocks result n [] }
     {
         Blocks {
-            states: BTreeMap::new(alloc),
+            states: Vec::new(alloc),
+            places: BTreeMap::new(alloc),
+            last: None,
         }
     }
 
@@ -33,32 +42,71 @@ impl<const W: usize> Blocks<W> {
     pub fn get(&self, block: u32) -> Option<&BlockState<W>>
         ensures { option_copied result ≡ state_in self.now block }
     {
-        self.states.get(&block)
+        match self.places.get(&block) {
+            None => None,
+            Some(place) => self.at(*place),
+        }
     }
 
-    /// Keeps a state of a block, where none was. With memory or without it, what is known stays so.
-    pub fn meet(&mut self, alloc: Global, block: u32) -> Result<(), AllocError>
-        ensures known { (n : ℕ) (t : Trace W) → KnowsBlocks self.old n t → KnowsBlocks self.new n t }
-        ensures met { OnOk result (is_some (state_in self.new block) ≡ true) }
+    /// The state at a place, where there is one.
+    pub fn at(&self, place: usize) -> Option<&BlockState<W>>
+        ensures { option_copied result ≡ slice_get self.now.states.items place }
     {
-        if self.states.contains_key(&block) {
-            return Ok(());
+        self.states.get(place)
+    }
+
+    /// The place of a block, of which a state is kept from now on.
+    fn find(&mut self, alloc: Global, block: u32) -> Result<usize, AllocError>
+        ensures known { (n : ℕ) (t : Trace W) → KnowsBlocks self.old n t → KnowsBlocks self.new n t }
+        ensures found { IfOk result (λ place. place_in self.new block ≡ Some place) }
+    {
+        if let Some(place) = self.places.get(&block) {
+            return Ok(*place);
         }
-        match self.states.insert(block, BlockState::new(alloc)) {
-            Ok(_) => Ok(()),
-            Err(_) => Err(AllocError),
+        let place = self.states.len();
+        self.states.push(BlockState::new(alloc))?;
+        match self.places.insert(block, place) {
+            Ok(_) => Ok(place),
+            Err(_) => {
+                self.states.truncate(place);
+                Err(AllocError)
+            }
         }
     }
 
-    /// Takes a beat, at this moment, that bears on this block alone, of which a state is kept: with the beat that
-    /// is this one, or stays, and the block is free for writing or isn't, where that isn't in the state.
-    pub fn take(&mut self, block: u32, next: Option<BlockState<W>>, free: Option<bool>, moment: u64)
-        ensures { (n : ℕ) (x : Link × Beat W) (t : Trace W) → KnowsBlocks self.old n t →
-            is_some (state_in self.old block) ≡ true → moment ≡ suc (length t) →
-            IsNext next.entry free n block x t →
+    /// Keeps a state of a block, where none was: its place. It searches where another was met last. With memory or
+    /// without it, what is known stays so.
+    pub fn meet(&mut self, alloc: Global, block: u32) -> Result<usize, AllocError>
+        ensures known { (n : ℕ) (t : Trace W) → KnowsBlocks self.old n t → KnowsBlocks self.new n t }
+        ensures met { IfOk result (λ place. (n : ℕ) (t : Trace W) → KnowsBlocks self.old n t →
+            place_in self.new block ≡ Some place) }
+    {
+        if let Some((last, place)) = self.last {
+            if last == block {
+                return Ok(place);
+            }
+        }
+        let place = self.find(alloc, block)?;
+        self.last = Some((block, place));
+        Ok(place)
+    }
+
+    /// Takes a beat, at this moment, that bears on the block at this place alone: it makes this of the state, or leaves
+    /// it, and the block is free for writing or isn't, where that isn't in the state.
+    pub fn take(
+        &mut self,
+        place: usize,
+        next: Option<NextState<W>>,
+        free: Option<bool>,
+        moment: u64,
+    )
+        ensures { (n block : ℕ) (x : Link × Beat W) (t : Trace W) → KnowsBlocks self.old n t →
+            place_in self.old block ≡ Some place → moment ≡ suc (length t) →
+            ((s : BlockState W) → slice_get self.old.states.items place ≡ Some s →
+            IsNext next.entry free s n block x t) →
             ((other : ℕ) → (other == block) ≡ false → PassesBy other x t) → KnowsBlocks self.new n (x ∷ t) }
     {
-        if let Some(state) = self.states.get_mut(&block) {
+        if let Some(state) = self.states.get_mut(place) {
             state.take(next, free, moment);
         }
     }

@@ -58,6 +58,9 @@ impl Expected {
         ensures { base_of W self.now.address + W * beats + W ≤ 64 →
             result ≡ each_from (allows self.now) (W * (self.now.address / W) + W * beats) (lanes_of (beat.D x.now)) }
     {
+        if self.bytes.is_open() {
+            return true;
+        }
         match &x.lanes {
             None => true,
             Some(lanes) => {

@@ -22,7 +22,7 @@ ghost use Rattle.tl_memory.specs.code.Lines.{told_by};
 ghost use Rattle.tl_memory.specs.code.Taking.{request_answered};
 
 use crate::begun::begun_with;
-use crate::block::BlockState;
+use crate::block::NextState;
 use crate::blocks::Blocks;
 use crate::expected::Expected;
 use crate::links::Links;
@@ -80,8 +80,10 @@ pub struct Change<const W: usize> {
     block: Option<u32>,
     /// The same, where its link may hold more or less of it with the beat.
     pub held: Option<u32>,
-    /// The state of that block with it, where more of it changes than how free it is.
-    next: Option<BlockState<W>>,
+    /// The place of that block among those of which a state is kept.
+    place: usize,
+    /// What it makes of the state of that block, where more of that changes than how free it is.
+    next: Option<NextState<W>>,
     /// What the response may bring that begins with it.
     expected: Option<Expected>,
 }
@@ -96,6 +98,7 @@ impl<const W: usize> Change<W> {
         Change {
             block: None,
             held: None,
+            place: 0,
             next: None,
             expected: None,
         }
@@ -112,7 +115,7 @@ pub struct Memory<const W: usize> {
 
 impl<const W: usize> Memory<W> {
     ghost use Rattle.tl_memory.specs.code.Changing.{IsChange};
-    ghost use Rattle.tl_memory.specs.statement.Blocks.{state_in};
+    ghost use Rattle.tl_memory.specs.statement.Blocks.{place_in, state_in};
     ghost use Rattle.tl_memory.specs.statement.Expecting.{ExpectsResponse};
     ghost use Rattle.tl_memory.specs.statement.Links.{AreLegal};
     ghost use Rattle.tl_memory.specs.statement.Memory.{KnowsMemory};
@@ -132,6 +135,7 @@ impl<const W: usize> Memory<W> {
     fn changed(
         &self,
         block: u32,
+        place: usize,
         link: Link,
         x: &Beat<W>,
         asked: Option<Request>,
@@ -143,11 +147,11 @@ impl<const W: usize> Memory<W> {
             KnowsMemory self.now (length levels) t → AreLegal levels p t →
             broken_on_link levels p (link, x.now) t ≡ None → asked ≡ request_answered x.now (on_link link.0 t) →
             moment ≡ suc (length t) → elsewhere.block_borne x.now (on_link link.0 t) ≡ Some block →
-            is_some (state_in self.now.blocks block) ≡ true →
+            place_in self.now.blocks block ≡ Some place →
             IsChange change self.now (length levels) (link, x.now) t) }
     {
         prove_typed(x);
-        let Some(state) = self.blocks.get(block) else {
+        let Some(state) = self.blocks.at(place) else {
             return Ok(Change::none());
         };
         let Some(known) = self.links.get(link) else {
@@ -158,6 +162,7 @@ impl<const W: usize> Memory<W> {
         Ok(Change {
             block: Some(block),
             held: held_of(block, changes_held(x, &known.messages)),
+            place,
             next,
             expected,
         })
@@ -189,8 +194,8 @@ impl<const W: usize> Memory<W> {
         let Some(block) = block_borne(x, asked) else {
             return Ok(Change::none());
         };
-        self.blocks.meet(self.alloc, block)?;
-        self.changed(block, link, x, asked, moment)
+        let place = self.blocks.meet(self.alloc, block)?;
+        self.changed(block, place, link, x, asked, moment)
     }
 
     /// Whether the bytes of a response's beat are true, where this is what the beat changes.
@@ -227,8 +232,8 @@ impl<const W: usize> Memory<W> {
     {
         prove_typed(x);
         self.links.take(change.expected, link, x);
-        if let Some(block) = change.block {
-            self.blocks.take(block, change.next, free, moment);
+        if change.block.is_some() {
+            self.blocks.take(change.place, change.next, free, moment);
         }
     }
 

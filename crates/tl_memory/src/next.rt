@@ -21,7 +21,7 @@ ghost use Rattle.tl_memory.specs.statement.Known.{HasRoom, KnowsMessage, KnowsSt
 ghost use Rattle.tl_memory.specs.statement.Links.{KnowsMessages};
 
 use crate::access::{Asked, is_access};
-use crate::block::BlockState;
+use crate::block::{BlockState, NextState};
 use crate::link::LinkMessages;
 use crate::message::CarriedMessage;
 use std::alloc::{AllocError, Global};
@@ -48,8 +48,8 @@ fn completes_access<const W: usize>(y: &BeatA<W>, brought: &CarriedMessage) -> b
     both(is_access(y.opcode), brought.completes(&Beat::A(*y)))
 }
 
-/// The state with a beat of channel A, at this moment, where an access is complete with it: this is what the beats
-/// before it of its message brought.
+/// What a beat of channel A makes of the state, at this moment, where an access is complete with it: this is what the
+/// beats before it of its message brought.
 pub fn after_request<const W: usize>(
     alloc: Global,
     state: &BlockState<W>,
@@ -57,13 +57,13 @@ pub fn after_request<const W: usize>(
     y: &BeatA<W>,
     brought: &CarriedMessage,
     moment: u64,
-) -> Result<Option<BlockState<W>>, AllocError>
+) -> Result<Option<NextState<W>>, AllocError>
     requires width { IsWidth W }
     requires small { y.now.size ≤ 6 }
     ensures { IfOk result (λ next. (n block : ℕ) (t : Trace W) → KnowsState state.now n block t t →
         KnowsMessage brought.now (unfinished channel.A (on_link link.0 t)) → IsRequested link.0 y.now t →
         block_at y.now.address ≡ block → moment ≡ suc (length t) →
-        IsNext next None n block (link, beat.A y.now) t) }
+        IsNext next None state.now n block (link, beat.A y.now) t) }
 {
     if !completes_access(y, brought) {
         return Ok(None);
@@ -83,14 +83,14 @@ fn completes_data<const W: usize>(y: &BeatC<W>, brought: &CarriedMessage) -> boo
     both(y.opcode.carries_data(), brought.completes(&Beat::C(*y)))
 }
 
-/// The state with a beat of channel C, before which so many were taken, where data are complete with it.
+/// What a beat of channel C makes of the state, before which so many were taken, where data are complete with it.
 pub fn after_report<const W: usize>(
     alloc: Global,
     state: &BlockState<W>,
     y: &BeatC<W>,
     brought: &CarriedMessage,
     moment: u64,
-) -> Result<Option<BlockState<W>>, AllocError>
+) -> Result<Option<NextState<W>>, AllocError>
     requires width { IsWidth W }
     requires small { y.now.size ≤ 6 }
     ensures { IfOk result (λ next. (n block : ℕ) (link : Link) (free : Bool) (t : Trace W) →
@@ -99,7 +99,7 @@ pub fn after_report<const W: usize>(
         HasRoom (beat.C y.now) (unfinished channel.C (on_link link.0 t)) →
         block_at y.now.address ≡ block → moment ≡ length t →
         free ≡ is_free n None perm.Trunk block ((link, beat.C y.now) ∷ t) →
-        IsNext next (Some free) n block (link, beat.C y.now) t) }
+        IsNext next (Some free) state.now n block (link, beat.C y.now) t) }
 {
     if !completes_data(y, brought) {
         return Ok(None);
@@ -119,8 +119,8 @@ fn tells(opcode: OpD, asked: OpA) -> bool
     }
 }
 
-/// The state with a beat of channel D, before which so many were taken, where an answer to an access is complete
-/// with it, or a Grant that tells what the block has.
+/// What a beat of channel D makes of the state, before which so many were taken, where an answer to an access is
+/// complete with it, or a Grant that tells what the block has.
 pub fn after_response<const W: usize>(
     alloc: Global,
     state: &BlockState<W>,
@@ -129,7 +129,7 @@ pub fn after_response<const W: usize>(
     asked: Request,
     brought: &CarriedMessage,
     moment: u64,
-) -> Result<Option<BlockState<W>>, AllocError>
+) -> Result<Option<NextState<W>>, AllocError>
     requires width { IsWidth W }
     requires small { y.now.size ≤ 6 }
     ensures { IfOk result (λ next. (n block : ℕ) (free : Bool) (t : Trace W) →
@@ -137,24 +137,24 @@ pub fn after_response<const W: usize>(
         KnowsMessage brought.now (unfinished channel.D (on_link link.0 t)) → IsResponse link.0 y.now asked t →
         asked.block ≡ block → moment ≡ length t →
         free ≡ is_free n None perm.Trunk block ((link, beat.D y.now) ∷ t) →
-        IsNext next (Some free) n block (link, beat.D y.now) t) }
+        IsNext next (Some free) state.now n block (link, beat.D y.now) t) }
 {
     let beat = Beat::D(*y);
     if !brought.completes(&beat) {
         return Ok(None);
     }
-    let all = brought.with(&beat);
     if tells(y.opcode, asked.opcode) {
+        let all = brought.with(&beat);
         return Ok(Some(state.told(alloc, all.bytes.bytes(), moment)?));
     }
     if is_access(asked.opcode) {
-        return Ok(Some(state.answered(alloc, link, y.source, &all, moment)?));
+        return Ok(Some(state.answered(alloc, link, y, brought, moment)?));
     }
     Ok(None)
 }
 
-/// The state with a beat that bears on its block, at this moment, where that changes more of it than how free it
-/// is: this is the request that the beat answers, and these are the messages that aren't complete on its link.
+/// What a beat makes of the state that bears on its block, at this moment, where that changes more of it than how free
+/// it is: this is the request that the beat answers, and these are the messages that aren't complete on its link.
 pub fn after_beat<const W: usize>(
     alloc: Global,
     state: &BlockState<W>,
@@ -163,14 +163,14 @@ pub fn after_beat<const W: usize>(
     asked: Option<Request>,
     messages: &LinkMessages,
     moment: u64,
-) -> Result<Option<BlockState<W>>, AllocError>
+) -> Result<Option<NextState<W>>, AllocError>
     requires width { IsWidth W }
     requires small { IsTrue (Part.is_small beat.now) }
     ensures { IfOk result (λ next. (n block : ℕ) (free : Option Bool) (t : Trace W) →
         KnowsState state.now n block t t → KnowsMessages messages.now (on_link link.0 t) →
         IsLegalBeat link.0 beat.now t → asked ≡ request_answered beat.now (on_link link.0 t) →
         block_borne beat.now (on_link link.0 t) ≡ Some block → moment ≡ suc (length t) →
-        IsSeen free n block (link, beat.now) t → IsNext next free n block (link, beat.now) t) }
+        IsSeen free n block (link, beat.now) t → IsNext next free state.now n block (link, beat.now) t) }
 {
     let before = moment.saturating_sub(1);
     match beat {

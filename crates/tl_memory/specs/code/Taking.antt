@@ -1,5 +1,6 @@
 -- What beats make of the states of blocks.
-use Rattle.std.specs.Prelude.{ℕ, suc, Bool, true, false, [], ◌∷◌, ◌&&◌, ◌≡◌, length, List, Option, Some, None, ⊤}
+use Rattle.std.specs.Prelude.{ℕ, suc, Bool, true, false, [], ◌∷◌, ◌&&◌, ◌≡◌, length, List, Option, Some, None}
+use Rattle.std.specs.Prelude.{unwrap_or, ⊤}
 use Rattle.tl_beat.specs.declared.beat.Beat.{Beat}
 use Rattle.tl_beat.specs.declared.beat.Beat.TheVariants as beat
 use Rattle.tl_beat.specs.declared.beat.BeatA.{BeatA}
@@ -20,16 +21,32 @@ use Rattle.tl_rules.specs.statement.Windows.{is_free}
 use Rattle.tl_bytes.specs.statement.Bytes.{Access, asked_by, is_access, is_of, is_perm_only, pending_accesses}
 use Rattle.tl_memory.specs.code.Elsewhere.{IsElsewhere, LeavesHeld, PassesBy}
 use Rattle.tl_memory.specs.declared.block.BlockState.{BlockState}
+use Rattle.tl_memory.specs.declared.block.NextState.{NextState}
 use Rattle.tl_memory.specs.statement.Known.{AreWide, HasRoom, IsLawful, KnowsState, WritesInside}
 
--- This is the state of the block with a beat, or that stays as it was. Whether the block is free for writing with
--- the beat is told beside it, where that isn't in the state.
-abbrev pub IsNext : {w : ℕ} → Option (BlockState w) → Option Bool → ℕ → ℕ → Link × Beat w → Trace w → Type 0
-IsNext None None n block x t = PassesBy block x t
-IsNext None (Some free) n block x t = IsElsewhere block x t × (free ≡ is_free n None perm.Trunk block (x ∷ t))
-IsNext (Some s) None n block x t = KnowsState s n block (x ∷ t) (x ∷ t)
-IsNext (Some s) (Some free) n block x t =
-    KnowsState s n block t (x ∷ t) × (free ≡ is_free n None perm.Trunk block (x ∷ t))
+-- the state of a block with what a beat makes of it
+abbrev pub with_next : {w : ℕ} → BlockState w → NextState w → BlockState w
+with_next s next = record {
+  bytes = unwrap_or next.bytes s.bytes;
+  accesses = next.accesses;
+  free = s.free;
+  last_free = s.last_free;
+}
+
+-- or as it stays, where that is nothing
+abbrev pub put_next : {w : ℕ} → BlockState w → Option (NextState w) → BlockState w
+put_next s None = s
+put_next s (Some next) = with_next s next
+
+-- This is what a beat makes of the state of the block, or that stays as it was. Whether the block is free for writing
+-- with the beat is told beside it, where that isn't in the state.
+abbrev pub IsNext : {w : ℕ} → Option (NextState w) → Option Bool → BlockState w → ℕ → ℕ → Link × Beat w → Trace w
+    → Type 0
+IsNext None None s n block x t = PassesBy block x t
+IsNext None (Some free) s n block x t = IsElsewhere block x t × (free ≡ is_free n None perm.Trunk block (x ∷ t))
+IsNext (Some next) None s n block x t = KnowsState (with_next s next) n block (x ∷ t) (x ∷ t)
+IsNext (Some next) (Some free) s n block x t =
+    KnowsState (with_next s next) n block t (x ∷ t) × (free ≡ is_free n None perm.Trunk block (x ∷ t))
 
 -- How free the block is for writing with a beat is told beside its state, where its link may hold more or less of
 -- the block than before: with a beat of channel A it never does.

@@ -1,5 +1,5 @@
 -- What is known of all blocks, after what all links of a manager have carried.
-use Rattle.std.specs.Prelude.{ℕ, [], Option, Some, None}
+use Rattle.std.specs.Prelude.{ℕ, [], ◌≡◌, ◌<◌, length, Option, Some, None, slice_get}
 use Rattle.std.specs.BTreeMap.{get}
 use Rattle.std.specs.Ordering.{nat_cmp}
 use Rattle.tl_rules.specs.statement.Conformance.{Trace}
@@ -14,11 +14,27 @@ abbrev pub KnowsKept : {w : ℕ} → Option (BlockState w) → ℕ → ℕ → T
 KnowsKept {w} None n block t = (s : BlockState w) → KnowsState s n block [] [] → KnowsState s n block t t
 KnowsKept (Some s) n block t = KnowsState s n block t t
 
+-- the place of a block among the states, where one is kept
+abbrev pub place_in : {w : ℕ} → Blocks w → ℕ → Option ℕ
+place_in b block = get nat_cmp b.places block
+
+-- the state at a place, where there is one
+abbrev pub state_at : {w : ℕ} → Blocks w → Option ℕ → Option (BlockState w)
+state_at b None = None
+state_at b (Some place) = slice_get b.states.items place
+
 -- the state of a block, where one is kept
 abbrev pub state_in : {w : ℕ} → Blocks w → ℕ → Option (BlockState w)
-state_in b block = get nat_cmp b.states block
+state_in b block = state_at b (place_in b block)
+
+-- each block has a place of its own, at which a state stands; so has the one that was met last
+pub record IsTable {w : ℕ} (b : Blocks w) : Type 0 where
+  pub stand : (block place : ℕ) → place_in b block ≡ Some place → place < length b.states.items
+  pub apart : (block other place : ℕ) → place_in b block ≡ Some place → place_in b other ≡ Some place → block ≡ other
+  pub last_is : (block place : ℕ) → b.last ≡ Some (block, place) → place_in b block ≡ Some place
 
 -- it is kept of each block; each access that is pending writes in its own block alone
 pub record KnowsBlocks {w : ℕ} (b : Blocks w) (n : ℕ) (t : Trace w) : Type 0 where
+  pub table_is : IsTable b
   pub states_are : (block : ℕ) → KnowsKept (state_in b block) n block t
   pub inside : AllWriteInside (pending_accesses t)

@@ -17,5 +17,5 @@ loop-place-preserved c = record {
 }
 
 pub returns : goal.returns
-returns c = λ place lt. c.loop-place.invariant.filled place
-    (omega (arith, lt, c.loop-place-test.false, c.loop-place.auto.place-end))
+returns c = λ place lt. ap (λ l. slice_index_or l place None) c.in_ok-from_slice.ensures.items
+    ∙ c.loop-place.invariant.filled place (omega (arith, lt, c.loop-place-test.false, c.loop-place.auto.place-end))

@@ -1,4 +1,4 @@
-use Rattle.std.proofs.Common.{rules, refl, arith, sym, ◌∙◌, ◌≡◌, true, false}
+use Rattle.std.proofs.Common.{rules, arith, sym, ◌∙◌, ◌≡◌, true, false}
 use Rattle.std.specs.Prelude.{length, ◌∷◌}
 use Rattle.tl_beat.specs.declared.beat.Beat.TheVariants as beat
 use Rattle.tl_beat.specs.declared.channel.Channel.TheVariants as channel
@@ -54,11 +54,11 @@ returns-then-is_access g c = λ n block free t k message is here now seen.
     sym (c.completes.ensures burst message (omega (arith, short))) ∙ yes in
     let on : c.is_access.result ≡ true = search rules in
     let access : is_access c.args.asked.opcode ≡ true = sym c.is_access.ensures ∙ on in (
-      c.in_ok-answered.ensures n block y t k (access-untold block y c.args.asked (on_link link.0 t) is.answers_it
+      c.in_ok-answered.ensures n block t k (access-untold block y c.args.asked (on_link link.0 t) is.answers_it
           access)
-          (answer-over link y c.args.asked t is over) refl
-          (answered-there link.0 y.source block c.args.asked (pending_accesses t) is.are_asked here)
-          (c.with-all.ensures burst message is.room) now,
+          (answer-over link y c.args.asked t is over)
+          (answered-there link.0 y.source block c.args.asked (pending_accesses t) is.are_asked here) message is.room
+          now,
       seen,
     )
 

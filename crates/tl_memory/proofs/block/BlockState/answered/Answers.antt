@@ -5,7 +5,8 @@ use Rattle.tl_memory.proofs.block.BlockState.answered.Goals as goal
 
 pub returns : goal.returns
 returns g c = IfOk-weaker c.with_bytes.result _ _
-    (λ s h n block y t k quiet over source to message now.
-    h n block (c.args.link, beat.D y) t k (c.in_ok-bytes.ensures n block y t k quiet over source to message now)
-    (pending-answered c.args.link c.args.source y t over source))
+    (λ next h n block t k quiet over to message room now.
+    h n block (c.args.link, beat.D c.args.y.now) t k
+    (c.in_ok-bytes.ensures n block t k quiet over to message room now)
+    (pending-answered c.args.link c.args.y.now t over))
     c.with_bytes.ensures

@@ -18,8 +18,7 @@ returns g c = λ n block link y access t k more asked lawful inside at now.
     let items : c.append_staying.new.copies.items ≡ c.in_ok-new.field-0 ∷ copies.0 = search rules in
     let to = eq-eqb (access.request.address / 64) block at in
     let same = free-kept n block (link, beat.A y) t (request-leaves block link y t) in
-    let before = c.in_ok-bytes.ensures g.row.W n block t k.bytes_are in
-    let bytes = bytes-kept n block c.in_ok-bytes.bytes (link, beat.A y) t before refl (λ p lt. tt) in
+    let bytes = bytes-kept n block old.bytes (link, beat.A y) t k.bytes_are refl (λ p lt. tt) in
     let write = asked-write c.pending_write.result block access at (c.pending_write.ensures access asked lawful) in
     let written : MayWrite
     (writes_but c.args.asked.link.0 c.args.asked.request.source c.as_slice-before.result.now) block
@@ -33,5 +32,5 @@ returns g c = λ n block link y access t k more asked lawful inside at now.
     c.in_ok-new.ensures.writer c.in_ok-new.ensures.windows asked lawful write now windows
     (c.in_ok-new.ensures.read n block access (link, beat.A y) t now bytes written) in
     asked-state _ old n block writer c.in_ok-new.field-0 _ _ copies.0 access (link, beat.A y) t k more to inside asked
-    write same before bytes one c.in_ok-new.ensures.writer c.as_slice-before.ensures.value copies.2 items
+    write same k.bytes_are bytes one c.in_ok-new.ensures.writer c.as_slice-before.ensures.value copies.2 items
     c.in_ok-write.ensures refl refl

@@ -9,4 +9,4 @@ returns-in-Some g c = λ n block x t k now next.
 pub returns-in_default : goal.returns-in_default
 returns-in_default g c = λ n block x t k now next.
     rw c.put.ensures (next-whole c.args.self.now c.args.next n block x t k
-    (next-unseen c.args.next c.args.free n block x t c.in_default.not-Some next))
+    (next-unseen c.args.self.now c.args.next c.args.free n block x t c.in_default.not-Some next))

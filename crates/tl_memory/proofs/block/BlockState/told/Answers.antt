@@ -6,7 +6,7 @@ use Rattle.tl_memory.proofs.block.BlockState.told.Goals as goal
 
 pub returns : goal.returns
 returns g c = IfOk-weaker c.with_bytes.result _ _
-    (λ s h n block x t k tells stay now carried.
+    (λ next h n block x t k tells stay now carried.
     h n block x t k (c.in_ok-bytes.ensures g.row.W n block x t tells now carried)
     (stay ∙ keeps-all (pending_accesses t)))
     c.with_bytes.ensures

@@ -2,7 +2,7 @@ use Rattle.std.proofs.Common.{sym}
 use Rattle.tl_beat.specs.declared.channel.Channel.TheVariants as channel
 use Rattle.tl_burst.specs.statement.Messages.{unfinished}
 use Rattle.tl_rules.specs.statement.Conformance.{on_link}
-use Rattle.tl_memory.proofs.Kept.{link-kept}
+use Rattle.tl_memory.proofs.Kept.{item-there}
 use Rattle.tl_memory.proofs.memory.Memory.beats_come.Goals as goal
 
 pub returns-in-Some : goal.returns-in-Some
@@ -12,4 +12,4 @@ returns-in-Some g c = λ n t k lt.
 
 pub returns-in-None : goal.returns-in-None
 returns-in-None g c = λ n t k lt. absurd
-    (link-kept c.args.self.now.links.states.items c.args.link.0 n k.links_are.count_is lt c.in-None.ensures)
+    (item-there c.args.self.now.links.states.items c.args.link.0 n k.links_are.count_is lt c.in-None.ensures)

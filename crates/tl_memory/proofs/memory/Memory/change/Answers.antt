@@ -40,8 +40,8 @@ returns-in_default-clause-change g c = λ levels p t k legal fine asked now.
     c.none-in_default.ensures.block c.none-in_default.ensures.held c.none-in_default.ensures.expected
     (is-borne None link x t k.blocks_are.inside its unborne) (none-expected link x (length levels) t its unborne)
 
-pub returns-in_err-meet-clause-known : goal.returns-in_err-meet-clause-known
-returns-in_err-meet-clause-known g c = λ n t k. record {
+pub returns-in_err-place-clause-known : goal.returns-in_err-place-clause-known
+returns-in_err-place-clause-known g c = λ n t k. record {
   links_are = k.links_are;
   blocks_are = c.meet.ensures.known n t k.blocks_are;
   addressed = k.addressed;
@@ -63,5 +63,5 @@ returns-clause-change g c = IfOk-weaker c.changed.result _ _
       blocks_are = c.meet.ensures.known (length levels) t k.blocks_are;
       addressed = k.addressed;
     }) legal fine asked now (sym (c.block_borne.ensures (on_link c.args.link.0 t) asked) ∙ c.in-Some.is)
-    c.in_ok-meet.ensures.met)
+    (c.in_ok-place.ensures.met (length levels) t k.blocks_are))
     c.changed.ensures

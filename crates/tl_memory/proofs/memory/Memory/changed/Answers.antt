@@ -1,9 +1,10 @@
-use Rattle.std.proofs.Common.{sym, ap, ◌∙◌, length}
+use Rattle.std.proofs.Common.{rules, sym, ap, ◌∙◌, length}
 use Rattle.std.specs.Prelude.{if◌then◌else◌, Some, None}
+use Rattle.std.proofs.lemmas.Option.{same_Some}
 use Rattle.tl_rules.specs.statement.Conformance.{on_link}
+use Rattle.tl_memory.proofs.Kept.{place-kept, place-there}
 use Rattle.tl_memory.proofs.LegalBeats.{few-before}
 use Rattle.tl_memory.proofs.Memories.{is-borne, links-legal}
-use Rattle.tl_memory.proofs.Tables.{some-kept}
 use Rattle.tl_memory.proofs.Taken.{same-block}
 use Rattle.tl_memory.proofs.memory.Memory.changed.Goals as goal
 
@@ -14,8 +15,7 @@ returns g c = λ levels p t k legal fine asked now borne there.
     let x = c.args.x.now in
     let block = c.args.block in
     let messages = (k.links_are.states_are link.0 c.in-Some-get.known.now (sym c.in-Some-get.ensures)).messages_are in
-    let state = some-kept _ c.in-Some.state.now n block t (sym c.in-Some.ensures)
-    (k.blocks_are.states_are block) in
+    let state = place-kept c.args.self.now c.in-Some.state.now n block c.args.place t k there c.in-Some.ensures in
     let its = links-legal levels p link x t c.requires.width legal fine c.args.self.now.links k.links_are
     c.prove_typed.ensures.typed in
     record {
@@ -23,8 +23,13 @@ returns g c = λ levels p t k legal fine asked now borne there.
       held_is = c.held_of.ensures ∙ ap (λ b. if b then Some block else None) (c.changes_held.ensures (on_link link.0 t)
           messages (few-before levels p link t c.requires.width legal x fine));
       kept = λ other e. rw (← same-block block other e) there;
-      next_is = λ other free e seen.
+      next_is = λ other free s e found seen.
           let same = same-block block other e in
-          rw (← same) (c.in_ok-next.ensures n block free t state messages its asked borne now (rw same seen));
+          let own = same_Some c.in-Some.state.now s (c.in-Some.ensures ∙ found) in
+          rw (← same, ← own) (c.in_ok-next.ensures n block free t state messages its asked borne now (rw same seen));
       expected_is = c.in_ok-expected.ensures n t state messages.d_is its borne k.addressed;
     }
+
+pub returns-in_default : goal.returns-in_default
+returns-in_default g c = λ levels p t k legal fine asked now borne there. absurd
+    (place-there c.args.self.now (length levels) c.args.block c.args.place t k there (search rules))

@@ -1,6 +1,6 @@
 use Rattle.std.proofs.Common.{refl, sym, length}
 use Rattle.tl_beat.specs.declared.beat.Beat.TheVariants as beat
-use Rattle.tl_memory.proofs.Kept.{link-kept}
+use Rattle.tl_memory.proofs.Kept.{item-there}
 use Rattle.tl_memory.proofs.LinkTables.{link-there}
 use Rattle.tl_memory.proofs.memory.Memory.expected.Goals as goal
 
@@ -12,5 +12,5 @@ returns-in-Some g c = λ levels p x t k legal fine change.
 
 pub returns-in-None : goal.returns-in-None
 returns-in-None g c = λ levels p x t k legal fine change. absurd
-    (link-kept c.args.self.now.links.states.items c.args.link.0 (length levels) k.links_are.count_is
+    (item-there c.args.self.now.links.states.items c.args.link.0 (length levels) k.links_are.count_is
     (link-there levels p (c.args.link, beat.D x) t fine) c.in-None.ensures)

@@ -1,15 +1,15 @@
 use Rattle.std.proofs.Common.{sym}
-use Rattle.tl_memory.proofs.Kept.{link-kept}
+use Rattle.tl_memory.proofs.Kept.{item-there}
 use Rattle.tl_witness.proofs.Witnesses.{said-is, since-is}
 use Rattle.tl_witness.proofs.witness.Witness.held.Goals as goal
 
 pub returns-in-None-clause-said : goal.returns-in-None-clause-said
 returns-in-None-clause-said c = λ w n block t k lt. absurd
-    (link-kept c.args.self.now.recorders.items c.args.link n k.count_is lt c.in-None.ensures)
+    (item-there c.args.self.now.recorders.items c.args.link n k.count_is lt c.in-None.ensures)
 
 pub returns-in-None-clause-since : goal.returns-in-None-clause-since
 returns-in-None-clause-since c = λ w n block t k lt. absurd
-    (link-kept c.args.self.now.recorders.items c.args.link n k.count_is lt c.in-None.ensures)
+    (item-there c.args.self.now.recorders.items c.args.link n k.count_is lt c.in-None.ensures)
 
 pub returns-in-Some-clause-said : goal.returns-in-Some-clause-said
 returns-in-Some-clause-said c = λ w n block t k lt.

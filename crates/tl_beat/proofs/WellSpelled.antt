@@ -6,9 +6,8 @@ use Rattle.std.proofs.lemmas.List.{take-append-drop, drop_all}
 use Rattle.std.proofs.lemmas.List.Sums.{sum_by-cons}
 use Rattle.std.proofs.lemmas.Bool.{eqb-true, leb-true, and_parts}
 use Rattle.std.proofs.lemmas.Bool.Decides.{nat_tests}
-use Rattle.std.specs.Prelude.{Result, Ok, Err, Option, Some, None, ◌==◌, ◌&&◌, nat_le, slice_index, IfSome}
+use Rattle.std.specs.Prelude.{Result, Ok, Err, Option, Some, None, ◌==◌, ◌&&◌, nat_le, slice_index, IfOk}
 use Rattle.std.specs.List.{after_first}
-use Rattle.std.specs.Result.{result_ok}
 use Rattle.tl_beat.specs.declared.beat.Link.{Link}
 use Rattle.tl_beat.specs.declared.beat.Beat.{Beat}
 use Rattle.tl_beat.specs.declared.read.line.Head.{Head}
@@ -320,38 +319,37 @@ line_e-has {w} bytes x h3 h4 e =
     (front.named, omega (arith, front.spaces, none)))))
 
 -- what was read of a line that has them is what the line is read as
-read-so : {w : ℕ} (bytes : List ℕ) (r line : Result (Link × Beat w) LineFault) (o : Option (Link × Beat w)) → r ≡ line
-    → o ≡ result_ok r
-    → ((x : Link × Beat w) → line ≡ Ok x → body_at bytes ≡ line) → IfSome o (λ read. body_at bytes ≡ Ok read)
-read-so bytes (Ok x) line o same is body = rw is (body x (sym same) ∙ sym same)
-read-so bytes (Err fault) line o same is body = rw is tt
+read-so : {w : ℕ} (bytes : List ℕ) (r line : Result (Link × Beat w) LineFault) → r ≡ line
+    → ((x : Link × Beat w) → line ≡ Ok x → body_at bytes ≡ line) → IfOk r (λ read. body_at bytes ≡ Ok read)
+read-so bytes (Ok x) line same body = body x (sym same) ∙ sym same
+read-so bytes (Err fault) line same body = tt
 
-pub body-a : {w : ℕ} (bytes : List ℕ) (r : Result (Link × Beat w) LineFault) (o : Option (Link × Beat w))
+pub body-a : {w : ℕ} (bytes : List ℕ) (r : Result (Link × Beat w) LineFault)
     → slice_index bytes 3 ≡ 65 → slice_index bytes 4 ≡ 32
-    → r ≡ line_a_at bytes → o ≡ result_ok r → IfSome o (λ read. body_at bytes ≡ Ok read)
-body-a bytes r o h3 h4 same is = read-so bytes r _ o same is (λ x e. let has = line_a-has bytes x h3 h4 e in
+    → r ≡ line_a_at bytes → IfOk r (λ read. body_at bytes ≡ Ok read)
+body-a bytes r h3 h4 same = read-so bytes r _ same (λ x e. let has = line_a-has bytes x h3 h4 e in
     rw (has.1, has.0) refl)
 
-pub body-b : {w : ℕ} (bytes : List ℕ) (r : Result (Link × Beat w) LineFault) (o : Option (Link × Beat w))
+pub body-b : {w : ℕ} (bytes : List ℕ) (r : Result (Link × Beat w) LineFault)
     → slice_index bytes 3 ≡ 66 → slice_index bytes 4 ≡ 32
-    → r ≡ line_b_at bytes → o ≡ result_ok r → IfSome o (λ read. body_at bytes ≡ Ok read)
-body-b bytes r o h3 h4 same is = read-so bytes r _ o same is (λ x e. let has = line_b-has bytes x h3 h4 e in
+    → r ≡ line_b_at bytes → IfOk r (λ read. body_at bytes ≡ Ok read)
+body-b bytes r h3 h4 same = read-so bytes r _ same (λ x e. let has = line_b-has bytes x h3 h4 e in
     rw (has.1, has.0) refl)
 
-pub body-c : {w : ℕ} (bytes : List ℕ) (r : Result (Link × Beat w) LineFault) (o : Option (Link × Beat w))
+pub body-c : {w : ℕ} (bytes : List ℕ) (r : Result (Link × Beat w) LineFault)
     → slice_index bytes 3 ≡ 67 → slice_index bytes 4 ≡ 32
-    → r ≡ line_c_at bytes → o ≡ result_ok r → IfSome o (λ read. body_at bytes ≡ Ok read)
-body-c bytes r o h3 h4 same is = read-so bytes r _ o same is (λ x e. let has = line_c-has bytes x h3 h4 e in
+    → r ≡ line_c_at bytes → IfOk r (λ read. body_at bytes ≡ Ok read)
+body-c bytes r h3 h4 same = read-so bytes r _ same (λ x e. let has = line_c-has bytes x h3 h4 e in
     rw (has.1, has.0) refl)
 
-pub body-d : {w : ℕ} (bytes : List ℕ) (r : Result (Link × Beat w) LineFault) (o : Option (Link × Beat w))
+pub body-d : {w : ℕ} (bytes : List ℕ) (r : Result (Link × Beat w) LineFault)
     → slice_index bytes 3 ≡ 68 → slice_index bytes 4 ≡ 32
-    → r ≡ line_d_at bytes → o ≡ result_ok r → IfSome o (λ read. body_at bytes ≡ Ok read)
-body-d bytes r o h3 h4 same is = read-so bytes r _ o same is (λ x e. let has = line_d-has bytes x h3 h4 e in
+    → r ≡ line_d_at bytes → IfOk r (λ read. body_at bytes ≡ Ok read)
+body-d bytes r h3 h4 same = read-so bytes r _ same (λ x e. let has = line_d-has bytes x h3 h4 e in
     rw (has.1, has.0) refl)
 
-pub body-e : {w : ℕ} (bytes : List ℕ) (r : Result (Link × Beat w) LineFault) (o : Option (Link × Beat w))
+pub body-e : {w : ℕ} (bytes : List ℕ) (r : Result (Link × Beat w) LineFault)
     → slice_index bytes 3 ≡ 69 → slice_index bytes 4 ≡ 32
-    → r ≡ line_e_at bytes → o ≡ result_ok r → IfSome o (λ read. body_at bytes ≡ Ok read)
-body-e bytes r o h3 h4 same is = read-so bytes r _ o same is (λ x e. let has = line_e-has bytes x h3 h4 e in
+    → r ≡ line_e_at bytes → IfOk r (λ read. body_at bytes ≡ Ok read)
+body-e bytes r h3 h4 same = read-so bytes r _ same (λ x e. let has = line_e-has bytes x h3 h4 e in
     rw (has.1, has.0) refl)

@@ -14,7 +14,7 @@ ghost use Rattle.tl_beat.specs.statement.Width.{IsWidth};
 
 use crate::beat::{Beat, Link};
 use crate::fault::LineFault;
-use crate::read::line::{line_a, line_b, line_c, line_d, line_e};
+use crate::read::line::{any_head, line_a, line_b, line_c, line_d, line_e, spelled_head};
 
 /// The byte after the first space, if it is a field of its own.
 fn letter(bytes: &[u8]) -> Option<u8>
@@ -50,6 +50,7 @@ fn spaces(bytes: &[u8]) -> usize
 }
 
 /// The line of a channel with this letter, which has this many spaces.
+#[tactic(auto, unfolding(crate::specs::code::FromLeft::line_a_at, crate::specs::code::FromLeft::line_b_at, crate::specs::code::FromLeft::line_c_at, crate::specs::code::FromLeft::line_d_at))]
 fn line_with<const W: usize>(
     letter: Option<u8>,
     spaces: usize,
@@ -59,10 +60,22 @@ fn line_with<const W: usize>(
     ensures { result ≡ line_with letter spaces bytes.now }
 {
     match letter {
-        Some(b'A') if spaces == 9 => line_a(bytes),
-        Some(b'B') if spaces == 9 => line_b(bytes),
-        Some(b'C') if spaces == 8 => line_c(bytes),
-        Some(b'D') if spaces == 9 => line_d(bytes),
+        Some(b'A') if spaces == 9 => {
+            let (head, rest) = any_head(bytes)?;
+            line_a(head, rest)
+        }
+        Some(b'B') if spaces == 9 => {
+            let (head, rest) = any_head(bytes)?;
+            line_b(head, rest)
+        }
+        Some(b'C') if spaces == 8 => {
+            let (head, rest) = any_head(bytes)?;
+            line_c(head, rest)
+        }
+        Some(b'D') if spaces == 9 => {
+            let (head, rest) = any_head(bytes)?;
+            line_d(head, rest)
+        }
         Some(b'E') if spaces == 2 => line_e(bytes),
         Some(b'A'..=b'E') => Err(LineFault::F1),
         _ => Err(LineFault::F2),
@@ -83,19 +96,27 @@ fn any_body<const W: usize>(bytes: &[u8]) -> Result<(Link, Beat<W>), LineFault>
     line_with(letter(after_space(bytes)), spaces, bytes)
 }
 
-/// A line without its line feed that spells a beat, its letter at the fourth place.
+/// A line without its line feed, its letter at the fourth place.
 #[inline(always)]
-fn spelled_body<const W: usize>(bytes: &[u8]) -> Option<(Link, Beat<W>)>
+fn spelled_body<const W: usize>(bytes: &[u8]) -> Result<(Link, Beat<W>), LineFault>
     requires { IsWidth W }
-    ensures { IfSome result (λ read. body_at bytes.now ≡ Ok read) }
+    ensures { IfOk result (λ read. body_at bytes.now ≡ Ok read) }
 {
-    match bytes {
-        [_, _, _, b'A', b' ', ..] => line_a(bytes).ok(),
-        [_, _, _, b'B', b' ', ..] => line_b(bytes).ok(),
-        [_, _, _, b'C', b' ', ..] => line_c(bytes).ok(),
-        [_, _, _, b'D', b' ', ..] => line_d(bytes).ok(),
-        [_, _, _, b'E', b' ', ..] => line_e(bytes).ok(),
-        _ => None,
+    let [_, _, _, letter, b' ', ..] = bytes else {
+        return Err(LineFault::F1);
+    };
+    if *letter == b'E' {
+        return line_e(bytes);
+    }
+    let Some((head, rest)) = spelled_head(bytes) else {
+        return Err(LineFault::F1);
+    };
+    match *letter {
+        b'A' => line_a(head, rest),
+        b'B' => line_b(head, rest),
+        b'C' => line_c(head, rest),
+        b'D' => line_d(head, rest),
+        _ => Err(LineFault::F1),
     }
 }
 
@@ -105,10 +126,11 @@ fn body<const W: usize>(bytes: &[u8]) -> Result<(Link, Beat<W>), LineFault>
     requires { IsWidth W }
     ensures { result ≡ body_at bytes.now }
 {
-    match spelled_body(bytes) {
-        Some(read) => Ok(read),
-        None => any_body(bytes),
+    let read = spelled_body(bytes);
+    if read.is_ok() {
+        return read;
     }
+    any_body(bytes)
 }
 
 /// A line, by its length and its line feed first.
@@ -129,6 +151,7 @@ fn whole_line<const W: usize>(line: &[u8]) -> Result<(Link, Beat<W>), LineFault>
 /// Reads a line of text, its line feed included, as a link and a beat of `W` bytes (4, 8 or 16).
 /// A line that spells no beat is refused by its first fault. It reads any bytes and takes no
 /// memory, and a line of more than 256 bytes is refused unread.
+#[inline(always)]
 pub fn read_line<const W: usize>(line: &[u8]) -> Result<(Link, Beat<W>), LineFault>
     requires { IsWidth W }
 

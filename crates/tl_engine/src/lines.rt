@@ -34,6 +34,7 @@ impl From<AllocError> for ToolFault {
 }
 
 /// The first line of these bytes with its LF, and what follows it.
+#[inline(always)]
 pub(crate) fn first_line(bytes: &[u8]) -> Option<(&[u8], &[u8])>
     ensures { MatchOption result (LacksLf bytes.now) (λ parts. IsLine parts.0.now
         × (parts.0.now ++ parts.1.now ≡ bytes.now)) }

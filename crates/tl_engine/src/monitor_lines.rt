@@ -1,6 +1,8 @@
 //! Judges a recorded trace.
 
 ghost use Rattle.std.specs.Prelude.{Bool, ◌≡◌, ◌++◌, IfOk, OnOk, ⊤};
+ghost use Rattle.std.specs.Result.{result_err};
+ghost use Rattle.tl_beat.specs.statement.Line.{Spells, line_fault};
 ghost use Rattle.tl_beat.specs.statement.Width.{IsWidth};
 ghost use Rattle.tl_engine.specs.code.Watching.{Begins, JudgedSo, KnowsLines, Watches};
 ghost use Rattle.tl_engine.specs.code.Watching.{end_by, is_together, word_by};
@@ -11,6 +13,7 @@ use crate::header::read_header;
 use crate::line_handler::LineHandler;
 use itoa::Buffer;
 use std::alloc::{AllocError, Global};
+use tl_beat::beat::{Beat, Link};
 use tl_beat::fault::LineFault;
 use tl_beat::read::read_line;
 use tl_params::width::Width;
@@ -26,12 +29,22 @@ pub enum MonitorLines<const TOGETHER: usize> {
     Sixteen(BeatJudge<16>),
 }
 
+/// The beat of a line, written once where its caller wants it: put into the caller it is copied more often.
+#[inline(never)]
+fn read_beat<const W: usize>(line: &[u8]) -> Result<(Link, Beat<W>), LineFault>
+    requires { IsWidth W }
+    ensures spelled { IfOk result (λ read. Spells line.now read.0 read.1) }
+    ensures fault { result_err result ≡ line_fault W line.now }
+{
+    read_line(line)
+}
+
 /// Judges the line of the next beat. A judge that has found one at fault isn't asked again.
 fn watch<const W: usize>(judge: &mut BeatJudge<W>, line: &[u8]) -> Result<Option<Fault>, AllocError>
     requires { IsWidth W }
     ensures { IfOk result (λ fault. (together : Bool) → Watches together judge.old judge.new line.now fault) }
 {
-    match read_line(line) {
+    match read_beat(line) {
         Ok((link, beat)) => judge.push(link, &beat),
         Err(fault) => Ok(Some(Fault::Line(fault))),
     }

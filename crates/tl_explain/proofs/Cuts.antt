@@ -1,5 +1,5 @@
 -- The fields of a beat line stand at their places.
-use Rattle.std.proofs.Common.{get_or-append-add, ◌≡◌, ℕ, ◌+◌, ◌-◌, ◌/◌, List, [], ◌∷◌, ◌++◌, length, take}
+use Rattle.std.proofs.Common.{get_or-append-add, ◌≡◌, ℕ, ◌+◌, ◌-◌, ◌/◌, ◌<◌, List, [], ◌∷◌, ◌++◌, length, take}
 use Rattle.std.proofs.Common.{drop, refl, ap, ◌∙◌, arith, append_assoc, length-append, codes, inl, inr}
 use Rattle.std.specs.Prelude.{slice_range, unwrap_or, Option, Bool, true, false, slice_index}
 use Rattle.std.proofs.lemmas.List.{length-drop, take_all}
@@ -25,6 +25,19 @@ tail_of_three d a b =
     let back : length (d ++ a ∷ b ∷ 10 ∷ []) - 2 ≡ length d + 1 = omega (arith, length-append d (a ∷ b ∷ 10 ∷ [])) in
     rw (front, back, take-append_seam d (a ∷ b ∷ 10 ∷ []), get_or-append-add d (a ∷ b ∷ 10 ∷ []) 1 0) refl
 
+first_of : (tail : List ℕ) → 0 < length tail → take 1 tail ≡ slice_index tail 0 ∷ []
+first_of [] some = absurd (omega arith)
+first_of (c ∷ cs) some = refl
+
+-- data of one byte, corrupt and the line feed
+pub tail_of_four : (tail : List ℕ) → length tail ≡ 4
+    → tail_text tail ≡ codes " data=" ++ slice_index tail 0 ∷ (codes " corrupt=" ++ slice_index tail 2 ∷ 10 ∷ [])
+unfolding tail_text
+tail_of_four tail four =
+    let front : length tail - 3 ≡ 1 = omega arith in
+    let back : length tail - 2 ≡ 2 = omega arith in
+    rw (front, back, first_of tail (omega arith)) refl
+
 tail_is : (d : List ℕ) (bit : Bool) → tail_text ((d ++ 32 ∷ bit_text bit) ++ 10 ∷ []) ≡ codes
     " data=" ++ (d ++ (codes " corrupt=" ++ (bit_text bit ++ 10 ∷ [])))
 tail_is d false = ap tail_text (append_assoc d (32 ∷ 48 ∷ []) (10 ∷ [])) ∙ tail_of_three d 32 48
@@ -36,14 +49,14 @@ four_parts a b c d rest = simp append_assoc
 
 head_then : (line name : List ℕ) (param : Option (List ℕ)) (rest : List ℕ)
     → head_text line name param ++ rest ≡ take FIRST_FIELD
-    line ++ (name ++ (32 ∷ (unwrap_or param (slice_range line PARAM (PARAM + 1)) ++ rest)))
+    line ++ (name ++ (32 ∷ (unwrap_or param (slice_index line PARAM ∷ []) ++ rest)))
 unfolding head_text
 head_then line name param rest =
-    four_parts (take FIRST_FIELD line) name (32 ∷ []) (unwrap_or param (slice_range line PARAM (PARAM + 1))) rest
+    four_parts (take FIRST_FIELD line) name (32 ∷ []) (unwrap_or param (slice_index line PARAM ∷ [])) rest
 
 request_then : (m : ℕ) (line name : List ℕ) (param : Option (List ℕ))
     → request_text m line name param ≡ take FIRST_FIELD
-    line ++ (name ++ (32 ∷ (unwrap_or param (slice_range line PARAM (PARAM + 1))
+    line ++ (name ++ (32 ∷ (unwrap_or param (slice_index line PARAM ∷ [])
     ++ (size_and_source line (address_text line [])
     ++ (codes " mask=" ++ (slice_range line BEHIND_ADDRESS (BEHIND_ADDRESS + m) ++ tail_text
     (drop (BEHIND_ADDRESS + m + 1) line)))))))
@@ -98,7 +111,7 @@ request_is w (inr (inr sixteen)) = rw sixteen request_four
 -- the same of channel C
 release_then : (line name : List ℕ) (param : Option (List ℕ))
     → release_text line name param ≡ take FIRST_FIELD
-    line ++ (name ++ (32 ∷ (unwrap_or param (slice_range line PARAM (PARAM + 1))
+    line ++ (name ++ (32 ∷ (unwrap_or param (slice_index line PARAM ∷ [])
     ++ (size_and_source line (address_text line []) ++ tail_text (drop BEHIND_ADDRESS line)))))
 unfolding release_text
 release_then line name param = append_assoc (head_text line name param) _ _ ∙ head_then line name param _ ∙ rw
@@ -120,7 +133,7 @@ release_is link opcode name known param size source address d corrupt =
 -- of channel D
 response_then : (line name : List ℕ) (param : Option (List ℕ))
     → response_text line name param ≡ take FIRST_FIELD
-    line ++ (name ++ (32 ∷ (unwrap_or param (slice_range line PARAM (PARAM + 1))
+    line ++ (name ++ (32 ∷ (unwrap_or param (slice_index line PARAM ∷ [])
     ++ (size_and_source line (codes " sink=" ++ slice_index line SINK ∷ slice_index line (SINK + 1)
     ∷ (codes " denied=" ++ slice_index line DENIED ∷ [])) ++ tail_text (drop BEHIND_DENIED line)))))
 unfolding response_text

@@ -1,7 +1,7 @@
 //! Writes a beat line as a readable line. The digits are those of the beat line.
 
 ghost use Rattle.std.specs.Prelude.{◌≡◌, ◌+◌, ◌<◌, ◌≤◌, ◌/◌, ◌++◌, length, OnOk, option_map};
-ghost use Rattle.std.specs.Prelude.{unwrap_or, slice_index, slice_range, codes, [], ◌∷◌};
+ghost use Rattle.std.specs.Prelude.{unwrap_or, slice_index, codes, [], ◌∷◌};
 ghost use Rattle.tl_beat.specs.declared.beat.Link.{Link};
 ghost use Rattle.tl_beat.specs.statement.Line.{Spells};
 ghost use Rattle.tl_beat.specs.statement.Width.{IsWidth};
@@ -31,16 +31,10 @@ const DENIED_DIGIT: usize = 33;
 
 const CORRUPT_DIGIT: usize = 9;
 
-/// A param by its name, or by its digit in the line where it has none.
-fn param_text<'a>(line: &'a [u8], param: Option<&'a str>) -> &'a [u8]
-    requires { PARAM < length line.now }
-    ensures { result.now ≡ unwrap_or (option_map (λ s. s.now) param.entry) (slice_range line.now PARAM (PARAM + 1)) }
-{
-    match param {
-        Some(name) => name.as_bytes(),
-        None => &line[PARAM..PARAM + 1],
-    }
-}
+/// The bytes in the words of `append_dash`.
+const DASH: usize = 6;
+
+const DASH_CORRUPT: usize = 16;
 
 /// Appends bytes that there is room for.
 #[inline(always)]
@@ -50,6 +44,19 @@ fn append(text: &mut ArrayVec<u8, 128>, bytes: &[u8])
     ensures len { length text.new.items ≡ length text.old.items + length bytes.now }
 {
     let _ = text.try_extend_from_slice(bytes);
+}
+
+/// A param by its name, or by its digit where it has none.
+#[inline(always)]
+fn append_param(text: &mut ArrayVec<u8, 128>, digit: u8, param: Option<&str>)
+    requires { (length text.old.items < 32) × IsShort (option_map (λ s. s.now) param) }
+    ensures text { text.new.items ≡ text.old.items ++ unwrap_or (option_map (λ s. s.now) param.entry) (digit ∷ []) }
+    ensures len { length text.new.items ≤ length text.old.items + 13 }
+{
+    match param {
+        Some(name) => append(text, name.as_bytes()),
+        None => text.push(digit),
+    }
 }
 
 /// Link, channel, name and param.
@@ -65,7 +72,7 @@ fn append_head(text: &mut ArrayVec<u8, 128>, line: &[u8], name: &str, param: Opt
     append(text, &line[..FIRST_FIELD]);
     append(text, name.as_bytes());
     text.push(b' ');
-    append(text, param_text(line, param));
+    append_param(text, line[PARAM], param);
 }
 
 /// Size, source and address of a line of channels A to C.
@@ -108,6 +115,19 @@ fn sink_block(line: &[u8]) -> [u8; 34]
     block
 }
 
+/// The dash of no data, and the corrupt bit.
+#[inline(always)]
+fn append_dash(text: &mut ArrayVec<u8, 128>, tail: &[u8])
+    requires four { length tail.now ≡ 4 }
+    requires room { length text.old.items + 18 ≤ 128 }
+    ensures { text.new.items ≡ text.old.items ++ tail_text tail.now }
+{
+    let mut end = *b" data=- corrupt=0\n";
+    end[DASH] = tail[0];
+    end[DASH_CORRUPT] = tail[2];
+    append(text, &end);
+}
+
 /// Data and the corrupt bit.
 #[inline(always)]
 #[tactic(auto, unfolding(crate::specs::code::Cuts::tail_text))]
@@ -117,6 +137,9 @@ fn append_tail<const W: usize>(text: &mut ArrayVec<u8, 128>, tail: &[u8])
     requires room { length text.old.items + length tail.now + 14 ≤ 128 }
     ensures { text.new.items ≡ text.old.items ++ tail_text tail.now }
 {
+    if tail.len() == 4 {
+        return append_dash(text, tail);
+    }
     let mut end = *b" corrupt=0\n";
     end[CORRUPT_DIGIT] = tail[tail.len() - CORRUPT];
     let data = &tail[..tail.len() - DATA_END];

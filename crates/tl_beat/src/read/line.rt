@@ -1,6 +1,6 @@
 //! Reading the line of each channel.
 
-ghost use Rattle.std.specs.Prelude.{◌≡◌, ◌<◌, ◌/◌, ◌^◌, IfOk, IfSome, Ok, drop};
+ghost use Rattle.std.specs.Prelude.{◌≡◌, ◌<◌, ◌/◌, ◌^◌, ℕ, List, IfOk, IfSome, Ok, drop};
 ghost use Rattle.tl_beat.specs.code.FromLeft.{head_at, line_a_at, line_b_at, line_c_at, line_d_at, line_e_at, Gives};
 ghost use Rattle.tl_beat.specs.code.Reading.{made_a, made_b, made_c, made_d, at_most};
 ghost use Rattle.tl_beat.specs.statement.Width.{IsWidth};
@@ -12,7 +12,7 @@ use crate::read::field::{address, bit_field, byte, digits, mask, nibble, tail, v
 
 /// The fields that lines of channels A to D begin with, but for the letter.
 #[derive(Clone, Copy)]
-struct Head {
+pub(crate) struct Head {
     link: u8,
     opcode: u8,
     param: u8,
@@ -29,7 +29,7 @@ fn without_letter(bytes: &[u8]) -> &[u8]
 
 /// The first fields of a line, each at its place.
 #[inline(always)]
-fn spelled_head(bytes: &[u8]) -> Option<(Head, &[u8])>
+pub(crate) fn spelled_head(bytes: &[u8]) -> Option<(Head, &[u8])>
     ensures { IfSome result (λ head. head_at bytes.now ≡ Ok (head.0, head.1.now)) }
 {
     match bytes {
@@ -75,7 +75,7 @@ fn spelled_head(bytes: &[u8]) -> Option<(Head, &[u8])>
 #[cold]
 #[inline(never)]
 #[tactic(auto, unfolding(crate::specs::code::FromLeft::head_at))]
-fn any_head(bytes: &[u8]) -> Result<(Head, &[u8]), LineFault>
+pub(crate) fn any_head(bytes: &[u8]) -> Result<(Head, &[u8]), LineFault>
     ensures { Gives result (head_at bytes.now) }
 {
     let (link, rest) = byte(bytes)?;
@@ -91,16 +91,6 @@ fn any_head(bytes: &[u8]) -> Result<(Head, &[u8]), LineFault>
         source,
     };
     Ok((head, rest))
-}
-
-#[inline(always)]
-fn read_head(bytes: &[u8]) -> Result<(Head, &[u8]), LineFault>
-    ensures { Gives result (head_at bytes.now) }
-{
-    match spelled_head(bytes) {
-        Some(read) => Ok(read),
-        None => any_head(bytes),
-    }
 }
 
 fn at_most(param: u8, greatest: u8) -> Result<u8, LineFault>
@@ -221,11 +211,10 @@ fn beat_d<const W: usize>(
 /// The line of a beat of channel A, without its line feed.
 #[tactic(auto, unfolding(crate::specs::code::FromLeft::line_a_at))]
 #[inline(always)]
-pub(crate) fn line_a<const W: usize>(bytes: &[u8]) -> Result<(Link, Beat<W>), LineFault>
+pub(crate) fn line_a<const W: usize>(head: Head, rest: &[u8]) -> Result<(Link, Beat<W>), LineFault>
     requires { IsWidth W }
-    ensures { result ≡ line_a_at bytes.now }
+    ensures { (bytes : List ℕ) → head_at bytes ≡ Ok (head, rest.now) → result ≡ line_a_at bytes }
 {
-    let (head, rest) = read_head(bytes)?;
     let (address, rest) = address(rest)?;
     let (mask, rest) = mask::<W>(rest)?;
     let tail = tail(rest)?;
@@ -236,11 +225,10 @@ pub(crate) fn line_a<const W: usize>(bytes: &[u8]) -> Result<(Link, Beat<W>), Li
 /// The line of a beat of channel B, without its line feed.
 #[tactic(auto, unfolding(crate::specs::code::FromLeft::line_b_at))]
 #[inline(always)]
-pub(crate) fn line_b<const W: usize>(bytes: &[u8]) -> Result<(Link, Beat<W>), LineFault>
+pub(crate) fn line_b<const W: usize>(head: Head, rest: &[u8]) -> Result<(Link, Beat<W>), LineFault>
     requires { IsWidth W }
-    ensures { result ≡ line_b_at bytes.now }
+    ensures { (bytes : List ℕ) → head_at bytes ≡ Ok (head, rest.now) → result ≡ line_b_at bytes }
 {
-    let (head, rest) = read_head(bytes)?;
     let (address, rest) = address(rest)?;
     let (mask, rest) = mask::<W>(rest)?;
     let tail = tail(rest)?;
@@ -251,11 +239,10 @@ pub(crate) fn line_b<const W: usize>(bytes: &[u8]) -> Result<(Link, Beat<W>), Li
 /// The line of a beat of channel C, without its line feed.
 #[tactic(auto, unfolding(crate::specs::code::FromLeft::line_c_at))]
 #[inline(always)]
-pub(crate) fn line_c<const W: usize>(bytes: &[u8]) -> Result<(Link, Beat<W>), LineFault>
+pub(crate) fn line_c<const W: usize>(head: Head, rest: &[u8]) -> Result<(Link, Beat<W>), LineFault>
     requires { IsWidth W }
-    ensures { result ≡ line_c_at bytes.now }
+    ensures { (bytes : List ℕ) → head_at bytes ≡ Ok (head, rest.now) → result ≡ line_c_at bytes }
 {
-    let (head, rest) = read_head(bytes)?;
     let (address, rest) = address(rest)?;
     let tail = tail(rest)?;
     let beat = beat_c(head, address, tail)?;
@@ -265,11 +252,10 @@ pub(crate) fn line_c<const W: usize>(bytes: &[u8]) -> Result<(Link, Beat<W>), Li
 /// The line of a beat of channel D, without its line feed.
 #[tactic(auto, unfolding(crate::specs::code::FromLeft::line_d_at))]
 #[inline(always)]
-pub(crate) fn line_d<const W: usize>(bytes: &[u8]) -> Result<(Link, Beat<W>), LineFault>
+pub(crate) fn line_d<const W: usize>(head: Head, rest: &[u8]) -> Result<(Link, Beat<W>), LineFault>
     requires { IsWidth W }
-    ensures { result ≡ line_d_at bytes.now }
+    ensures { (bytes : List ℕ) → head_at bytes ≡ Ok (head, rest.now) → result ≡ line_d_at bytes }
 {
-    let (head, rest) = read_head(bytes)?;
     let (sink, rest) = byte(rest)?;
     let (denied, rest) = bit_field(rest)?;
     let tail = tail(rest)?;

@@ -13,7 +13,7 @@ IsShort (Some name) = length name ≤ 13
 -- the link and the letter, a name and a param
 unfoldable pub head_text : List ℕ → List ℕ → Option (List ℕ) → List ℕ
 head_text line name param = take FIRST_FIELD line ++ name ++ 32 ∷ [] ++ unwrap_or param
-    (slice_range line PARAM (PARAM + 1))
+    (slice_index line PARAM ∷ [])
 
 -- size and source, and what stands before the next field
 unfoldable pub size_and_source : List ℕ → List ℕ → List ℕ

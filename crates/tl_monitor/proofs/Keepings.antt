@@ -25,7 +25,7 @@ use Rattle.tl_rules.specs.code.Tables.{kept_request, kept_release, kept_block, r
 use Rattle.tl_rules.specs.code.Tables.{block_next, bears_on}
 use Rattle.tl_rules.proofs.Tables.{request-next, release-next, sink-next, block-next}
 use Rattle.tl_monitor.specs.code.Count.{at}
-use Rattle.tl_monitor.specs.code.Blocks.{block_in}
+use Rattle.tl_monitor.specs.code.KnownBlocks.{known_in}
 use Rattle.tl_monitor.specs.code.Bursts.{burst_on}
 use Rattle.tl_monitor.specs.code.LinkState.{IsEmpty, is_first, touched, is_block, sink_with, block_of_request, IsNext}
 use Rattle.tl_monitor.specs.code.LinkState as link_state
@@ -254,7 +254,7 @@ keeps-more {w} l p old new x t width keeps legal next =
     let first = begins-is old x t keeps in
     let last = ends-is l p old x t width keeps legal in
     let block = touched (is_first x old) (link_state.completes x old) x old in
-    let blocks : (b : ℕ) → block_in new.blocks b ≡ kept_block b (x ∷ t) = λ b.
+    let blocks : (b : ℕ) → known_in new.blocks b ≡ kept_block b (x ∷ t) = λ b.
     next.blocks_are b ∙ ap (λ c. if is_block b block then block_next (is_first x old) (link_state.completes x old) x c
     else c) (keeps.blocks_are b)
     ∙ sym (same_touched l p old x t b (is_first x old) (link_state.completes x old) keeps legal)
@@ -276,7 +276,7 @@ keeps-more {w} l p old new x t width keeps legal next =
           ∙ sym (sink-next s x t ∙ ap₂ (λ f g. sink_next f g x s (pending (GrantSink s) t)) first last);
       blocks_are = blocks;
       granted = λ b s e. next.sinks_are s ∙ grants-next (is_first x old) (link_state.completes x old) x b s
-          (block_in old.blocks b) block (at old.sinks s) (sink_of x)
+          (known_in old.blocks b) block (at old.sinks s) (sink_of x)
           (λ y is f g. (free x y legal is f g, λ its. sym (ap (at old.sinks) its) ∙ ap sink_of (sym is)))
           (λ y is its. ap (λ z. touched (is_first x old) (link_state.completes x old) z old) is ∙ ap (at old.sinks) its)
           (λ n e its. keeps.granted b s (sym (ap (λ c. c.grant) (keeps.blocks_are b)) ∙ e ∙ ap Some its))

@@ -1,11 +1,11 @@
 pub mod Counts
 pub mod OpenBlocks
-pub mod Nexts
+pub mod Inserting
+pub mod KnownBlocks
 pub mod Judged
 pub mod Continued
 pub mod Keeping
 pub mod Keepings
-pub mod Judging
 pub mod LooksUp
 pub mod Knowing
 pub mod Numbered

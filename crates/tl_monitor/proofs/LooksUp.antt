@@ -6,7 +6,7 @@ use Rattle.tl_params.specs.declared.key.Key.TheVariants.{RequestSource, ReleaseS
 use Rattle.tl_rules.specs.statement.History.{pending}
 use Rattle.tl_rules.proofs.Tables.{pending-request, pending-release, pending-probe, pending-grant}
 use Rattle.tl_monitor.specs.code.Count.{at}
-use Rattle.tl_monitor.specs.code.Blocks.{block_in}
+use Rattle.tl_monitor.specs.code.KnownBlocks.{known_in}
 use Rattle.tl_monitor.specs.code.Keeps.{Keeps}
 use Rattle.tl_monitor.specs.declared.link_state.LinkState.{LinkState}
 
@@ -19,9 +19,9 @@ pub release-pending : {w : ℕ} (k : LinkState) (t : History w) (s : ℕ) → Ke
 release-pending k t s keeps = ap is_some (keeps.releases_are s) ∙ sym (pending-release s t)
 
 pub grant-pending : {w : ℕ} (k : LinkState) (t : History w) (b : ℕ) → Keeps k t
-    → is_some (block_in k.blocks b).grant ≡ pending (GrantAckOf b) t
+    → is_some (known_in k.blocks b).grant ≡ pending (GrantAckOf b) t
 grant-pending k t b keeps = ap (λ c. is_some c.grant) (keeps.blocks_are b) ∙ sym (pending-grant b t)
 
 pub probe-pending : {w : ℕ} (k : LinkState) (t : History w) (b : ℕ) → Keeps k t
-    → is_some (block_in k.blocks b).probe ≡ pending (ProbeOf b) t
+    → is_some (known_in k.blocks b).probe ≡ pending (ProbeOf b) t
 probe-pending k t b keeps = ap (λ c. is_some c.probe) (keeps.blocks_are b) ∙ sym (pending-probe b t)

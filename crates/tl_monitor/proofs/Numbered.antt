@@ -18,7 +18,8 @@ use Rattle.tl_rules.specs.statement.Conformance.{Trace, on_link, broken_after}
 use Rattle.tl_rules.specs.code.Tables.{kept_block, block_next, bears_on, empty_block}
 use Rattle.tl_rules.proofs.Tables.{block-next, pending-probe, pending-grant}
 use Rattle.tl_monitor.specs.code.Count.{sum_below, count_below, one_if, at}
-use Rattle.tl_monitor.specs.code.Blocks.{block_in, is_held, open_of}
+use Rattle.tl_monitor.specs.code.Blocks.{is_held, open_of}
+use Rattle.tl_monitor.specs.code.KnownBlocks.{known_in}
 use Rattle.tl_monitor.specs.code.LinkState.{is_first, touched, is_block, entries_in, OpensBlock}
 use Rattle.tl_monitor.specs.code.LinkState as link_state
 use Rattle.tl_monitor.specs.code.Keeps.{Keeps}
@@ -43,13 +44,13 @@ five n h a r p g =
     let four = sum-both n h a in
     omega (arith, one, two, three, four)
 
-opened : {w : ℕ} (k : LinkState) (t : History w) → Keeps k t → sum_below (2 ^ 32) (λ b. open_of (block_in k.blocks b))
+opened : {w : ℕ} (k : LinkState) (t : History w) → Keeps k t → sum_below (2 ^ 32) (λ b. open_of (known_in k.blocks b))
     ≡ count_below (2 ^ 32) (λ b. is_held (held b t)) + count_below (2 ^ 32) (λ b. pending (AcquireOf b) t) + count_below
     (2 ^ 32) (λ b. pending (ReleaseOf b) t)
     + count_below (2 ^ 32) (λ b. pending (ProbeOf b) t) + count_below (2 ^ 32) (λ b. pending (GrantAckOf b) t)
 unfolding open_of
 opened k t keeps =
-    sum-same (2 ^ 32) (λ b. open_of (block_in k.blocks b))
+    sum-same (2 ^ 32) (λ b. open_of (known_in k.blocks b))
     (λ b. one_if (is_held (held b t)) + one_if (pending (AcquireOf b) t) + one_if (pending (ReleaseOf b) t) + one_if
     (pending (ProbeOf b) t) + one_if (pending (GrantAckOf b) t))
     (λ b lt. ap open_of (keeps.blocks_are b)
@@ -121,7 +122,7 @@ some-more {w} l p k x t b width keeps legal new =
     (link_state.completes x k) x
     (kept_block n t) else kept_block n t) = λ n. others_stay l p k x t b n width keeps legal new.is_touched in
     let before : kept_block b t ≡ empty_block = sym (keeps.blocks_are b) ∙ new.was_empty in
-    let after : kept_block b (x ∷ t) ≡ block_next (is_first x k) (link_state.completes x k) x (block_in k.blocks b) =
+    let after : kept_block b (x ∷ t) ≡ block_next (is_first x k) (link_state.completes x k) x (known_in k.blocks b) =
     step b ∙ rw (eq-eqb b b refl) refl ∙ ap (block_next (is_first x k) (link_state.completes x k) x)
     (sym (keeps.blocks_are b)) in
     let apart : (n : ℕ) → n ≢ b → kept_block n t ≡ kept_block n (x ∷ t) =

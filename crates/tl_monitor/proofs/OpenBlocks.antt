@@ -118,7 +118,7 @@ value-in es k (Some b) q stands = elim (cases_eq q k) [
   | inr other ↦ ap block_or_empty (found_at k q b es stands.0) ∙ rw (ne_eqb q k other) refl
 ]
 
-some-is : {b c : Block} → Some b ≡ Some c → b ≡ c
+pub some-is : {b c : Block} → Some b ≡ Some c → b ≡ c
 some-is e = cc
 
 pub value-open : (es : List (ℕ × Block)) (k : ℕ) (o : Option Block) → IsValue es k o → AllOpen es
@@ -252,14 +252,14 @@ set_open ts i tree lt all own = λ j. elim (cases_eq j i) [
 
 -- ---- the trees as they stand
 
-tree_read : (trees : List (BTreeMap ℕ Block)) (d : BTreeMap ℕ Block) (k i : ℕ) → i ≡ tree_of k → i < length trees
+pub tree-read : (trees : List (BTreeMap ℕ Block)) (d : BTreeMap ℕ Block) (k i : ℕ) → i ≡ tree_of k → i < length trees
     → (slice_index_or trees i d).entries ≡ tree_in (entries_of trees) k
-tree_read trees d k i e lt = sym (get_or-map (λ (m : BTreeMap ℕ Block). m.entries) trees i d [] lt) ∙ ap
+tree-read trees d k i e lt = sym (get_or-map (λ (m : BTreeMap ℕ Block). m.entries) trees i d [] lt) ∙ ap
     (λ j. slice_index_or (entries_of trees) j []) e
 
-entries_set : (trees : List (BTreeMap ℕ Block)) (new : BTreeMap ℕ Block) (k i : ℕ) → i ≡ tree_of k
+pub entries-set : (trees : List (BTreeMap ℕ Block)) (new : BTreeMap ℕ Block) (k i : ℕ) → i ≡ tree_of k
     → entries_of (slice_set trees i new) ≡ slice_set (entries_of trees) (tree_of k) new.entries
-entries_set trees new k i e = map-set (λ (m : BTreeMap ℕ Block). m.entries) trees i new ∙ ap
+entries-set trees new k i e = map-set (λ (m : BTreeMap ℕ Block). m.entries) trees i new ∙ ap
     (λ j. slice_set (entries_of trees) j new.entries) e
 
 pub entries-long : (trees : List (BTreeMap ℕ Block)) (k : ℕ) → length trees ≡ 256
@@ -270,20 +270,20 @@ pub read-found : (trees : List (BTreeMap ℕ Block)) (tree : BTreeMap ℕ Block)
     → i ≡ tree_of k → i < length trees → tree ≡ slice_index_or trees i tree
     → o ≡ value_found tree.entries k → o ≡ block_found (entries_of trees) k
 read-found trees tree k i o e lt is found = found ∙ ap (λ (m : BTreeMap ℕ Block). value_found m.entries k) is ∙ ap
-    (λ es. value_found es k) (tree_read trees tree k i e lt)
+    (λ es. value_found es k) (tree-read trees tree k i e lt)
 
 pub stored : (trees : List (BTreeMap ℕ Block)) (d new : BTreeMap ℕ Block) (k i : ℕ) (o : Option Block) → i ≡ tree_of k
     → i < length trees
     → new.entries ≡ with_value (slice_index_or trees i d).entries k o
     → entries_of (slice_set trees i new) ≡ with_seen (entries_of trees) k o
 stored trees d new k i o e lt written =
-    entries_set trees new k i e ∙ ap (slice_set (entries_of trees) (tree_of k))
-    (written ∙ ap (λ es. with_value es k o) (tree_read trees d k i e lt))
+    entries-set trees new k i e ∙ ap (slice_set (entries_of trees) (tree_of k))
+    (written ∙ ap (λ es. with_value es k o) (tree-read trees d k i e lt))
 
 pub stays : (trees : List (BTreeMap ℕ Block)) (d new : BTreeMap ℕ Block) (k i : ℕ) → i ≡ tree_of k → i < length trees
     → new.entries ≡ (slice_index_or trees i d).entries → entries_of (slice_set trees i new) ≡ entries_of trees
 stays trees d new k i e lt same =
-    entries_set trees new k i e ∙ ap (slice_set (entries_of trees) (tree_of k)) (same ∙ tree_read trees d k i e lt)
+    entries-set trees new k i e ∙ ap (slice_set (entries_of trees) (tree_of k)) (same ∙ tree-read trees d k i e lt)
     ∙ set-get_or (entries_of trees) (tree_of k) []
 
 -- one tree is changed at a block
@@ -295,16 +295,16 @@ pub changed-said : (trees : List (BTreeMap ℕ Block)) (d new : BTreeMap ℕ Blo
     k ≡ (if k == block then value else block_in (entries_of trees) k)
 changed-said trees d new block i value o e long changed k =
     let lt : i < length trees = omega (arith, e, long) in
-    ap (λ ts. block_in (with_seen ts block o) k) (entries_set trees new block i e)
+    ap (λ ts. block_in (with_seen ts block o) k) (entries-set trees new block i e)
     ∙ tree_said (entries_of trees) new.entries block value o (entries-long trees block long)
-    (λ n. changed n ∙ ap (λ es. if n == block then value else value_in es n) (tree_read trees d block i e lt)) k
+    (λ n. changed n ∙ ap (λ es. if n == block then value else value_in es n) (tree-read trees d block i e lt)) k
 
 pub changed-stands : (trees : List (BTreeMap ℕ Block)) (new : BTreeMap ℕ Block) (block i : ℕ) (o : Option Block)
     → i ≡ tree_of block → length trees ≡ 256
     → IsValue new.entries block o → IsSeen (entries_of (slice_set trees i new)) block o
 changed-stands trees new block i o e long stands =
     rw (
-      entries_set trees new block i e,
+      entries-set trees new block i e,
       get_or-set_same (entries_of trees) (tree_of block) new.entries []
           (entries-long trees block long),
     ) stands
@@ -313,7 +313,7 @@ pub changed-open : (trees : List (BTreeMap ℕ Block)) (new : BTreeMap ℕ Block
     → length trees ≡ 256 → AreOpen (entries_of trees) → AllOpen new.entries
     → AreOpen (entries_of (slice_set trees i new))
 changed-open trees new block i e long all own =
-    rw (entries_set trees new block i e) (set_open (entries_of trees) (tree_of block) new.entries
+    rw (entries-set trees new block i e) (set_open (entries_of trees) (tree_of block) new.entries
     (entries-long trees block long) all own)
 
 none_stands : (trees : List (BTreeMap ℕ Block)) (i : ℕ) → ((j : ℕ) (d : BTreeMap ℕ Block) → j < length trees

@@ -1,12 +1,12 @@
 //! A table of what is open of blocks, and of what is held of them.
 
-ghost use Rattle.std.specs.Prelude.{ℕ, List, [], None, length, slice_index_or, IfOk, OnOk};
+ghost use Rattle.std.specs.Prelude.{ℕ, List, [], Some, None, length, slice_index_or, IfOk, OnOk};
 ghost use Rattle.std.specs.Prelude.{OnErr, if◌then◌else◌, ◌==◌, ◌≡◌, ◌<◌, ◌≤◌, ◌^◌, ◌*◌};
 ghost use Rattle.tl_rules.specs.declared.table.Block.{Block};
 ghost use Rattle.tl_rules.specs.code.Tables.{empty_block};
 ghost use Rattle.tl_monitor.specs.code.Count.{sum_below};
 ghost use Rattle.tl_monitor.specs.code.Blocks.{block_or_empty, block_in, entries_of, is_held, open_of, tree_of};
-ghost use Rattle.tl_monitor.specs.code.Blocks.{value_in, with_seen, with_value, AllOpen, AreOpen, IsSeen, IsValue};
+ghost use Rattle.tl_monitor.specs.code.Blocks.{value_found, value_in, with_seen, with_value, AllOpen, AreOpen, IsSeen, IsValue};
 
 use std::alloc::{AllocError, Global};
 use std::array;
@@ -19,7 +19,7 @@ use tl_rules::table::Block;
 const TREES: usize = 256;
 
 /// A block of which nothing is open or held.
-const EMPTY: Block = Block {
+pub const EMPTY: Block = Block {
     held: Perm::None,
     acquire: false,
     release: false,
@@ -34,7 +34,7 @@ fn is_held(perm: Perm) -> bool
 }
 
 /// How many keys of a block are pending, and one more where it is held.
-fn open_of(block: &Block) -> usize
+pub fn open_of(block: &Block) -> usize
     ensures counted { result ≡ open_of block.now }
     ensures few { result ≤ 5 }
 {
@@ -175,6 +175,46 @@ fn make_room(
     make_room_in(&mut trees[tree_of(block)], block, seen, value)
 }
 
+/// Stores a block in its tree.
+fn insert_in(tree: &mut BTreeMap<u32, Block>, block: u32, value: Block) -> Result<(), AllocError>
+    requires some { 0 < open_of value }
+    requires open { AllOpen tree.old.entries }
+    ensures changed { OnOk result ((k : ℕ) → value_found tree.new.entries k
+        ≡ (if k == block then Some value else value_found tree.old.entries k)) }
+    ensures open { AllOpen tree.new.entries }
+    ensures unchanged { OnErr result (tree.new.entries ≡ tree.old.entries) }
+{
+    match tree.insert(block, value) {
+        Ok(_) => Ok(()),
+        Err(_) => Err(AllocError),
+    }
+}
+
+/// The same in all trees, where the block `last` was seen before. Answers what is seen of it then.
+fn insert(
+    trees: &mut [BTreeMap<u32, Block>; TREES],
+    last: u32,
+    seen: Option<Block>,
+    block: u32,
+    value: Block,
+) -> Result<Option<Block>, AllocError>
+    requires stands { IsSeen (entries_of trees.old) last seen }
+    requires open { AreOpen (entries_of trees.old) }
+    requires some { 0 < open_of value }
+    ensures changed { IfOk result (λ new. (k : ℕ) → block_in (with_seen (entries_of trees.new) last new) k
+        ≡ (if k == block then value else block_in (with_seen (entries_of trees.old) last seen) k)) }
+    ensures stands { IfOk result (λ new. IsSeen (entries_of trees.new) last new) }
+    ensures open { AreOpen (entries_of trees.new) }
+    ensures long { length trees.new ≡ 256 }
+    ensures unchanged { OnErr result (entries_of trees.new ≡ entries_of trees.old) }
+{
+    insert_in(&mut trees[tree_of(block)], block, value)?;
+    if block == last {
+        return Ok(Some(value));
+    }
+    Ok(seen)
+}
+
 /// What is open or held of blocks. A block of which nothing is isn't kept. A contract sees the trees,
 /// in each the blocks that are, in rising order, with their numbers. The block of a beat is looked up once, however
 /// often the rules ask for it, and written once, when the next one is looked up.
@@ -246,6 +286,23 @@ impl Blocks {
         self.seen = old;
         self.seen = make_room(&mut self.trees, block, old, value)?;
         self.len = self.len - open_of(&or_empty(old)) + open_of(&value);
+        Ok(())
+    }
+
+    /// Writes what is open and held of a block of which nothing is, without a search for it. Without memory
+    /// nothing changes.
+    pub fn add(&mut self, block: u32, value: Block) -> Result<(), AllocError>
+        requires { block_in self.old block ≡ empty_block }
+        ensures changed { OnOk result ((k : ℕ) →
+            block_in self.new k ≡ (if k == block then value else block_in self.old k)) }
+        ensures unchanged { OnErr result (self.new ≡ self.old) }
+    {
+        let open = open_of(&value);
+        if open == 0 {
+            return Ok(());
+        }
+        self.seen = insert(&mut self.trees, self.last, self.seen, block, value)?;
+        self.len += open;
         Ok(())
     }
 

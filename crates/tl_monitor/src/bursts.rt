@@ -30,23 +30,25 @@ pub struct Bursts {
     pub e: Option<Unfinished>,
 }
 
-/// A burst with its next beat, or nothing where that is the last.
-fn next<const W: usize>(beat: &Beat<W>, burst: Option<Unfinished>) -> Option<Unfinished>
+/// Takes the next beat of a burst, which completes the message or doesn't.
+fn advance<const W: usize>(last: bool, beat: &Beat<W>, burst: &mut Option<Unfinished>)
     requires width { IsWidth W }
     requires small { IsTrue (is_small beat.now) }
-    ensures { result ≡ burst_next beat.now burst }
+    requires last { last ≡ is_last beat.now burst.old }
+    ensures { burst.new ≡ burst_next beat.now burst.old }
 {
+    if last {
+        *burst = None;
+        return;
+    }
     let left = match burst {
         None => burst_length(beat).saturating_sub(1),
         Some(burst) => burst.left.saturating_sub(1),
     };
-    if left == 0 {
-        return None;
-    }
-    Some(Unfinished {
+    *burst = Some(Unfinished {
         control: beat.control(),
         left,
-    })
+    });
 }
 
 impl Bursts {
@@ -87,22 +89,11 @@ impl Bursts {
         self.on(beat.channel()).is_none()
     }
 
-    /// Whether a beat completes its message, where it breaks no rule.
-    pub fn completes<const W: usize>(&self, beat: &Beat<W>) -> bool
+    /// Takes a beat, which completes its message or doesn't.
+    pub fn take<const W: usize>(&mut self, last: bool, beat: &Beat<W>)
         requires width { IsWidth W }
         requires small { IsTrue (is_small beat.now) }
-        ensures { result ≡ is_last beat.now (burst_on self.now (Messages.channel_of beat.now)) }
-    {
-        match self.on(beat.channel()) {
-            None => burst_length(beat) <= 1,
-            Some(burst) => burst.left <= 1,
-        }
-    }
-
-    /// Takes a beat.
-    pub fn take<const W: usize>(&mut self, beat: &Beat<W>)
-        requires width { IsWidth W }
-        requires small { IsTrue (is_small beat.now) }
+        requires last { last ≡ is_last beat.now (burst_on self.old (Messages.channel_of beat.now)) }
         ensures a { self.new.a ≡ burst_with channel.A beat.now self.old.a }
         ensures b { self.new.b ≡ burst_with channel.B beat.now self.old.b }
         ensures c { self.new.c ≡ burst_with channel.C beat.now self.old.c }
@@ -110,11 +101,11 @@ impl Bursts {
         ensures e { self.new.e ≡ burst_with channel.E beat.now self.old.e }
     {
         match beat {
-            Beat::A(_) => self.a = next(beat, self.a),
-            Beat::B(_) => self.b = next(beat, self.b),
-            Beat::C(_) => self.c = next(beat, self.c),
-            Beat::D(_) => self.d = next(beat, self.d),
-            Beat::E(_) => self.e = next(beat, self.e),
+            Beat::A(_) => advance(last, beat, &mut self.a),
+            Beat::B(_) => advance(last, beat, &mut self.b),
+            Beat::C(_) => advance(last, beat, &mut self.c),
+            Beat::D(_) => advance(last, beat, &mut self.d),
+            Beat::E(_) => advance(last, beat, &mut self.e),
         }
     }
 }

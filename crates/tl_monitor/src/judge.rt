@@ -1,55 +1,97 @@
-//! The first rule that a beat breaks after what its link has carried.
+//! Judges a beat after what its link has carried, and takes it.
 
-ghost use Rattle.std.specs.Prelude.{IsTrue, IfNone, ◌≡◌};
+ghost use Rattle.std.specs.Prelude.{IsTrue, Some, true, false, ◌≡◌};
+ghost use Rattle.tl_beat.specs.statement.Control.{channel_of};
 ghost use Rattle.tl_beat.specs.statement.Width.{IsWidth};
 ghost use Rattle.tl_burst.specs.statement.Messages.{History};
 ghost use Rattle.tl_burst.specs.statement.Part.{is_small};
+ghost use Rattle.tl_params.specs.declared.profile.Profile.{Profile};
 ghost use Rattle.tl_rules.specs.statement.Conformance;
-ghost use Rattle.tl_monitor.specs.code.Keeps.{Keeps};
+ghost use Rattle.tl_monitor.specs.code.Bursts.{burst_on};
+ghost use Rattle.tl_monitor.specs.code.LinkState.{is_first};
+ghost use Rattle.tl_monitor.specs.code.Keeps.{Keeps, answered, TakesBeat};
 
+use crate::bursts::Unfinished;
 use crate::link_state::LinkState;
+use std::alloc::AllocError;
 use tl_beat::beat::Beat;
+use tl_burst::burst::burst_length;
 use tl_rules::legality::beat::check_beat;
 use tl_rules::level::Level;
 use tl_rules::order::broken_order;
 use tl_rules::profile::Profile;
 use tl_rules::rule::Rule;
 
-/// The rule of bursts or of the order of messages that a beat breaks which breaks none by itself.
-fn broken_in_order<const W: usize>(
-    profile: Profile,
-    beat: &Beat<W>,
-    link_state: &LinkState,
-) -> Option<Rule>
-    ensures { (t : History W) → Keeps link_state.now t → result ≡ Conformance.broken_in_order profile beat.now t }
-{
-    match link_state.bursts.on(beat.channel()) {
-        None => broken_order(profile, beat, link_state),
-        Some(burst) => {
-            if beat.has_control(&burst.control) {
-                None
-            } else {
-                Some(Rule::S1)
-            }
+impl LinkState {
+    /// The rule of the order of messages that the first beat of a message breaks, or none, and then
+    /// takes it.
+    fn begin<const W: usize>(
+        &mut self,
+        profile: Profile,
+        beat: &Beat<W>,
+    ) -> Result<Option<Rule>, AllocError>
+        requires width { IsWidth W }
+        requires small { IsTrue (is_small beat.now) }
+        requires first { is_first beat.now self.old ≡ true }
+        ensures rule { (t : History W) → Keeps self.old t → answered result ≡ Conformance.broken_in_order profile beat.now t }
+        ensures takes { TakesBeat self.old beat.now self.new result }
+    {
+        let last = burst_length(beat) <= 1;
+        let block = self.touched(true, last, beat);
+        if let Some(block) = block {
+            self.blocks.cache_block(block);
         }
+        if let Some(rule) = broken_order(profile, beat, self) {
+            return Ok(Some(rule));
+        }
+        self.take(true, last, beat, block)?;
+        Ok(None)
     }
-}
 
-/// The first rule that a beat breaks on a link of this level.
-#[tactic(auto, unfolding(tl_rules::specs::statement::Conformance::broken_after))]
-pub fn broken_after<const W: usize>(
-    level: Level,
-    profile: Profile,
-    beat: &Beat<W>,
-    link_state: &LinkState,
-) -> Option<Rule>
-    requires { IsWidth W }
-    ensures rule { (t : History W) → Keeps link_state.now t →
-        result ≡ Conformance.broken_after level profile beat.now t }
-    ensures small { IfNone result (IsTrue (is_small beat.now)) }
-{
-    match check_beat(level, beat.channel(), beat) {
-        Err(rule) => Some(rule),
-        Ok(()) => broken_in_order(profile, beat, link_state),
+    /// The rule of bursts that a later beat of a message breaks, or none, and then takes it.
+    fn go_on<const W: usize>(
+        &mut self,
+        burst: Unfinished,
+        beat: &Beat<W>,
+    ) -> Result<Option<Rule>, AllocError>
+        requires width { IsWidth W }
+        requires small { IsTrue (is_small beat.now) }
+        requires burst { burst_on self.old.bursts (channel_of beat.now) ≡ Some burst }
+        ensures rule { (p : Profile) (t : History W) → Keeps self.old t →
+            answered result ≡ Conformance.broken_in_order p beat.now t }
+        ensures takes { TakesBeat self.old beat.now self.new result }
+    {
+        if !beat.has_control(&burst.control) {
+            return Ok(Some(Rule::S1));
+        }
+        if burst.left > 1 {
+            self.bursts.take(false, beat);
+            return Ok(None);
+        }
+        let block = self.touched(false, true, beat);
+        self.take(false, true, beat, block)?;
+        Ok(None)
+    }
+
+    /// The first rule that a beat breaks on a link of this level, or none, and then takes it. Without memory
+    /// nothing changes.
+    #[tactic(auto, unfolding(tl_rules::specs::statement::Conformance::broken_after))]
+    pub fn push<const W: usize>(
+        &mut self,
+        level: Level,
+        profile: Profile,
+        beat: &Beat<W>,
+    ) -> Result<Option<Rule>, AllocError>
+        requires { IsWidth W }
+        ensures rule { (t : History W) → Keeps self.old t → answered result ≡ Conformance.broken_after level profile beat.now t }
+        ensures takes { TakesBeat self.old beat.now self.new result }
+    {
+        match check_beat(level, beat.channel(), beat) {
+            Err(rule) => Ok(Some(rule)),
+            Ok(()) => match self.bursts.on(beat.channel()) {
+                None => self.begin(profile, beat),
+                Some(burst) => self.go_on(burst, beat),
+            },
+        }
     }
 }

@@ -6,6 +6,7 @@ mod bursts;
 pub mod byte_table;
 pub mod fault;
 mod judge;
+mod known_blocks;
 mod link_state;
 pub mod monitor;
 mod past;

@@ -9,13 +9,14 @@ ghost use Rattle.tl_rules.specs.code.Open.{request_fields, probe_fields};
 ghost use Rattle.tl_rules.specs.statement.History.{is_grant, is_release_ack};
 ghost use Rattle.tl_rules.specs.code.Tables.{empty_block, request_next, release_next, release_fields};
 ghost use Rattle.tl_monitor.specs.code.Count.{at};
-ghost use Rattle.tl_monitor.specs.code.Blocks.{block_in, open_of};
-ghost use Rattle.tl_monitor.specs.code.LinkState.{is_block, sink_with, touched, block_of_request};
+ghost use Rattle.tl_monitor.specs.code.Blocks.{open_of};
+ghost use Rattle.tl_monitor.specs.code.KnownBlocks.{known_in};
+ghost use Rattle.tl_monitor.specs.code.LinkState.{is_block, is_first, completes, sink_with, touched, block_of_request};
 ghost use Rattle.tl_monitor.specs.code.LinkState.{block_of_release, entries_in, IsNext, OpensBlock, IsEmpty};
 
-use crate::blocks::Blocks;
 use crate::bursts::Bursts;
 use crate::byte_table::ByteTable;
+use crate::known_blocks::KnownBlocks;
 use std::alloc::{AllocError, Global};
 use tl_beat::beat::{Beat, BeatA, BeatB, BeatC, BeatD, BeatE};
 use tl_rules::key::block_at;
@@ -34,7 +35,7 @@ pub struct LinkState {
     pub releases: ByteTable<Release>,
     /// The block that was granted with each sink.
     pub sinks: ByteTable<u32>,
-    pub blocks: Blocks,
+    pub blocks: KnownBlocks,
 }
 
 fn request_of<const W: usize>(x: &BeatA<W>) -> Request
@@ -145,18 +146,18 @@ fn block_next<const W: usize>(first: bool, last: bool, beat: &Beat<W>, block: Bl
 
 /// Updates what is open and held of the block that a beat bears on, where there is one.
 fn update_block<const W: usize>(
-    blocks: &mut Blocks,
+    blocks: &mut KnownBlocks,
     first: bool,
     last: bool,
     beat: &Beat<W>,
     block: Option<u32>,
 ) -> Result<(), AllocError>
-    ensures next { OnOk result ((b : ℕ) → block_in blocks.new b ≡
-        (if is_block b block then Tables.block_next first last beat.now (block_in blocks.old b) else block_in blocks.old
+    ensures next { OnOk result ((b : ℕ) → known_in blocks.new b ≡
+        (if is_block b block then Tables.block_next first last beat.now (known_in blocks.old b) else known_in blocks.old
         b)) }
     ensures unchanged { OnErr result (blocks.new ≡ blocks.old) }
-    ensures new { OnErr result (IfSome block (λ b. (block_in blocks.old b ≡ empty_block)
-        × (0 < open_of (Tables.block_next first last beat.now (block_in blocks.old b))))) }
+    ensures new { OnErr result (IfSome block (λ b. (known_in blocks.old b ≡ empty_block)
+        × (0 < open_of (Tables.block_next first last beat.now (known_in blocks.old b))))) }
     ensures some { OnErr result (is_some block ≡ true) }
 {
     match block {
@@ -165,54 +166,6 @@ fn update_block<const W: usize>(
             let next = block_next(first, last, beat, blocks.get(block));
             blocks.set(block, next)
         }
-    }
-}
-
-fn update_request<const W: usize>(
-    requests: &mut ByteTable<Request>,
-    first: bool,
-    last: bool,
-    beat: &Beat<W>,
-)
-    ensures { (s : ℕ) → at requests.new s ≡ request_next first last beat.now s (at requests.old s) }
-{
-    match beat {
-        Beat::A(x) if first => requests.set(x.source, Some(request_of(x))),
-        Beat::D(x) if last && !is_release_ack(x.opcode) => requests.set(x.source, None),
-        _ => {}
-    }
-}
-
-fn update_release<const W: usize>(
-    releases: &mut ByteTable<Release>,
-    first: bool,
-    last: bool,
-    beat: &Beat<W>,
-)
-    ensures { (s : ℕ) → at releases.new s ≡ release_next first last beat.now s (at releases.old s) }
-{
-    match beat {
-        Beat::C(x) if first && is_release(x.opcode) => {
-            releases.set(x.source, Some(release_of(x)));
-        }
-        Beat::D(x) if last && is_release_ack(x.opcode) => releases.set(x.source, None),
-        _ => {}
-    }
-}
-
-fn update_sink<const W: usize>(
-    sinks: &mut ByteTable<u32>,
-    first: bool,
-    last: bool,
-    beat: &Beat<W>,
-    block: Option<u32>,
-)
-    ensures { (s : ℕ) → at sinks.new s ≡ sink_with first last beat.now block s (at sinks.old s) }
-{
-    match beat {
-        Beat::D(x) if first && is_grant(x.opcode) => sinks.set(x.sink, block),
-        Beat::E(x) if last => sinks.set(x.sink, None),
-        _ => {}
     }
 }
 
@@ -226,7 +179,7 @@ impl LinkState {
             requests: ByteTable::new(),
             releases: ByteTable::new(),
             sinks: ByteTable::new(),
-            blocks: Blocks::new(alloc),
+            blocks: KnownBlocks::new(alloc),
         }
     }
 
@@ -258,33 +211,82 @@ impl LinkState {
         }
     }
 
-    /// Looks up the block of a beat that begins a message, once for all that is asked of it.
-    pub fn cache_block<const W: usize>(&mut self, beat: &Beat<W>)
-        ensures { self.new ≡ self.old }
+    /// Updates what is pending by its source and by its sink.
+    fn update_keys<const W: usize>(
+        &mut self,
+        first: bool,
+        last: bool,
+        beat: &Beat<W>,
+        block: Option<u32>,
+    )
+        ensures requests { (s : ℕ) → at self.new.requests s ≡ request_next first last beat.now s (at self.old.requests s) }
+        ensures releases { (s : ℕ) → at self.new.releases s ≡ release_next first last beat.now s (at self.old.releases s) }
+        ensures sinks { (s : ℕ) → at self.new.sinks s ≡ sink_with first last beat.now block s (at self.old.sinks s) }
+        ensures bursts { self.new.bursts ≡ self.old.bursts }
+        ensures blocks { self.new.blocks ≡ self.old.blocks }
     {
-        let first = self.bursts.begins(beat);
-        if let Some(block) = self.touched(first, false, beat) {
-            self.blocks.cache_block(block);
+        match beat {
+            Beat::A(x) if first => self.requests.set(x.source, Some(request_of(x))),
+            Beat::C(x) if first && is_release(x.opcode) => {
+                self.releases.set(x.source, Some(release_of(x)));
+            }
+            Beat::D(x) => self.update_answered(first, last, x, block),
+            Beat::E(x) if last => self.sinks.set(x.sink, None),
+            _ => {}
         }
     }
 
-    /// Takes a beat that breaks no rule. Without memory nothing changes; that can only be where nothing
-    /// was open or held of a block, and now something is.
-    pub fn take<const W: usize>(&mut self, beat: &Beat<W>) -> Result<(), AllocError>
+    /// Updates what is pending of the request that a beat answers, and of its sink.
+    fn update_answered<const W: usize>(
+        &mut self,
+        first: bool,
+        last: bool,
+        x: &BeatD<W>,
+        block: Option<u32>,
+    )
+        ensures requests { (s : ℕ) → at self.new.requests s ≡ request_next first last (beat.D x.now) s (at self.old.requests s) }
+        ensures releases { (s : ℕ) → at self.new.releases s ≡ release_next first last (beat.D x.now) s (at self.old.releases s) }
+        ensures sinks { (s : ℕ) → at self.new.sinks s ≡ sink_with first last (beat.D x.now) block s (at self.old.sinks s) }
+        ensures bursts { self.new.bursts ≡ self.old.bursts }
+        ensures blocks { self.new.blocks ≡ self.old.blocks }
+    {
+        if first && is_grant(x.opcode) {
+            self.sinks.set(x.sink, block);
+        }
+        if last {
+            if is_release_ack(x.opcode) {
+                self.releases.set(x.source, None);
+            } else {
+                self.requests.set(x.source, None);
+            }
+        }
+    }
+
+    /// Takes a beat that breaks no rule, which begins a message or doesn't, and completes it or doesn't.
+    /// Without memory nothing changes; that can only be where nothing was open or held of a block, and
+    /// now something is.
+    pub fn take<const W: usize>(
+        &mut self,
+        first: bool,
+        last: bool,
+        beat: &Beat<W>,
+        block: Option<u32>,
+    ) -> Result<(), AllocError>
         requires width { IsWidth W }
         requires small { IsTrue (is_small beat.now) }
+        requires first { first ≡ is_first beat.now self.old }
+        requires last { last ≡ completes beat.now self.old }
+        requires block { block ≡ touched first last beat.now self.old }
         ensures next { OnOk result (IsNext self.old beat.now self.new) }
         ensures unchanged { OnErr result (self.new ≡ self.old) }
         ensures new { OnErr result ((b : ℕ) × OpensBlock self.old beat.now b) }
     {
-        let first = self.bursts.begins(beat);
-        let last = self.bursts.completes(beat);
-        let block = self.touched(first, last, beat);
         update_block(&mut self.blocks, first, last, beat, block)?;
-        update_request(&mut self.requests, first, last, beat);
-        update_release(&mut self.releases, first, last, beat);
-        update_sink(&mut self.sinks, first, last, beat, block);
-        self.bursts.take(beat);
+        self.update_keys(first, last, beat, block);
+        if first && last {
+            return Ok(());
+        }
+        self.bursts.take(last, beat);
         Ok(())
     }
 

@@ -8,7 +8,6 @@ ghost use Rattle.tl_params.specs.declared.profile.Profile.{Profile};
 ghost use Rattle.tl_rules.specs.statement.Conformance.{Trace, broken_on_link, on_link};
 
 use crate::fault::MonitorFault;
-use crate::judge::broken_after;
 use crate::link_state::LinkState;
 use std::alloc::{AllocError, Global};
 use tl_beat::beat::{Beat, Link};
@@ -96,16 +95,13 @@ impl<const W: usize> Monitor<W> {
             return Err(MonitorFault::Broken(Rule::L1));
         }
         let monitored = &mut self.links[n];
-        monitored.state.cache_block(beat);
-        match broken_after(monitored.level, self.profile, beat, &monitored.state) {
-            Some(rule) => {
+        match monitored.state.push(monitored.level, self.profile, beat) {
+            Ok(None) => Ok(()),
+            Ok(Some(rule)) => {
                 self.closed = true;
                 Err(MonitorFault::Broken(rule))
             }
-            None => match monitored.state.take(beat) {
-                Ok(()) => Ok(()),
-                Err(_) => Err(MonitorFault::Memory),
-            },
+            Err(_) => Err(MonitorFault::Memory),
         }
     }
 

@@ -1,5 +1,5 @@
 -- The tables of a link say what its history does.
-use Rattle.std.specs.Prelude.{ℕ, ◌≡◌, true, false, List, ◌∷◌, Some, is_some}
+use Rattle.std.specs.Prelude.{ℕ, ◌≡◌, true, false, List, ◌∷◌, Option, Some, None, is_some, Result, Ok, Err}
 use Rattle.tl_beat.specs.declared.beat.Beat.{Beat}
 use Rattle.tl_beat.specs.declared.beat.Beat.TheVariants as beat
 use Rattle.tl_beat.specs.declared.beat.BeatD.{BeatD}
@@ -10,8 +10,10 @@ use Rattle.tl_params.specs.declared.key.Key.TheVariants.{GrantSink}
 use Rattle.tl_rules.specs.statement.History.{pending, is_release_ack}
 use Rattle.tl_rules.specs.code.Tables.{kept_request, kept_release, kept_grant, kept_block}
 use Rattle.tl_monitor.specs.code.Count.{at}
-use Rattle.tl_monitor.specs.code.Blocks.{block_in}
+use Rattle.tl_monitor.specs.code.KnownBlocks.{known_in}
 use Rattle.tl_monitor.specs.code.Bursts.{burst_on, IsOf}
+use Rattle.tl_monitor.specs.code.LinkState.{IsNext, OpensBlock}
+use Rattle.tl_params.specs.declared.rule.Rule.{Rule}
 use Rattle.tl_monitor.specs.declared.link_state.LinkState.{LinkState}
 
 -- All that is kept is what the history leaves. The block of each GrantAck that is pending stands under
@@ -21,7 +23,19 @@ pub record Keeps {w : ℕ} (k : LinkState) (t : History w) : Type 0 where
   pub requests_are : (s : ℕ) → at k.requests s ≡ kept_request s t
   pub releases_are : (s : ℕ) → at k.releases s ≡ kept_release s t
   pub sinks_are : (s : ℕ) → is_some (at k.sinks s) ≡ pending (GrantSink s) t
-  pub blocks_are : (b : ℕ) → block_in k.blocks b ≡ kept_block b t
+  pub blocks_are : (b : ℕ) → known_in k.blocks b ≡ kept_block b t
   pub granted : (b s : ℕ) → kept_grant b t ≡ Some s → at k.sinks s ≡ Some b
   pub answering : (x : BeatD w) (earlier : List (Beat w)) → unfinished channel.D t ≡ beat.D x ∷ earlier
       → (is_release_ack x.opcode ≡ false) × (is_some (kept_request x.source t) ≡ true)
+
+-- the rule that is answered, none where memory is wanting
+abbrev pub answered : {E : Type 0} → Result (Option Rule) E → Option Rule
+answered (Ok rule) = rule
+answered (Err e) = None
+
+-- a beat is taken where no rule is answered; otherwise nothing changes. Where memory is wanting something was to be opened
+-- or held of a block of which nothing was.
+abbrev pub TakesBeat : {w : ℕ} {E : Type 0} → LinkState → Beat w → LinkState → Result (Option Rule) E → Type 0
+TakesBeat old x new (Ok None) = IsNext old x new
+TakesBeat old x new (Ok (Some rule)) = new ≡ old
+TakesBeat old x new (Err e) = (new ≡ old) × ((b : ℕ) × OpensBlock old x b)

@@ -10,7 +10,8 @@ use Rattle.tl_rules.specs.declared.table.Release.{Release}
 use Rattle.tl_rules.specs.statement.History.{block_at, is_acquire, is_probe, is_grant, is_release_ack}
 use Rattle.tl_rules.specs.code.Tables.{request_next, release_next, block_next, empty_block}
 use Rattle.tl_monitor.specs.code.Count.{at, count_below, sum_below}
-use Rattle.tl_monitor.specs.code.Blocks.{block_in, open_of}
+use Rattle.tl_monitor.specs.code.Blocks.{open_of}
+use Rattle.tl_monitor.specs.code.KnownBlocks.{known_in}
 use Rattle.tl_monitor.specs.code.Bursts.{burst_on, burst_with, is_last}
 use Rattle.tl_monitor.specs.declared.link_state.LinkState.{LinkState}
 
@@ -61,16 +62,16 @@ pub record IsNext {w : ℕ} (old : LinkState) (x : Beat w) (new : LinkState) : T
   pub sinks_are : (s : ℕ)
       → at new.sinks s ≡ sink_with (is_first x old) (completes x old) x
       (touched (is_first x old) (completes x old) x old) s (at old.sinks s)
-  pub blocks_are : (b : ℕ) → block_in new.blocks b
+  pub blocks_are : (b : ℕ) → known_in new.blocks b
       ≡ (if is_block b (touched (is_first x old) (completes x old) x old) then block_next (is_first x old)
-      (completes x old) x (block_in old.blocks b) else block_in old.blocks b)
+      (completes x old) x (known_in old.blocks b) else known_in old.blocks b)
 
 -- a beat of a block of which nothing was open or held, and then something is
 pub record OpensBlock {w : ℕ} (old : LinkState) (x : Beat w) (b : ℕ) : Type 0 where
   pub is_number : b < 2 ^ 32
   pub is_touched : touched (is_first x old) (completes x old) x old ≡ Some b
-  pub was_empty : block_in old.blocks b ≡ empty_block
-  pub then_open : 0 < open_of (block_next (is_first x old) (completes x old) x (block_in old.blocks b))
+  pub was_empty : known_in old.blocks b ≡ empty_block
+  pub then_open : 0 < open_of (block_next (is_first x old) (completes x old) x (known_in old.blocks b))
 
 -- nothing is kept
 pub record IsEmpty (k : LinkState) : Type 0 where
@@ -78,11 +79,11 @@ pub record IsEmpty (k : LinkState) : Type 0 where
   pub no_request : (s : ℕ) → at k.requests s ≡ None
   pub no_release : (s : ℕ) → at k.releases s ≡ None
   pub no_sink : (s : ℕ) → at k.sinks s ≡ None
-  pub no_block : (b : ℕ) → block_in k.blocks b ≡ empty_block
+  pub no_block : (b : ℕ) → known_in k.blocks b ≡ empty_block
 
 -- how much is kept
 abbrev pub entries_in : LinkState → ℕ
 entries_in k =
     count_below 256 (λ s. is_some (at k.requests s)) + count_below 256 (λ s. is_some (at k.releases s)) + count_below
     256 (λ s. is_some (at k.sinks s))
-    + sum_below (2 ^ 32) (λ b. open_of (block_in k.blocks b))
+    + sum_below (2 ^ 32) (λ b. open_of (known_in k.blocks b))

@@ -1,0 +1,93 @@
+//! What is open of blocks and held of them, where the block that came last is kept by itself.
+
+ghost use Rattle.std.specs.Prelude.{ℕ, OnOk, OnErr, if◌then◌else◌, ◌==◌, ◌≡◌, ◌<◌, ◌≤◌, ◌^◌, ◌*◌};
+ghost use Rattle.tl_rules.specs.code.Tables.{empty_block};
+ghost use Rattle.tl_monitor.specs.code.Count.{sum_below};
+ghost use Rattle.tl_monitor.specs.code.Blocks.{block_in, open_of};
+ghost use Rattle.tl_monitor.specs.code.KnownBlocks.{Known, known_in};
+
+use crate::blocks::{Blocks, EMPTY, open_of};
+use std::alloc::{AllocError, Global};
+use std::marker::Model;
+use tl_rules::table::Block;
+
+/// What is open or held of blocks. Of these the one that came last is stored only when another comes: many
+/// go before.
+#[derive(Drop)]
+pub struct KnownBlocks {
+    stored: Blocks,
+    /// The block that came last. Nothing is stored of it.
+    newest: u32,
+    /// What is open and held of it.
+    value: Block,
+}
+
+impl Model for KnownBlocks {
+    ghost Value = { Known };
+
+    ghost view = { λ b. record { stored = b.stored; newest = b.newest; value = b.value } };
+
+    ghost invariant = { λ b. (block_in b.stored b.newest ≡ empty_block) × (b.newest < 2 ^ 32) };
+}
+
+impl KnownBlocks {
+    /// A table of blocks of which nothing is open or held.
+    pub fn new(alloc: Global) -> Self
+        ensures { (k : ℕ) → known_in result k ≡ empty_block }
+    {
+        KnownBlocks {
+            stored: Blocks::new(alloc),
+            newest: 0,
+            value: EMPTY,
+        }
+    }
+
+    /// What is open and held of a block.
+    pub fn get(&self, block: u32) -> Block
+        ensures { result ≡ known_in self.now block }
+    {
+        if block == self.newest {
+            self.value
+        } else {
+            self.stored.get(block)
+        }
+    }
+
+    /// Has `get` of this block search no more.
+    pub fn cache_block(&mut self, block: u32)
+        ensures { self.new ≡ self.old }
+    {
+        if block != self.newest {
+            self.stored.cache_block(block);
+        }
+    }
+
+    /// Writes what is open and held of a block. Without memory nothing changes; that can only be
+    /// where nothing was open or held of the block, and now something is.
+    pub fn set(&mut self, block: u32, value: Block) -> Result<(), AllocError>
+        ensures changed { OnOk result ((k : ℕ) →
+            known_in self.new k ≡ (if k == block then value else known_in self.old k)) }
+        ensures unchanged { OnErr result (self.new ≡ self.old) }
+        ensures new { OnErr result ((known_in self.old block ≡ empty_block) × (0 < open_of value)) }
+    {
+        if block == self.newest {
+            self.value = value;
+            return Ok(());
+        }
+        if open_of(&value) == 0 || open_of(&self.stored.get(block)) > 0 {
+            return self.stored.set(block, value);
+        }
+        self.stored.add(self.newest, self.value)?;
+        self.newest = block;
+        self.value = value;
+        Ok(())
+    }
+
+    /// How many keys of blocks are pending, and blocks held.
+    pub fn len(&self) -> usize
+        ensures counted { result ≡ sum_below (2 ^ 32) (λ k. open_of (known_in self.now k)) }
+        ensures few { result ≤ 5 * 2 ^ 32 }
+    {
+        self.stored.len() + open_of(&self.value)
+    }
+}

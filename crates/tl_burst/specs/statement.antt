@@ -1,3 +1,4 @@
 pub mod Burst
 pub mod Messages
 pub mod Part
+pub mod Written

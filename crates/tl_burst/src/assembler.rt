@@ -10,6 +10,7 @@ ghost use Rattle.tl_burst.specs.statement.Burst;
 ghost use Rattle.tl_burst.specs.statement.Burst.{begun, beat_of, IsBlankAfter, IsBurst};
 ghost use Rattle.tl_burst.specs.statement.Messages.{breaks_burst, same_control, grown, Splits};
 ghost use Rattle.tl_burst.specs.statement.Part.{IsTakeable, completes, is_empty, is_middle, part_of};
+ghost use Rattle.tl_burst.specs.statement.Written.{written};
 
 use crate::burst::{beat_at, beats_of, burst_length};
 use crate::gather::{blank_for, continues, write_beat};
@@ -145,15 +146,42 @@ impl<const W: usize> Assembler<W> {
             Splits beats messages self.old →
             IfOk result (λ m. Splits (beat.now ∷ beats) (option_to_list m ++ messages) self.new) }
     {
+        let mut message = Message::E(MessageE { sink: 0 });
+        let completes = self.take_into(beat, &mut message)?;
+        if completes {
+            Ok(Some(message))
+        } else {
+            Ok(None)
+        }
+    }
+
+    /// Takes a beat as `take` does: whether it completes a message, which is written where it is to stand.
+    pub fn take_into(&mut self, beat: &Beat<W>, message: &mut Message<W>) -> Result<bool, Broken>
+        requires width { IsWidth W }
+        requires takeable { IsTakeable beat.now }
+        ensures refused { is_err (written message.new result) ≡ breaks_burst beat.now self.old }
+        ensures unchanged { OnErr (written message.new result) (self.new ≡ self.old) }
+        ensures grows { OnOk (written message.new result) (self.new ≡ grown beat.now self.old) }
+        ensures message { IfOk (written message.new result) (λ m. (is_some m ≡ completes beat.now self.old)
+            × IfSome m (λ m. IsBurst m (beat.now ∷ self.old))) }
+        // the next beat of any message that is zero where no beat carries anything
+        ensures whole { (m : Message W) (i : ℕ) → self.old ≡ begun m i → beat.now ≡ beat_of m i →
+            i < Burst.beats_of m → IsBlankAfter (Burst.beats_of m) m →
+            written message.new result ≡ Ok (if i + 1 == Burst.beats_of m then Some m else None) }
+        ensures splits { (beats : List (Beat W)) (messages : List (Message W)) →
+            Splits beats messages self.old →
+            IfOk (written message.new result) (λ m. Splits (beat.now ∷ beats) (option_to_list m ++ messages) self.new) }
+    {
         if !prepare(&mut self.message, self.taken, beat) {
             return Err(Broken::S1);
         }
         write_beat(&mut self.message, self.taken, beat);
         if self.taken + 1 < beats_of(&self.message) {
             self.taken += 1;
-            return Ok(None);
+            return Ok(false);
         }
         self.taken = 0;
-        Ok(Some(self.message))
+        *message = self.message;
+        Ok(true)
     }
 }

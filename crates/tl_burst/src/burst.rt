@@ -155,6 +155,7 @@ fn beat_of_d<const W: usize>(m: &MessageD<W>, i: u8) -> BeatD<W>
 }
 
 /// Beat `i` of the message: the control fields, its part of payload and mask, its corrupt bit.
+#[inline(always)]
 pub fn beat_at<const W: usize>(message: &Message<W>, i: u8) -> Beat<W>
     requires width { IsWidth W }
     requires inside { i < Burst.beats_of message.now }

@@ -24,12 +24,13 @@ fn is_access_of(level: Level, opcode: OpA) -> bool
     }
 }
 
-/// Whether a message has no corrupt bit set, and is zero where no beat carries it.
-fn is_clean<const W: usize>(access: &MessageA<W>) -> bool
-    requires { IsWidth W }
+/// Whether a message of channel A has no corrupt bit set, and is zero where no beat carries it.
+fn is_clean<const W: usize>(access: &MessageA<W>, message: &Message<W>) -> bool
+    requires width { IsWidth W }
+    requires same { message.now ≡ Message.A access.now }
     ensures { result ≡ Ask.is_clean access.now }
 {
-    access.corrupt == 0 && is_blank(&Message::A(*access))
+    access.corrupt == 0 && is_blank(message)
 }
 
 /// Whether a message is an access of the level.
@@ -48,7 +49,9 @@ pub fn is_sound<const W: usize>(level: Level, message: &Message<W>) -> bool
     ensures { result ≡ Ask.is_sound level message.now }
 {
     match message {
-        Message::A(access) => check(level, Channel::A, message).is_ok() && is_clean(access),
+        Message::A(access) => {
+            check(level, Channel::A, message).is_ok() && is_clean(access, message)
+        }
         _ => false,
     }
 }

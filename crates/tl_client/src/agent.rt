@@ -6,11 +6,13 @@ ghost use Rattle.std.specs.Bool.{OnTrue, OnFalse};
 ghost use Rattle.tl_rules.specs.statement.History;
 ghost use Rattle.tl_client.specs.declared.operation.Op.TheVariants.{Load, Store};
 ghost use Rattle.tl_client.specs.declared.verdict.Verdict.TheVariants.{Taken};
+ghost use Rattle.tl_client.specs.statement.Answer.{told_by};
 ghost use Rattle.tl_client.specs.statement.Ask.{asked};
 ghost use Rattle.tl_client.specs.statement.Endpoint.{EndConfig, Endpoint};
 ghost use Rattle.tl_client.specs.statement.Offer;
 ghost use Rattle.tl_client.specs.statement.Offer.{offered};
 
+use crate::answer::Answer;
 use crate::operation::Op;
 use crate::reply::Reply;
 use crate::verdict::Verdict;
@@ -64,6 +66,25 @@ pub trait Agent<const W: usize>: Drop {
     ) -> Result<(Verdict, Option<Message<W>>), Rule>
         ensures answer { (e : Endpoint W) → represents self.old e →
             result ≡ (offered (terms self.old) channel beat.now e).answer }
+        ensures after { (e : Endpoint W) → represents self.old e →
+            represents self.new (offered (terms self.old) channel beat.now e).after }
+        ensures terms { terms self.new ≡ terms self.old }
+    {
+        let mut bytes = [0; 64];
+        let answer = self.answer(channel, beat, &mut bytes)?;
+        Ok((answer.verdict(&bytes), answer.message(&bytes)))
+    }
+
+    /// Takes a beat, stalls it or refuses it as `offer` does, and answers in few bytes: those of a copy or of a
+    /// response that belong to the answer are written where they are to stand.
+    fn answer(
+        &mut self,
+        channel: Channel,
+        beat: &Beat<W>,
+        bytes: &mut [u8; 64],
+    ) -> Result<Answer, Rule>
+        ensures answer { (e : Endpoint W) → represents self.old e →
+            told_by result bytes.new ≡ (offered (terms self.old) channel beat.now e).answer }
         ensures after { (e : Endpoint W) → represents self.old e →
             represents self.new (offered (terms self.old) channel beat.now e).after }
         ensures terms { terms self.new ≡ terms self.old };

@@ -4,11 +4,11 @@ ghost use Rattle.std.specs.Prelude.{◌≡◌};
 ghost use Rattle.tl_beat.specs.statement.Width.{IsWidth};
 
 use crate::agent::Agent;
+use crate::answer::Answer;
 use crate::caching::Caching;
 use crate::operation::Op;
 use crate::plain::Plain;
 use crate::reply::Reply;
-use crate::verdict::Verdict;
 use std::alloc::Global;
 use tl_beat::beat::Beat;
 use tl_beat::channel::Channel;
@@ -92,14 +92,15 @@ impl<const W: usize> Agent<W> for AnyClient<W> {
         }
     }
 
-    fn offer(
+    fn answer(
         &mut self,
         channel: Channel,
         beat: &Beat<W>,
-    ) -> Result<(Verdict, Option<Message<W>>), Rule> {
+        bytes: &mut [u8; 64],
+    ) -> Result<Answer, Rule> {
         match self {
-            AnyClient::Caching(client) => client.offer(channel, beat),
-            AnyClient::Plain(client) => client.offer(channel, beat),
+            AnyClient::Caching(client) => client.answer(channel, beat, bytes),
+            AnyClient::Plain(client) => client.answer(channel, beat, bytes),
         }
     }
 

@@ -11,6 +11,7 @@ mod table;
 mod take;
 
 use crate::agent::Agent;
+use crate::answer::Answer;
 use crate::check::check_word;
 use crate::operation::Op;
 use crate::order::check_alone;
@@ -18,7 +19,6 @@ use crate::release::Release;
 use crate::reply::Reply;
 use crate::request::Request;
 use crate::sources::Sources;
-use crate::verdict::Verdict;
 use std::alloc::Global;
 use table::Table;
 use tl_beat::beat::Beat;
@@ -127,18 +127,19 @@ impl<const W: usize> Agent<W> for Caching<W> {
         }
     }
 
-    fn offer(
+    fn answer(
         &mut self,
         channel: Channel,
         beat: &Beat<W>,
-    ) -> Result<(Verdict, Option<Message<W>>), Rule> {
+        bytes: &mut [u8; 64],
+    ) -> Result<Answer, Rule> {
         match self.judge(channel, beat) {
             Err(rule) => {
                 self.closed = true;
                 Err(rule)
             }
-            Ok(true) => Ok((Verdict::Stalled, None)),
-            Ok(false) => Ok(self.take(beat)),
+            Ok(true) => Ok(Answer::Stalled),
+            Ok(false) => Ok(self.take(beat, bytes)),
         }
     }
 

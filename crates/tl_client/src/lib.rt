@@ -4,6 +4,7 @@
 
 mod access;
 pub mod agent;
+pub mod answer;
 pub mod any;
 pub mod busy;
 pub mod caching;

@@ -5,7 +5,9 @@ ghost use Rattle.tl_params.specs.statement.Refusal.{ok_unless};
 ghost use Rattle.tl_beat.specs.statement.Width.{IsWidth, IsWidth-prop};
 ghost use Rattle.tl_burst.specs.statement.Messages.{breaks_burst, grown};
 ghost use Rattle.tl_burst.specs.statement.Part.{IsTakeable};
+ghost use Rattle.tl_rules.specs.statement.History.{is_grant};
 ghost use Rattle.tl_rules.specs.statement.Legality.{illegal, has_transfers};
+ghost use Rattle.tl_client.specs.statement.Answer.{message_of, verdict_of};
 ghost use Rattle.tl_client.specs.code.Plain.{order_rule, plain_rule, plain_verdict, ends_request};
 ghost use Rattle.tl_client.specs.code.Sources.{open_at};
 
@@ -13,15 +15,15 @@ mod past;
 
 use crate::access::access_in;
 use crate::agent::Agent;
+use crate::answer::Answer;
 use crate::busy::Busy;
 use crate::check::check;
 use crate::operation::Op;
 use crate::order::broken_in_order;
 use crate::reply::Reply;
 use crate::request::{Request, start};
-use crate::response::{close, complete, goes_on};
+use crate::response::{answer_to, complete, goes_on};
 use crate::sources::Sources;
-use crate::verdict::Verdict;
 use std::alloc::Global;
 use tl_beat::beat::{Beat, BeatD};
 use tl_beat::channel::Channel;
@@ -119,19 +121,28 @@ impl<const W: usize> Plain<W> {
     }
 
     /// Takes a beat that breaks no rule.
-    fn take(&mut self, beat: &Beat<W>) -> Verdict
+    fn take(&mut self, beat: &Beat<W>, bytes: &mut [u8; 64]) -> Answer
         requires takeable { IsTakeable beat.now }
         requires continues { breaks_burst beat.now self.old.responses ≡ false }
-        ensures verdict { result ≡ plain_verdict (open_at self.old.requests) self.old.responses beat.now }
+        ensures verdict { verdict_of result bytes.new
+            ≡ plain_verdict (open_at self.old.requests) self.old.responses beat.now }
+        ensures message { (x : BeatD W) → beat.now ≡ Beat.D x → is_grant x.opcode ≡ false →
+            None ≡ message_of {w = W} result bytes.new }
         ensures requests { (s : ℕ) → open_at self.new.requests s ≡
             (if ends_request self.old.responses beat.now s then None else open_at self.old.requests s) }
         ensures responses { self.new.responses ≡ grown beat.now self.old.responses }
         ensures closed { self.new.closed ≡ self.old.closed }
         ensures terms { plain_terms self.new ≡ plain_terms self.old }
     {
-        match complete(&mut self.responses, beat) {
-            Some(response) => close(&mut self.requests, &response).1,
-            None => Verdict::Taken,
+        if !complete(&mut self.responses, beat, bytes) {
+            return Answer::Taken;
+        }
+        match beat {
+            Beat::D(response) => {
+                let request = self.requests.close(response.source);
+                answer_to(response, request, bytes)
+            }
+            _ => Answer::Taken,
         }
     }
 }
@@ -171,17 +182,18 @@ impl<const W: usize> Agent<W> for Plain<W> {
         Reply::Busy(Busy::B4)
     }
 
-    fn offer(
+    fn answer(
         &mut self,
         channel: Channel,
         beat: &Beat<W>,
-    ) -> Result<(Verdict, Option<Message<W>>), Rule> {
+        bytes: &mut [u8; 64],
+    ) -> Result<Answer, Rule> {
         match self.judge(channel, beat) {
             Err(rule) => {
                 self.closed = true;
                 Err(rule)
             }
-            Ok(()) => Ok((self.take(beat), None)),
+            Ok(()) => Ok(self.take(beat, bytes)),
         }
     }
 

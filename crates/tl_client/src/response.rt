@@ -1,24 +1,25 @@
 //! How an operation ends, by the response to it.
 
-ghost use Rattle.std.specs.Prelude.{ℕ, ◌≡◌, ◌≤◌, ◌==◌, ◌∷◌, true, false, length, take, IfSome, None, if◌then◌else◌};
+ghost use Rattle.std.specs.Prelude.{◌≡◌, ◌≤◌, ◌∷◌, true, false, length, take, IfSome, None};
 ghost use Rattle.std.specs.Bool.{OnTrue, OnFalse};
 ghost use Rattle.tl_beat.specs.statement.Width.{IsWidth};
 ghost use Rattle.tl_burst.specs.statement.Messages.{breaks_burst, grown};
-ghost use Rattle.tl_burst.specs.statement.Part.{IsTakeable, is_middle, part_of};
+ghost use Rattle.tl_burst.specs.statement.Part.{IsTakeable, completes, is_middle, part_of};
 ghost use Rattle.tl_rules.specs.statement.Admission;
 ghost use Rattle.tl_rules.specs.statement.Legality.{illegal};
-ghost use Rattle.tl_client.specs.code.Response.{Completes, d_of, done_with, in_message};
-ghost use Rattle.tl_client.specs.code.Sources.{open_at};
+ghost use Rattle.tl_client.specs.code.Plain.{address_in};
+ghost use Rattle.tl_client.specs.code.Response.{IsFilled, d_of, done_with, with_payload};
+ghost use Rattle.tl_client.specs.code.Takes.{ack_after};
+ghost use Rattle.tl_client.specs.statement.Answer.{message_of, verdict_of};
 ghost use Rattle.tl_client.specs.statement.Offer;
 
+use crate::answer::{Answer, Ending};
 use crate::request::Request;
-use crate::sources::Sources;
-use crate::verdict::{Finish, Verdict};
-use tl_beat::beat::Beat;
+use tl_beat::beat::{Beat, BeatD};
 use tl_beat::channel::Channel;
 use tl_beat::opcode::OpD;
 use tl_burst::assembler::Assembler;
-use tl_burst::message::{Message, MessageD};
+use tl_burst::message::Message;
 use tl_rules::admission::is_spoiled;
 use tl_rules::kind::capped;
 use tl_rules::legality::beat::check_beat;
@@ -57,50 +58,79 @@ fn bytes_at<const W: usize>(address: u32, size: u8, payload: &[u8; 64]) -> [u8; 
     padded(first(&payload[lane..], 1 << size))
 }
 
-/// How the operation at this address ends, by its response.
-pub fn finish_of<const W: usize>(response: &MessageD<W>, address: u32) -> Finish
-    requires { IsWidth W }
-    ensures value { result ≡ Offer.finish_of W response.now.opcode response.now.param response.now.size address
-        response.now.payload }
-    ensures long { response.now.opcode ≡ OpD.AccessAckData → length response.now.payload ≡ 64 }
+/// The address of the request that is answered.
+fn address_of(request: Option<Request>) -> u32
+    ensures { result ≡ address_in request }
 {
-    match response.opcode {
-        OpD::AccessAck => Finish::Ack,
-        OpD::AccessAckData => Finish::Data(
-            response.size,
-            bytes_at::<W>(address, response.size, &response.payload),
-        ),
-        OpD::HintAck => Finish::Hint,
-        OpD::Grant | OpD::GrantData => Finish::Granted(capped(response.param)),
-        OpD::ReleaseAck => Finish::Released,
+    match request {
+        Some(request) => request.address,
+        None => 0,
     }
 }
 
-/// The message, where it is one of channel D.
-fn response_in<const W: usize>(message: Message<W>) -> Option<MessageD<W>>
-    ensures value { result ≡ d_of message.entry }
-    ensures long { IfSome result (λ m. length m.payload ≡ 64) }
+/// What the last beat of a response to this request answers. The bytes are its payload, of which those that belong
+/// to the answer are left.
+pub fn answer_to<const W: usize>(
+    response: &BeatD<W>,
+    request: Option<Request>,
+    bytes: &mut [u8; 64],
+) -> Answer
+    requires width { IsWidth W }
+    requires small { response.now.size ≤ 6 }
+    ensures verdict { verdict_of result bytes.new ≡ done_with (with_payload response.now bytes.old) W request }
+    ensures message { message_of {w = W} result bytes.new ≡ ack_after response.now.opcode response.now.sink }
 {
-    match message {
-        Message::D(response) => Some(response),
-        _ => None,
+    let source = response.source;
+    let ending = match response.opcode {
+        OpD::AccessAck => Ending::Ack,
+        OpD::AccessAckData => {
+            *bytes = bytes_at::<W>(address_of(request), response.size, bytes);
+            Ending::Data(response.size)
+        }
+        OpD::HintAck => Ending::Hint,
+        OpD::Grant | OpD::GrantData => {
+            return Answer::Granted {
+                source,
+                perm: capped(response.param),
+                sink: response.sink,
+            };
+        }
+        OpD::ReleaseAck => Ending::Released,
+    };
+    Answer::Ended { source, ending }
+}
+
+/// Writes the payload of a message, where it is one of channel D.
+fn copy_payload<const W: usize>(message: &Message<W>, payload: &mut [u8; 64])
+    ensures { IfSome (d_of message.now) (λ m. payload.new ≡ m.payload) }
+{
+    if let Message::D(response) = message {
+        *payload = response.payload;
     }
 }
 
-/// Takes a beat of channel D, and answers the response that it completes.
-pub fn complete<const W: usize>(responses: &mut Assembler<W>, beat: &Beat<W>) -> Option<MessageD<W>>
+/// Takes a beat of channel D: whether it completes its response, whose payload is then written.
+pub fn complete<const W: usize>(
+    responses: &mut Assembler<W>,
+    beat: &Beat<W>,
+    payload: &mut [u8; 64],
+) -> bool
     requires width { IsWidth W }
     requires takeable { IsTakeable beat.now }
     requires continues { breaks_burst beat.now responses.old ≡ false }
     ensures grows { responses.new ≡ grown beat.now responses.old }
-    ensures response { Completes result beat.now responses.old }
+    ensures last { result ≡ completes beat.now responses.old }
+    ensures payload { OnTrue result (IsFilled payload.new beat.now responses.old) }
 {
     let Ok(complete) = responses.take(beat) else {
         unreachable!()
     };
     match complete {
-        Some(message) => response_in(message),
-        None => None,
+        Some(message) => {
+            copy_payload(&message, payload);
+            true
+        }
+        None => false,
     }
 }
 
@@ -128,24 +158,4 @@ pub fn goes_on<const W: usize>(
         Err(_) => false,
         Ok(()) => responses.goes_on(beat),
     }
-}
-
-/// Closes the request that a complete response answers.
-pub fn close<const W: usize>(
-    requests: &mut Sources<Request>,
-    response: &MessageD<W>,
-) -> (Option<Request>, Verdict)
-    requires { IsWidth W }
-    ensures request { result.0 ≡ open_at requests.old response.now.source }
-    ensures verdict { result.1 ≡ done_with (in_message response.now) W (open_at requests.old response.now.source) }
-    ensures closed { (s : ℕ) →
-        open_at requests.new s ≡ (if response.now.source == s then None else open_at requests.old s) }
-{
-    let request = requests.close(response.source);
-    let address = match request {
-        Some(request) => request.address,
-        None => 0,
-    };
-    let finish = finish_of(response, address);
-    (request, Verdict::Done(response.source, finish))
 }

@@ -12,6 +12,7 @@ pub mod types;
 ghost use Rattle.std.specs.Prelude.{ℕ, ◌≡◌, ◌≤◌, length, is_none, []};
 ghost use Rattle.std.specs.Bool.{OnTrue, OnFalse};
 ghost use Rattle.tl_beat.specs.statement.Width.{IsWidth};
+ghost use Rattle.tl_burst.specs.statement.Written.{written};
 ghost use Rattle.tl_params.specs.declared.config.Config.{Config};
 ghost use Rattle.tl_params.specs.declared.perm.Perm.TheVariants as perm;
 ghost use Rattle.tl_manager.specs.statement.Offer;
@@ -100,13 +101,35 @@ impl<const W: usize, D: Directory> Manager<W, D> {
         ensures after { (config : Config) (e : End W) → Knows D.perm_of self.old config e →
             Knows D.perm_of self.new config (offered config link channel beat.now e).1 }
     {
+        let _ = &self.state;
+        let mut outbox = Outbox::Nothing;
+        let taken = self.answer_into(link, channel, beat, &mut outbox)?;
+        if taken { Ok(Some(outbox)) } else { Ok(None) }
+    }
+
+    /// As `answer`, with what is handed out written where it is to stand: false for a beat that has to wait.
+    pub fn answer_into(
+        &mut self,
+        link: Link,
+        channel: Channel,
+        beat: &Beat<W>,
+        outbox: &mut Outbox<W>,
+    ) -> Result<bool, Rule>
+        ensures answer { (config : Config) (e : End W) → Knows D.perm_of self.old config e →
+            sent_of (written outbox.new result) ≡ (offered config link channel beat.now e).0 }
+        ensures after { (config : Config) (e : End W) → Knows D.perm_of self.old config e →
+            Knows D.perm_of self.new config (offered config link channel beat.now e).1 }
+    {
         match self.state.judge(link, channel, beat) {
             Err(rule) => {
                 self.state.refuse(link);
                 Err(rule)
             }
-            Ok(Admission::Waits) => Ok(None),
-            Ok(Admission::Passes) => Ok(Some(self.state.take(link, beat))),
+            Ok(Admission::Waits) => Ok(false),
+            Ok(Admission::Passes) => {
+                self.state.take(link, beat, outbox);
+                Ok(true)
+            }
         }
     }
 

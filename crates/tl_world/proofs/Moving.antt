@@ -1,9 +1,10 @@
 -- What the parts of a world hold after a beat that is taken, where nothing is handed out for it.
-use Rattle.std.proofs.Common.{◌≡◌, ◌<◌, ℕ, true, false, List, [], ◌∷◌, None, refl, length}
-use Rattle.std.specs.Prelude.{Ok}
+use Rattle.std.proofs.Common.{◌≡◌, ◌<◌, ℕ, true, false, List, [], ◌∷◌, Option, Some, None, refl, length}
+use Rattle.std.specs.Prelude.{Ok, is_some}
 use Rattle.tl_beat.specs.declared.beat.Beat.{Beat}
 use Rattle.tl_beat.specs.declared.beat.Link.{Link}
 use Rattle.tl_beat.specs.declared.channel.Channel.{Channel}
+use Rattle.tl_burst.specs.declared.message.Message.{Message}
 use Rattle.tl_params.specs.declared.config.Config.{Config}
 use Rattle.tl_params.specs.declared.perm.Perm.{Perm}
 use Rattle.tl_client.specs.declared.verdict.Verdict.TheVariants as verdict
@@ -30,6 +31,11 @@ sent-nothing n rings s link carried = moved-still n rings s carried
 
 kept-still : {w : ℕ} (rings : Rings w) → AreKept rings rings
 kept-still rings = record { same_number = refl; same_capacity = λ k d. refl }
+
+pub sent-if-none : {w : ℕ} (n : ℕ) (rings : Rings w) (s : System w) (link : ℕ) (m : Option (Message w))
+    → is_some m ≡ false → Carries n rings s → AreMoved n rings rings (with_messages (handed_by link m) s)
+sent-if-none n rings s link None none carried = sent-nothing n rings s link carried
+sent-if-none n rings s link (Some m) none carried = absurd cc
 
 -- the first beat of a channel is taken away
 abbrev pub Drops : {w : ℕ} → ℕ → Channel → Rings w → Rings w → Type 0

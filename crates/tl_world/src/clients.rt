@@ -4,6 +4,7 @@ ghost use Rattle.std.specs.Prelude.{◌≡◌, ◌<◌, ◌≤◌, length, slice
 ghost use Rattle.std.specs.Bool.{OnTrue, OnFalse};
 ghost use Rattle.tl_client.specs.declared.verdict.Verdict.TheVariants.{Taken};
 ghost use Rattle.tl_client.specs.declared.operation.Op.TheVariants.{Load, Store};
+ghost use Rattle.tl_client.specs.statement.Answer.{told_by};
 ghost use Rattle.tl_client.specs.statement.Ask.{asked};
 ghost use Rattle.tl_client.specs.statement.Endpoint;
 ghost use Rattle.tl_client.specs.statement.Endpoint.{Endpoint};
@@ -15,9 +16,9 @@ use tl_beat::beat::Beat;
 use tl_beat::channel::Channel;
 use tl_burst::message::Message;
 use tl_client::agent::Agent;
+use tl_client::answer::Answer;
 use tl_client::operation::Op;
 use tl_client::reply::Reply;
-use tl_client::verdict::Verdict;
 use tl_rules::perm::Perm;
 use tl_rules::rule::Rule;
 
@@ -62,17 +63,19 @@ pub fn ask_store_at<const W: usize, A: Agent<W>>(
     clients[i].ask_store(address, size, value)
 }
 
-/// Offers a beat to one client, and leaves the others.
-pub fn offer_at<const W: usize, A: Agent<W>>(
+/// Offers a beat to one client, which answers in few bytes, and leaves the others.
+pub fn answer_at<const W: usize, A: Agent<W>>(
     clients: &mut Vec<A>,
     i: usize,
     channel: Channel,
     beat: &Beat<W>,
-) -> Result<(Verdict, Option<Message<W>>), Rule>
+    bytes: &mut [u8; 64],
+) -> Result<Answer, Rule>
     requires { i < length clients.old.items }
-    ensures { IsOffered A.represents A.terms clients.old.items clients.new.items i channel beat.now result }
+    ensures { IsOffered A.represents A.terms clients.old.items clients.new.items i channel beat.now
+        (told_by result bytes.new) }
 {
-    clients[i].offer(channel, beat)
+    clients[i].answer(channel, beat, bytes)
 }
 
 /// Lets one client take a beat that goes on with a message, and leaves the others: whether it took it.

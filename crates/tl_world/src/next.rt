@@ -46,6 +46,7 @@ impl<const W: usize, A: Agent<W>, D: Directory> Network<W, A, D> {
     }
 
     /// The first delivery on a channel that moves a beat: only links are asked whose channel holds one.
+    #[inline(always)]
     fn movable_on(&self, channel: Channel) -> Option<(Link, Channel)>
         requires { IsWidth W }
         ensures { (config : Config) (s : System W) → Holds A.represents A.terms D.perm_of config self.now s →

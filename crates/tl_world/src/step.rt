@@ -1,28 +1,33 @@
 //! What a manager and its clients do at an event.
 
-ghost use Rattle.std.specs.Prelude.{◌≡◌, ◌<◌, length, true, false};
+ghost use Rattle.std.specs.Prelude.{ℕ, ◌≡◌, ◌<◌, length, true, false};
 ghost use Rattle.std.specs.Bool.{OnTrue, OnFalse};
 ghost use Rattle.tl_beat.specs.statement.Width.{IsWidth};
 ghost use Rattle.tl_params.specs.declared.config.Config.{Config};
 ghost use Rattle.tl_world.specs.code.Holds.{Holds, HasRoom, IsStepped, clients_of, is_stay};
 ghost use Rattle.tl_coherence.specs.statement.Step;
-ghost use Rattle.tl_coherence.specs.statement.Step.{stepped};
-ghost use Rattle.tl_coherence.specs.statement.System.{System};
+ghost use Rattle.tl_coherence.specs.statement.Step.{handed_by, stepped};
+ghost use Rattle.tl_coherence.specs.statement.System.{System, with_messages};
+ghost use Rattle.tl_world.specs.code.Carrying.{Carries, Fit, AreKept, AreMoved};
 ghost use Rattle.tl_client.specs.declared.operation.Op.TheVariants.{Load, Store};
+ghost use Rattle.tl_client.specs.statement.Answer.{message_of, verdict_of};
 ghost use Rattle.tl_coherence.specs.declared.event.Event.TheVariants.{Ask, Deliver};
 ghost use Rattle.tl_world.specs.statement.Answered.{answered};
 ghost use Rattle.tl_coherence.specs.declared.event.Outcome.TheVariants as outcome;
 
-use crate::clients::{ask_at, ask_load_at, ask_store_at, goes_on_at, offer_at};
+use crate::clients::{answer_at, ask_at, ask_load_at, ask_store_at, goes_on_at};
 use crate::network::Network;
+use crate::rings::Rings;
 use tl_beat::beat::{Beat, Link};
 use tl_beat::channel::Channel;
 use tl_client::agent::Agent;
+use tl_client::answer::Answer;
 use tl_client::operation::Op;
 use tl_client::reply::Reply;
-use tl_client::verdict::Verdict;
+use tl_client::verdict::Finish;
 use tl_coherence::event::{Event, Outcome};
 use tl_manager::directory::Directory;
+use tl_manager::manager::reply::Outbox;
 
 /// Whether a client takes the beats of a channel.
 pub fn is_to_client(channel: Channel) -> bool
@@ -35,24 +40,47 @@ pub fn is_to_client(channel: Channel) -> bool
 }
 
 /// Whether a beat that is answered so stays on its channel.
-fn stays(verdict: Verdict) -> bool
-    ensures { result ≡ is_stay verdict }
+fn stays(answer: Answer, bytes: &[u8; 64]) -> bool
+    ensures { result ≡ is_stay (verdict_of answer bytes.now) }
 {
-    matches!(verdict, Verdict::Stalled)
+    matches!(answer, Answer::Stalled)
 }
 
-/// What comes of a beat that a client answers so.
-fn outcome_of<const W: usize>(beat: Beat<W>, verdict: Verdict) -> Outcome<W>
-    ensures { result ≡ Step.outcome_of beat.entry verdict }
+/// Writes what comes of a beat that a client answers so, with these bytes.
+fn write_outcome<const W: usize>(
+    outcome: &mut Outcome<W>,
+    beat: &Beat<W>,
+    answer: Answer,
+    bytes: &[u8; 64],
+)
+    ensures { outcome.new ≡ Step.outcome_of beat.now (verdict_of answer bytes.now) }
 {
-    match verdict {
-        Verdict::Stalled => Outcome::Stalled,
-        Verdict::Taken => Outcome::Moved { beat },
-        Verdict::Done(source, finish) => Outcome::Done {
-            beat,
+    *outcome = match answer {
+        Answer::Stalled => Outcome::Stalled,
+        Answer::Taken | Answer::Probed { .. } => Outcome::Moved { beat: *beat },
+        Answer::Granted { source, perm, .. } => Outcome::Done {
+            beat: *beat,
             source,
-            finish,
+            finish: Finish::Granted(perm),
         },
+        Answer::Ended { source, ending } => Outcome::Done {
+            beat: *beat,
+            source,
+            finish: ending.finish(bytes),
+        },
+    };
+}
+
+/// Puts the message that a client hands out with its answer behind those of its channel, if there is a message.
+fn send_answer<const W: usize>(rings: &mut Rings<W>, link: Link, answer: Answer, bytes: &[u8; 64])
+    requires { IsWidth W }
+    ensures kept { AreKept rings.old rings.new }
+    ensures moved { (n : ℕ) (s : System W) → Carries n rings.old s →
+        Fit n rings.old (with_messages (handed_by link.0 (message_of answer bytes.now)) s) →
+        AreMoved n rings.old rings.new (with_messages (handed_by link.0 (message_of answer bytes.now)) s) }
+{
+    if answer.hands_out() {
+        rings.send_if_any(link, &answer.message(bytes));
     }
 }
 
@@ -160,16 +188,23 @@ impl<const W: usize, A: Agent<W>, D: Directory> Network<W, A, D> {
             *outcome = Outcome::Empty;
             return;
         };
-        match offer_at(&mut self.clients, usize::from(link.0), channel, beat) {
+        let mut bytes = [0; 64];
+        match answer_at(
+            &mut self.clients,
+            usize::from(link.0),
+            channel,
+            beat,
+            &mut bytes,
+        ) {
             Err(_) => *outcome = refused(),
-            Ok((verdict, message)) => {
-                if stays(verdict) {
+            Ok(answer) => {
+                if stays(answer, &bytes) {
                     *outcome = Outcome::Stalled;
                     return;
                 }
-                *outcome = outcome_of(*beat, verdict);
+                write_outcome(outcome, beat, answer, &bytes);
                 self.rings.drop_first(link, channel);
-                self.rings.send_if_any(link, &message);
+                send_answer(&mut self.rings, link, answer, &bytes);
             }
         }
     }
@@ -186,10 +221,11 @@ impl<const W: usize, A: Agent<W>, D: Directory> Network<W, A, D> {
             *outcome = Outcome::Empty;
             return;
         };
-        match self.manager.answer(link, channel, beat) {
+        let mut outbox = Outbox::Nothing;
+        match self.manager.answer_into(link, channel, beat, &mut outbox) {
             Err(_) => *outcome = refused(),
-            Ok(None) => *outcome = Outcome::Stalled,
-            Ok(Some(outbox)) => {
+            Ok(false) => *outcome = Outcome::Stalled,
+            Ok(true) => {
                 *outcome = Outcome::Moved { beat: *beat };
                 self.rings.drop_first(link, channel);
                 self.rings.send_out(&outbox);

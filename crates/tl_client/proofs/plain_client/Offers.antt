@@ -3,7 +3,7 @@ use Rattle.tl_client.proofs.Imports.{Beat, BeatA, BeatB, BeatD, Channel, OpD, fi
 use Rattle.tl_client.proofs.Imports.{same_control, breaks_burst, completes, Level, Key, RequestSource, ReleaseSource}
 use Rattle.tl_client.proofs.Imports.{AcquireOf, ReleaseOf, GrantSink, GrantAckOf, ProbeOf, Rule, L1, S1, A3, ok_unless}
 use Rattle.tl_client.proofs.Imports.{payload_of, ends, opens, pending, request_of, illegal, has_transfers, next_rule}
-use Rattle.tl_client.proofs.Imports.{both_none, Plain, Request, Finish, Done, Taken, EndConfig, Endpoint, with_past}
+use Rattle.tl_client.proofs.Imports.{Message, is_grant, Verdict, both_none, Plain, Request, Finish, Done, Taken, EndConfig, Endpoint, with_past}
 use Rattle.tl_client.proofs.Imports.{KnowsPlain, offered, judged_later, refused, silent, taken, ended, granted}
 use Rattle.tl_client.proofs.Imports.{responded, stalls, is_sent_on, response_rule, open_at, fields_of, open_beat}
 use Rattle.tl_client.proofs.Imports.{open_request, held_unsaid, pending-closed}
@@ -226,7 +226,7 @@ good_answer : {w : ℕ} (p : Plain w) (x : BeatD w) → IsGoodResponse p.config.
     p.responses → IsAccessAnswer x.opcode
 good_answer p x good = legal_answer p.config.level x p.accesses good.is_legal
 
-pub offered-taken : {w : ℕ} (p : Plain w) (e : Endpoint w) (ch : Channel) (x : Beat w) → KnowsPlain p e
+offered-taken : {w : ℕ} (p : Plain w) (e : Endpoint w) (ch : Channel) (x : Beat w) → KnowsPlain p e
     → Ok tt ≡ ok_unless (rule_at p ch x)
     → offered (plain_terms p) ch x e ≡ silent (plain_verdict (open_at p.requests) p.responses x)
     (with_past (x ∷ e.past) e)
@@ -239,6 +239,17 @@ offered-taken {w} p e ch x k none =
         → taken x e ≡ silent (plain_verdict (open_at p.requests) p.responses x) (with_past (x ∷ e.past) e)
     go (y, is, good) = rw is (response_taken y e (open_at p.requests) p.responses (good_answer p y good)
         (good_source p e y k good) (k.requests_are y.source) k.response_is)
+
+pub answered-taken : {w : ℕ} (p : Plain w) (e : Endpoint w) (ch : Channel) (x : Beat w) (v : Verdict)
+    (m : Option (Message w)) → KnowsPlain p e → Ok tt ≡ ok_unless (rule_at p ch x)
+    → v ≡ plain_verdict (open_at p.requests) p.responses x
+    → ((y : BeatD w) → x ≡ D y → is_grant y.opcode ≡ false → None ≡ m)
+    → Ok (v, m) ≡ (offered (plain_terms p) ch x e).answer
+answered-taken p e ch x v m k none says hands =
+    let good = good_response p.config.level (open_at p.requests) p.responses p.closed ch x
+    (none_broken (rule_at p ch x) none) in
+    let nothing : None ≡ m = hands good.0 good.1 (good_answer p good.0 good.2).0 in
+    rw (offered-taken p e ch x k none, says, ← nothing) refl
 
 pub knows-taken : {w : ℕ} (p q : Plain w) (e : Endpoint w) (ch : Channel) (x : Beat w) → KnowsPlain p e
     → Ok tt ≡ ok_unless (rule_at p ch x) → q.closed ≡ p.closed → q.responses ≡ grown x p.responses

@@ -7,18 +7,18 @@ ghost use Rattle.tl_burst.specs.statement.Messages.{breaks_burst};
 ghost use Rattle.tl_burst.specs.statement.Part.{IsTakeable};
 ghost use Rattle.tl_client.specs.statement.Endpoint.{Endpoint};
 ghost use Rattle.tl_client.specs.code.KnowsCaching.{KnowsCaching, caching_terms};
+ghost use Rattle.tl_client.specs.statement.Answer.{told};
 ghost use Rattle.tl_client.specs.statement.Offer;
 ghost use Rattle.tl_client.specs.code.Takes.{IsJudged, Takes};
 ghost use Rattle.tl_rules.specs.statement.Admission;
 ghost use Rattle.tl_rules.specs.statement.Conformance;
 
 use super::Caching;
+use crate::answer::Answer;
 use crate::order::{broken_in_order, check_alone};
 use crate::release::is_releasing;
-use crate::verdict::Verdict;
 use tl_beat::beat::Beat;
 use tl_beat::channel::Channel;
-use tl_burst::message::Message;
 use tl_rules::admission::{is_outside, is_spoiled};
 use tl_rules::key::block_at;
 use tl_rules::kind::is_probe;
@@ -91,17 +91,17 @@ impl<const W: usize> Caching<W> {
     }
 
     /// Takes a beat that breaks no rule.
-    pub(super) fn take(&mut self, beat: &Beat<W>) -> (Verdict, Option<Message<W>>)
+    pub(super) fn take(&mut self, beat: &Beat<W>, bytes: &mut [u8; 64]) -> Answer
         requires takeable { IsTakeable beat.now }
         requires inside { Admission.is_outside self.old.blocks beat.now ≡ false }
         requires continues { (x : BeatD W) → beat.now ≡ Beat.D x → breaks_burst beat.now self.old.responses ≡ false }
-        ensures taken { Takes self.old self.new beat.now result }
+        ensures taken { Takes self.old self.new beat.now (told result bytes.new) }
         ensures terms { caching_terms self.new ≡ caching_terms self.old }
     {
         match beat {
-            Beat::B(probe) => self.probe(probe),
-            Beat::D(response) => self.respond(beat, response),
-            _ => (Verdict::Taken, None),
+            Beat::B(probe) => self.probe(probe, bytes),
+            Beat::D(response) => self.respond(beat, response, bytes),
+            _ => Answer::Taken,
         }
     }
 }

@@ -1,6 +1,6 @@
 -- The bytes of the blocks, read and written.
 use Rattle.tl_manager.proofs.Imports.{Memory, bytes_from, AreBlocks, with_block}
-use Rattle.std.proofs.Common.{◌≡◌, ℕ, ◌+◌, ◌*◌, ◌/◌, ◌%◌, ◌<◌, ◌⊎◌, List, length, refl, sym, ◌∙◌, ap, arith, inl, inr}
+use Rattle.std.proofs.Common.{◌≡◌, ℕ, ◌+◌, ◌*◌, ◌/◌, ◌%◌, ◌<◌, List, length, refl, sym, ◌∙◌, ap, arith, inl, inr}
 use Rattle.std.specs.Prelude.{slice_index, slice_index_or, slice_set, replicate, ◌≢◌}
 use Rattle.std.proofs.lemmas.Bool.{eq-eqb, ne_eqb, cases_eq}
 use Rattle.std.proofs.lemmas.List.{get_or-set_same, get_or-set_other, get_or-replicate, length-replicate, length-set}
@@ -60,20 +60,3 @@ zero-blocks blocks count zeros are is = λ k past lt.
   where
     zero : ℕ
     zero = 0
-
--- a memory that has these bytes in the block, and the others as before
-pub blocks-as : (blocks : List (List ℕ)) (n : ℕ) (bytes : List ℕ) (f g : Memory) → IsBlock g n bytes
-    → ((address : ℕ) → address / 64 ≢ n → g address ≡ f address)
-    → AreBlocks blocks (with_block n bytes f) → AreBlocks blocks g
-blocks-as blocks n bytes f g here elsewhere are = λ k past lt.
-    ((are k past lt).0, λ i within. at k i within (cases_eq k n) ∙ (are k past lt).1 i within)
-  where
-    at : (k i : ℕ) → i < 64 → (k ≡ n) ⊎ (k ≡ n → ⊥) → g (64 * k + i) ≡ with_block n bytes f (64 * k + i)
-    at k i within (inl same) =
-        let block : (64 * k + i) / 64 ≡ n = omega (arith, within, same) in
-        let place : (64 * k + i) % 64 ≡ i = omega (arith, within) in
-        let address : 64 * k + i ≡ 64 * n + i = omega (arith, same) in
-        rw (block, place, eq-eqb n n refl, address) (here i within)
-    at k i within (inr other) =
-        let apart : (64 * k + i) / 64 ≢ n = λ e. other (omega (arith, within, e)) in
-        rw (ne_eqb ((64 * k + i) / 64) n apart) (elsewhere (64 * k + i) apart)

@@ -2,7 +2,7 @@
 //! in service.
 
 ghost use Rattle.std.specs.Prelude.{ℕ, ◌≡◌, ◌≢◌, ◌⊎◌, ◌<◌, ◌≤◌, ◌==◌, ◌&&◌, ◌*◌, if◌then◌else◌};
-ghost use Rattle.std.specs.Prelude.{◌^◌, ◌∷◌, [], not, length, true, false, Some, None};
+ghost use Rattle.std.specs.Prelude.{◌^◌, ◌∷◌, not, length, true, false, Some, None};
 ghost use Rattle.std.specs.Int.{bit_at};
 ghost use Rattle.tl_beat.specs.statement.Width.{IsWidth};
 ghost use Rattle.tl_beat.specs.declared.beat.Beat.{Beat};
@@ -134,8 +134,9 @@ impl<const W: usize, D: Directory> BlockState<W, D> {
         }
     }
 
-    /// Grants an Acquire, which waits for its GrantAck then.
-    fn grant(&mut self, number: u8, link: Link, request: &MessageA<W>) -> (Link, Message<W>)
+    /// Grants an Acquire, which waits for its GrantAck then. What is handed out is written where it is to stand, as
+    /// below.
+    fn grant(&mut self, number: u8, link: Link, request: &MessageA<W>, outbox: &mut Outbox<W>)
         requires width { IsWidth W }
         requires number { number < 8 }
         requires acquires { is_acquire request.now.opcode ≡ true }
@@ -145,8 +146,8 @@ impl<const W: usize, D: Directory> BlockState<W, D> {
         requires few { length self.old.blocks.bytes.items ≤ 1024 }
         ensures done { (config : Config) (t : Trace W) (memory : Memory) → IsReadyAt config number link request.now t →
             IsBlockStateWithout number D.perm_of config self.old t memory →
-            IsDone D.perm_of config self.new (result ∷ []) t (performed config (service_with number link request.now) t
-            memory) }
+            IsDone D.perm_of config self.new (messages_of outbox.new) t
+            (performed config (service_with number link request.now) t memory) }
         ensures blocks { D.blocks self.new.directory ≡ D.blocks self.old.directory }
         ensures clients { D.clients self.new.directory ≡ D.clients self.old.directory }
         ensures count { length self.new.blocks.bytes.items ≡ length self.old.blocks.bytes.items }
@@ -159,11 +160,11 @@ impl<const W: usize, D: Directory> BlockState<W, D> {
         let bytes = self.bytes_if(carries, block);
         self.record(block, link, cap.right());
         self.trackers.set(number, Tracker::Granted { link, block });
-        (link, grant(request.source, number, cap, bytes))
+        *outbox = Outbox::One((link, grant(request.source, number, cap, bytes)));
     }
 
     /// Performs an access and answers it, which ends its service.
-    fn perform(&mut self, number: u8, link: Link, request: &MessageA<W>) -> (Link, Message<W>)
+    fn perform(&mut self, number: u8, link: Link, request: &MessageA<W>, outbox: &mut Outbox<W>)
         requires width { IsWidth W }
         requires number { number < 8 }
         requires access { is_acquire request.now.opcode ≡ false }
@@ -171,18 +172,18 @@ impl<const W: usize, D: Directory> BlockState<W, D> {
             request.now }
         ensures done { (config : Config) (t : Trace W) (memory : Memory) → IsReadyAt config number link request.now t →
             IsBlockStateWithout number D.perm_of config self.old t memory →
-            IsDone D.perm_of config self.new (result ∷ []) t (performed config (service_with number link request.now) t
-            memory) }
+            IsDone D.perm_of config self.new (messages_of outbox.new) t
+            (performed config (service_with number link request.now) t memory) }
         ensures directory { self.new.directory ≡ self.old.directory }
         ensures count { length self.new.blocks.bytes.items ≡ length self.old.blocks.bytes.items }
     {
         let answer = self.blocks.perform(request);
         self.trackers.set(number, Tracker::Free);
-        (link, access_answer(request, answer))
+        *outbox = Outbox::One((link, access_answer(request, answer)));
     }
 
     /// Performs a request and answers it.
-    fn answer(&mut self, number: u8, link: Link, request: &MessageA<W>) -> Outbox<W>
+    fn answer(&mut self, number: u8, link: Link, request: &MessageA<W>, outbox: &mut Outbox<W>)
         requires width { IsWidth W }
         requires number { number < 8 }
         requires placed { IsPlaced (length self.old.blocks.bytes.items) (D.clients self.old.directory) link
@@ -191,22 +192,22 @@ impl<const W: usize, D: Directory> BlockState<W, D> {
         requires few { length self.old.blocks.bytes.items ≤ 1024 }
         ensures done { (config : Config) (t : Trace W) (memory : Memory) → IsReadyAt config number link request.now t →
             IsBlockStateWithout number D.perm_of config self.old t memory →
-            IsDone D.perm_of config self.new (messages_of result) t
+            IsDone D.perm_of config self.new (messages_of outbox.new) t
             (performed config (service_with number link request.now) t memory) }
         ensures blocks { D.blocks self.new.directory ≡ D.blocks self.old.directory }
         ensures clients { D.clients self.new.directory ≡ D.clients self.old.directory }
         ensures count { length self.new.blocks.bytes.items ≡ length self.old.blocks.bytes.items }
     {
         if is_acquire(request.opcode) {
-            Outbox::One(self.grant(number, link, request))
+            self.grant(number, link, request, outbox);
         } else {
-            Outbox::One(self.perform(number, link, request))
+            self.perform(number, link, request, outbox);
         }
     }
 
     /// Begins the service of a request: it probes those that hold too much, or is performed and
     /// answered at once.
-    fn begin(&mut self, number: u8, link: Link, request: &MessageA<W>) -> Outbox<W>
+    fn begin(&mut self, number: u8, link: Link, request: &MessageA<W>, outbox: &mut Outbox<W>)
         requires width { IsWidth W }
         requires number { number < 8 }
         requires client { link.0 < 16 }
@@ -216,7 +217,7 @@ impl<const W: usize, D: Directory> BlockState<W, D> {
         requires few { length self.old.blocks.bytes.items ≤ 1024 }
         ensures done { (config : Config) (t : Trace W) (memory : Memory) → length config.clients.items ≤ 16 →
             IsReadyAt config number link request.now t → IsBlockStateWithout number D.perm_of config self.old t memory →
-            IsDone D.perm_of config self.new (messages_of result) t
+            IsDone D.perm_of config self.new (messages_of outbox.new) t
             (begun_with config (Holders.cap_probed request.now.opcode request.now.param)
             (service_with number link request.now) t memory) }
         ensures blocks { D.blocks self.new.directory ≡ D.blocks self.old.directory }
@@ -224,11 +225,13 @@ impl<const W: usize, D: Directory> BlockState<W, D> {
         ensures count { length self.new.blocks.bytes.items ≡ length self.old.blocks.bytes.items }
     {
         let Some(cap) = cap_probed(request.opcode, request.param) else {
-            return self.answer(number, link, request);
+            self.answer(number, link, request, outbox);
+            return;
         };
         let missing = self.probed(cap, link, request);
         if missing == 0 {
-            return self.answer(number, link, request);
+            self.answer(number, link, request, outbox);
+            return;
         }
         let probing = Tracker::Probing {
             link,
@@ -236,16 +239,16 @@ impl<const W: usize, D: Directory> BlockState<W, D> {
             missing,
         };
         self.trackers.set(number, probing);
-        Outbox::Probes {
+        *outbox = Outbox::Probes {
             block: block_at(request.address) as u16,
             cap,
             clients: missing,
-        }
+        };
     }
 
     /// A ProbeAck of a block came from a client. With the last that was missing, the request for the
     /// block is performed and answered.
-    fn settle(&mut self, link: Link, block: u32) -> Outbox<W>
+    fn settle(&mut self, link: Link, block: u32, outbox: &mut Outbox<W>)
         requires width { IsWidth W }
         requires client { link.0 < 16 }
         requires placed { (n : ℕ) →
@@ -255,18 +258,19 @@ impl<const W: usize, D: Directory> BlockState<W, D> {
         requires few { length self.old.blocks.bytes.items ≤ 1024 }
         ensures done { (config : Config) (x : BeatC W) (e : End W) (memory : Memory) → IsReport config link block x e →
             IsReportedBlockState D.perm_of config self.old e.trace ((link, Beat.C x) ∷ e.trace) memory →
-            IsDone D.perm_of config self.new (messages_of result) ((link, Beat.C x) ∷ e.trace)
+            IsDone D.perm_of config self.new (messages_of outbox.new) ((link, Beat.C x) ∷ e.trace)
             (finish config block ((link, Beat.C x) ∷ e.trace) memory) }
         ensures blocks { D.blocks self.new.directory ≡ D.blocks self.old.directory }
         ensures clients { D.clients self.new.directory ≡ D.clients self.old.directory }
         ensures count { length self.new.blocks.bytes.items ≡ length self.old.blocks.bytes.items }
     {
+        *outbox = Outbox::Nothing;
         let Some(number) = self.trackers.serving(block) else {
-            return Outbox::Nothing;
+            return;
         };
         let (asking, request, missing) = match self.trackers.at(number) {
-            Tracker::Free => return Outbox::Nothing,
-            Tracker::Granted { .. } => return Outbox::Nothing,
+            Tracker::Free => return,
+            Tracker::Granted { .. } => return,
             Tracker::Probing {
                 link: asking,
                 request,
@@ -275,7 +279,8 @@ impl<const W: usize, D: Directory> BlockState<W, D> {
         };
         let missing = without(missing, link.0);
         if missing == 0 {
-            return self.answer(number, asking, &request);
+            self.answer(number, asking, &request, outbox);
+            return;
         }
         let probing = Tracker::Probing {
             link: asking,
@@ -283,12 +288,11 @@ impl<const W: usize, D: Directory> BlockState<W, D> {
             missing,
         };
         self.trackers.set(number, probing);
-        Outbox::Nothing
     }
 
     /// Takes a message of channel C: a Release is answered at once, and a ProbeAck may have been the
     /// last one that a request waited for.
-    fn take(&mut self, link: Link, message: &MessageC<W>) -> Outbox<W>
+    fn take(&mut self, link: Link, message: &MessageC<W>, outbox: &mut Outbox<W>)
         requires width { IsWidth W }
         requires client { link.0 < 16 }
         requires covered { link.0 < D.clients self.old.directory }
@@ -300,7 +304,7 @@ impl<const W: usize, D: Directory> BlockState<W, D> {
         requires few { length self.old.blocks.bytes.items ≤ 1024 }
         ensures done { (config : Config) (x : BeatC W) (e : End W) → IsMessage config link x message.now e →
             IsBlockState D.perm_of config self.old e.trace e.memory →
-            IsDone D.perm_of config self.new (messages_of result) ((link, Beat.C x) ∷ e.trace)
+            IsDone D.perm_of config self.new (messages_of outbox.new) ((link, Beat.C x) ∷ e.trace)
             (reaction config link (Beat.C x) e) }
         ensures blocks { D.blocks self.new.directory ≡ D.blocks self.old.directory }
         ensures clients { D.clients self.new.directory ≡ D.clients self.old.directory }
@@ -312,9 +316,9 @@ impl<const W: usize, D: Directory> BlockState<W, D> {
             .write_if(carries, block as usize, &message.payload);
         self.record(block, link, reported(message.param));
         if is_release(message.opcode) {
-            Outbox::One((link, release_ack(message.source)))
+            *outbox = Outbox::One((link, release_ack(message.source)));
         } else {
-            self.settle(link, block)
+            self.settle(link, block, outbox)
         }
     }
 
@@ -332,7 +336,7 @@ impl<const W: usize, D: Directory> BlockState<W, D> {
     }
 
     /// Gives a request the least free tracker, and begins its service.
-    fn serve(&mut self, link: Link, request: &MessageA<W>) -> Outbox<W>
+    fn serve(&mut self, link: Link, request: &MessageA<W>, outbox: &mut Outbox<W>)
         requires width { IsWidth W }
         requires client { link.0 < 16 }
         requires placed { IsPlaced (length self.old.blocks.bytes.items) (D.clients self.old.directory) link
@@ -343,19 +347,19 @@ impl<const W: usize, D: Directory> BlockState<W, D> {
         ensures done { (config : Config) (x : Beat W) (e : End W) → length config.clients.items ≤ 16 →
             IsComplete config link x (Message.A request.now) e →
             IsBlockState D.perm_of config self.old e.trace e.memory →
-            IsDone D.perm_of config self.new (messages_of result) ((link, x) ∷ e.trace) (reaction config link x e) }
+            IsDone D.perm_of config self.new (messages_of outbox.new) ((link, x) ∷ e.trace) (reaction config link x e) }
         ensures blocks { D.blocks self.new.directory ≡ D.blocks self.old.directory }
         ensures clients { D.clients self.new.directory ≡ D.clients self.old.directory }
         ensures count { length self.new.blocks.bytes.items ≡ length self.old.blocks.bytes.items }
     {
         match self.trackers.least_free() {
-            None => Outbox::Nothing,
-            Some(number) => self.begin(number, link, request),
+            None => *outbox = Outbox::Nothing,
+            Some(number) => self.begin(number, link, request, outbox),
         }
     }
 
     /// Does what is due as a message of a client is complete.
-    pub fn complete(&mut self, link: Link, message: &Message<W>) -> Outbox<W>
+    pub fn complete(&mut self, link: Link, message: &Message<W>, outbox: &mut Outbox<W>)
         requires width { IsWidth W }
         requires client { link.0 < 16 }
         requires covered { link.0 < D.clients self.old.directory }
@@ -368,19 +372,19 @@ impl<const W: usize, D: Directory> BlockState<W, D> {
         requires trackers { self.old.trackers.count ≤ 8 }
         ensures done { (config : Config) (x : Beat W) (e : End W) → length config.clients.items ≤ 16 →
             IsComplete config link x message.now e → IsBlockState D.perm_of config self.old e.trace e.memory →
-            IsDone D.perm_of config self.new (messages_of result) ((link, x) ∷ e.trace) (reaction config link x e) }
+            IsDone D.perm_of config self.new (messages_of outbox.new) ((link, x) ∷ e.trace) (reaction config link x e) }
         ensures blocks { D.blocks self.new.directory ≡ D.blocks self.old.directory }
         ensures clients { D.clients self.new.directory ≡ D.clients self.old.directory }
         ensures count { length self.new.blocks.bytes.items ≡ length self.old.blocks.bytes.items }
     {
         match message {
-            Message::A(request) => self.serve(link, request),
-            Message::C(report) => self.take(link, report),
+            Message::A(request) => self.serve(link, request, outbox),
+            Message::C(report) => self.take(link, report, outbox),
             Message::E(ack) => {
                 self.acknowledge(ack.sink);
-                Outbox::Nothing
+                *outbox = Outbox::Nothing;
             }
-            Message::B(_) | Message::D(_) => Outbox::Nothing,
+            Message::B(_) | Message::D(_) => *outbox = Outbox::Nothing,
         }
     }
 }

@@ -4,11 +4,12 @@ ghost use Rattle.std.specs.Prelude.{ℕ, ◌≡◌, ◌<◌, ◌*◌, ◌/◌, l
 ghost use Rattle.tl_beat.specs.statement.Width.{IsWidth};
 ghost use Rattle.tl_burst.specs.declared.message.Message.{Message};
 ghost use Rattle.tl_burst.specs.statement.Burst.{beats_of, IsBlankAfter};
-ghost use Rattle.tl_rules.specs.statement.Effect.{Memory, IsBlock, bytes_from, effect, answer_of};
+ghost use Rattle.tl_rules.specs.statement.Effect.{Memory, bytes_from, effect, answer_of};
 ghost use Rattle.tl_rules.specs.statement.Legality.{illegal_message};
 ghost use Rattle.tl_manager.specs.code.Blocks.{AreBlocks};
 ghost use Rattle.tl_manager.specs.statement.Reaction.{with_block};
 
+use crate::manager::types::prove_long;
 use std::alloc::{AllocError, Global};
 use tl_beat::channel::Channel;
 use tl_burst::message::{Message, MessageA};
@@ -44,9 +45,8 @@ impl Blocks {
     /// The bytes of a block.
     pub fn read(&self, block: usize) -> [u8; 64]
         requires { block < length self.now.bytes.items }
-        ensures bytes { (memory : Memory) → AreBlocks self.now.bytes.items memory →
+        ensures { (memory : Memory) → AreBlocks self.now.bytes.items memory →
             result ≡ bytes_from memory (64 * block) 64 }
-        ensures block { (memory : Memory) → AreBlocks self.now.bytes.items memory → IsBlock memory block result }
     {
         self.bytes[block]
     }
@@ -86,9 +86,9 @@ impl Blocks {
         ensures count { length self.new.bytes.items ≡ length self.old.bytes.items }
     {
         let block = block_at(request.address) as usize;
-        let mut bytes = self.read(block);
-        let answer = perform(&mut bytes, &Message::A(*request));
-        self.write(block, &bytes);
+        let bytes = &mut self.bytes[block];
+        let answer = perform(bytes, &Message::A(*request));
+        prove_long(bytes);
         answer
     }
 }

@@ -1,6 +1,6 @@
 //! One link: the bursts that come on it, and what its messages are judged by.
 
-ghost use Rattle.std.specs.Prelude.{ℕ, ◌≡◌, ◌<◌, ◌≤◌, ◌==◌, ◌&&◌, length, false, true, is_some, IfSome, List, [], ◌∷◌};
+ghost use Rattle.std.specs.Prelude.{ℕ, ◌≡◌, ◌<◌, ◌≤◌, ◌==◌, ◌&&◌, length, false, true, List, [], ◌∷◌};
 ghost use Rattle.std.specs.Prelude.{None, not};
 ghost use Rattle.std.specs.Bool.{OnTrue, OnFalse};
 ghost use Rattle.tl_beat.specs.statement.Width.{IsWidth, IsWidth-prop};
@@ -76,8 +76,9 @@ impl<const W: usize> LinkState<W> {
         }
     }
 
-    /// Takes a client's beat that goes on with its burst: the message that it completes.
-    pub fn take(&mut self, beat: &Beat<W>) -> Option<Message<W>>
+    /// Takes a client's beat that goes on with its burst: whether it completes a message, which is written where it is
+    /// to stand.
+    pub fn take(&mut self, beat: &Beat<W>, message: &mut Message<W>) -> bool
         requires width { IsWidth W }
         requires takeable { IsTakeable beat.now }
         requires theirs { is_from_client beat.now ≡ true }
@@ -86,16 +87,19 @@ impl<const W: usize> LinkState<W> {
         ensures reports { self.new.reports ≡ burst_with Channel.C beat.now self.old.reports }
         ensures level { self.new.level ≡ self.old.level }
         ensures closed { self.new.closed ≡ self.old.closed }
-        ensures completes { is_some result
+        ensures completes { result
             ≡ completes beat.now (burst_for self.old.requests self.old.reports beat.now) }
-        ensures message { IfSome result
-            (λ m. IsBurst m (beat.now ∷ burst_for self.old.requests self.old.reports beat.now)) }
+        ensures message { OnTrue result
+            (IsBurst message.new (beat.now ∷ burst_for self.old.requests self.old.reports beat.now)) }
     {
         match beat {
-            Beat::A(_) => self.requests.take(beat).unwrap_or(None),
-            Beat::C(_) => self.reports.take(beat).unwrap_or(None),
-            Beat::E(x) => Some(Message::E(MessageE { sink: x.sink })),
-            Beat::B(_) | Beat::D(_) => None,
+            Beat::A(_) => self.requests.take_into(beat, message).unwrap_or(false),
+            Beat::C(_) => self.reports.take_into(beat, message).unwrap_or(false),
+            Beat::E(x) => {
+                *message = Message::E(MessageE { sink: x.sink });
+                true
+            }
+            Beat::B(_) | Beat::D(_) => false,
         }
     }
 

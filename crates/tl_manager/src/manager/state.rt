@@ -31,6 +31,7 @@ use crate::manager::types::{prove_filled, prove_typed};
 use std::alloc::{AllocError, Global};
 use tl_beat::beat::{Beat, Link};
 use tl_beat::channel::Channel;
+use tl_burst::message::{Message, MessageE};
 use tl_burst::part::Part;
 use tl_rules::admission::{is_outside, is_spoiled};
 use tl_rules::config::{ClientConfig, Config, NewFault};
@@ -276,14 +277,14 @@ impl<const W: usize, D: Directory> ManagerState<W, D> {
     }
 
     /// Takes a beat that passes: the messages that are handed out for it.
-    pub fn take(&mut self, link: Link, beat: &Beat<W>) -> Outbox<W>
+    pub fn take(&mut self, link: Link, beat: &Beat<W>, outbox: &mut Outbox<W>)
         requires known { IsManager D.perm_of D.blocks D.clients self.old }
         requires link { link.0 < length self.old.link_states.items }
         requires takeable { IsTakeable beat.now }
         requires passes { (config : Config) (e : End W) → Knows D.perm_of self.old config e →
             (ch : Channel) × (judged config link ch beat.now e ≡ Offer.Passes) }
         ensures handed { (config : Config) (e : End W) → Knows D.perm_of self.old config e →
-            messages_of result ≡ (reaction config link beat.now e).handed }
+            messages_of outbox.new ≡ (reaction config link beat.now e).handed }
         ensures knows { (config : Config) (e : End W) → Knows D.perm_of self.old config e →
             Knows D.perm_of self.new config (taken link beat.now (reaction config link beat.now e) e) }
         ensures blocks { D.blocks self.new.block_state.directory ≡ D.blocks self.old.block_state.directory }
@@ -291,10 +292,12 @@ impl<const W: usize, D: Directory> ManagerState<W, D> {
     {
         prove_typed(beat);
         let number = usize::from(link.0);
-        let Some(message) = self.link_states[number].take(beat) else {
-            return Outbox::Nothing;
-        };
+        let mut message = Message::E(MessageE { sink: 0 });
+        if !self.link_states[number].take(beat, &mut message) {
+            *outbox = Outbox::Nothing;
+            return;
+        }
         prove_filled(&message);
-        self.block_state.complete(link, &message)
+        self.block_state.complete(link, &message, outbox)
     }
 }

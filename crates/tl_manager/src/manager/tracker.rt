@@ -167,14 +167,23 @@ impl<const W: usize> Trackers<W> {
         None
     }
 
+    /// Whether the request of the tracker with this number came on the link with this source, and isn't answered.
+    fn serves(&self, number: u8, link: Link, source: u8) -> bool
+        ensures { result ≡ Tracking.serves_source link.0 source (tracker_at self.now number) }
+    {
+        match self.all.get(usize::from(number)) {
+            Some(tracker) => tracker.serves_source(link, source),
+            None => false,
+        }
+    }
+
     /// The request that came on the link with this source and isn't answered.
     pub fn asked(&self, link: Link, source: u8) -> Option<MessageA<W>>
         ensures { IsAsked self.now link.0 source result }
     {
         for number in 0..8 {
-            let tracker = self.at(number);
-            if tracker.serves_source(link, source) {
-                return tracker.request();
+            if self.serves(number, link, source) {
+                return self.at(number).request();
             }
         }
         None

@@ -10,7 +10,7 @@ use tl_beat::beat::Beat;
 use tl_burst::message::Message;
 
 /// A payload has 64 bytes.
-fn prove_long(payload: &[u8; 64])
+pub fn prove_long(payload: &[u8; 64])
     ensures { length payload.now ≡ 64 }
 {}
 

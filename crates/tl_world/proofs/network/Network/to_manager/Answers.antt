@@ -1,4 +1,5 @@
 use Rattle.std.proofs.Common.{refl, rules}
+use Rattle.tl_burst.specs.statement.Written.{written}
 use Rattle.tl_manager.specs.code.Answers.{sent_of}
 use Rattle.tl_manager.specs.code.Outbox.{messages_of}
 use Rattle.tl_world.proofs.Stepping.{first-brought, steps-empty, manager-refused, manager-stayed, manager-sent}
@@ -12,25 +13,29 @@ returns-in_default g c = λ config s h down room.
 pub returns-in-Err : goal.returns-in-Err
 returns-in-Err g c = λ config s h down room. rw c.refused.ensures (
     manager-refused g.A.Agent.represents g.A.Agent.terms g.D.Directory.perm_of config c.args.self.now _ s c.args.link
-    c.args.channel c.in-Some.beat.now _ (sent_of c.answer.result) h c.requires.inside
+    c.args.channel c.in-Some.beat.now _ (sent_of (written c.answer_into.new.outbox c.answer_into.result)) h
+    c.requires.inside
     (first-brought g.A.Agent.represents g.A.Agent.terms g.D.Directory.perm_of config c.args.self.now s c.args.link
     c.args.channel c.in-Some.beat.now h c.requires.inside c.in-Some.ensures.there) down refl
-    c.answer.ensures.answer c.answer.ensures.after c.in-Err.field-0 (search rules) refl)
+    c.answer_into.ensures.answer c.answer_into.ensures.after c.in-Err.field-0 (search rules) refl)
 
-pub returns-in-Ok-None : goal.returns-in-Ok-None
-returns-in-Ok-None g c = λ config s h down room.
+pub returns-in-Ok-false : goal.returns-in-Ok-false
+returns-in-Ok-false g c = λ config s h down room.
     manager-stayed g.A.Agent.represents g.A.Agent.terms g.D.Directory.perm_of config c.args.self.now _ s c.args.link
-    c.args.channel c.in-Some.beat.now _ (sent_of c.answer.result) h c.requires.inside
+    c.args.channel c.in-Some.beat.now _ (sent_of (written c.answer_into.new.outbox c.answer_into.result)) h
+    c.requires.inside
     (first-brought g.A.Agent.represents g.A.Agent.terms g.D.Directory.perm_of config c.args.self.now s c.args.link
     c.args.channel c.in-Some.beat.now h c.requires.inside c.in-Some.ensures.there) down refl
-    c.answer.ensures.answer c.answer.ensures.after (search rules) refl
+    c.answer_into.ensures.answer c.answer_into.ensures.after (search rules) refl
 
-pub returns-in-Ok-Some : goal.returns-in-Ok-Some
-returns-in-Ok-Some g c = λ config s h down room.
+pub returns-in-Ok-true : goal.returns-in-Ok-true
+returns-in-Ok-true g c = λ config s h down room.
     manager-sent g.A.Agent.represents g.A.Agent.terms g.D.Directory.perm_of config c.args.self.now _ s c.args.link
-    c.args.channel c.in-Some.beat.now _ (sent_of c.answer.result) h c.requires.inside
+    c.args.channel c.in-Some.beat.now _ (sent_of (written c.answer_into.new.outbox c.answer_into.result)) h
+    c.requires.inside
     (first-brought g.A.Agent.represents g.A.Agent.terms g.D.Directory.perm_of config c.args.self.now s c.args.link
     c.args.channel c.in-Some.beat.now h c.requires.inside c.in-Some.ensures.there) down refl
-    c.answer.ensures.answer c.answer.ensures.after c.drop_first.new.self (messages_of c.in-Ok-Some.outbox)
+    c.answer_into.ensures.answer c.answer_into.ensures.after c.drop_first.new.self
+    (messages_of c.answer_into.new.outbox)
     (search rules) c.drop_first.ensures.kept c.send_out.ensures.kept c.drop_first.ensures.moved c.send_out.ensures.moved
     room

@@ -12,6 +12,6 @@ returns-in-None-clause-done g c = λ config x e few is block_state.
 pub returns-in-Some-clause-done : goal.returns-in-Some-clause-done
 returns-in-Some-clause-done g c = λ config x e few is block_state.
     done-served g.D.Directory.perm_of config c.args.self.now c.begin.new.self
-    (messages_of c.begin.result) c.in-Some.number c.args.link x c.args.request.now e is.filled c.in-Some.ensures.free.1
-    c.in-Some.ensures.free.2
+    (messages_of c.begin.new.outbox) c.in-Some.number c.args.link x c.args.request.now e is.filled
+    c.in-Some.ensures.free.1 c.in-Some.ensures.free.2
     (λ t memory at without. c.begin.ensures.done config t memory few at without) is block_state

@@ -22,27 +22,27 @@ take-requires g c =
     let width = known.width in
     search (rules, goes, theirs, width)
 
-pub returns-in_default-clause-handed : goal.returns-in_default-clause-handed
-returns-in_default-clause-handed g c = λ config e k.
+pub returns-then-not-take-clause-handed : goal.returns-then-not-take-clause-handed
+returns-then-not-take-clause-handed g c = λ config e k.
     let found : slice_get c.args.self.now.link_states.items c.args.link.0 ≡ Some c.index_mut.result.now =
     slice_get_read c.args.self.now.link_states.items (length c.args.self.now.link_states.items) c.args.link.0
     c.index_mut.result.now refl c.requires.link (rw c.from-number.ensures at c.index_mut.ensures.value) in
     let passes = c.requires.passes config e k in
     let ok = passed config c.args.link passes.0 c.args.beat.now e c.prove_typed.ensures passes.1 in
     let part = last-is config c.args.link c.index_mut.result.now c.args.beat.now e false ok
-    (k.link_states c.args.link.0 c.index_mut.result.now found) c.in_default.ensures.completes in
+    (k.link_states c.args.link.0 c.index_mut.result.now found) c.if-not-take.ensures.completes in
     (done-part g.D.Directory.perm_of config c.args.self.now.block_state c.args.link c.args.beat.now e ok.theirs part
     k.block_state).0
 
-pub returns-in_default-clause-knows : goal.returns-in_default-clause-knows
-returns-in_default-clause-knows g c = λ config e k.
+pub returns-then-not-take-clause-knows : goal.returns-then-not-take-clause-knows
+returns-then-not-take-clause-knows g c = λ config e k.
     let found : slice_get c.args.self.now.link_states.items c.args.link.0 ≡ Some c.index_mut.result.now =
     slice_get_read c.args.self.now.link_states.items (length c.args.self.now.link_states.items) c.args.link.0
     c.index_mut.result.now refl c.requires.link (rw c.from-number.ensures at c.index_mut.ensures.value) in
     let passes = c.requires.passes config e k in
     let ok = passed config c.args.link passes.0 c.args.beat.now e c.prove_typed.ensures passes.1 in
     let part = last-is config c.args.link c.index_mut.result.now c.args.beat.now e false ok
-    (k.link_states c.args.link.0 c.index_mut.result.now found) c.in_default.ensures.completes in
+    (k.link_states c.args.link.0 c.index_mut.result.now found) c.if-not-take.ensures.completes in
     knows-taken g.D.Directory.perm_of c.args.self.now _ config c.args.link c.index_mut.result.now c.take.new.self
     c.args.beat.now e c.requires.known.width ok (rw c.from-number.ensures refl) found
     c.take.ensures.level c.take.ensures.closed c.take.ensures.requests c.take.ensures.reports refl
@@ -58,12 +58,12 @@ complete-requires g c =
     c.index_mut.result.now refl c.requires.link (rw c.from-number.ensures at c.index_mut.ensures.value) in
     let passes = c.requires.passes known.config known.end k in
     let ok = passed known.config c.args.link passes.0 c.args.beat.now known.end c.prove_typed.ensures passes.1 in
-    let complete = is-complete known.config c.args.link c.index_mut.result.now c.args.beat.now c.in-Some.message
+    let complete = is-complete known.config c.args.link c.index_mut.result.now c.args.beat.now c.take.new.message
     known.end known.width ok k.kept
-    (k.link_states c.args.link.0 c.index_mut.result.now found) c.in-Some.ensures.completes c.in-Some.ensures.message
-    c.prove_filled.ensures in
+    (k.link_states c.args.link.0 c.index_mut.result.now found) c.if-not-take.ensures.completes
+    c.if-not-take.ensures.message c.prove_filled.ensures in
     let can = can-complete g.D.Directory.perm_of g.D.Directory.blocks g.D.Directory.clients c.args.self.now c.args.link
-    c.args.beat.now c.in-Some.message known c.requires.link complete in
+    c.args.beat.now c.take.new.message known c.requires.link complete in
     let width = known.width in
     let blocks = known.blocks in
     search (rules, can, width, blocks)
@@ -75,10 +75,10 @@ returns-clause-handed g c = λ config e k.
     c.index_mut.result.now refl c.requires.link (rw c.from-number.ensures at c.index_mut.ensures.value) in
     let passes = c.requires.passes config e k in
     let ok = passed config c.args.link passes.0 c.args.beat.now e c.prove_typed.ensures passes.1 in
-    let complete = is-complete config c.args.link c.index_mut.result.now c.args.beat.now c.in-Some.message e
+    let complete = is-complete config c.args.link c.index_mut.result.now c.args.beat.now c.take.new.message e
     c.requires.known.width ok k.kept
-    (k.link_states c.args.link.0 c.index_mut.result.now found) c.in-Some.ensures.completes c.in-Some.ensures.message
-    c.prove_filled.ensures in
+    (k.link_states c.args.link.0 c.index_mut.result.now found) c.if-not-take.ensures.completes
+    c.if-not-take.ensures.message c.prove_filled.ensures in
     (c.complete.ensures.done config c.args.beat.now e (limits config k.fits).0 complete k.block_state).0
 
 pub returns-clause-knows : goal.returns-clause-knows
@@ -88,10 +88,10 @@ returns-clause-knows g c = λ config e k.
     c.index_mut.result.now refl c.requires.link (rw c.from-number.ensures at c.index_mut.ensures.value) in
     let passes = c.requires.passes config e k in
     let ok = passed config c.args.link passes.0 c.args.beat.now e c.prove_typed.ensures passes.1 in
-    let complete = is-complete config c.args.link c.index_mut.result.now c.args.beat.now c.in-Some.message e
+    let complete = is-complete config c.args.link c.index_mut.result.now c.args.beat.now c.take.new.message e
     c.requires.known.width ok k.kept
-    (k.link_states c.args.link.0 c.index_mut.result.now found) c.in-Some.ensures.completes c.in-Some.ensures.message
-    c.prove_filled.ensures in
+    (k.link_states c.args.link.0 c.index_mut.result.now found) c.if-not-take.ensures.completes
+    c.if-not-take.ensures.message c.prove_filled.ensures in
     let done = c.complete.ensures.done config c.args.beat.now e (limits config k.fits).0 complete k.block_state in
     knows-taken g.D.Directory.perm_of c.args.self.now _ config c.args.link c.index_mut.result.now c.take.new.self
     c.args.beat.now e c.requires.known.width ok (rw c.from-number.ensures refl) found

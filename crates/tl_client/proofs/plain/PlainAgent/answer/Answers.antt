@@ -1,6 +1,6 @@
-use Rattle.std.proofs.Common.{refl, rules}
-use Rattle.tl_client.proofs.plain_client.Offers.{offered-refused, offered-taken, knows-refused, knows-taken}
-use Rattle.tl_client.proofs.plain.PlainAgent.offer.Goals as goal
+use Rattle.std.proofs.Common.{refl}
+use Rattle.tl_client.proofs.plain_client.Offers.{offered-refused, answered-taken, knows-refused, knows-taken}
+use Rattle.tl_client.proofs.plain.PlainAgent.answer.Goals as goal
 
 pub returns-in-Err-clause-answer : goal.returns-in-Err-clause-answer
 returns-in-Err-clause-answer g c =
@@ -13,8 +13,8 @@ returns-in-Err-clause-after g c = λ e k. knows-refused c.args.self.now _ e c.ar
 
 pub returns-in-Ok-clause-answer : goal.returns-in-Ok-clause-answer
 returns-in-Ok-clause-answer g c =
-    λ e k. rw (offered-taken c.args.self.now e c.args.channel c.args.beat.now k (c.in-Ok.ensures.rule e k))
-    (search rules)
+    λ e k. answered-taken c.args.self.now e c.args.channel c.args.beat.now _ _ k (c.in-Ok.ensures.rule e k)
+    c.take.ensures.verdict c.take.ensures.message
 
 pub returns-in-Ok-clause-after : goal.returns-in-Ok-clause-after
 returns-in-Ok-clause-after g c =

@@ -1,0 +1,44 @@
+-- What a client's answer of few bytes stands for, with the bytes that belong to it.
+use Rattle.std.specs.Prelude.{ℕ, List, Option, Some, None, Result, Ok, Err}
+use Rattle.tl_burst.specs.declared.message.Message.{Message}
+use Rattle.tl_params.specs.declared.rule.Rule.{Rule}
+use Rattle.tl_client.specs.declared.answer.Answer.{Answer}
+use Rattle.tl_client.specs.declared.answer.Answer.TheVariants as answer
+use Rattle.tl_client.specs.declared.answer.Ending.{Ending}
+use Rattle.tl_client.specs.declared.answer.Ending.TheVariants as ending
+use Rattle.tl_client.specs.declared.verdict.Finish.{Finish}
+use Rattle.tl_client.specs.declared.verdict.Finish.TheVariants as finish
+use Rattle.tl_client.specs.declared.verdict.Verdict.{Verdict}
+use Rattle.tl_client.specs.declared.verdict.Verdict.TheVariants as verdict
+use Rattle.tl_rules.specs.statement.History.{block_at}
+use Rattle.tl_client.specs.statement.Send.{probe_ack, grant_ack}
+
+abbrev pub finish_of_ending : Ending → List ℕ → Finish
+finish_of_ending ending.Ack bytes = finish.Ack
+finish_of_ending ending.Hint bytes = finish.Hint
+finish_of_ending (ending.Data size) bytes = finish.Data size bytes
+finish_of_ending ending.Released bytes = finish.Released
+
+abbrev pub verdict_of : Answer → List ℕ → Verdict
+verdict_of answer.Stalled bytes = verdict.Stalled
+verdict_of answer.Taken bytes = verdict.Taken
+verdict_of (answer.Probed opcode held report address) bytes = verdict.Taken
+verdict_of (answer.Granted source perm sink) bytes = verdict.Done source (finish.Granted perm)
+verdict_of (answer.Ended source e) bytes = verdict.Done source (finish_of_ending e bytes)
+
+abbrev pub message_of : {w : ℕ} → Answer → List ℕ → Option (Message w)
+message_of answer.Stalled bytes = None
+message_of answer.Taken bytes = None
+message_of (answer.Probed opcode held report address) bytes =
+    Some (probe_ack opcode held report (block_at address) bytes)
+message_of (answer.Granted source perm sink) bytes = Some (grant_ack sink)
+message_of (answer.Ended source e) bytes = None
+
+-- the verdict and the message
+abbrev pub told : {w : ℕ} → Answer → List ℕ → Verdict × Option (Message w)
+told a bytes = (verdict_of a bytes, message_of a bytes)
+
+-- those, or the rule by which a beat is refused
+abbrev pub told_by : {w : ℕ} → Result Answer Rule → List ℕ → Result (Verdict × Option (Message w)) Rule
+told_by (Ok a) bytes = Ok (told a bytes)
+told_by (Err rule) bytes = Err rule

@@ -1,0 +1,103 @@
+//! What a client answers to a beat, in few bytes: those of a copy or of a response stand where the caller wants them.
+
+ghost use Rattle.std.specs.Prelude.{ℕ, List, ◌≡◌, is_some};
+ghost use Rattle.tl_client.specs.statement.Answer.{finish_of_ending, verdict_of, message_of};
+
+use crate::send::probe_ack;
+use crate::verdict::{Finish, Verdict};
+use tl_beat::opcode::OpB;
+use tl_burst::message::{Message, MessageE};
+use tl_rules::key::block_at;
+use tl_rules::param::Report;
+use tl_rules::perm::Perm;
+
+/// How an operation other than an Acquire ended.
+#[derive(Clone, Copy, Debug, PartialEq, Eq)]
+pub enum Ending {
+    /// AccessAck.
+    Ack,
+    /// HintAck.
+    Hint,
+    /// AccessAckData of an access of this size: the bytes are its own, with zeros after them.
+    Data(u8),
+    /// ReleaseAck.
+    Released,
+}
+
+/// The answer to a beat that isn't refused, of which 64 bytes stand elsewhere.
+#[derive(Clone, Copy, Debug, PartialEq, Eq)]
+pub enum Answer {
+    /// The beat has to wait, and nothing changed.
+    Stalled,
+    /// The beat was taken. It completes no response, and no message is handed out.
+    Taken,
+    /// A Probe was taken, and its answer is handed out: the bytes are those of the copy.
+    Probed {
+        opcode: OpB,
+        held: Perm,
+        report: Report,
+        address: u32,
+    },
+    /// The beat completes the Grant to the request with this source, and its GrantAck is handed out.
+    Granted {
+        source: u8,
+        perm: Perm,
+        sink: u8,
+    },
+    /// The beat completes another response, to the request or Release with this source.
+    Ended {
+        source: u8,
+        ending: Ending,
+    },
+}
+
+impl Ending {
+    /// How the operation ended, with these bytes.
+    pub fn finish(self, bytes: &[u8; 64]) -> Finish
+        ensures { result ≡ finish_of_ending self bytes.now }
+    {
+        match self {
+            Ending::Ack => Finish::Ack,
+            Ending::Hint => Finish::Hint,
+            Ending::Data(size) => Finish::Data(size, *bytes),
+            Ending::Released => Finish::Released,
+        }
+    }
+}
+
+impl Answer {
+    /// The verdict that it stands for, with these bytes.
+    pub fn verdict(self, bytes: &[u8; 64]) -> Verdict
+        ensures { result ≡ verdict_of self bytes.now }
+    {
+        match self {
+            Answer::Stalled => Verdict::Stalled,
+            Answer::Taken | Answer::Probed { .. } => Verdict::Taken,
+            Answer::Granted { source, perm, .. } => Verdict::Done(source, Finish::Granted(perm)),
+            Answer::Ended { source, ending } => Verdict::Done(source, ending.finish(bytes)),
+        }
+    }
+
+    /// Whether a message is handed out.
+    pub fn hands_out(self) -> bool
+        ensures { (w : ℕ) (bytes : List ℕ) → result ≡ is_some (message_of {w = w} self bytes) }
+    {
+        matches!(self, Answer::Probed { .. } | Answer::Granted { .. })
+    }
+
+    /// The message that is handed out, with these bytes.
+    pub fn message<const W: usize>(self, bytes: &[u8; 64]) -> Option<Message<W>>
+        ensures { result ≡ message_of self bytes.now }
+    {
+        match self {
+            Answer::Stalled | Answer::Taken | Answer::Ended { .. } => None,
+            Answer::Probed {
+                opcode,
+                held,
+                report,
+                address,
+            } => Some(Message::C(probe_ack(opcode, held, report, block_at(address), *bytes))),
+            Answer::Granted { sink, .. } => Some(Message::E(MessageE { sink })),
+        }
+    }
+}

@@ -111,16 +111,15 @@ tail_at w bytes =
     else Err F3
 
 -- the fields between, those that the channel lacks zero
-abbrev pub request_fields_at : ℕ → List ℕ → Result (Fields × List ℕ) LineFault
-request_fields_at w bytes = do
-  address ← field_at 8 bytes
-  mask ← field_at (w / 4) address.1
-  Ok (record { address = address.0; mask = mask.0; sink = 0; denied = false }, mask.1)
+abbrev pub mask_if_at : ℕ → Bool → List ℕ → Result (ℕ × List ℕ) LineFault
+mask_if_at w true bytes = field_at (w / 4) bytes
+mask_if_at w false bytes = Ok (0, bytes)
 
-abbrev pub report_fields_at : List ℕ → Result (Fields × List ℕ) LineFault
-report_fields_at bytes = do
+abbrev pub request_fields_at : ℕ → Bool → List ℕ → Result (Fields × List ℕ) LineFault
+request_fields_at w masked bytes = do
   address ← field_at 8 bytes
-  Ok (record { address = address.0; mask = 0; sink = 0; denied = false }, address.1)
+  mask ← mask_if_at w masked address.1
+  Ok (record { address = address.0; mask = mask.0; sink = 0; denied = false }, mask.1)
 
 abbrev pub response_fields_at : List ℕ → Result (Fields × List ℕ) LineFault
 response_fields_at bytes = do
@@ -129,9 +128,9 @@ response_fields_at bytes = do
   Ok (record { address = 0; mask = 0; sink = sink.0; denied = denied.0 }, denied.1)
 
 abbrev pub fields_at : ℕ → Channel → List ℕ → Result (Fields × List ℕ) LineFault
-fields_at w channel.A bytes = request_fields_at w bytes
-fields_at w channel.B bytes = request_fields_at w bytes
-fields_at w channel.C bytes = report_fields_at bytes
+fields_at w channel.A bytes = request_fields_at w true bytes
+fields_at w channel.B bytes = request_fields_at w true bytes
+fields_at w channel.C bytes = request_fields_at w false bytes
 fields_at w channel.D bytes = response_fields_at bytes
 fields_at w channel.E bytes = Err F1
 

@@ -2,7 +2,7 @@
 
 ghost use Rattle.std.specs.Prelude.{◌≡◌, ◌<◌, ◌/◌, ◌^◌, ℕ, List, IfOk, IfSome, Ok, drop};
 ghost use Rattle.tl_beat.specs.code.FromLeft.{channel_lettered, head_at, fields_at, made_on, line_on, line_e_at};
-ghost use Rattle.tl_beat.specs.code.FromLeft.{request_fields_at, report_fields_at, response_fields_at, Gives};
+ghost use Rattle.tl_beat.specs.code.FromLeft.{mask_if_at, request_fields_at, response_fields_at, Gives};
 ghost use Rattle.tl_beat.specs.code.Reading.{made_a, made_b, made_c, made_d, at_most};
 ghost use Rattle.tl_beat.specs.statement.Width.{IsWidth};
 
@@ -219,32 +219,31 @@ pub(crate) struct Fields {
     denied: bool,
 }
 
-/// Address and mask.
+/// The mask, where there is one.
 #[inline(always)]
-fn request_fields<const W: usize>(bytes: &[u8]) -> Result<(Fields, &[u8]), LineFault>
+fn mask_if<const W: usize>(masked: bool, bytes: &[u8]) -> Result<(u16, &[u8]), LineFault>
     requires { IsWidth W }
-    ensures { Gives result (request_fields_at W bytes.now) }
+    ensures gives { Gives result (mask_if_at W masked bytes.now) }
+    ensures below { IfOk result (λ x. x.0 < 2 ^ W) }
+{
+    if masked {
+        mask::<W>(bytes)
+    } else {
+        Ok((0, bytes))
+    }
+}
+
+/// The address, and the mask where there is one.
+#[inline(always)]
+fn request_fields<const W: usize>(masked: bool, bytes: &[u8]) -> Result<(Fields, &[u8]), LineFault>
+    requires { IsWidth W }
+    ensures { Gives result (request_fields_at W masked bytes.now) }
 {
     let (address, rest) = address(bytes)?;
-    let (mask, rest) = mask::<W>(rest)?;
+    let (mask, rest) = mask_if::<W>(masked, rest)?;
     let fields = Fields {
         address,
         mask,
-        sink: 0,
-        denied: false,
-    };
-    Ok((fields, rest))
-}
-
-/// The address.
-#[inline(always)]
-fn report_fields(bytes: &[u8]) -> Result<(Fields, &[u8]), LineFault>
-    ensures { Gives result (report_fields_at bytes.now) }
-{
-    let (address, rest) = address(bytes)?;
-    let fields = Fields {
-        address,
-        mask: 0,
         sink: 0,
         denied: false,
     };
@@ -274,8 +273,9 @@ fn fields_on<const W: usize>(channel: Channel, bytes: &[u8]) -> Result<(Fields, 
     ensures { Gives result (fields_at W channel bytes.now) }
 {
     match channel {
-        Channel::A | Channel::B => request_fields::<W>(bytes),
-        Channel::C => report_fields(bytes),
+        Channel::A | Channel::B | Channel::C => {
+            request_fields::<W>(channel != Channel::C, bytes)
+        }
         Channel::D => response_fields(bytes),
         Channel::E => Err(LineFault::F1),
     }
@@ -333,7 +333,6 @@ pub(crate) fn line_on<const W: usize>(
 
 /// The line of a beat of channel E, without its line feed.
 #[tactic(auto, unfolding(crate::specs::code::FromLeft::line_e_at))]
-#[inline(always)]
 pub(crate) fn line_e<const W: usize>(bytes: &[u8]) -> Result<(Link, Beat<W>), LineFault>
     ensures { result ≡ line_e_at bytes.now }
 {

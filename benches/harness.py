@@ -146,7 +146,11 @@ def processor_time(command):
     return after.children_user - before.children_user + after.children_system - before.children_system
 
 
-def least_times(first, second):
-    """The least processor times of two commands, side by side five times."""
-    times = [(processor_time(first), processor_time(second)) for _ in range(5)]
-    return min(time[0] for time in times), min(time[1] for time in times)
+def least_times(first, second, is_enough=lambda least: True):
+    """The least processor times of two commands, side by side five times, and up to twenty times as long as they
+    aren't enough: whatever else the machine does only adds to a time."""
+    times = []
+    while len(times) < 5 or (len(times) < 20 and not is_enough(least)):
+        times.append((processor_time(first), processor_time(second)))
+        least = tuple(min(time[i] for time in times) for i in (0, 1))
+    return least

@@ -4,6 +4,7 @@ pub mod Calls
 pub mod Clean
 pub mod Grants
 pub mod InOrder
+pub mod Lawful
 pub mod Proper
 pub mod Requests
 pub mod Responses

@@ -2,6 +2,7 @@ pub mod Caching
 pub mod KnowsAny
 pub mod KnowsCaching
 pub mod KnowsPlain
+pub mod Lawful
 pub mod Plain
 pub mod Response
 pub mod Sources

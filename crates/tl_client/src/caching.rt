@@ -2,6 +2,7 @@
 
 ghost use Rattle.std.specs.Prelude.{ℕ, ◌≡◌, ◌≤◌, true, length, OnOk};
 ghost use Rattle.tl_beat.specs.statement.Width.{IsWidth, IsWidth-prop};
+ghost use Rattle.tl_client.specs.code.Lawful.{is_lawful};
 ghost use Rattle.tl_rules.specs.statement.Legality.{has_transfers};
 
 mod ask;
@@ -57,6 +58,7 @@ pub struct Caching<const W: usize> {
     ghost transfers: { has_transfers config.level ≡ true },
     ghost few: { config.sources ≤ 8 },
     ghost sized: { length table.blocks.items ≡ blocks },
+    ghost lawful: { is_lawful config.level responses ≡ true },
 }
 
 impl<const W: usize> Caching<W> {

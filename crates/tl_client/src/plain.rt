@@ -1,6 +1,6 @@
 //! The client that keeps no copies.
 
-ghost use Rattle.std.specs.Prelude.{ℕ, ◌≡◌, ◌==◌, ◌≤◌, ◌<◌, false, is_some, None, IfOk, OnOk, if◌then◌else◌};
+ghost use Rattle.std.specs.Prelude.{ℕ, ◌≡◌, ◌==◌, ◌≤◌, ◌<◌, true, false, is_some, None, IfOk, OnOk, if◌then◌else◌};
 ghost use Rattle.tl_params.specs.statement.Refusal.{ok_unless};
 ghost use Rattle.tl_beat.specs.statement.Width.{IsWidth, IsWidth-prop};
 ghost use Rattle.tl_burst.specs.statement.Messages.{breaks_burst, grown};
@@ -8,6 +8,7 @@ ghost use Rattle.tl_burst.specs.statement.Part.{IsTakeable};
 ghost use Rattle.tl_rules.specs.statement.History.{is_grant};
 ghost use Rattle.tl_rules.specs.statement.Legality.{illegal, has_transfers};
 ghost use Rattle.tl_client.specs.statement.Answer.{message_of, verdict_of};
+ghost use Rattle.tl_client.specs.code.Lawful.{is_lawful};
 ghost use Rattle.tl_client.specs.code.Plain.{order_rule, plain_rule, plain_verdict, ends_request};
 ghost use Rattle.tl_client.specs.code.Sources.{open_at};
 
@@ -51,6 +52,7 @@ pub struct Plain<const W: usize> {
     ghost width: { IsWidth W } by { IsWidth-prop W },
     ghost accesses: { has_transfers config.level ≡ false },
     ghost few: { config.sources ≤ 8 },
+    ghost lawful: { is_lawful config.level responses ≡ true },
 }
 
 impl<const W: usize> Plain<W> {
@@ -106,6 +108,7 @@ impl<const W: usize> Plain<W> {
             result ≡ ok_unless (plain_rule self.now.config.level (open_at self.now.requests) self.now.responses
             self.now.closed channel beat.now) }
         ensures takeable { OnOk result (IsTakeable beat.now) }
+        ensures lawful { OnOk result (illegal self.now.config.level Channel.D beat.now ≡ None) }
         ensures continues { OnOk result (breaks_burst beat.now self.now.responses ≡ false) }
     {
         if self.closed {
@@ -123,6 +126,7 @@ impl<const W: usize> Plain<W> {
     /// Takes a beat that breaks no rule.
     fn take(&mut self, beat: &Beat<W>, bytes: &mut [u8; 64]) -> Answer
         requires takeable { IsTakeable beat.now }
+        requires lawful { illegal self.old.config.level Channel.D beat.now ≡ None }
         requires continues { breaks_burst beat.now self.old.responses ≡ false }
         ensures verdict { verdict_of result bytes.new
             ≡ plain_verdict (open_at self.old.requests) self.old.responses beat.now }
@@ -199,8 +203,8 @@ impl<const W: usize> Agent<W> for Plain<W> {
 
     fn goes_on(&mut self, channel: Channel, beat: &Beat<W>) -> bool {
         match (channel, beat) {
-            (Channel::D, Beat::D(_)) => {
-                goes_on(self.closed, self.config.level, &mut self.responses, beat)
+            (Channel::D, Beat::D(response)) => {
+                goes_on(self.closed, &mut self.responses, beat, response)
             }
             _ => false,
         }

@@ -2,11 +2,14 @@
 
 ghost use Rattle.std.specs.Prelude.{◌≡◌, ◌≤◌, ◌∷◌, true, false, length, take, IfSome, None};
 ghost use Rattle.std.specs.Bool.{OnTrue, OnFalse};
+ghost use Rattle.tl_beat.specs.declared.channel.Channel.{Channel};
 ghost use Rattle.tl_beat.specs.statement.Width.{IsWidth};
 ghost use Rattle.tl_burst.specs.statement.Messages.{breaks_burst, grown};
 ghost use Rattle.tl_burst.specs.statement.Part.{IsTakeable, completes, is_middle, part_of};
+ghost use Rattle.tl_params.specs.declared.level.Level.{Level};
 ghost use Rattle.tl_rules.specs.statement.Admission;
 ghost use Rattle.tl_rules.specs.statement.Legality.{illegal};
+ghost use Rattle.tl_client.specs.code.Lawful.{is_lawful};
 ghost use Rattle.tl_client.specs.code.Plain.{address_in};
 ghost use Rattle.tl_client.specs.code.Response.{IsFilled, d_of, done_with, with_payload};
 ghost use Rattle.tl_client.specs.code.Takes.{ack_after};
@@ -16,14 +19,11 @@ ghost use Rattle.tl_client.specs.statement.Offer;
 use crate::answer::{Answer, Ending};
 use crate::request::Request;
 use tl_beat::beat::{Beat, BeatD};
-use tl_beat::channel::Channel;
 use tl_beat::opcode::OpD;
 use tl_burst::assembler::Assembler;
 use tl_burst::message::Message;
 use tl_rules::admission::is_spoiled;
 use tl_rules::kind::capped;
-use tl_rules::legality::beat::check_beat;
-use tl_rules::level::Level;
 
 /// The first `count` bytes, or all where there are fewer.
 fn first(bytes: &[u8], count: usize) -> &[u8]
@@ -134,28 +134,27 @@ pub fn complete<const W: usize>(
     }
 }
 
-/// Takes a beat of channel D that goes on with a response and doesn't complete it, where the link isn't closed, the
-/// beat breaks no rule by itself, and neither corrupt nor denied is set: whether it was taken. Otherwise nothing
-/// changes.
+/// Takes a beat of channel D that goes on with a response and doesn't complete it, where the link isn't closed, and
+/// neither corrupt nor denied is set: whether it was taken. Otherwise nothing changes. Such a beat breaks no rule by
+/// itself, as those before it break none, since they have its control fields.
 pub fn goes_on<const W: usize>(
     closed: bool,
-    level: Level,
     responses: &mut Assembler<W>,
     beat: &Beat<W>,
+    response: &BeatD<W>,
 ) -> bool
-    requires { IsWidth W }
+    requires width { IsWidth W }
+    requires response { beat.now ≡ Beat.D response.now }
     ensures live { OnTrue result (closed ≡ false) }
-    ensures lawful { OnTrue result (illegal level Channel.D beat.now ≡ None) }
+    ensures lawful { OnTrue result ((level : Level) → is_lawful level responses.old ≡ true →
+        illegal level Channel.D beat.now ≡ None) }
     ensures clean { OnTrue result (Admission.is_spoiled beat.now ≡ false) }
     ensures middle { OnTrue result (is_middle (part_of beat.now responses.old) ≡ true) }
     ensures grows { OnTrue result (responses.new ≡ beat.now ∷ responses.old) }
     ensures unchanged { OnFalse result (responses.new ≡ responses.old) }
 {
-    if closed || !responses.has_begun() || is_spoiled(beat) {
+    if closed || response.size > 6 || is_spoiled(beat) {
         return false;
     }
-    match check_beat(level, Channel::D, beat) {
-        Err(_) => false,
-        Ok(()) => responses.goes_on(beat),
-    }
+    responses.goes_on(beat)
 }

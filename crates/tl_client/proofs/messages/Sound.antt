@@ -34,7 +34,7 @@ use Rattle.tl_client.specs.laws.Sound.{IsSound, IsSoundIfAny, IsSoundAnswer}
 
 -- ---- fields
 
-none_of : {X : Type 0} (o : Option X) → is_none o ≡ true → o ≡ None
+pub none_of : {X : Type 0} (o : Option X) → is_none o ≡ true → o ≡ None
 none_of None e = refl
 none_of (Some x) e = absurd cc
 

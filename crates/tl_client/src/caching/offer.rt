@@ -3,6 +3,7 @@
 ghost use Rattle.std.specs.Prelude.{◌≡◌, false, None, Ok, OnOk};
 ghost use Rattle.tl_params.specs.statement.Refusal.{ok_unless};
 ghost use Rattle.tl_beat.specs.declared.beat.BeatD.{BeatD};
+ghost use Rattle.tl_beat.specs.declared.channel.Channel.{Channel};
 ghost use Rattle.tl_burst.specs.statement.Messages.{breaks_burst};
 ghost use Rattle.tl_burst.specs.statement.Part.{IsTakeable};
 ghost use Rattle.tl_client.specs.statement.Endpoint.{Endpoint};
@@ -12,6 +13,7 @@ ghost use Rattle.tl_client.specs.statement.Offer;
 ghost use Rattle.tl_client.specs.code.Takes.{IsJudged, Takes};
 ghost use Rattle.tl_rules.specs.statement.Admission;
 ghost use Rattle.tl_rules.specs.statement.Conformance;
+ghost use Rattle.tl_rules.specs.statement.Legality.{illegal};
 
 use super::Caching;
 use crate::answer::Answer;
@@ -78,6 +80,8 @@ impl<const W: usize> Caching<W> {
         ensures judged { (e : Endpoint W) → KnowsCaching self.now e →
             IsJudged (caching_terms self.now) channel beat.now e result }
         ensures takeable { result ≡ Ok false → IsTakeable beat.now }
+        ensures lawful { result ≡ Ok false → (x : BeatD W) → beat.now ≡ Beat.D x →
+            illegal self.now.config.level Channel.D beat.now ≡ None }
         ensures inside { result ≡ Ok false → Admission.is_outside self.now.blocks beat.now ≡ false }
         ensures continues { result ≡ Ok false → (x : BeatD W) → beat.now ≡ Beat.D x →
             breaks_burst beat.now self.now.responses ≡ false }
@@ -93,6 +97,8 @@ impl<const W: usize> Caching<W> {
     /// Takes a beat that breaks no rule.
     pub(super) fn take(&mut self, beat: &Beat<W>, bytes: &mut [u8; 64]) -> Answer
         requires takeable { IsTakeable beat.now }
+        requires lawful { (x : BeatD W) → beat.now ≡ Beat.D x →
+            illegal self.old.config.level Channel.D beat.now ≡ None }
         requires inside { Admission.is_outside self.old.blocks beat.now ≡ false }
         requires continues { (x : BeatD W) → beat.now ≡ Beat.D x → breaks_burst beat.now self.old.responses ≡ false }
         ensures taken { Takes self.old self.new beat.now (told result bytes.new) }

@@ -122,6 +122,7 @@ impl<const W: usize> Caching<W> {
     ) -> Answer
         requires response { beat.now ≡ Beat.D response.now }
         requires takeable { IsTakeable beat.now }
+        requires lawful { illegal self.old.config.level channel.D beat.now ≡ None }
         requires continues { breaks_burst beat.now self.old.responses ≡ false }
         ensures goes { completes (Beat.D response.now) self.old.responses ≡ false →
             Goes self.old self.new response.now (told result bytes.new) }
@@ -138,8 +139,7 @@ impl<const W: usize> Caching<W> {
         self.finish(response, bytes)
     }
 
-    /// Takes a beat of a response that goes on with it, breaks no rule by itself and isn't spoiled: whether it
-    /// was taken.
+    /// Takes a beat of a response that goes on with it and isn't spoiled: whether it was taken.
     pub(super) fn grows(&mut self, beat: &Beat<W>, response: &BeatD<W>) -> bool
         requires response { beat.now ≡ Beat.D response.now }
         ensures live { OnTrue result (self.old.closed ≡ false) }
@@ -149,7 +149,7 @@ impl<const W: usize> Caching<W> {
         ensures goes { OnTrue result (Goes self.old self.new response.now (Taken, None)) }
         ensures unchanged { OnFalse result (self.new ≡ self.old) }
     {
-        if !goes_on(self.closed, self.config.level, &mut self.responses, beat) {
+        if !goes_on(self.closed, &mut self.responses, beat, response) {
             return false;
         }
         self.granting = self.granting_by(response);

@@ -1,6 +1,7 @@
 use Rattle.std.proofs.Common.{sym, ◌∙◌}
 use Rattle.std.proofs.lemmas.Result.{err_from_is_err_and}
 use Rattle.tl_client.proofs.caching_client.Judged.{refused_alone, passes_alone, stalled, refused_order}
+use Rattle.tl_client.proofs.messages.Lawful.{lawful-alone}
 use Rattle.tl_client.proofs.caching.Caching.judge.Goals as goal
 
 pub returns-in_err-check_alone-clause-judged : goal.returns-in_err-check_alone-clause-judged
@@ -22,3 +23,8 @@ returns-in_err-check_order-clause-judged g c =
     λ e k. rw (p.1, p.2) (refused_order c.args.self.now c.args.channel c.args.beat.now e _
     (passes_alone c.args.self.now c.args.channel c.args.beat.now e k c.in_ok-check_alone.ensures.rule)
     (sym (c.waits.ensures e k) ∙ c.if-waits.false) (c.in_err-check_order.ensures.rule e k))
+
+pub returns-clause-lawful : goal.returns-clause-lawful
+returns-clause-lawful g c = λ moves x is.
+    lawful-alone c.args.self.now.closed c.args.self.now.config.level c.args.channel c.args.beat.now x
+    c.in_ok-check_alone.ensures.rule is

@@ -153,7 +153,7 @@ pub fn goes_on<const W: usize>(
     ensures grows { OnTrue result (responses.new ≡ beat.now ∷ responses.old) }
     ensures unchanged { OnFalse result (responses.new ≡ responses.old) }
 {
-    if closed || response.size > 6 || is_spoiled(beat) {
+    if closed || !responses.has_begun() || response.size > 6 || is_spoiled(beat) {
         return false;
     }
     responses.goes_on(beat)

@@ -1,19 +1,37 @@
 use Rattle.std.proofs.Common.{rules, refl, sym, arith}
 use Rattle.std.proofs.lemmas.List.{append-nil}
+use Rattle.tl_burst.proofs.Lanes.{within_payload}
+use Rattle.tl_burst.proofs.Splitting.{beats-positive, control_own}
 use Rattle.tl_rules.specs.statement.Legality.{beats_from}
 use Rattle.tl_world.proofs.Sending.{pushed}
 use Rattle.tl_world.proofs.ring.push_beats.Goals as goal
 
+pub beat_at-beat-requires : goal.beat_at-beat-requires
+beat_at-beat-requires g c = search (rules, beats-positive c.args.message.now c.requires)
+
 pub loop-i-init : goal.loop-i-init
 unfolding beats_from
-loop-i-init g c = record { capacity = refl; items = λ room. sym (append-nil c.args.beats.now.items) }
+loop-i-init g c = record {
+  capacity = refl;
+  items = λ room. sym (append-nil c.args.beats.now.items);
+  same = rw c.beat_at-beat.ensures.beat (control_own c.args.message.now 0 0);
+}
+
+pub change-requires : goal.change-requires
+change-requires g c =
+    search (
+      rules,
+      c.loop-i.invariant.same,
+      within_payload c.args.message.now c.loop-i.i c.requires (search rules),
+    )
 
 pub loop-i-preserved : goal.loop-i-preserved
 loop-i-preserved g c = record {
   capacity = search rules;
   items = λ room.
       pushed c.args.message.now c.loop-i.i c.loop-i.beats.capacity c.args.beats.now.items c.loop-i.beats.items
-      c.push_back.new.self c.beat_at.result
-      (search rules) c.beat_at.ensures.beat (search rules)
+      c.push_back.new.self c.change.new.beat
+      (search rules) c.change.ensures (search rules)
       (c.loop-i.invariant.items room) (omega (arith, room, c.loop-i.invariant.capacity));
+  same = rw c.change.ensures (control_own c.args.message.now c.loop-i.i 0);
 }

@@ -1,5 +1,6 @@
-use Rattle.std.proofs.Common.{◌≡◌, ◌+◌, ◌++◌, ◌≤◌, length}
+use Rattle.std.proofs.Common.{IsTrue, ◌≡◌, ◌+◌, ◌++◌, ◌≤◌, length}
 use Rattle.tl_burst.specs.statement.Burst
+use Rattle.tl_burst.specs.statement.Messages.{same_control}
 use Rattle.tl_rules.specs.statement.Legality.{beats_from}
 use Rattle.tl_world.proofs.ring.push_beats.Given as goal
 
@@ -8,4 +9,5 @@ invariant-loop-i g l = record {
   capacity : l.beats.capacity ≡ l.fn.beats.capacity;
   items : length l.fn.beats.items + Burst.beats_of l.message ≤ l.fn.beats.capacity
       → l.beats.items ≡ l.fn.beats.items ++ beats_from l.message 0 l.i;
+  same : IsTrue (same_control l.beat (Burst.beat_of l.message 0));
 }

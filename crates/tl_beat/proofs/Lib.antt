@@ -7,7 +7,6 @@ pub mod Pieces
 pub mod ReadFields
 pub mod Spaces
 pub mod LineAt
-pub mod LineOn
 pub mod Faults
 pub mod SpelledDigits
 pub mod DigitTable

@@ -15,13 +15,17 @@ use Rattle.tl_beat.specs.code.Reading.{◌>>=◌, linked, reading_a, reading_b, 
 use Rattle.tl_beat.specs.code.Reading.{reading_fields, reading}
 use Rattle.tl_beat.specs.code.FromLeft.{digits_at, at_end, line_a_at, line_b_at, line_c_at, line_d_at, line_e_at}
 use Rattle.tl_beat.specs.code.FromLeft.{letter_in, spaces_in, line_with, body_at, line_at}
-use Rattle.tl_beat.proofs.LineOn.{bind-assoc}
 use Rattle.tl_beat.proofs.Pieces.{NoSpace, NoSpaces, NoSpaces-pieces, length-pieces, spaced-pieces, after_first-piece}
 use Rattle.tl_beat.proofs.FieldsAt.{then_head, then_number, then_bit, then_tail, digits_at-end}
 
 -- what follows a test that fails
 unless_equal : {A : Type 0} (n k : ℕ) (x y : A) → (n ≡ k → ⊥) → cond (n == k) x y ≡ y
 unless_equal n k x y apart = rw (ne_eqb n k apart) refl
+
+bind-assoc : {A B C : Type 0} (m : Result A LineFault) (f : A → Result B LineFault) (g : B → Result C LineFault)
+    → ((m >>= f) >>= g) ≡ (m >>= λ x. f x >>= g)
+bind-assoc (Ok x) f g = refl
+bind-assoc (Err e) f g = refl
 
 abbrev Read : ℕ → Type 0
 Read w = Result (Link × Beat w) LineFault

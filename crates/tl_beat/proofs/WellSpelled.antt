@@ -10,7 +10,6 @@ use Rattle.std.specs.Prelude.{Result, Ok, Err, Option, Some, None, ◌==◌, ◌
 use Rattle.std.specs.List.{after_first}
 use Rattle.tl_beat.specs.declared.beat.Link.{Link}
 use Rattle.tl_beat.specs.declared.beat.Beat.{Beat}
-use Rattle.tl_beat.specs.declared.channel.Channel.{Channel}
 use Rattle.tl_beat.specs.declared.read.line.Head.{Head}
 use Rattle.tl_beat.specs.declared.fault.LineFault.{LineFault}
 use Rattle.tl_beat.specs.declared.fault.LineFault.TheVariants.{F3}
@@ -19,8 +18,7 @@ use Rattle.tl_beat.specs.code.Reading.{◌>>=◌}
 use Rattle.tl_beat.specs.code.FromLeft.{value_or_fault, digits_at, space_at, field_at, bit_of_byte, bit_field_at}
 use Rattle.tl_beat.specs.code.FromLeft.{lanes_at, some_lanes, data_at, at_end, head_at}
 use Rattle.tl_beat.specs.code.FromLeft.{tail_at, line_a_at, line_b_at, line_c_at, line_d_at, line_e_at, letter_in}
-use Rattle.tl_beat.specs.code.FromLeft.{spaces_in, body_at, channel_lettered, line_on}
-use Rattle.tl_beat.proofs.LineOn.{line_on-a, line_on-b, line_on-c, line_on-d, lettered}
+use Rattle.tl_beat.specs.code.FromLeft.{spaces_in, body_at}
 use Rattle.tl_beat.proofs.Pieces.{NoSpace, after_first-piece}
 use Rattle.tl_beat.proofs.SpelledDigits.{is_dash-true}
 use Rattle.tl_beat.proofs.ReadFields.{ok_of, ok_is, ok_step}
@@ -326,39 +324,29 @@ read-so : {w : ℕ} (bytes : List ℕ) (r line : Result (Link × Beat w) LineFau
 read-so bytes (Ok x) line same body = body x (sym same) ∙ sym same
 read-so bytes (Err fault) line same body = tt
 
-body-a : {w : ℕ} (bytes : List ℕ) (r : Result (Link × Beat w) LineFault)
+pub body-a : {w : ℕ} (bytes : List ℕ) (r : Result (Link × Beat w) LineFault)
     → slice_index bytes 3 ≡ 65 → slice_index bytes 4 ≡ 32
     → r ≡ line_a_at bytes → IfOk r (λ read. body_at bytes ≡ Ok read)
 body-a bytes r h3 h4 same = read-so bytes r _ same (λ x e. let has = line_a-has bytes x h3 h4 e in
     rw (has.1, has.0) refl)
 
-body-b : {w : ℕ} (bytes : List ℕ) (r : Result (Link × Beat w) LineFault)
+pub body-b : {w : ℕ} (bytes : List ℕ) (r : Result (Link × Beat w) LineFault)
     → slice_index bytes 3 ≡ 66 → slice_index bytes 4 ≡ 32
     → r ≡ line_b_at bytes → IfOk r (λ read. body_at bytes ≡ Ok read)
 body-b bytes r h3 h4 same = read-so bytes r _ same (λ x e. let has = line_b-has bytes x h3 h4 e in
     rw (has.1, has.0) refl)
 
-body-c : {w : ℕ} (bytes : List ℕ) (r : Result (Link × Beat w) LineFault)
+pub body-c : {w : ℕ} (bytes : List ℕ) (r : Result (Link × Beat w) LineFault)
     → slice_index bytes 3 ≡ 67 → slice_index bytes 4 ≡ 32
     → r ≡ line_c_at bytes → IfOk r (λ read. body_at bytes ≡ Ok read)
 body-c bytes r h3 h4 same = read-so bytes r _ same (λ x e. let has = line_c-has bytes x h3 h4 e in
     rw (has.1, has.0) refl)
 
-body-d : {w : ℕ} (bytes : List ℕ) (r : Result (Link × Beat w) LineFault)
+pub body-d : {w : ℕ} (bytes : List ℕ) (r : Result (Link × Beat w) LineFault)
     → slice_index bytes 3 ≡ 68 → slice_index bytes 4 ≡ 32
     → r ≡ line_d_at bytes → IfOk r (λ read. body_at bytes ≡ Ok read)
 body-d bytes r h3 h4 same = read-so bytes r _ same (λ x e. let has = line_d-has bytes x h3 h4 e in
     rw (has.1, has.0) refl)
-
-pub body-on : {w : ℕ} (ch : Channel) (bytes : List ℕ) (r : Result (Link × Beat w) LineFault)
-    → channel_lettered (slice_index bytes 3) ≡ Some ch → slice_index bytes 4 ≡ 32
-    → r ≡ line_on ch bytes → IfOk r (λ read. body_at bytes ≡ Ok read)
-body-on {w} ch bytes r named h4 =
-    lettered (λ k l. slice_index bytes 3 ≡ k → r ≡ line_on l bytes → IfOk r (λ read. body_at bytes ≡ Ok read))
-    (slice_index bytes 3) ch named
-    (λ h3 same. body-a bytes r h3 h4 (same ∙ line_on-a bytes)) (λ h3 same. body-b bytes r h3 h4 (same ∙ line_on-b bytes))
-    (λ h3 same. body-c bytes r h3 h4 (same ∙ line_on-c bytes)) (λ h3 same. body-d bytes r h3 h4 (same ∙ line_on-d bytes))
-    refl
 
 pub body-e : {w : ℕ} (bytes : List ℕ) (r : Result (Link × Beat w) LineFault)
     → slice_index bytes 3 ≡ 69 → slice_index bytes 4 ≡ 32

@@ -8,15 +8,13 @@ ghost use Rattle.std.specs.List.{after_first};
 ghost use Rattle.std.specs.Result.{result_err};
 ghost use Rattle.tl_beat.specs.declared.beat.Link.{Link};
 ghost use Rattle.tl_beat.specs.declared.beat.Beat.{Beat};
-ghost use Rattle.tl_beat.specs.code.FromLeft;
-ghost use Rattle.tl_beat.specs.code.FromLeft.{letter_in, spaces_in, spaces_on, body_at, line_at, line_with};
+ghost use Rattle.tl_beat.specs.code.FromLeft.{letter_in, spaces_in, body_at, line_at, line_with};
 ghost use Rattle.tl_beat.specs.statement.Line.{Spells, line_fault};
 ghost use Rattle.tl_beat.specs.statement.Width.{IsWidth};
 
 use crate::beat::{Beat, Link};
-use crate::channel::Channel;
 use crate::fault::LineFault;
-use crate::read::line::{any_head, channel_lettered, line_e, line_on, spelled_head};
+use crate::read::line::{any_head, line_a, line_b, line_c, line_d, line_e, spelled_head};
 
 /// The byte after the first space, if it is a field of its own.
 fn letter(bytes: &[u8]) -> Option<u8>
@@ -51,27 +49,8 @@ fn spaces(bytes: &[u8]) -> usize
     bytes.iter().filter(|b| **b == b' ').count()
 }
 
-/// How many spaces a line of channels A to D has.
-fn spaces_on(channel: Channel) -> usize
-    ensures { result ≡ spaces_on channel }
-{
-    match channel {
-        Channel::C => 8,
-        _ => 9,
-    }
-}
-
-/// The line of a channel.
-#[tactic(auto, unfolding(crate::specs::code::FromLeft::line_on))]
-fn any_line<const W: usize>(channel: Channel, bytes: &[u8]) -> Result<(Link, Beat<W>), LineFault>
-    requires { IsWidth W }
-    ensures { result ≡ FromLeft.line_on channel bytes.now }
-{
-    let (head, rest) = any_head(bytes)?;
-    line_on(channel, head, rest)
-}
-
 /// The line of a channel with this letter, which has this many spaces.
+#[tactic(auto, unfolding(crate::specs::code::FromLeft::line_a_at, crate::specs::code::FromLeft::line_b_at, crate::specs::code::FromLeft::line_c_at, crate::specs::code::FromLeft::line_d_at))]
 fn line_with<const W: usize>(
     letter: Option<u8>,
     spaces: usize,
@@ -80,23 +59,27 @@ fn line_with<const W: usize>(
     requires { IsWidth W }
     ensures { result ≡ line_with letter spaces bytes.now }
 {
-    let Some(letter) = letter else {
-        return Err(LineFault::F2);
-    };
-    if letter == b'E' {
-        return if spaces == 2 {
-            line_e(bytes)
-        } else {
-            Err(LineFault::F1)
-        };
+    match letter {
+        Some(b'A') if spaces == 9 => {
+            let (head, rest) = any_head(bytes)?;
+            line_a(head, rest)
+        }
+        Some(b'B') if spaces == 9 => {
+            let (head, rest) = any_head(bytes)?;
+            line_b(head, rest)
+        }
+        Some(b'C') if spaces == 8 => {
+            let (head, rest) = any_head(bytes)?;
+            line_c(head, rest)
+        }
+        Some(b'D') if spaces == 9 => {
+            let (head, rest) = any_head(bytes)?;
+            line_d(head, rest)
+        }
+        Some(b'E') if spaces == 2 => line_e(bytes),
+        Some(b'A'..=b'E') => Err(LineFault::F1),
+        _ => Err(LineFault::F2),
     }
-    let Some(channel) = channel_lettered(letter) else {
-        return Err(LineFault::F2);
-    };
-    if spaces != spaces_on(channel) {
-        return Err(LineFault::F1);
-    }
-    any_line(channel, bytes)
 }
 
 /// A line without its line feed, by its letter and its spaces first.
@@ -125,13 +108,16 @@ fn spelled_body<const W: usize>(bytes: &[u8]) -> Result<(Link, Beat<W>), LineFau
     if *letter == b'E' {
         return line_e(bytes);
     }
-    let Some(channel) = channel_lettered(*letter) else {
-        return Err(LineFault::F1);
-    };
     let Some((head, rest)) = spelled_head(bytes) else {
         return Err(LineFault::F1);
     };
-    line_on(channel, head, rest)
+    match *letter {
+        b'A' => line_a(head, rest),
+        b'B' => line_b(head, rest),
+        b'C' => line_c(head, rest),
+        b'D' => line_d(head, rest),
+        _ => Err(LineFault::F1),
+    }
 }
 
 /// A line without its line feed. Where it spells no beat, its first fault is looked for.

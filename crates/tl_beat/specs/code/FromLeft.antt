@@ -9,10 +9,7 @@ use Rattle.tl_beat.specs.declared.beat.Link.{Link}
 use Rattle.tl_beat.specs.declared.beat.Beat.{Beat}
 use Rattle.tl_beat.specs.declared.beat.Beat.TheVariants as beat
 use Rattle.tl_beat.specs.declared.fault.LineFault.{LineFault}
-use Rattle.tl_beat.specs.declared.channel.Channel.{Channel}
-use Rattle.tl_beat.specs.declared.channel.Channel.TheVariants as channel
 use Rattle.tl_beat.specs.declared.read.line.Head.{Head}
-use Rattle.tl_beat.specs.declared.read.line.Fields.{Fields}
 use Rattle.tl_beat.specs.declared.fault.LineFault.TheVariants.{F1, F2, F3}
 use Rattle.tl_beat.specs.statement.Digits.{is_digit, digit_value, is_dash}
 use Rattle.tl_beat.specs.code.Reading.{◌>>=◌, made_a, made_b, made_c, made_d, linked}
@@ -110,54 +107,6 @@ tail_at w bytes =
       Ok (lanes, corrupt))
     else Err F3
 
--- the fields between, those that the channel lacks zero
-abbrev pub mask_if_at : ℕ → Bool → List ℕ → Result (ℕ × List ℕ) LineFault
-mask_if_at w true bytes = field_at (w / 4) bytes
-mask_if_at w false bytes = Ok (0, bytes)
-
-abbrev pub request_fields_at : ℕ → Bool → List ℕ → Result (Fields × List ℕ) LineFault
-request_fields_at w masked bytes = do
-  address ← field_at 8 bytes
-  mask ← mask_if_at w masked address.1
-  Ok (record { address = address.0; mask = mask.0; sink = 0; denied = false }, mask.1)
-
-abbrev pub response_fields_at : List ℕ → Result (Fields × List ℕ) LineFault
-response_fields_at bytes = do
-  sink ← field_at 2 bytes
-  denied ← bit_field_at sink.1
-  Ok (record { address = 0; mask = 0; sink = sink.0; denied = denied.0 }, denied.1)
-
-abbrev pub fields_at : ℕ → Channel → List ℕ → Result (Fields × List ℕ) LineFault
-fields_at w channel.A bytes = request_fields_at w true bytes
-fields_at w channel.B bytes = request_fields_at w true bytes
-fields_at w channel.C bytes = request_fields_at w false bytes
-fields_at w channel.D bytes = response_fields_at bytes
-fields_at w channel.E bytes = Err F1
-
-abbrev pub made_on : {w : ℕ} → Channel → Head → Fields → Option (List ℕ) → Bool → Result (Beat w) LineFault
-made_on channel.A h f lanes corrupt = do
-  x ← made_a h.opcode h.param h.size h.source f.address f.mask lanes corrupt
-  Ok (beat.A x)
-made_on channel.B h f lanes corrupt = do
-  x ← made_b h.opcode h.param h.size h.source f.address f.mask lanes corrupt
-  Ok (beat.B x)
-made_on channel.C h f lanes corrupt = do
-  x ← made_c h.opcode h.param h.size h.source f.address lanes corrupt
-  Ok (beat.C x)
-made_on channel.D h f lanes corrupt = do
-  x ← made_d h.opcode h.param h.size h.source f.sink f.denied lanes corrupt
-  Ok (beat.D x)
-made_on channel.E h f lanes corrupt = Err F1
-
--- the line of one of the channels A to D, whose parts are these
-unfoldable pub line_on : {w : ℕ} → Channel → List ℕ → Result (Link × Beat w) LineFault
-line_on {w} ch bytes = do
-  head ← head_at bytes
-  fields ← fields_at w ch head.1
-  tail ← tail_at w fields.1
-  x ← made_on ch head.0 fields.0 tail.0 tail.1
-  Ok (linked head.0.link x)
-
 -- ---- the line of each channel, without its line feed
 
 unfoldable pub line_a_at : {w : ℕ} → List ℕ → Result (Link × Beat w) LineFault
@@ -209,19 +158,6 @@ abbrev pub letter_in : List ℕ → Option ℕ
 letter_in [] = None
 letter_in (c ∷ []) = Some c
 letter_in (c ∷ d ∷ cs) = if d == 32 then Some c else None
-
--- the channel of a letter, where it is one of A to D
-abbrev pub channel_lettered : ℕ → Option Channel
-channel_lettered c =
-    if c == 65 then Some channel.A else
-    if c == 66 then Some channel.B else
-    if c == 67 then Some channel.C else
-    if c == 68 then Some channel.D else None
-
--- how many spaces its line has
-abbrev pub spaces_on : Channel → ℕ
-spaces_on channel.C = 8
-spaces_on _ = 9
 
 abbrev pub spaces_in : List ℕ → ℕ
 spaces_in body = count_by (λ b. b == 32) body

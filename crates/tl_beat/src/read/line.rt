@@ -1,13 +1,11 @@
 //! Reading the line of each channel.
 
 ghost use Rattle.std.specs.Prelude.{◌≡◌, ◌<◌, ◌/◌, ◌^◌, ℕ, List, IfOk, IfSome, Ok, drop};
-ghost use Rattle.tl_beat.specs.code.FromLeft.{channel_lettered, head_at, fields_at, made_on, line_on, line_e_at};
-ghost use Rattle.tl_beat.specs.code.FromLeft.{mask_if_at, request_fields_at, response_fields_at, Gives};
+ghost use Rattle.tl_beat.specs.code.FromLeft.{head_at, line_a_at, line_b_at, line_c_at, line_d_at, line_e_at, Gives};
 ghost use Rattle.tl_beat.specs.code.Reading.{made_a, made_b, made_c, made_d, at_most};
 ghost use Rattle.tl_beat.specs.statement.Width.{IsWidth};
 
 use crate::beat::{Beat, BeatA, BeatB, BeatC, BeatD, BeatE, Link};
-use crate::channel::Channel;
 use crate::fault::LineFault;
 use crate::opcode::{OpA, OpB, OpC, OpD};
 use crate::read::field::{address, bit_field, byte, digits, mask, nibble, tail, value};
@@ -210,129 +208,64 @@ fn beat_d<const W: usize>(
     })
 }
 
-/// The fields of channels A to D between the first ones and the data; those that a channel lacks are zero.
-#[derive(Clone, Copy)]
-pub(crate) struct Fields {
-    address: u32,
-    mask: u16,
-    sink: u8,
-    denied: bool,
-}
-
-/// The mask, where there is one.
+/// The line of a beat of channel A, without its line feed.
+#[tactic(auto, unfolding(crate::specs::code::FromLeft::line_a_at))]
 #[inline(always)]
-fn mask_if<const W: usize>(masked: bool, bytes: &[u8]) -> Result<(u16, &[u8]), LineFault>
+pub(crate) fn line_a<const W: usize>(head: Head, rest: &[u8]) -> Result<(Link, Beat<W>), LineFault>
     requires { IsWidth W }
-    ensures gives { Gives result (mask_if_at W masked bytes.now) }
-    ensures below { IfOk result (λ x. x.0 < 2 ^ W) }
+    ensures { (bytes : List ℕ) → head_at bytes ≡ Ok (head, rest.now) → result ≡ line_a_at bytes }
 {
-    if masked {
-        mask::<W>(bytes)
-    } else {
-        Ok((0, bytes))
-    }
-}
-
-/// The address, and the mask where there is one.
-#[inline(always)]
-fn request_fields<const W: usize>(masked: bool, bytes: &[u8]) -> Result<(Fields, &[u8]), LineFault>
-    requires { IsWidth W }
-    ensures { Gives result (request_fields_at W masked bytes.now) }
-{
-    let (address, rest) = address(bytes)?;
-    let (mask, rest) = mask_if::<W>(masked, rest)?;
-    let fields = Fields {
-        address,
-        mask,
-        sink: 0,
-        denied: false,
-    };
-    Ok((fields, rest))
-}
-
-/// Sink and denied.
-#[inline(always)]
-fn response_fields(bytes: &[u8]) -> Result<(Fields, &[u8]), LineFault>
-    ensures { Gives result (response_fields_at bytes.now) }
-{
-    let (sink, rest) = byte(bytes)?;
-    let (denied, rest) = bit_field(rest)?;
-    let fields = Fields {
-        address: 0,
-        mask: 0,
-        sink,
-        denied,
-    };
-    Ok((fields, rest))
-}
-
-/// The fields of a channel between the first ones and the data.
-#[inline(always)]
-fn fields_on<const W: usize>(channel: Channel, bytes: &[u8]) -> Result<(Fields, &[u8]), LineFault>
-    requires { IsWidth W }
-    ensures { Gives result (fields_at W channel bytes.now) }
-{
-    match channel {
-        Channel::A | Channel::B | Channel::C => {
-            request_fields::<W>(channel != Channel::C, bytes)
-        }
-        Channel::D => response_fields(bytes),
-        Channel::E => Err(LineFault::F1),
-    }
-}
-
-/// The channel of a letter, where it is one of those whose lines begin with the same fields.
-#[inline(always)]
-pub(crate) fn channel_lettered(letter: u8) -> Option<Channel>
-    ensures { result ≡ channel_lettered letter }
-{
-    match letter {
-        b'A' => Some(Channel::A),
-        b'B' => Some(Channel::B),
-        b'C' => Some(Channel::C),
-        b'D' => Some(Channel::D),
-        _ => None,
-    }
-}
-
-/// The beat of a channel with these fields.
-#[inline(always)]
-fn beat_on<const W: usize>(
-    channel: Channel,
-    head: Head,
-    fields: Fields,
-    tail: (Option<[u8; W]>, bool),
-) -> Result<Beat<W>, LineFault>
-    ensures { result ≡ made_on channel head fields tail.entry.0 tail.entry.1 }
-{
-    match channel {
-        Channel::A => Ok(Beat::A(beat_a(head, fields.address, fields.mask, tail)?)),
-        Channel::B => Ok(Beat::B(beat_b(head, fields.address, fields.mask, tail)?)),
-        Channel::C => Ok(Beat::C(beat_c(head, fields.address, tail)?)),
-        Channel::D => Ok(Beat::D(beat_d(head, fields.sink, fields.denied, tail)?)),
-        Channel::E => Err(LineFault::F1),
-    }
-}
-
-/// The line of a beat of channels A to D, without its line feed, behind its first fields.
-#[tactic(auto, unfolding(crate::specs::code::FromLeft::line_on))]
-#[inline(always)]
-pub(crate) fn line_on<const W: usize>(
-    channel: Channel,
-    head: Head,
-    rest: &[u8],
-) -> Result<(Link, Beat<W>), LineFault>
-    requires { IsWidth W }
-    ensures { (bytes : List ℕ) → head_at bytes ≡ Ok (head, rest.now) → result ≡ line_on channel bytes }
-{
-    let (fields, rest) = fields_on::<W>(channel, rest)?;
+    let (address, rest) = address(rest)?;
+    let (mask, rest) = mask::<W>(rest)?;
     let tail = tail(rest)?;
-    let beat = beat_on(channel, head, fields, tail)?;
-    Ok((Link(head.link), beat))
+    let beat = beat_a(head, address, mask, tail)?;
+    Ok((Link(head.link), Beat::A(beat)))
+}
+
+/// The line of a beat of channel B, without its line feed.
+#[tactic(auto, unfolding(crate::specs::code::FromLeft::line_b_at))]
+#[inline(always)]
+pub(crate) fn line_b<const W: usize>(head: Head, rest: &[u8]) -> Result<(Link, Beat<W>), LineFault>
+    requires { IsWidth W }
+    ensures { (bytes : List ℕ) → head_at bytes ≡ Ok (head, rest.now) → result ≡ line_b_at bytes }
+{
+    let (address, rest) = address(rest)?;
+    let (mask, rest) = mask::<W>(rest)?;
+    let tail = tail(rest)?;
+    let beat = beat_b(head, address, mask, tail)?;
+    Ok((Link(head.link), Beat::B(beat)))
+}
+
+/// The line of a beat of channel C, without its line feed.
+#[tactic(auto, unfolding(crate::specs::code::FromLeft::line_c_at))]
+#[inline(always)]
+pub(crate) fn line_c<const W: usize>(head: Head, rest: &[u8]) -> Result<(Link, Beat<W>), LineFault>
+    requires { IsWidth W }
+    ensures { (bytes : List ℕ) → head_at bytes ≡ Ok (head, rest.now) → result ≡ line_c_at bytes }
+{
+    let (address, rest) = address(rest)?;
+    let tail = tail(rest)?;
+    let beat = beat_c(head, address, tail)?;
+    Ok((Link(head.link), Beat::C(beat)))
+}
+
+/// The line of a beat of channel D, without its line feed.
+#[tactic(auto, unfolding(crate::specs::code::FromLeft::line_d_at))]
+#[inline(always)]
+pub(crate) fn line_d<const W: usize>(head: Head, rest: &[u8]) -> Result<(Link, Beat<W>), LineFault>
+    requires { IsWidth W }
+    ensures { (bytes : List ℕ) → head_at bytes ≡ Ok (head, rest.now) → result ≡ line_d_at bytes }
+{
+    let (sink, rest) = byte(rest)?;
+    let (denied, rest) = bit_field(rest)?;
+    let tail = tail(rest)?;
+    let beat = beat_d(head, sink, denied, tail)?;
+    Ok((Link(head.link), Beat::D(beat)))
 }
 
 /// The line of a beat of channel E, without its line feed.
 #[tactic(auto, unfolding(crate::specs::code::FromLeft::line_e_at))]
+#[inline(always)]
 pub(crate) fn line_e<const W: usize>(bytes: &[u8]) -> Result<(Link, Beat<W>), LineFault>
     ensures { result ≡ line_e_at bytes.now }
 {

@@ -1,6 +1,7 @@
 //! What a client answers to what it is asked.
 
-ghost use Rattle.std.specs.Prelude.{◌≡◌};
+ghost use Rattle.std.specs.Prelude.{ℕ, ◌≡◌, is_some};
+ghost use Rattle.tl_burst.specs.declared.message.Message.{Message};
 ghost use Rattle.tl_client.specs.statement.Answer.{handed};
 
 use crate::busy::Busy;
@@ -22,6 +23,13 @@ pub enum Reply {
 }
 
 impl Reply {
+    /// Whether a message is handed out with it.
+    pub fn hands_out(self) -> bool
+        ensures { (w : ℕ) (m : Message w) → result ≡ is_some (handed self m) }
+    {
+        matches!(self, Reply::Started(_))
+    }
+
     /// The message that is handed out with it: this one, where an operation was started.
     pub fn handed<const W: usize>(self, message: Message<W>) -> Option<Message<W>>
         ensures { result ≡ handed self message.entry }

@@ -98,7 +98,7 @@ fn send_started<const W: usize>(
         Fit n rings.old (with_messages (handed_by link.0 (handed reply message.now)) s) →
         AreMoved n rings.old rings.new (with_messages (handed_by link.0 (handed reply message.now)) s) }
 {
-    if let Reply::Started(_) = reply {
+    if reply.hands_out() {
         rings.send(link, message);
     }
 }

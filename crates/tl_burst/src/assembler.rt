@@ -59,6 +59,23 @@ fn prepare<const W: usize>(message: &mut Message<W>, taken: u8, beat: &Beat<W>) 
     }
 }
 
+/// Writes the message of a beat that is the only one of its burst where it is to stand: whether it is one. Otherwise
+/// nothing changes.
+fn take_only<const W: usize>(message: &mut Message<W>, beat: &Beat<W>) -> bool
+    requires width { IsWidth W }
+    requires takeable { IsTakeable beat.now }
+    ensures only { result ≡ completes beat.now [] }
+    ensures whole { OnTrue result (IsBurst message.new (beat.now ∷ [])) }
+    ensures left { OnFalse result (message.new ≡ message.old) }
+{
+    if burst_length(beat) != 1 {
+        return false;
+    }
+    *message = blank_for(beat);
+    write_beat(message, 0, beat);
+    true
+}
+
 impl<const W: usize> Assembler<W> {
     /// An assembler that has taken no beat.
     pub fn new() -> Self
@@ -172,6 +189,9 @@ impl<const W: usize> Assembler<W> {
             Splits beats messages self.old →
             IfOk (written message.new result) (λ m. Splits (beat.now ∷ beats) (option_to_list m ++ messages) self.new) }
     {
+        if self.taken == 0 && take_only(message, beat) {
+            return Ok(true);
+        }
         if !prepare(&mut self.message, self.taken, beat) {
             return Err(Broken::S1);
         }

@@ -1,6 +1,7 @@
 //! The accesses that a client is asked for.
 
 ghost use Rattle.std.specs.Prelude.{◌≡◌, not};
+ghost use Rattle.std.specs.Option.{option_copied};
 ghost use Rattle.tl_beat.specs.statement.Width.{IsWidth};
 ghost use Rattle.tl_client.specs.statement.Ask;
 ghost use Rattle.tl_client.specs.code.Plain;
@@ -57,8 +58,8 @@ pub fn is_sound<const W: usize>(level: Level, message: &Message<W>) -> bool
 }
 
 /// The access that an operation asks for.
-pub fn access_in<const W: usize>(operation: Op<W>) -> Option<MessageA<W>>
-    ensures { result ≡ Plain.access_in operation.entry }
+pub fn access_in<const W: usize>(operation: &Op<W>) -> Option<&MessageA<W>>
+    ensures { option_copied result ≡ Plain.access_in operation.now }
 {
     match operation {
         Op::Access(Message::A(access)) => Some(access),

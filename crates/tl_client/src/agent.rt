@@ -6,7 +6,7 @@ ghost use Rattle.std.specs.Bool.{OnTrue, OnFalse};
 ghost use Rattle.tl_rules.specs.statement.History;
 ghost use Rattle.tl_client.specs.declared.operation.Op.TheVariants.{Load, Store};
 ghost use Rattle.tl_client.specs.declared.verdict.Verdict.TheVariants.{Taken};
-ghost use Rattle.tl_client.specs.statement.Answer.{told_by};
+ghost use Rattle.tl_client.specs.statement.Answer.{handed, told_by};
 ghost use Rattle.tl_client.specs.statement.Ask.{asked};
 ghost use Rattle.tl_client.specs.statement.Endpoint.{EndConfig, Endpoint};
 ghost use Rattle.tl_client.specs.statement.Offer;
@@ -40,6 +40,18 @@ pub trait Agent<const W: usize>: Drop {
         ensures after { (e : Endpoint W) → represents self.old e →
             represents self.new (asked (terms self.old) operation.entry e).after }
         ensures terms { terms self.new ≡ terms self.old };
+
+    /// Answers an operation as `ask` does, with the message that is handed out, which is where it answers `Started`,
+    /// written where it is to stand.
+    fn ask_into(&mut self, operation: &Op<W>, message: &mut Message<W>) -> Reply
+        ensures reply { (e : Endpoint W) → represents self.old e →
+            result ≡ (asked (terms self.old) operation.now e).reply }
+        ensures message { (e : Endpoint W) → represents self.old e →
+            handed result message.new ≡ (asked (terms self.old) operation.now e).message }
+        ensures after { (e : Endpoint W) → represents self.old e →
+            represents self.new (asked (terms self.old) operation.now e).after }
+        ensures terms { terms self.new ≡ terms self.old }
+        ensures left { handed result message.new ≡ None → message.new ≡ message.old };
 
     /// Answers a Load as `ask` does. It hands out no message, and changes nothing.
     fn ask_load(&self, address: u32, size: u8) -> Reply

@@ -25,7 +25,7 @@ use table::Table;
 use tl_beat::beat::Beat;
 use tl_beat::channel::Channel;
 use tl_burst::assembler::Assembler;
-use tl_burst::message::Message;
+use tl_burst::message::{Message, MessageE};
 use tl_rules::config::{ClientConfig, NewFault};
 use tl_rules::perm::Perm;
 use tl_rules::profile::Profile;
@@ -93,6 +93,8 @@ impl<const W: usize> Caching<W> {
 
 impl<const W: usize> Agent<W> for Caching<W> {
     ghost use Rattle.tl_client.specs.code.KnowsCaching.{KnowsCaching, caching_terms};
+    ghost use Rattle.std.specs.Prelude.{None};
+    ghost use Rattle.tl_client.specs.statement.Answer.{handed};
     ghost use Rattle.tl_client.specs.statement.Ask.{asked};
     ghost use Rattle.tl_client.specs.statement.Endpoint.{Endpoint};
 
@@ -109,9 +111,24 @@ impl<const W: usize> Agent<W> for Caching<W> {
             KnowsCaching self.new (asked (caching_terms self.old) operation.entry e).after }
         ensures terms { caching_terms self.new ≡ caching_terms self.old }
     {
-        match self.busy(&operation) {
-            Some(busy) => (Reply::Busy(busy), None),
-            None => self.begin(operation),
+        let mut message = Message::E(MessageE { sink: 0 });
+        let reply = self.ask_into(&operation, &mut message);
+        (reply, reply.handed(message))
+    }
+
+    fn ask_into(&mut self, operation: &Op<W>, message: &mut Message<W>) -> Reply
+        ensures reply { (e : Endpoint W) → KnowsCaching self.old e →
+            result ≡ (asked (caching_terms self.old) operation.now e).reply }
+        ensures message { (e : Endpoint W) → KnowsCaching self.old e →
+            handed result message.new ≡ (asked (caching_terms self.old) operation.now e).message }
+        ensures after { (e : Endpoint W) → KnowsCaching self.old e →
+            KnowsCaching self.new (asked (caching_terms self.old) operation.now e).after }
+        ensures terms { caching_terms self.new ≡ caching_terms self.old }
+        ensures left { handed result message.new ≡ None → message.new ≡ message.old }
+    {
+        match self.busy(operation) {
+            Some(busy) => Reply::Busy(busy),
+            None => self.begin(operation, message),
         }
     }
 

@@ -7,7 +7,7 @@ ghost use Rattle.tl_burst.specs.statement.Messages.{breaks_burst, grown};
 ghost use Rattle.tl_burst.specs.statement.Part.{IsTakeable};
 ghost use Rattle.tl_rules.specs.statement.History.{is_grant};
 ghost use Rattle.tl_rules.specs.statement.Legality.{illegal, has_transfers};
-ghost use Rattle.tl_client.specs.statement.Answer.{message_of, verdict_of};
+ghost use Rattle.tl_client.specs.statement.Answer.{handed, message_of, verdict_of};
 ghost use Rattle.tl_client.specs.code.Lawful.{is_lawful};
 ghost use Rattle.tl_client.specs.code.Plain.{order_rule, plain_rule, plain_verdict, ends_request};
 ghost use Rattle.tl_client.specs.code.Sources.{open_at};
@@ -29,7 +29,7 @@ use std::alloc::Global;
 use tl_beat::beat::{Beat, BeatD};
 use tl_beat::channel::Channel;
 use tl_burst::assembler::Assembler;
-use tl_burst::message::{Message, MessageA};
+use tl_burst::message::{Message, MessageE};
 use tl_rules::admission::is_spoiled;
 use tl_rules::config::{ClientConfig, NewFault};
 use tl_rules::legality::beat::check_beat;
@@ -169,12 +169,27 @@ impl<const W: usize> Agent<W> for Plain<W> {
             KnowsPlain self.new (asked (plain_terms self.old) operation.entry e).after }
         ensures terms { plain_terms self.new ≡ plain_terms self.old }
     {
-        if let Some(busy) = check(self.config.level, self.blocks, &operation) {
-            return (Reply::Busy(busy), None);
+        let mut message = Message::E(MessageE { sink: 0 });
+        let reply = self.ask_into(&operation, &mut message);
+        (reply, reply.handed(message))
+    }
+
+    fn ask_into(&mut self, operation: &Op<W>, message: &mut Message<W>) -> Reply
+        ensures reply { (e : Endpoint W) → KnowsPlain self.old e →
+            result ≡ (asked (plain_terms self.old) operation.now e).reply }
+        ensures message { (e : Endpoint W) → KnowsPlain self.old e →
+            handed result message.new ≡ (asked (plain_terms self.old) operation.now e).message }
+        ensures after { (e : Endpoint W) → KnowsPlain self.old e →
+            KnowsPlain self.new (asked (plain_terms self.old) operation.now e).after }
+        ensures terms { plain_terms self.new ≡ plain_terms self.old }
+        ensures left { handed result message.new ≡ None → message.new ≡ message.old }
+    {
+        if let Some(busy) = check(self.config.level, self.blocks, operation) {
+            return Reply::Busy(busy);
         }
         match access_in(operation) {
-            Some(access) => start(&mut self.requests, self.config.sources, access),
-            None => (Reply::Busy(Busy::B4), None),
+            Some(access) => start(&mut self.requests, self.config.sources, access, message),
+            None => Reply::Busy(Busy::B4),
         }
     }
 

@@ -1,6 +1,11 @@
 //! What a client answers to what it is asked.
 
+ghost use Rattle.std.specs.Prelude.{ℕ, ◌≡◌, is_some};
+ghost use Rattle.tl_burst.specs.declared.message.Message.{Message};
+ghost use Rattle.tl_client.specs.statement.Answer.{handed};
+
 use crate::busy::Busy;
+use tl_burst::message::Message;
 
 /// The answer to an operation.
 #[derive(Clone, Copy, Debug, PartialEq, Eq)]
@@ -15,4 +20,23 @@ pub enum Reply {
     Started(u8),
     /// Nothing was done.
     Busy(Busy),
+}
+
+impl Reply {
+    /// Whether a message is handed out with it.
+    pub fn hands_out(self) -> bool
+        ensures { (w : ℕ) (m : Message w) → result ≡ is_some (handed self m) }
+    {
+        matches!(self, Reply::Started(_))
+    }
+
+    /// The message that is handed out with it: this one, where an operation was started.
+    pub fn handed<const W: usize>(self, message: Message<W>) -> Option<Message<W>>
+        ensures { result ≡ handed self message.entry }
+    {
+        match self {
+            Reply::Started(_) => Some(message),
+            Reply::Value(_) | Reply::Stored | Reply::Miss | Reply::Busy(_) => None,
+        }
+    }
 }

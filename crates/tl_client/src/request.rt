@@ -1,7 +1,8 @@
 //! Requests of channel A: how one is handed out, and what a response to it is judged by.
 
-ghost use Rattle.std.specs.Prelude.{ℕ, ◌≡◌, ◌≤◌, ◌==◌, ◌&&◌, if◌then◌else◌, is_some};
+ghost use Rattle.std.specs.Prelude.{ℕ, ◌≡◌, ◌≤◌, ◌==◌, ◌&&◌, if◌then◌else◌, is_some, None};
 ghost use Rattle.std.specs.List.{list_any};
+ghost use Rattle.tl_client.specs.statement.Answer.{handed, replied};
 ghost use Rattle.tl_client.specs.statement.Ask.{least_free};
 ghost use Rattle.tl_client.specs.statement.Requests.{start_with, opened_by, acquires_block};
 ghost use Rattle.tl_client.specs.code.Sources.{open_at};
@@ -70,21 +71,26 @@ pub fn is_acquiring(requests: &Sources<Request>, block: u32) -> bool
     all.iter().any(|request| is_acquire_of(*request, block))
 }
 
-/// Hands a request out with the least source that is free, or answers B1.
+/// Hands a request out with the least source that is free, written where it is to stand, or answers B1.
 pub fn start<const W: usize>(
     requests: &mut Sources<Request>,
     sources: u8,
-    request: MessageA<W>,
-) -> (Reply, Option<Message<W>>)
+    request: &MessageA<W>,
+    message: &mut Message<W>,
+) -> Reply
     requires { sources ≤ 8 }
-    ensures answer { result ≡ start_with (least_free (λ s. is_some (open_at requests.old s)) 0 sources) request.entry }
-    ensures opened { (s : ℕ) → open_at requests.new s ≡ opened_by s result.1 (open_at requests.old s) }
+    ensures answer { replied result message.new
+        ≡ start_with (least_free (λ s. is_some (open_at requests.old s)) 0 sources) request.now }
+    ensures opened { (s : ℕ) → open_at requests.new s
+        ≡ opened_by s (handed result message.new) (open_at requests.old s) }
+    ensures left { handed result message.new ≡ None → message.new ≡ message.old }
 {
     let Some(source) = requests.least_free(sources) else {
-        return (Reply::Busy(Busy::B1), None);
+        return Reply::Busy(Busy::B1);
     };
-    let mut request = request;
-    request.source = source;
-    requests.open(source, Request::of(&request));
-    (Reply::Started(source), Some(Message::A(request)))
+    requests.open(source, Request::of(request));
+    let mut started = *request;
+    started.source = source;
+    *message = Message::A(started);
+    Reply::Started(source)
 }

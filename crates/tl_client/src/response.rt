@@ -21,7 +21,7 @@ use crate::request::Request;
 use tl_beat::beat::{Beat, BeatD};
 use tl_beat::opcode::OpD;
 use tl_burst::assembler::Assembler;
-use tl_burst::message::Message;
+use tl_burst::message::{Message, MessageE};
 use tl_rules::admission::is_spoiled;
 use tl_rules::kind::capped;
 
@@ -122,16 +122,14 @@ pub fn complete<const W: usize>(
     ensures last { result ≡ completes beat.now responses.old }
     ensures payload { OnTrue result (IsFilled payload.new beat.now responses.old) }
 {
-    let Ok(complete) = responses.take(beat) else {
+    let mut message = Message::E(MessageE { sink: 0 });
+    let Ok(completes) = responses.take_into(beat, &mut message) else {
         unreachable!()
     };
-    match complete {
-        Some(message) => {
-            copy_payload(&message, payload);
-            true
-        }
-        None => false,
+    if completes {
+        copy_payload(&message, payload);
     }
+    completes
 }
 
 /// Takes a beat of channel D that goes on with a response and doesn't complete it, where the link isn't closed, and

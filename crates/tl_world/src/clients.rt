@@ -4,7 +4,7 @@ ghost use Rattle.std.specs.Prelude.{◌≡◌, ◌<◌, ◌≤◌, length, slice
 ghost use Rattle.std.specs.Bool.{OnTrue, OnFalse};
 ghost use Rattle.tl_client.specs.declared.verdict.Verdict.TheVariants.{Taken};
 ghost use Rattle.tl_client.specs.declared.operation.Op.TheVariants.{Load, Store};
-ghost use Rattle.tl_client.specs.statement.Answer.{told_by};
+ghost use Rattle.tl_client.specs.statement.Answer.{replied, told_by};
 ghost use Rattle.tl_client.specs.statement.Ask.{asked};
 ghost use Rattle.tl_client.specs.statement.Endpoint;
 ghost use Rattle.tl_client.specs.statement.Endpoint.{Endpoint};
@@ -22,16 +22,18 @@ use tl_client::reply::Reply;
 use tl_rules::perm::Perm;
 use tl_rules::rule::Rule;
 
-/// Asks one client, and leaves the others.
+/// Asks one client, which writes the message that it hands out where it is to stand, and leaves the others.
 pub fn ask_at<const W: usize, A: Agent<W>>(
     clients: &mut Vec<A>,
     i: usize,
-    operation: Op<W>,
-) -> (Reply, Option<Message<W>>)
+    operation: &Op<W>,
+    message: &mut Message<W>,
+) -> Reply
     requires { i < length clients.old.items }
-    ensures { IsAsked A.represents A.terms clients.old.items clients.new.items i operation.entry result }
+    ensures { IsAsked A.represents A.terms clients.old.items clients.new.items i operation.now
+        (replied result message.new) }
 {
-    clients[i].ask(operation)
+    clients[i].ask_into(operation, message)
 }
 
 /// Asks one client for a Load.

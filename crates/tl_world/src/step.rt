@@ -10,7 +10,7 @@ ghost use Rattle.tl_coherence.specs.statement.Step.{handed_by, stepped};
 ghost use Rattle.tl_coherence.specs.statement.System.{System, with_messages};
 ghost use Rattle.tl_world.specs.code.Carrying.{Carries, Fit, AreKept, AreMoved};
 ghost use Rattle.tl_client.specs.declared.operation.Op.TheVariants.{Load, Store};
-ghost use Rattle.tl_client.specs.statement.Answer.{message_of, verdict_of};
+ghost use Rattle.tl_client.specs.statement.Answer.{handed, message_of, verdict_of};
 ghost use Rattle.tl_coherence.specs.declared.event.Event.TheVariants.{Ask, Deliver};
 ghost use Rattle.tl_world.specs.statement.Answered.{answered};
 ghost use Rattle.tl_coherence.specs.declared.event.Outcome.TheVariants as outcome;
@@ -20,6 +20,7 @@ use crate::network::Network;
 use crate::rings::Rings;
 use tl_beat::beat::{Beat, Link};
 use tl_beat::channel::Channel;
+use tl_burst::message::{Message, MessageE};
 use tl_client::agent::Agent;
 use tl_client::answer::Answer;
 use tl_client::operation::Op;
@@ -84,6 +85,24 @@ fn send_answer<const W: usize>(rings: &mut Rings<W>, link: Link, answer: Answer,
     }
 }
 
+/// Puts the message that a client hands out with its reply behind those of its channel, where an operation was started.
+fn send_started<const W: usize>(
+    rings: &mut Rings<W>,
+    link: Link,
+    reply: Reply,
+    message: &Message<W>,
+)
+    requires { IsWidth W }
+    ensures kept { AreKept rings.old rings.new }
+    ensures moved { (n : ℕ) (s : System W) → Carries n rings.old s →
+        Fit n rings.old (with_messages (handed_by link.0 (handed reply message.now)) s) →
+        AreMoved n rings.old rings.new (with_messages (handed_by link.0 (handed reply message.now)) s) }
+{
+    if reply.hands_out() {
+        rings.send(link, message);
+    }
+}
+
 /// What a refused beat would come to: it stays on its channel. No end refuses one: each hands out only
 /// messages that break no rule of the link, a channel keeps them in order, and the other end judges
 /// them by the same rules after the same messages.
@@ -95,16 +114,22 @@ fn refused<const W: usize>() -> Outcome<W>
 
 impl<const W: usize, A: Agent<W>, D: Directory> Network<W, A, D> {
     /// A client of this number is asked. What comes of it is written where it is to stand, as below.
-    fn ask(&mut self, client: u8, operation: Op<W>, outcome: &mut Outcome<W>)
+    fn ask(&mut self, client: u8, operation: &Op<W>, outcome: &mut Outcome<W>)
         requires width { IsWidth W }
         requires inside { client < length self.old.clients.items }
         ensures { (config : Config) (s : System W) → Holds A.represents A.terms D.perm_of config self.old s →
-            HasRoom config (stepped config (Ask client operation.entry) s).after →
-            IsStepped A.represents A.terms D.perm_of config self.old self.new (Ask client operation.entry) outcome.new
+            HasRoom config (stepped config (Ask client operation.now) s).after →
+            IsStepped A.represents A.terms D.perm_of config self.old self.new (Ask client operation.now) outcome.new
             s }
     {
-        let (reply, message) = ask_at(&mut self.clients, usize::from(client), operation);
-        self.rings.send_if_any(Link(client), &message);
+        let mut message = Message::E(MessageE { sink: 0 });
+        let reply = ask_at(
+            &mut self.clients,
+            usize::from(client),
+            operation,
+            &mut message,
+        );
+        send_started(&mut self.rings, Link(client), reply, &message);
         *outcome = Outcome::Replied { reply };
     }
 
@@ -267,7 +292,7 @@ impl<const W: usize, A: Agent<W>, D: Directory> Network<W, A, D> {
                     *outcome = Outcome::NoSuchClient;
                     return;
                 }
-                self.ask(client, operation, outcome)
+                self.ask(client, &operation, outcome)
             }
             Event::Deliver { link, channel } => self.deliver(link, channel, outcome),
         }

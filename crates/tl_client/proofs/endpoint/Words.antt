@@ -2,9 +2,12 @@
 use Rattle.tl_client.proofs.Imports.{Perm, Busy, Load, Store, Reply, asked, busy, load, store, EndConfig, Endpoint}
 use Rattle.tl_client.proofs.Imports.{held_at}
 use Rattle.std.proofs.Common.{◌≡◌, ℕ, Bool, true, false, Option, Some, None, refl}
+use Rattle.std.specs.Prelude.{is_some}
+use Rattle.tl_burst.specs.declared.message.Message.{Message}
 use Rattle.tl_rules.specs.statement.History.{block_at}
 use Rattle.tl_params.specs.declared.perm.Perm.TheVariants as perm
 use Rattle.tl_client.specs.declared.reply.Reply.TheVariants as reply
+use Rattle.tl_client.specs.statement.Answer.{handed}
 use Rattle.tl_client.specs.statement.Ask.{Asked, asked_given}
 
 abbrev pub is_started : Reply → Bool
@@ -47,3 +50,11 @@ store-silent terms address size value e = given (busy terms (Store address size 
     given : (b : Option Busy) → IsSilent (asked_given b terms (Store address size value) e)
     given (Some b) = record { message = refl; reply = refl }
     given None = held (held_at e (block_at address))
+
+-- the message of a reply with which one is handed out
+pub handed-there : {w : ℕ} (r : Reply) (m : Message w) → is_some (handed r m) ≡ true → handed r m ≡ Some m
+handed-there (reply.Started source) m there = refl
+handed-there (reply.Value number) m there = absurd cc
+handed-there reply.Stored m there = absurd cc
+handed-there reply.Miss m there = absurd cc
+handed-there (reply.Busy why) m there = absurd cc

@@ -6,6 +6,8 @@ use Rattle.tl_client.specs.declared.answer.Answer.{Answer}
 use Rattle.tl_client.specs.declared.answer.Answer.TheVariants as answer
 use Rattle.tl_client.specs.declared.answer.Ending.{Ending}
 use Rattle.tl_client.specs.declared.answer.Ending.TheVariants as ending
+use Rattle.tl_client.specs.declared.reply.Reply.{Reply}
+use Rattle.tl_client.specs.declared.reply.Reply.TheVariants as reply
 use Rattle.tl_client.specs.declared.verdict.Finish.{Finish}
 use Rattle.tl_client.specs.declared.verdict.Finish.TheVariants as finish
 use Rattle.tl_client.specs.declared.verdict.Verdict.{Verdict}
@@ -42,3 +44,15 @@ told a bytes = (verdict_of a bytes, message_of a bytes)
 abbrev pub told_by : {w : ℕ} → Result Answer Rule → List ℕ → Result (Verdict × Option (Message w)) Rule
 told_by (Ok a) bytes = Ok (told a bytes)
 told_by (Err rule) bytes = Err rule
+
+-- the message that is handed out with a reply: this one, where an operation was started
+abbrev pub handed : {w : ℕ} → Reply → Message w → Option (Message w)
+handed (reply.Started source) m = Some m
+handed (reply.Value number) m = None
+handed reply.Stored m = None
+handed reply.Miss m = None
+handed (reply.Busy why) m = None
+
+-- the reply, and that message
+abbrev pub replied : {w : ℕ} → Reply → Message w → Reply × Option (Message w)
+replied r m = (r, handed r m)

@@ -1,6 +1,7 @@
 //! What a caching client answers to an operation.
 
 ghost use Rattle.std.specs.Prelude.{◌≡◌, ◌<◌, ◌≤◌, ◌/◌, not, IsTrue, None};
+ghost use Rattle.tl_client.specs.statement.Answer.{handed, replied};
 ghost use Rattle.tl_client.specs.statement.Ask;
 ghost use Rattle.tl_client.specs.statement.Ask.{breaks_b3};
 ghost use Rattle.tl_client.specs.code.Caching.{busy_by, bytes_in, free_in, load_reply, Does, Sends};
@@ -110,62 +111,68 @@ impl<const W: usize> Caching<W> {
     }
 
     /// Hands out a request, where a source is free.
-    fn request(&mut self, request: MessageA<W>) -> (Reply, Option<Message<W>>)
-        ensures answer { result ≡ start_with (free_in self.old.requests self.old.config.sources) request.entry }
-        ensures left { Sends self.old self.new result.1 }
+    fn request(&mut self, request: &MessageA<W>, message: &mut Message<W>) -> Reply
+        ensures answer { replied result message.new
+            ≡ start_with (free_in self.old.requests self.old.config.sources) request.now }
+        ensures sends { Sends self.old self.new (handed result message.new) }
+        ensures left { handed result message.new ≡ None → message.new ≡ message.old }
     {
-        start(&mut self.requests, self.config.sources, request)
+        start(&mut self.requests, self.config.sources, request, message)
     }
 
     /// Asks to write a whole block.
-    fn acquire_whole(&mut self, block: u16, bytes: [u8; 64]) -> (Reply, Option<Message<W>>)
+    fn acquire_whole(&mut self, block: u16, bytes: &[u8; 64], message: &mut Message<W>) -> Reply
         requires inside { block < self.old.blocks }
-        ensures { Does self.old self.new (Op.AcquireWhole block bytes) result }
+        ensures does { Does self.old self.new (Op.AcquireWhole block bytes.now) (replied result message.new) }
+        ensures left { handed result message.new ≡ None → message.new ≡ message.old }
     {
         let grow = match self.table.held(u32::from(block)) {
             Perm::Branch => Grow::BtoT,
             _ => Grow::NtoT,
         };
-        let started = self.request(acquisition(OpA::AcquirePerm, grow, block));
-        if started.1.is_some() {
-            self.table.set_waiting(u32::from(block), Some(bytes));
+        let reply = self.request(&acquisition(OpA::AcquirePerm, grow, block), message);
+        if let Reply::Started(_) = reply {
+            self.table.set_waiting(u32::from(block), Some(*bytes));
         }
-        started
+        reply
     }
 
     /// Gives up permission on a block, where a source is free.
-    fn release(&mut self, block: u16, prune: Prune) -> (Reply, Option<Message<W>>)
+    fn release(&mut self, block: u16, prune: Prune, message: &mut Message<W>) -> Reply
         requires inside { block < self.old.blocks }
-        ensures { Does self.old self.new (Op.Release block prune) result }
+        ensures does { Does self.old self.new (Op.Release block prune) (replied result message.new) }
+        ensures left { handed result message.new ≡ None → message.new ≡ message.old }
     {
         let Some(source) = self.releases.least_free(self.config.sources) else {
-            return (Reply::Busy(Busy::B1), None);
+            return Reply::Busy(Busy::B1);
         };
-        let message = release(prune, source, block, self.bytes(u32::from(block)));
-        self.releases.open(source, Release::of(&message));
+        let released = release(prune, source, block, self.bytes(u32::from(block)));
+        self.releases.open(source, Release::of(&released));
         self.table.lower(u32::from(block), prune.right());
-        (Reply::Started(source), Some(Message::C(message)))
+        *message = Message::C(released);
+        Reply::Started(source)
     }
 
     /// Starts an operation, where a source is free.
-    pub(super) fn begin(&mut self, operation: Op<W>) -> (Reply, Option<Message<W>>)
-        requires { busy_by self.old operation ≡ None }
-        ensures { Does self.old self.new operation.entry result }
+    pub(super) fn begin(&mut self, operation: &Op<W>, message: &mut Message<W>) -> Reply
+        requires { busy_by self.old operation.now ≡ None }
+        ensures does { Does self.old self.new operation.now (replied result message.new) }
+        ensures left { handed result message.new ≡ None → message.new ≡ message.old }
     {
         match operation {
-            Op::Load { address, size } => (self.load(address, size), None),
+            Op::Load { address, size } => self.load(*address, *size),
             Op::Store {
                 address,
                 size,
                 value,
-            } => (self.store(address, size, value), None),
+            } => self.store(*address, *size, *value),
             Op::Acquire { block, grow } => {
-                self.request(acquisition(OpA::AcquireBlock, grow, block))
+                self.request(&acquisition(OpA::AcquireBlock, *grow, *block), message)
             }
-            Op::AcquireWhole { block, bytes } => self.acquire_whole(block, bytes),
-            Op::Release { block, prune } => self.release(block, prune),
-            Op::Access(Message::A(access)) => self.request(access),
-            Op::Access(_) => (Reply::Busy(Busy::B4), None),
+            Op::AcquireWhole { block, bytes } => self.acquire_whole(*block, bytes, message),
+            Op::Release { block, prune } => self.release(*block, *prune, message),
+            Op::Access(Message::A(access)) => self.request(access, message),
+            Op::Access(_) => Reply::Busy(Busy::B4),
         }
     }
 }

@@ -1,5 +1,5 @@
-use Rattle.std.proofs.Common.{◌≡◌, ◌∙◌, ◌+◌, sym, arith, rules}
-use Rattle.tl_burst.specs.statement.Burst.{beats_of}
+use Rattle.std.proofs.Common.{◌≡◌, ◌∙◌, ◌+◌, [], sym, ap, arith, rules}
+use Rattle.tl_burst.specs.statement.Burst.{beats_of, begun}
 use Rattle.tl_burst.proofs.Begun.{begun_more, completes-not_yet, completes-now, grown-not_yet, grown-now, is_broken}
 use Rattle.tl_burst.proofs.Begun.{one_more_burst}
 use Rattle.tl_burst.proofs.Lanes.{within_payload, few_beats}
@@ -13,6 +13,21 @@ write_beat-requires g c =
 pub overflow_add-self-inside : goal.overflow_add-self-inside
 overflow_add-self-inside g c = let few = few_beats c.prepare.new.message c.self.inside.taken c.requires.width
     c.prepare.ensures.within in search (rules, few)
+
+-- after a beat that is the only one of its burst
+pub returns-then-take_only-clause-whole : goal.returns-then-take_only-clause-whole
+returns-then-take_only-clause-whole g c = λ m i begun_is beat_is lt blank.
+    let zero : 0 ≡ c.self.inside.taken = omega (arith, c.if-self-eq0.true) in
+    let none : [] ≡ c.args.self.now = ap (begun c.self.inside.message) zero ∙ c.self.view_is in
+    own-now c.args.self.now c.args.beat.now c.take_only.new.message m i c.requires.width
+    (rw (← none) (sym c.if-take_only.ensures.only)) (rw (← none) c.if-take_only.ensures.whole) begun_is beat_is blank
+
+pub returns-then-take_only-clause-splits : goal.returns-then-take_only-clause-splits
+returns-then-take_only-clause-splits g c = λ beats messages s.
+    let zero : 0 ≡ c.self.inside.taken = omega (arith, c.if-self-eq0.true) in
+    let none : [] ≡ c.args.self.now = ap (begun c.self.inside.message) zero ∙ c.self.view_is in
+    rw none at (split_closes beats messages [] c.take_only.new.message c.args.beat.now c.requires.width
+    c.if-take_only.ensures.whole (rw none s))
 
 pub returns-then-not-prepare-clause-whole : goal.returns-then-not-prepare-clause-whole
 returns-then-not-prepare-clause-whole g c = λ m i begun_is beat_is lt blank.

@@ -13,12 +13,14 @@ use Rattle.tl_burst.specs.statement.Part.{is_middle, part_of}
 use Rattle.tl_burst.proofs.Begun.{GoesOn, middle-goes_on}
 use Rattle.tl_manager.specs.code.BurstFor.{burst_for, burst_more, burst_with}
 use Rattle.tl_manager.specs.code.Knows.{IsManager}
+use Rattle.tl_manager.specs.code.Lawful.{IsLawfulSoFar}
 use Rattle.tl_manager.specs.statement.Offer.{unlawful}
 use Rattle.tl_manager.proofs.blocks.Completed.{done-part}
 use Rattle.tl_manager.proofs.calls.Carrying.{last-is, knows-taken}
 use Rattle.tl_manager.proofs.calls.Offered.{manager-after}
 use Rattle.tl_manager.proofs.judging.Judged.{judged-passes, passed}
 use Rattle.tl_manager.proofs.judging.Judging.{burst-is, level-open}
+use Rattle.tl_manager.proofs.messages.Later.{lawful-so_far}
 
 free : {w : ℕ} (config : Config) (link : Link) (x : Beat w) (t : Trace w) → ends x (on_link link.0 t) ≡ false
     → must_wait config link x t ≡ false
@@ -108,7 +110,7 @@ pub follows-any : {w : ℕ} {M : Type 0} (perm_of : M → ℕ → ℕ → Perm) 
     (ch : Channel) (before after : LinkState w) (x : Beat w) (b : Bool) → IsWidth w
     → is_outside (length old.block_state.blocks.bytes.items) x ≡ false → OnTrue b (is_from_client x ≡ true)
     → OnTrue b (IsTyped x)
-    → OnTrue b (before.closed ≡ false) → OnTrue b (illegal before.level ch x ≡ None)
+    → OnTrue b (before.closed ≡ false) → OnTrue b (IsLawfulSoFar before → illegal before.level ch x ≡ None)
     → OnTrue b (is_spoiled x ≡ false)
     → OnTrue b (is_middle (part_of x (burst_for before.requests before.reports x)) ≡ true)
     → OnTrue b (after.requests ≡ burst_more channel.A x before.requests)
@@ -122,7 +124,7 @@ follows-any perm_of old new link ch before after x true width within theirs type
     let middle_is : IsMiddle config ch before x = record {
       theirs = theirs;
       live = live;
-      lawful = lawful;
+      lawful = lawful (lawful-so_far config before link.0 e k.kept.sound (k.link_states link.0 before found));
       clean = clean;
       inside = subst (λ (n : ℕ). is_outside n x ≡ false) k.size within;
       goes = middle-goes_on x (burst_for before.requests before.reports x) middle;

@@ -1,11 +1,11 @@
 -- A beat that goes on with a message that breaks no rule by itself breaks none.
 use Rattle.tl_manager.proofs.Imports.{Beat, BeatA, BeatC, Channel, Config, Level, on_link, illegal}
 use Rattle.tl_manager.proofs.Imports.{same_control, a_control, a_own, illegal_a, both_none, Each, IsSound, End, level_of}
-use Rattle.tl_manager.proofs.Imports.{IsLinkState, LinkState}
+use Rattle.tl_manager.proofs.Imports.{IsLinkState, LinkState, is_from_client, is_outside}
 use Rattle.std.proofs.Common.{◌≡◌, ℕ, Bool, true, false, List, [], ◌∷◌, None, Some, refl, sym, ◌∙◌, subst}
 use Rattle.std.specs.Bool.{OnTrue}
 use Rattle.std.proofs.lemmas.Bool.{not-false}
-use Rattle.tl_beat.specs.declared.beat.Beat.TheVariants.{A, B, C, D, E}
+use Rattle.tl_beat.specs.declared.beat.Beat.TheVariants.{A, C, D, E}
 use Rattle.tl_beat.specs.declared.channel.Channel.TheVariants as channel
 use Rattle.tl_burst.specs.statement.Part.{is_middle, part_of}
 use Rattle.tl_burst.proofs.Begun.{GoesOn, middle-goes_on}
@@ -45,20 +45,14 @@ next_a : {w : ℕ} (l : Level) (x : BeatA w) (burst : List (Beat w)) → GoesOn 
 next_a l x [] goes lawful clean mask = let e = goes.begun_before in absurd cc
 next_a l x (A y ∷ burst) goes lawful clean mask =
     later_a l x y lawful (not-false (same_control (A x) (A y)) goes.continues) clean mask
-next_a l x (B y ∷ burst) goes lawful clean mask = let e = goes.continues in absurd cc
-next_a l x (C y ∷ burst) goes lawful clean mask = let e = goes.continues in absurd cc
-next_a l x (D y ∷ burst) goes lawful clean mask = let e = goes.continues in absurd cc
-next_a l x (E y ∷ burst) goes lawful clean mask = let e = goes.continues in absurd cc
+next_a l x (y ∷ burst) goes lawful clean mask = let e = goes.continues in absurd cc
 
 next_c : {w : ℕ} (l : Level) (x : BeatC w) (burst : List (Beat w)) → GoesOn (C x) burst → IsLawful l burst
     → x.corrupt ≡ false → illegal l channel.C (C x) ≡ None
 next_c l x [] goes lawful clean = let e = goes.begun_before in absurd cc
-next_c l x (A y ∷ burst) goes lawful clean = let e = goes.continues in absurd cc
-next_c l x (B y ∷ burst) goes lawful clean = let e = goes.continues in absurd cc
 next_c l x (C y ∷ burst) goes lawful clean =
     later_c l x y lawful (not-false (same_control (C x) (C y)) goes.continues) clean
-next_c l x (D y ∷ burst) goes lawful clean = let e = goes.continues in absurd cc
-next_c l x (E y ∷ burst) goes lawful clean = let e = goes.continues in absurd cc
+next_c l x (y ∷ burst) goes lawful clean = let e = goes.continues in absurd cc
 
 next : {w : ℕ} (link_state : LinkState w) (ch : Channel) (x : Beat w) → IsFit ch x
     → GoesOn x (burst_for link_state.requests link_state.reports x) → IsLawfulSoFar link_state
@@ -75,6 +69,18 @@ pub lawful-middle : {w : ℕ} (link_state : LinkState w) (ch : Channel) (x : Bea
 lawful-middle link_state ch x true fit middle = λ lawful.
     next link_state ch x fit (middle-goes_on x (burst_for link_state.requests link_state.reports x) middle) lawful
 lawful-middle link_state ch x false fit middle = tt
+
+-- it is of a block of the map, as those before it are
+pub inside-middle : {w : ℕ} (blocks : ℕ) (x : Beat w) (burst : List (Beat w)) → is_from_client x ≡ true
+    → GoesOn x burst → Each (λ y. is_outside blocks y ≡ false) burst → is_outside blocks x ≡ false
+inside-middle blocks (D x) burst theirs goes each = absurd cc
+inside-middle blocks (E x) burst theirs goes each = refl
+inside-middle blocks x [] theirs goes each = let e = goes.begun_before in absurd cc
+inside-middle blocks (A x) (A y ∷ burst) theirs goes each =
+    let k = control_a x y (not-false (same_control (A x) (A y)) goes.continues) in rw (k.4) each.0
+inside-middle blocks (C x) (C y ∷ burst) theirs goes each =
+    let k = control_c x y (not-false (same_control (C x) (C y)) goes.continues) in rw (k.4) each.0
+inside-middle blocks x (y ∷ burst) theirs goes each = let e = goes.continues in absurd cc
 
 -- ---- the messages of a link at the manager's end
 

@@ -257,7 +257,7 @@ impl<const W: usize, D: Directory> ManagerState<W, D> {
     }
 
     /// Takes a beat that goes on with its message and doesn't complete it, where it passes: whether it was taken.
-    /// Otherwise nothing changes.
+    /// Otherwise nothing changes. Such a beat is of a block of the map, as those before it are.
     pub fn goes_on(&mut self, link: Link, channel: Channel, beat: &Beat<W>) -> bool
         requires known { IsManager D.perm_of D.blocks D.clients self.old }
         ensures passes { OnTrue result ((config : Config) (e : End W) → Knows D.perm_of self.old config e →
@@ -268,9 +268,6 @@ impl<const W: usize, D: Directory> ManagerState<W, D> {
     {
         let number = usize::from(link.0);
         if number >= self.link_states.len() {
-            return false;
-        }
-        if is_outside(self.block_state.blocks.count(), beat) {
             return false;
         }
         self.link_states[number].goes_on(channel, beat)

@@ -1,6 +1,8 @@
 pub mod Assembled
 pub mod Continued
 pub mod Filled
+pub mod Lanes
+pub mod Later
 pub mod Lawful
 pub mod Messages
 pub mod Offers

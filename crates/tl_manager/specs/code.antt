@@ -12,6 +12,7 @@ pub mod Held
 pub mod BlockState
 pub mod Kept
 pub mod Knows
+pub mod Lawful
 pub mod PartIs
 pub mod Probed
 pub mod Ready

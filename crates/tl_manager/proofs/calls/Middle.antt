@@ -3,7 +3,7 @@ use Rattle.tl_manager.proofs.Imports.{IsWidth, Beat, Link, Channel, Config, Perm
 use Rattle.tl_manager.proofs.Imports.{is_outside, is_spoiled, on_link, broken_in_order, ends, illegal, Trace, IsTyped}
 use Rattle.tl_manager.proofs.Imports.{Knows, reaction, End, Sent, Passes, is_from_client, must_wait, judged}
 use Rattle.tl_manager.proofs.Imports.{taken, offered_as, offered, IsLinkState, IsBlockState, ManagerState, LinkState}
-use Rattle.tl_manager.proofs.Imports.{BlockState, with_handed}
+use Rattle.tl_manager.proofs.Imports.{BlockState, with_handed, Each, IsSound, channel_of, unfinished}
 use Rattle.std.proofs.Common.{◌≡◌, ℕ, Bool, true, false, List, [], ◌∷◌, length, Some, None, refl, sym, ap, ◌∙◌, subst}
 use Rattle.std.specs.Bool.{OnTrue, OnFalse}
 use Rattle.std.specs.Prelude.{slice_get, slice_set}
@@ -13,12 +13,17 @@ use Rattle.tl_burst.specs.statement.Part.{is_middle, part_of}
 use Rattle.tl_burst.proofs.Begun.{GoesOn, middle-goes_on}
 use Rattle.tl_manager.specs.code.BurstFor.{burst_for, burst_more, burst_with}
 use Rattle.tl_manager.specs.code.Knows.{IsManager}
+use Rattle.tl_manager.specs.code.Lawful.{IsLawfulSoFar}
 use Rattle.tl_manager.specs.statement.Offer.{unlawful}
 use Rattle.tl_manager.proofs.blocks.Completed.{done-part}
 use Rattle.tl_manager.proofs.calls.Carrying.{last-is, knows-taken}
 use Rattle.tl_manager.proofs.calls.Offered.{manager-after}
 use Rattle.tl_manager.proofs.judging.Judged.{judged-passes, passed}
 use Rattle.tl_manager.proofs.judging.Judging.{burst-is, level-open}
+use Rattle.tl_manager.proofs.messages.Later.{inside-middle, lawful-so_far}
+use Rattle.tl_manager.proofs.messages.Sound.{sound_on_link}
+use Rattle.tl_manager.proofs.words_of_clients.Lists.{each_weaker}
+use Rattle.tl_manager.proofs.words_of_clients.Masks.{each_unfinished}
 
 free : {w : ℕ} (config : Config) (link : Link) (x : Beat w) (t : Trace w) → ends x (on_link link.0 t) ≡ false
     → must_wait config link x t ≡ false
@@ -28,26 +33,30 @@ free config link (C x) t more = refl
 free config link (D x) t more = refl
 free config link (E x) t more = refl
 
--- what a link and the map say of the beat
-pub record IsMiddle {w : ℕ} (config : Config) (ch : Channel) (link_state : LinkState w) (x : Beat w) : Type 0 where
+-- what a link says of the beat
+pub record IsMiddle {w : ℕ} (ch : Channel) (link_state : LinkState w) (x : Beat w) : Type 0 where
   pub theirs : is_from_client x ≡ true
   pub live : link_state.closed ≡ false
   pub lawful : illegal link_state.level ch x ≡ None
   pub clean : is_spoiled x ≡ false
-  pub inside : is_outside config.blocks x ≡ false
   pub goes : GoesOn x (burst_for link_state.requests link_state.reports x)
 
 passes-middle : {w : ℕ} (config : Config) (link : Link) (ch : Channel) (link_state : LinkState w) (x : Beat w)
-    (e : End w) → IsLinkState config link_state link.0 e → IsMiddle config ch link_state x
-    → judged config link ch x e ≡ Passes
-passes-middle {w} config link ch link_state x e is middle =
+    (e : End w) → Each (IsSound config) e.trace → IsLinkState config link_state link.0 e
+    → IsMiddle ch link_state x → judged config link ch x e ≡ Passes
+passes-middle {w} config link ch link_state x e sound is middle =
+    let P = λ (y : Beat w). IsSound config (record { 0 = link.0 }, y) in
     let here = subst (λ (b : List (Beat w)). GoesOn x b)
     (burst-is link_state link.0 x e.trace middle.theirs is.carried) middle.goes in
     let lawful : unlawful link_state.level ch x ≡ None = rw (middle.theirs) middle.lawful in
     let order : broken_in_order config.profile x (on_link link.0 e.trace) ≡ None =
     rw (here.begun_before, here.continues) refl in
+    let inside = inside-middle config.blocks x (unfinished (channel_of x) (on_link link.0 e.trace)) middle.theirs here
+    (each_weaker P (λ y. is_outside config.blocks y ≡ false) (unfinished (channel_of x) (on_link link.0 e.trace))
+    (λ y ok. ok.inside) (each_unfinished P (channel_of x) (on_link link.0 e.trace)
+    (sound_on_link config link.0 e.trace sound))) in
     judged-passes config link_state.level link ch x e (level-open config link link_state e is middle.live) lawful order
-    (free config link x e.trace here.leaves_more) middle.inside middle.clean
+    (free config link x e.trace here.leaves_more) inside middle.clean
 
 requests-more : {w : ℕ} (x : Beat w) (requests reports : List (Beat w)) → GoesOn x (burst_for requests reports x)
     → burst_more channel.A x requests ≡ burst_with channel.A x requests
@@ -74,7 +83,7 @@ Follows perm_of old new config link ch x e =
 
 pub follows-middle : {w : ℕ} {M : Type 0} (perm_of : M → ℕ → ℕ → Perm) (old new : ManagerState w M) (config : Config)
     (link : Link) (ch : Channel) (before after : LinkState w) (x : Beat w) (e : End w) → IsWidth w → IsTyped x
-    → IsMiddle config ch before x → new.link_states.items ≡ slice_set old.link_states.items link.0 after
+    → IsMiddle ch before x → new.link_states.items ≡ slice_set old.link_states.items link.0 after
     → slice_get old.link_states.items link.0 ≡ Some before
     → after.level ≡ before.level → after.closed ≡ before.closed
     → after.requests ≡ burst_more channel.A x before.requests
@@ -83,7 +92,7 @@ pub follows-middle : {w : ℕ} {M : Type 0} (perm_of : M → ℕ → ℕ → Per
 follows-middle {w} {M} perm_of old new config link ch before after x e width typed middle link_states found level
     closed requests reports same k =
     let here = k.link_states link.0 before found in
-    let passes = passes-middle config link ch before x e here middle in
+    let passes = passes-middle config link ch before x e k.kept.sound here middle in
     let ok = passed config link ch x e typed passes in
     let part = last-is config link before x e false ok here (sym middle.goes.leaves_more) in
     let done = done-part perm_of config old.block_state link x e ok.theirs part k.block_state in (
@@ -106,9 +115,8 @@ FollowsAny {w} perm_of old new link ch x = (config : Config) (e : End w) → Kno
 
 pub follows-any : {w : ℕ} {M : Type 0} (perm_of : M → ℕ → ℕ → Perm) (old new : ManagerState w M) (link : Link)
     (ch : Channel) (before after : LinkState w) (x : Beat w) (b : Bool) → IsWidth w
-    → is_outside (length old.block_state.blocks.bytes.items) x ≡ false → OnTrue b (is_from_client x ≡ true)
-    → OnTrue b (IsTyped x)
-    → OnTrue b (before.closed ≡ false) → OnTrue b (illegal before.level ch x ≡ None)
+    → OnTrue b (is_from_client x ≡ true) → OnTrue b (IsTyped x)
+    → OnTrue b (before.closed ≡ false) → OnTrue b (IsLawfulSoFar before → illegal before.level ch x ≡ None)
     → OnTrue b (is_spoiled x ≡ false)
     → OnTrue b (is_middle (part_of x (burst_for before.requests before.reports x)) ≡ true)
     → OnTrue b (after.requests ≡ burst_more channel.A x before.requests)
@@ -117,19 +125,18 @@ pub follows-any : {w : ℕ} {M : Type 0} (perm_of : M → ℕ → ℕ → Perm) 
     → new.link_states.items ≡ slice_set old.link_states.items link.0 after
     → slice_get old.link_states.items link.0 ≡ Some before → new.block_state ≡ old.block_state
     → OnTrue b (FollowsAny perm_of old new link ch x)
-follows-any perm_of old new link ch before after x true width within theirs typed live lawful clean middle requests
+follows-any perm_of old new link ch before after x true width theirs typed live lawful clean middle requests
     reports level closed link_states found same = λ config e k.
-    let middle_is : IsMiddle config ch before x = record {
+    let middle_is : IsMiddle ch before x = record {
       theirs = theirs;
       live = live;
-      lawful = lawful;
+      lawful = lawful (lawful-so_far config before link.0 e k.kept.sound (k.link_states link.0 before found));
       clean = clean;
-      inside = subst (λ (n : ℕ). is_outside n x ≡ false) k.size within;
       goes = middle-goes_on x (burst_for before.requests before.reports x) middle;
     } in
     follows-middle perm_of old new config link ch before after x e width typed middle_is link_states found level closed
     requests reports same k
-follows-any perm_of old new link ch before after x false width within theirs typed live lawful clean middle requests
+follows-any perm_of old new link ch before after x false width theirs typed live lawful clean middle requests
     reports level closed link_states found same = tt
 
 -- ---- the answer

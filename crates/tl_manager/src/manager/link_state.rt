@@ -1,18 +1,19 @@
 //! One link: the bursts that come on it, and what its messages are judged by.
 
 ghost use Rattle.std.specs.Prelude.{ℕ, ◌≡◌, ◌<◌, ◌≤◌, ◌==◌, ◌&&◌, length, false, true, List, [], ◌∷◌};
-ghost use Rattle.std.specs.Prelude.{None, not};
+ghost use Rattle.std.specs.Prelude.{None, not, ◌^◌};
 ghost use Rattle.std.specs.Bool.{OnTrue, OnFalse};
 ghost use Rattle.tl_beat.specs.statement.Width.{IsWidth, IsWidth-prop};
 ghost use Rattle.tl_burst.specs.statement.Burst.{IsBurst};
 ghost use Rattle.tl_burst.specs.statement.Messages.{breaks_burst};
 ghost use Rattle.tl_burst.specs.statement.Part.{IsTakeable, part_of, completes, is_empty, is_middle};
 ghost use Rattle.tl_rules.specs.statement.Admission;
-ghost use Rattle.tl_rules.specs.statement.Legality.{illegal};
+ghost use Rattle.tl_rules.specs.statement.Legality.{a_has_mask, illegal};
 ghost use Rattle.tl_rules.specs.statement.Conformance.{comes_in_release, comes_in_request};
 ghost use Rattle.tl_manager.specs.code.BurstFor.{burst_for, burst_more, burst_with};
 ghost use Rattle.tl_manager.specs.statement.Offer.{is_from_client};
 ghost use Rattle.tl_manager.specs.code.Kept.{IsTyped};
+ghost use Rattle.tl_manager.specs.code.Lawful.{IsFit, IsLawfulSoFar};
 ghost use Rattle.tl_manager.specs.code.Releases.{comes_of};
 ghost use Rattle.tl_manager.specs.code.Probed.{probe_in};
 ghost use Rattle.tl_manager.specs.code.Tracking.{request_in};
@@ -23,17 +24,48 @@ use crate::manager::tracker::Tracker;
 use crate::manager::types::prove_typed;
 use tl_beat::beat::{Beat, Link};
 use tl_beat::channel::Channel;
-use tl_beat::opcode::OpB;
+use tl_beat::opcode::{OpA, OpB};
 use tl_burst::assembler::Assembler;
 use tl_burst::message::{Message, MessageE};
 use tl_burst::part::{Broken, Part};
-use tl_rules::admission::is_spoiled;
 use tl_rules::key::{Key, block_at};
 use tl_rules::kind::is_release;
-use tl_rules::legality::beat::check_beat;
 use tl_rules::level::Level;
 use tl_rules::past::{Past, Probe, Request};
 use tl_rules::perm::Perm;
+
+/// Whether a beat of a message that has at least a beat's bytes carries all lanes, or with PutPartialData no others.
+fn has_lanes<const W: usize>(opcode: OpA, size: u8, mask: u16) -> bool
+    requires width { IsWidth W }
+    requires small { size ≤ 6 }
+    ensures lanes { OnTrue result ((address : ℕ) → a_has_mask W opcode size address mask ≡ true) }
+    ensures narrow { OnTrue result (mask < 2 ^ W) }
+{
+    if 1usize << size < W {
+        return false;
+    }
+    let lanes = u16::MAX >> (16 - W);
+    match opcode {
+        OpA::PutPartialData => mask & !lanes == 0,
+        _ => mask == lanes,
+    }
+}
+
+/// Whether what a beat has of its own breaks no rule where it goes on with a message, and it isn't corrupt.
+fn is_fit<const W: usize>(channel: Channel, beat: &Beat<W>) -> bool
+    requires width { IsWidth W }
+    ensures fit { OnTrue result (IsFit channel beat.now) }
+    ensures takeable { OnTrue result (IsTakeable beat.now) }
+    ensures clean { OnTrue result (Admission.is_spoiled beat.now ≡ false) }
+{
+    match (channel, beat) {
+        (Channel::A, Beat::A(x)) => {
+            !x.corrupt && x.size <= 6 && has_lanes::<W>(x.opcode, x.size, x.mask)
+        }
+        (Channel::C, Beat::C(x)) => !x.corrupt && x.size <= 6,
+        _ => false,
+    }
+}
 
 /// What a manager keeps of a link.
 #[derive(Drop)]
@@ -135,14 +167,15 @@ impl<const W: usize> LinkState<W> {
         }
     }
 
-    /// Takes a beat that goes on with its message and doesn't complete it, where the link isn't closed, and the
-    /// beat breaks no rule by itself and isn't corrupt: whether it was taken. Otherwise nothing changes.
+    /// Takes a beat that goes on with its message and doesn't complete it, where the link isn't closed, and what the
+    /// beat has of its own breaks no rule and isn't corrupt: whether it was taken. Otherwise nothing changes. Such a
+    /// beat breaks no rule by itself where those before it break none, since they have its control fields.
     pub fn goes_on(&mut self, channel: Channel, beat: &Beat<W>) -> bool
         requires width { IsWidth W }
         ensures theirs { OnTrue result (is_from_client beat.now ≡ true) }
         ensures typed { OnTrue result (IsTyped beat.now) }
         ensures live { OnTrue result (self.old.closed ≡ false) }
-        ensures lawful { OnTrue result (illegal self.old.level channel beat.now ≡ None) }
+        ensures lawful { OnTrue result (IsLawfulSoFar self.old → illegal self.old.level channel beat.now ≡ None) }
         ensures clean { OnTrue result (Admission.is_spoiled beat.now ≡ false) }
         ensures middle { OnTrue result
             (is_middle (part_of beat.now (burst_for self.old.requests self.old.reports beat.now)) ≡ true) }
@@ -152,16 +185,14 @@ impl<const W: usize> LinkState<W> {
         ensures closed { self.new.closed ≡ self.old.closed }
         ensures unchanged { OnFalse result (self.new ≡ self.old) }
     {
-        if self.closed || !self.has_begun(beat) || is_spoiled(beat) {
+        if self.closed || !self.has_begun(beat) {
             return false;
         }
-        match check_beat(self.level, channel, beat) {
-            Err(_) => false,
-            Ok(()) => {
-                prove_typed(beat);
-                self.grows(beat)
-            }
+        if !is_fit(channel, beat) {
+            return false;
         }
+        prove_typed(beat);
+        self.grows(beat)
     }
 
     /// Whether the request that isn't complete has this source.

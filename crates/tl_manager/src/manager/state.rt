@@ -8,7 +8,7 @@ ghost use Rattle.tl_burst.specs.statement.Part.{IsTakeable};
 ghost use Rattle.tl_beat.specs.declared.beat.Link.{Link};
 ghost use Rattle.tl_params.specs.declared.config.Config.{Config};
 ghost use Rattle.tl_manager.specs.code.Admission.{admission_of, judged_in_order, is_stall};
-ghost use Rattle.tl_rules.specs.statement.Conformance.{Trace, on_link, broken_in_order};
+ghost use Rattle.tl_rules.specs.statement.Conformance.{on_link, broken_in_order};
 ghost use Rattle.tl_params.specs.declared.perm.Perm.TheVariants as perm;
 ghost use Rattle.tl_manager.specs.code.Fresh.{fresh_link_state};
 ghost use Rattle.tl_manager.specs.code.PartIs.{is_first_part, is_last_part};
@@ -63,14 +63,6 @@ fn is_waiting(judged: Result<Admission, Rule>) -> bool
         Ok(Admission::Passes) => false,
         Err(_) => false,
     }
-}
-
-/// Whether a beat is of a request: no other ever has to wait.
-fn may_wait<const W: usize>(beat: &Beat<W>) -> bool
-    ensures { result ≡ false → (config : Config) (link : Link) (t : Trace W) → Offer.must_wait config link beat.now t
-        ≡ false }
-{
-    matches!(beat, Beat::A(_))
 }
 
 /// What a manager keeps.
@@ -137,6 +129,17 @@ impl<const W: usize, D: Directory> ManagerState<W, D> {
         match self.block_state.trackers.least_free() {
             None => true,
             Some(_) => false,
+        }
+    }
+
+    /// Whether a beat may have to wait: that of a request may, where its block is in service or no tracker is free.
+    fn may_wait(&self, beat: &Beat<W>) -> bool
+        ensures { result ≡ false → (config : Config) (e : End W) (link : Link) → Knows D.perm_of self.now config e →
+            Offer.must_wait config link beat.now e.trace ≡ false }
+    {
+        match beat {
+            Beat::A(x) => self.is_busy(block_at(x.address)),
+            _ => false,
         }
     }
 
@@ -229,7 +232,7 @@ impl<const W: usize, D: Directory> ManagerState<W, D> {
         ensures { (config : Config) (e : End W) → Knows D.perm_of self.now config e →
             result ≡ Offer.stalls config link channel beat.now e }
     {
-        may_wait(beat) && is_waiting(self.judge(link, channel, beat))
+        self.may_wait(beat) && is_waiting(self.judge(link, channel, beat))
     }
 
     /// Whether a link takes no beats: it was closed, or there is no such link.
@@ -257,7 +260,7 @@ impl<const W: usize, D: Directory> ManagerState<W, D> {
     }
 
     /// Takes a beat that goes on with its message and doesn't complete it, where it passes: whether it was taken.
-    /// Otherwise nothing changes.
+    /// Otherwise nothing changes. Such a beat is of a block of the map, as those before it are.
     pub fn goes_on(&mut self, link: Link, channel: Channel, beat: &Beat<W>) -> bool
         requires known { IsManager D.perm_of D.blocks D.clients self.old }
         ensures passes { OnTrue result ((config : Config) (e : End W) → Knows D.perm_of self.old config e →
@@ -268,9 +271,6 @@ impl<const W: usize, D: Directory> ManagerState<W, D> {
     {
         let number = usize::from(link.0);
         if number >= self.link_states.len() {
-            return false;
-        }
-        if is_outside(self.block_state.blocks.count(), beat) {
             return false;
         }
         self.link_states[number].goes_on(channel, beat)

@@ -1,6 +1,8 @@
 //! The trackers of the requests in service.
 
 ghost use Rattle.std.specs.Prelude.{ℕ, ◌≡◌, ◌<◌, ◌≤◌, ◌==◌, ◌&&◌, if◌then◌else◌, true, false, IfSome};
+ghost use Rattle.std.specs.Prelude.{◌≢◌, slice_index_or};
+ghost use Rattle.tl_manager.specs.declared.manager.tracker.Tracker.{Tracker};
 
 use tl_beat::beat::Link;
 use tl_burst::message::MessageA;
@@ -108,11 +110,14 @@ impl<const W: usize> Tracker<W> {
     }
 }
 
-/// The trackers, of which this many are in use, at most eight.
+/// The trackers, of which this many may be taken, at most eight. From the number `used` on all are free.
 #[derive(Clone, Copy)]
 pub struct Trackers<const W: usize> {
     pub all: [Tracker<W>; 8],
     pub count: u8,
+    used: u8,
+    ghost few: { used ≤ 8 },
+    ghost unused: { (n : ℕ) → used ≤ n → slice_index_or all n Tracker.Free ≡ Tracker.Free },
 }
 
 impl<const W: usize> Trackers<W> {
@@ -127,6 +132,7 @@ impl<const W: usize> Trackers<W> {
         Trackers {
             all: [Tracker::Free; 8],
             count,
+            used: 0,
         }
     }
 
@@ -140,18 +146,39 @@ impl<const W: usize> Trackers<W> {
         }
     }
 
+    /// The tracker with this number, where it stands.
+    fn look(&self, number: u8) -> &Tracker<W>
+        requires { number < 8 }
+        ensures { result.now ≡ tracker_at self.now number }
+    {
+        &self.all[usize::from(number)]
+    }
+
+    /// The least number of a free one, eight where none is.
+    fn least_unused(&self) -> u8
+        ensures free { Tracking.is_free (tracker_at self.now result) ≡ true }
+        ensures least { (i : ℕ) → i < result → Tracking.is_free (tracker_at self.now i) ≡ false }
+    {
+        for number in 0..self.used {
+            if self.look(number).is_free() {
+                return number;
+            }
+        }
+        self.used
+    }
+
     /// The least free one.
     pub fn least_free(&self) -> Option<u8>
         ensures free { IfSome result (λ n. (n < self.now.count) × (Tracking.is_free (tracker_at self.now n) ≡ true)
             × ((i : ℕ) → i < n → Tracking.is_free (tracker_at self.now i) ≡ false)) }
         ensures none { result ≡ None → (i : ℕ) → i < self.now.count → Tracking.is_free (tracker_at self.now i) ≡ false }
     {
-        for number in 0..self.count {
-            if self.at(number).is_free() {
-                return Some(number);
-            }
+        let number = self.least_unused();
+        if number < self.count {
+            Some(number)
+        } else {
+            None
         }
-        None
     }
 
     /// The one whose request is of the block.
@@ -159,31 +186,22 @@ impl<const W: usize> Trackers<W> {
         ensures found { IfSome result (λ n. (n < 8) × (Tracking.is_of block (tracker_at self.now n) ≡ true)) }
         ensures none { result ≡ None → (i : ℕ) → Tracking.is_of block (tracker_at self.now i) ≡ false }
     {
-        for number in 0..8 {
-            if self.at(number).is_of(block) {
+        for number in 0..self.used {
+            if self.look(number).is_of(block) {
                 return Some(number);
             }
         }
         None
     }
 
-    /// Whether the request of the tracker with this number came on the link with this source, and isn't answered.
-    fn serves(&self, number: u8, link: Link, source: u8) -> bool
-        ensures { result ≡ Tracking.serves_source link.0 source (tracker_at self.now number) }
-    {
-        match self.all.get(usize::from(number)) {
-            Some(tracker) => tracker.serves_source(link, source),
-            None => false,
-        }
-    }
-
     /// The request that came on the link with this source and isn't answered.
     pub fn asked(&self, link: Link, source: u8) -> Option<MessageA<W>>
         ensures { IsAsked self.now link.0 source result }
     {
-        for number in 0..8 {
-            if self.serves(number, link, source) {
-                return self.at(number).request();
+        for number in 0..self.used {
+            let tracker = self.look(number);
+            if tracker.serves_source(link, source) {
+                return tracker.request();
             }
         }
         None
@@ -199,6 +217,22 @@ impl<const W: usize> Trackers<W> {
         }
     }
 
+    /// From which number on all are free, where the one with this number becomes free or not.
+    fn used_with(&self, number: u8, free: bool) -> u8
+        requires { number < 8 }
+        ensures few { result ≤ 8 }
+        ensures unused { (n : ℕ) → result ≤ n → n ≢ number → tracker_at self.now n ≡ Tracker.Free }
+        ensures here { result ≤ number → free ≡ true }
+    {
+        if free && number + 1 == self.used {
+            number
+        } else if free || number < self.used {
+            self.used
+        } else {
+            number + 1
+        }
+    }
+
     /// Changes what one tracker keeps.
     pub fn set(&mut self, number: u8, tracker: Tracker<W>)
         requires { number < 8 }
@@ -206,6 +240,7 @@ impl<const W: usize> Trackers<W> {
             tracker_at self.new n ≡ (if number == n then tracker.entry else tracker_at self.old n) }
         ensures count { self.new.count ≡ self.old.count }
     {
+        self.used = self.used_with(number, tracker.is_free());
         self.all[usize::from(number)] = tracker;
     }
 }

@@ -1,7 +1,6 @@
-use Rattle.std.proofs.Common.{refl, sym, ◌∙◌, ◌≡◌, ◌<◌, length, Some, false, arith}
+use Rattle.std.proofs.Common.{refl, ◌≡◌, ◌<◌, length, Some, arith}
 use Rattle.std.specs.Prelude.{slice_get}
 use Rattle.std.proofs.lemmas.Option.{slice_get_read}
-use Rattle.tl_rules.specs.statement.Admission.{is_outside}
 use Rattle.tl_manager.proofs.calls.Middle.{follows-any}
 use Rattle.tl_manager.proofs.calls.Unchanged.{unchanged-at}
 use Rattle.tl_manager.proofs.manager.state.ManagerState.goes_on.Goals as goal
@@ -12,10 +11,8 @@ returns-clause-passes g c =
     let found : slice_get c.args.self.now.link_states.items c.args.link.0 ≡ Some c.index_mut.result.now =
     slice_get_read c.args.self.now.link_states.items (length c.args.self.now.link_states.items) c.args.link.0
     c.index_mut.result.now refl within (rw c.from-number.ensures at c.index_mut.ensures.value) in
-    let inside : is_outside (length c.args.self.now.block_state.blocks.bytes.items) c.args.beat.now ≡ false =
-    rw c.count.ensures at (sym c.is_outside.ensures ∙ c.if-is_outside.false) in
     follows-any g.D.Directory.perm_of c.args.self.now _ c.args.link c.args.channel c.index_mut.result.now
-    c.goes_on.new.self c.args.beat.now c.goes_on.result c.requires.known.width inside c.goes_on.ensures.theirs
+    c.goes_on.new.self c.args.beat.now c.goes_on.result c.requires.known.width c.goes_on.ensures.theirs
     c.goes_on.ensures.typed c.goes_on.ensures.live c.goes_on.ensures.lawful c.goes_on.ensures.clean
     c.goes_on.ensures.middle c.goes_on.ensures.requests c.goes_on.ensures.reports c.goes_on.ensures.level
     c.goes_on.ensures.closed (rw c.from-number.ensures refl) found refl

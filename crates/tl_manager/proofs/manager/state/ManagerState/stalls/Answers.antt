@@ -11,4 +11,4 @@ returns-then-may_wait g c = λ config e k. c.is_waiting.ensures ∙ ap is_stall 
 pub returns-else-may_wait : goal.returns-else-may_wait
 returns-else-may_wait g c = λ config e k.
     c.if-may_wait.false ∙ sym (never-stalled config c.args.link c.args.channel c.args.beat.now e
-    (c.may_wait.ensures c.if-may_wait.false config c.args.link e.trace))
+    (c.may_wait.ensures c.if-may_wait.false config e c.args.link k))

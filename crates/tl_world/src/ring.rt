@@ -69,18 +69,13 @@ impl<const W: usize> Ring<W> {
         self.beats.front()
     }
 
-    /// Whether it holds no beat.
-    pub fn is_empty(&self) -> bool
-        ensures { result ≡ (length self.now.beats.items == 0) }
-    {
-        self.beats.is_empty()
-    }
-
-    /// Takes the first beat away.
-    pub fn drop_first(&mut self)
+    /// Takes the first beat away: whether none is left.
+    pub fn drop_first(&mut self) -> bool
         ensures beats { self.new.beats ≡ buffer (drop 1 self.old.beats.items) self.old.beats.capacity }
         ensures deepest { self.new.deepest ≡ self.old.deepest }
+        ensures empty { result ≡ (length self.new.beats.items == 0) }
     {
         self.beats.pop_front();
+        self.beats.is_empty()
     }
 }

@@ -24,7 +24,7 @@ use tl_client::answer::Answer;
 use tl_client::operation::Op;
 use tl_client::reply::Reply;
 use tl_client::verdict::Finish;
-use tl_coherence::event::{Event, Outcome};
+use tl_coherence::event::Outcome;
 use tl_manager::directory::Directory;
 use tl_manager::manager::reply::Outbox;
 
@@ -105,6 +105,21 @@ impl<const W: usize, A: Agent<W>, D: Directory> Network<W, A, D> {
         let (reply, message) = ask_at(&mut self.clients, usize::from(client), operation);
         self.rings.send_if_any(Link(client), &message);
         *outcome = Outcome::Replied { reply };
+    }
+
+    /// A client is asked, if there is one of this number. What comes of it is written where it is to stand, as below.
+    pub fn ask_if_there(&mut self, client: u8, operation: Op<W>, outcome: &mut Outcome<W>)
+        requires { IsWidth W }
+        ensures { (config : Config) (s : System W) → Holds A.represents A.terms D.perm_of config self.old s →
+            HasRoom config (stepped config (Ask client operation.entry) s).after →
+            IsStepped A.represents A.terms D.perm_of config self.old self.new (Ask client operation.entry) outcome.new
+            s }
+    {
+        if usize::from(client) >= self.clients.len() {
+            *outcome = Outcome::NoSuchClient;
+            return;
+        }
+        self.ask(client, operation, outcome)
     }
 
     /// A client of this number is asked for a Load: its answer, or None where there is no such client.
@@ -211,25 +226,6 @@ impl<const W: usize, A: Agent<W>, D: Directory> Network<W, A, D> {
             self.to_client(link, channel, outcome)
         } else {
             self.to_manager(link, channel, outcome)
-        }
-    }
-
-    /// Something happens.
-    pub fn step(&mut self, event: Event<W>, outcome: &mut Outcome<W>)
-        requires width { IsWidth W }
-        ensures { (config : Config) (s : System W) → Holds A.represents A.terms D.perm_of config self.old s →
-            HasRoom config (stepped config event.entry s).after →
-            IsStepped A.represents A.terms D.perm_of config self.old self.new event.entry outcome.new s }
-    {
-        match event {
-            Event::Ask { client, operation } => {
-                if usize::from(client) >= self.clients.len() {
-                    *outcome = Outcome::NoSuchClient;
-                    return;
-                }
-                self.ask(client, operation, outcome)
-            }
-            Event::Deliver { link, channel } => self.deliver(link, channel, outcome),
         }
     }
 }

@@ -1,9 +1,11 @@
 //! The beats of a message (SiFive TileLink Specification 1.8, "Bursts and ordering of beats").
 
-ghost use Rattle.std.specs.Prelude.{IsTrue, ◌≡◌, ◌<◌, ◌≤◌, ◌+◌, ◌*◌, ◌==◌, slice_range, if◌then◌else◌};
+ghost use Rattle.std.specs.Prelude.{IsTrue, ◌≡◌, ◌<◌, ◌≤◌, ◌+◌, ◌*◌, ◌==◌, is_some, slice_range, if◌then◌else◌};
 ghost use Rattle.tl_beat.specs.statement.Width.{IsWidth};
 ghost use Rattle.tl_burst.specs.statement.Burst;
+ghost use Rattle.tl_beat.specs.declared.beat.Beat.TheVariants as beat;
 ghost use Rattle.tl_burst.specs.statement.Messages;
+ghost use Rattle.tl_burst.specs.statement.Messages.{same_control};
 ghost use Rattle.tl_burst.specs.statement.Part.{IsTakeable, is_small};
 ghost use Rattle.tl_burst.specs.statement.Burst.{data_beats, lanes_at, mask_at, bit, beat_of};
 ghost use Rattle.tl_burst.specs.statement.Burst.{a_beat_of, b_beat_of, c_beat_of, d_beat_of};
@@ -55,6 +57,15 @@ pub fn burst_length<const W: usize>(beat: &Beat<W>) -> u8
     }
 }
 
+/// Copies the bytes of beat `i` of a payload into lanes.
+fn copy_lanes<const W: usize>(lanes: &mut [u8; W], payload: &[u8; 64], i: u8)
+    requires { W * i + W ≤ 64 }
+    ensures { lanes.new ≡ slice_range payload.now (W * i) (W * i + W) }
+{
+    let from = W * i as usize;
+    lanes.copy_from_slice(&payload[from..from + W]);
+}
+
 /// The lanes of beat `i`, where its message carries data.
 fn lanes_of<const W: usize>(carries_data: bool, payload: &[u8; 64], i: u8) -> Option<[u8; W]>
     requires { W * i + W ≤ 64 }
@@ -63,10 +74,20 @@ fn lanes_of<const W: usize>(carries_data: bool, payload: &[u8; 64], i: u8) -> Op
     if !carries_data {
         return None;
     }
-    let from = W * i as usize;
     let mut lanes = [0; W];
-    lanes.copy_from_slice(&payload[from..from + W]);
+    copy_lanes(&mut lanes, payload, i);
     Some(lanes)
+}
+
+/// Makes those of beat `i` of the lanes of another beat, where there are lanes.
+fn change_lanes<const W: usize>(lanes: &mut Option<[u8; W]>, payload: &[u8; 64], i: u8)
+    requires { W * i + W ≤ 64 }
+    ensures here { lanes_at (is_some lanes.new) W payload.now i ≡ lanes.new }
+    ensures some { is_some lanes.new ≡ is_some lanes.old }
+{
+    if let Some(lanes) = lanes {
+        copy_lanes(lanes, payload, i);
+    }
 }
 
 /// The mask of beat `i`, in a message's mask.
@@ -168,5 +189,63 @@ pub fn beat_at<const W: usize>(message: &Message<W>, i: u8) -> Beat<W>
         Message::C(m) => Beat::C(beat_of_c(m, i)),
         Message::D(m) => Beat::D(beat_of_d(m, i)),
         Message::E(m) => Beat::E(BeatE { sink: m.sink }),
+    }
+}
+
+fn change_a<const W: usize>(x: &mut BeatA<W>, m: &MessageA<W>, i: u8)
+    requires width { IsWidth W }
+    requires inside { W * i + W ≤ 64 }
+    requires same { IsTrue (same_control (beat.A x.old) (beat.A (a_beat_of m.now 0))) }
+    ensures { x.new ≡ a_beat_of m.now i }
+{
+    change_lanes(&mut x.lanes, &m.payload, i);
+    x.mask = mask_of::<W>(m.mask, i);
+    x.corrupt = bit_of(m.corrupt, i);
+}
+
+fn change_b<const W: usize>(x: &mut BeatB<W>, m: &MessageB<W>, i: u8)
+    requires width { IsWidth W }
+    requires inside { W * i + W ≤ 64 }
+    requires same { IsTrue (same_control (beat.B x.old) (beat.B (b_beat_of m.now 0))) }
+    ensures { x.new ≡ b_beat_of m.now i }
+{
+    change_lanes(&mut x.lanes, &m.payload, i);
+    x.mask = mask_of::<W>(m.mask, i);
+    x.corrupt = bit_of(m.corrupt, i);
+}
+
+fn change_c<const W: usize>(x: &mut BeatC<W>, m: &MessageC<W>, i: u8)
+    requires width { IsWidth W }
+    requires inside { W * i + W ≤ 64 }
+    requires same { IsTrue (same_control (beat.C x.old) (beat.C (c_beat_of m.now 0))) }
+    ensures { x.new ≡ c_beat_of m.now i }
+{
+    change_lanes(&mut x.lanes, &m.payload, i);
+    x.corrupt = bit_of(m.corrupt, i);
+}
+
+fn change_d<const W: usize>(x: &mut BeatD<W>, m: &MessageD<W>, i: u8)
+    requires width { IsWidth W }
+    requires inside { W * i + W ≤ 64 }
+    requires same { IsTrue (same_control (beat.D x.old) (beat.D (d_beat_of m.now 0))) }
+    ensures { x.new ≡ d_beat_of m.now i }
+{
+    change_lanes(&mut x.lanes, &m.payload, i);
+    x.corrupt = bit_of(m.corrupt, i);
+}
+
+/// Makes beat `i` of a message of another one: lanes, mask and corrupt bit are all that differ.
+pub fn change<const W: usize>(beat: &mut Beat<W>, message: &Message<W>, i: u8)
+    requires width { IsWidth W }
+    requires inside { W * i + W ≤ 64 }
+    requires same { IsTrue (same_control beat.old (beat_of message.now 0)) }
+    ensures { beat.new ≡ beat_of message.now i }
+{
+    match (beat, message) {
+        (Beat::A(x), Message::A(m)) => change_a(x, m, i),
+        (Beat::B(x), Message::B(m)) => change_b(x, m, i),
+        (Beat::C(x), Message::C(m)) => change_c(x, m, i),
+        (Beat::D(x), Message::D(m)) => change_d(x, m, i),
+        _ => {}
     }
 }

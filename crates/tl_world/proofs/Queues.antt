@@ -1,7 +1,7 @@
 -- The channels of all links as one list of queues.
 use Rattle.std.proofs.Common.{◌≡◌, ℕ, suc, Bool, true, false, List, [], ◌∷◌, ◌++◌, ◌+◌, ◌≤◌, ◌<◌, length, drop, refl}
 use Rattle.std.proofs.Common.{sym, ap, ◌∙◌, ◌⊎◌, inl, inr, arith}
-use Rattle.std.specs.Prelude.{not, ◌≢◌, ◌==◌, ◌&&◌, max, slice_index_or}
+use Rattle.std.specs.Prelude.{not, ◌≢◌, ◌==◌, ◌&&◌, max, slice_index_or, if◌then◌else◌}
 use Rattle.std.specs.Int.{bit_at}
 use Rattle.std.proofs.Math.Nat.{max-eq_left}
 use Rattle.std.proofs.lemmas.Bool.{cases_eq, ne_eqb, eq-eqb}
@@ -20,6 +20,7 @@ use Rattle.tl_rules.specs.statement.Legality.{beats_from}
 use Rattle.tl_manager.specs.code.Bit.{bit_if}
 use Rattle.tl_manager.specs.statement.Handing.{Handed}
 use Rattle.tl_world.specs.code.Carrying.{number, place, channel_at, word_of, Carries, Fit, AreKept, AreMoved}
+use Rattle.tl_world.proofs.Holding.{member}
 use Rattle.tl_world.specs.declared.ring.Ring.{Ring}
 use Rattle.tl_world.specs.declared.rings.Rings.{Rings}
 use Rattle.tl_coherence.specs.statement.System.{System, same_channel, channel_of_message, with_channel, with_message}
@@ -114,6 +115,12 @@ module _ {w : ℕ} where
         ];
   }
 
+  -- the bit of a channel, which was set, is cleared where nothing is left
+  cleared : (rest : List (Beat w)) (bit : ℕ) → bit ≡ 1 → (if length rest == 0 then 0 else bit)
+      ≡ bit_if (not (is_empty rest))
+  cleared [] bit set = refl
+  cleared (x ∷ rest) bit set = rw (ne_eqb (suc (length rest)) 0 (λ e. absurd (omega (arith, e)))) set
+
   -- whose first beat is taken away: its bit is cleared where it was the last
   pub moved-dropped : (n : ℕ) (old new : Rings w) (s : System w) (k : ℕ) (ch : Channel) (x : Beat w)
       (rest : List (Beat w)) → Carries n old s → k < n → s.channels k ch ≡ x ∷ rest
@@ -124,14 +131,15 @@ module _ {w : ℕ} where
       → ((d : Ring w) → (slice_index_or new.all.items (place k ch) d).deepest
       ≡ (slice_index_or old.all.items (place k ch) d).deepest)
       → ((i : ℕ) (d : Ring w) → i ≢ place k ch → slice_index_or new.all.items i d ≡ slice_index_or old.all.items i d)
-      → (d : Ring w) → bit_at (word_of new.non_empty ch) k ≡ bit_if
-      (not (length (slice_index_or new.all.items (place k ch) d).beats.items == 0))
+      → (empty : Bool) → ((d : Ring w) → empty ≡ (length (slice_index_or new.all.items (place k ch) d).beats.items == 0))
+      → bit_at (word_of new.non_empty ch) k ≡ (if empty then 0 else bit_at (word_of old.non_empty ch) k)
       → ((j : ℕ) (c : Channel) → place j c ≢ place k ch
       → bit_at (word_of new.non_empty c) j ≡ bit_at (word_of old.non_empty c) j)
       → AreMoved n old new (with_channel k ch rest s)
-  moved-dropped n old new s k ch x rest carried inside first same_number dropped flat others d bit_here bit_others =
+  moved-dropped n old new s k ch x rest carried inside first same_number dropped flat others empty left_empty bit_here
+      bit_others =
       moved-one n old new s k ch rest carried same_number (λ e lt. left e) deeper others
-      (λ lt. bit_here ∙ ap bit_if (rw (left d) (some rest))) bit_others
+      (λ lt. rw none_left at bit_here ∙ cleared rest (bit_at (word_of old.non_empty ch) k) held) bit_others
     where
       left : (e : Ring w) → (slice_index_or new.all.items (place k ch) e).beats.items ≡ rest
       left e = ap (λ (b : Buffer (Beat w)). b.items) (dropped e) ∙ ap (λ (xs : List (Beat w)). drop 1 xs)
@@ -146,9 +154,14 @@ module _ {w : ℕ} where
           let covered = (slice_index_or old.all.items (place k ch) e).covered in
           omega (arith, now, before, covered, flat e)
 
-      some : (beats : List (Beat w)) → not (length beats == 0) ≡ not (is_empty beats)
-      some [] = refl
-      some (y ∷ ys) = ap not (ne_eqb (suc (length ys)) 0 (λ e. absurd (omega (arith, e))))
+      one : Ring w
+      one = member old.all.items (place k ch) (omega (arith, carried.five_each, inside, number-below ch))
+
+      none_left : empty ≡ (length rest == 0)
+      none_left = left_empty one ∙ ap (λ (xs : List (Beat w)). length xs == 0) (left one)
+
+      held : bit_at (word_of old.non_empty ch) k ≡ 1
+      held = carried.non_empty k ch inside ∙ ap (λ (xs : List (Beat w)). bit_if (not (is_empty xs))) first
 
   -- of none of those that there are
   pub moved-aside : (n : ℕ) (rings : Rings w) (s : System w) (k : ℕ) (ch : Channel) (beats : List (Beat w))

@@ -1,6 +1,6 @@
 //! The channels of all links.
 
-ghost use Rattle.std.specs.Prelude.{ℕ, ◌≡◌, ◌≢◌, ◌+◌, ◌*◌, ◌++◌, ◌∷◌, ◌≤◌, ◌<◌, List};
+ghost use Rattle.std.specs.Prelude.{ℕ, ◌≡◌, ◌≢◌, ◌==◌, ◌+◌, ◌*◌, ◌++◌, ◌∷◌, ◌≤◌, ◌<◌, List};
 ghost use Rattle.std.specs.Prelude.{length, drop, max, slice_get, slice_index_or};
 ghost use Rattle.std.specs.Option.{option_copied};
 ghost use Rattle.circular_buffer.specs.Buffer.{buffer};
@@ -52,8 +52,8 @@ fn send_at<const W: usize>(rings: &mut Vec<Ring<W>>, at: usize, message: &Messag
     rings[at].send(message);
 }
 
-/// Takes the first beat of one channel away.
-fn drop_at<const W: usize>(rings: &mut Vec<Ring<W>>, at: usize)
+/// Takes the first beat of one channel away: whether none is left in it.
+fn drop_at<const W: usize>(rings: &mut Vec<Ring<W>>, at: usize) -> bool
     requires { at < length rings.old.items }
     ensures number { length rings.new.items ≡ length rings.old.items }
     ensures beats { (d : Ring W) → (slice_index_or rings.new.items at d).beats
@@ -61,10 +61,11 @@ fn drop_at<const W: usize>(rings: &mut Vec<Ring<W>>, at: usize)
         (slice_index_or rings.old.items at d).beats.capacity }
     ensures deepest { (d : Ring W) → (slice_index_or rings.new.items at d).deepest
         ≡ (slice_index_or rings.old.items at d).deepest }
+    ensures empty { (d : Ring W) → result ≡ (length (slice_index_or rings.new.items at d).beats.items == 0) }
     ensures others { (k : ℕ) (d : Ring W) → k ≢ at → slice_index_or rings.new.items k d
         ≡ slice_index_or rings.old.items k d }
 {
-    rings[at].drop_first();
+    rings[at].drop_first()
 }
 
 /// The channels of all links, by the number of the link, at most sixteen, and which of them hold a beat.
@@ -115,9 +116,11 @@ impl<const W: usize> Rings<W> {
             AreMoved n self.old self.new (with_channel link.0 channel rest s) }
     {
         let at = place(link, channel);
-        if at < self.all.len() {
-            drop_at(&mut self.all, at);
-            self.non_empty.mark(link, channel, !self.all[at].is_empty());
+        if at >= self.all.len() {
+            return;
+        }
+        if drop_at(&mut self.all, at) {
+            self.non_empty.mark(link, channel, false);
         }
     }
 

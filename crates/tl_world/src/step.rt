@@ -1,10 +1,9 @@
 //! What a manager and its clients do at an event.
 
 ghost use Rattle.std.specs.Prelude.{ℕ, ◌≡◌, ◌<◌, length, true, false};
-ghost use Rattle.std.specs.Bool.{OnTrue, OnFalse};
 ghost use Rattle.tl_beat.specs.statement.Width.{IsWidth};
 ghost use Rattle.tl_params.specs.declared.config.Config.{Config};
-ghost use Rattle.tl_world.specs.code.Holds.{Holds, HasRoom, IsStepped, clients_of, is_stay};
+ghost use Rattle.tl_world.specs.code.Holds.{Holds, HasRoom, IsStepped, is_stay};
 ghost use Rattle.tl_coherence.specs.statement.Step;
 ghost use Rattle.tl_coherence.specs.statement.Step.{handed_by, stepped};
 ghost use Rattle.tl_coherence.specs.statement.System.{System, with_messages};
@@ -26,7 +25,7 @@ use tl_client::answer::Answer;
 use tl_client::operation::Op;
 use tl_client::reply::Reply;
 use tl_client::verdict::Finish;
-use tl_coherence::event::{Event, Outcome};
+use tl_coherence::event::Outcome;
 use tl_manager::directory::Directory;
 use tl_manager::manager::reply::Outbox;
 
@@ -133,6 +132,21 @@ impl<const W: usize, A: Agent<W>, D: Directory> Network<W, A, D> {
         *outcome = Outcome::Replied { reply };
     }
 
+    /// A client is asked, if there is one of this number. What comes of it is written where it is to stand, as below.
+    pub fn ask_if_there(&mut self, client: u8, operation: &Op<W>, outcome: &mut Outcome<W>)
+        requires { IsWidth W }
+        ensures { (config : Config) (s : System W) → Holds A.represents A.terms D.perm_of config self.old s →
+            HasRoom config (stepped config (Ask client operation.now) s).after →
+            IsStepped A.represents A.terms D.perm_of config self.old self.new (Ask client operation.now) outcome.new
+            s }
+    {
+        if usize::from(client) >= self.clients.len() {
+            *outcome = Outcome::NoSuchClient;
+            return;
+        }
+        self.ask(client, operation, outcome)
+    }
+
     /// A client of this number is asked for a Load: its answer, or None where there is no such client.
     pub fn ask_load(&self, client: u8, address: u32, size: u8) -> Option<Reply>
         ensures { (config : Config) (s : System W) → Holds A.represents A.terms D.perm_of config self.now s →
@@ -159,48 +173,6 @@ impl<const W: usize, A: Agent<W>, D: Directory> Network<W, A, D> {
         Some(ask_store_at(&mut self.clients, usize::from(client), address, size, value))
     }
 
-    /// The first beat of a channel is taken by a client, where it goes on with a message: whether it was. Otherwise
-    /// nothing changes.
-    fn goes_on_to_client(&mut self, link: Link, channel: Channel, outcome: &mut Outcome<W>) -> bool
-        requires inside { link.0 < length self.old.clients.items }
-        ensures moved { OnTrue result ((config : Config) (s : System W) →
-            Holds A.represents A.terms D.perm_of config self.old s → Step.is_to_client channel ≡ true →
-            HasRoom config (stepped config (Deliver link channel) s).after →
-            IsStepped A.represents A.terms D.perm_of config self.old self.new (Deliver link channel) outcome.new s) }
-        ensures unchanged { OnFalse result (self.new ≡ self.old) }
-    {
-        let Some(beat) = self.rings.first(link, channel) else {
-            return false;
-        };
-        if !goes_on_at(&mut self.clients, usize::from(link.0), channel, beat) {
-            return false;
-        }
-        *outcome = Outcome::Moved { beat: *beat };
-        self.rings.drop_first(link, channel);
-        true
-    }
-
-    /// The first beat of a channel is taken by the manager, where it goes on with a message: whether it was.
-    /// Otherwise nothing changes.
-    fn goes_on_to_manager(&mut self, link: Link, channel: Channel, outcome: &mut Outcome<W>) -> bool
-        requires inside { link.0 < length self.old.clients.items }
-        ensures moved { OnTrue result ((config : Config) (s : System W) →
-            Holds A.represents A.terms D.perm_of config self.old s → Step.is_to_client channel ≡ false →
-            HasRoom config (stepped config (Deliver link channel) s).after →
-            IsStepped A.represents A.terms D.perm_of config self.old self.new (Deliver link channel) outcome.new s) }
-        ensures unchanged { OnFalse result (self.new ≡ self.old) }
-    {
-        let Some(beat) = self.rings.first(link, channel) else {
-            return false;
-        };
-        if !self.manager.goes_on(link, channel, beat) {
-            return false;
-        }
-        *outcome = Outcome::Moved { beat: *beat };
-        self.rings.drop_first(link, channel);
-        true
-    }
-
     /// The first beat of a channel is brought to a client.
     fn to_client(&mut self, link: Link, channel: Channel, outcome: &mut Outcome<W>)
         requires width { IsWidth W }
@@ -213,14 +185,14 @@ impl<const W: usize, A: Agent<W>, D: Directory> Network<W, A, D> {
             *outcome = Outcome::Empty;
             return;
         };
+        let client = usize::from(link.0);
+        if goes_on_at(&mut self.clients, client, channel, beat) {
+            *outcome = Outcome::Moved { beat: *beat };
+            self.rings.drop_first(link, channel);
+            return;
+        }
         let mut bytes = [0; 64];
-        match answer_at(
-            &mut self.clients,
-            usize::from(link.0),
-            channel,
-            beat,
-            &mut bytes,
-        ) {
+        match answer_at(&mut self.clients, client, channel, beat, &mut bytes) {
             Err(_) => *outcome = refused(),
             Ok(answer) => {
                 if stays(answer, &bytes) {
@@ -246,6 +218,11 @@ impl<const W: usize, A: Agent<W>, D: Directory> Network<W, A, D> {
             *outcome = Outcome::Empty;
             return;
         };
+        if self.manager.goes_on(link, channel, beat) {
+            *outcome = Outcome::Moved { beat: *beat };
+            self.rings.drop_first(link, channel);
+            return;
+        }
         let mut outbox = Outbox::Nothing;
         match self.manager.answer_into(link, channel, beat, &mut outbox) {
             Err(_) => *outcome = refused(),
@@ -271,30 +248,9 @@ impl<const W: usize, A: Agent<W>, D: Directory> Network<W, A, D> {
             return;
         }
         if is_to_client(channel) {
-            if !self.goes_on_to_client(link, channel, outcome) {
-                self.to_client(link, channel, outcome)
-            }
-        } else if !self.goes_on_to_manager(link, channel, outcome) {
+            self.to_client(link, channel, outcome)
+        } else {
             self.to_manager(link, channel, outcome)
-        }
-    }
-
-    /// Something happens.
-    pub fn step(&mut self, event: Event<W>, outcome: &mut Outcome<W>)
-        requires width { IsWidth W }
-        ensures { (config : Config) (s : System W) → Holds A.represents A.terms D.perm_of config self.old s →
-            HasRoom config (stepped config event.entry s).after →
-            IsStepped A.represents A.terms D.perm_of config self.old self.new event.entry outcome.new s }
-    {
-        match event {
-            Event::Ask { client, operation } => {
-                if usize::from(client) >= self.clients.len() {
-                    *outcome = Outcome::NoSuchClient;
-                    return;
-                }
-                self.ask(client, &operation, outcome)
-            }
-            Event::Deliver { link, channel } => self.deliver(link, channel, outcome),
         }
     }
 }

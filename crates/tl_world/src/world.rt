@@ -108,10 +108,17 @@ impl<const W: usize, A: Agent<W>, D: Directory> World<W, A, D> {
             IsReached A.represents A.terms D.perm_of config self.old log →
             result ≡ (stepped config event.entry (system_after config log)).outcome }
     {
-        prove_typed(&event);
         let mut outcome = Outcome::Empty;
-        self.state.network.step(event, &mut outcome);
-        self.state.outstanding.count(&event, &outcome);
+        match &event {
+            Event::Ask { client, operation } => {
+                prove_typed(&event);
+                self.state
+                    .network
+                    .ask_if_there(*client, operation, &mut outcome);
+                self.state.outstanding.count(&event, &outcome);
+            }
+            Event::Deliver { link, channel } => self.deliver(*link, *channel, &mut outcome),
+        }
         outcome
     }
 

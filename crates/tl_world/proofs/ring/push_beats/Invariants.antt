@@ -9,5 +9,6 @@ invariant-loop-i g l = record {
   capacity : l.beats.capacity ≡ l.fn.beats.capacity;
   items : length l.fn.beats.items + Burst.beats_of l.message ≤ l.fn.beats.capacity
       → l.beats.items ≡ l.fn.beats.items ++ beats_from l.message 0 l.i;
+  first : l.i ≡ 0 → l.beat ≡ Burst.beat_of l.message l.i;
   same : IsTrue (same_control l.beat (Burst.beat_of l.message 0));
 }

@@ -1,5 +1,6 @@
 use Rattle.std.proofs.Common.{refl, rules}
 use Rattle.tl_client.specs.statement.Answer.{message_of, told_by, verdict_of}
+use Rattle.tl_world.proofs.Moving.{client-moved}
 use Rattle.tl_world.proofs.Stepping.{first-brought, steps-empty, steps-refused, steps-stayed, steps-taken}
 use Rattle.tl_world.proofs.network.Network.to_client.Goals as goal
 
@@ -14,7 +15,7 @@ returns-then-stays g c = λ config s h up room.
     c.args.channel c.in-Some.beat.now _ (told_by c.answer_at.result c.answer_at.new.bytes) h c.requires.inside
     (first-brought g.A.Agent.represents g.A.Agent.terms g.D.Directory.perm_of config c.args.self.now s c.args.link
     c.args.channel c.in-Some.beat.now h
-    c.requires.inside c.in-Some.ensures.there) up (rw c.from.ensures at c.answer_at.ensures) refl
+    c.requires.inside c.in-Some.ensures.there) up (rw (c.from-client.ensures, c.if-goes_on_at.ensures.unchanged) at c.answer_at.ensures) refl
     (verdict_of c.in-Ok.answer c.answer_at.new.bytes)
     (message_of c.in-Ok.answer c.answer_at.new.bytes) (search rules) (search rules) refl
 
@@ -24,7 +25,7 @@ returns-in-Err g c = λ config s h up room. rw c.refused.ensures (
     c.args.channel c.in-Some.beat.now _ (told_by c.answer_at.result c.answer_at.new.bytes) h c.requires.inside
     (first-brought g.A.Agent.represents g.A.Agent.terms g.D.Directory.perm_of config c.args.self.now s c.args.link
     c.args.channel c.in-Some.beat.now h
-    c.requires.inside c.in-Some.ensures.there) up (rw c.from.ensures at c.answer_at.ensures) refl
+    c.requires.inside c.in-Some.ensures.there) up (rw (c.from-client.ensures, c.if-goes_on_at.ensures.unchanged) at c.answer_at.ensures) refl
     c.in-Err.field-0 (search rules) refl)
 
 pub returns-else-stays : goal.returns-else-stays
@@ -34,8 +35,16 @@ returns-else-stays g c = λ config s h up room.
     c.args.channel c.in-Some.beat.now _ (told_by c.answer_at.result c.answer_at.new.bytes) h c.requires.inside
     (first-brought g.A.Agent.represents g.A.Agent.terms g.D.Directory.perm_of config c.args.self.now s c.args.link
     c.args.channel c.in-Some.beat.now h
-    c.requires.inside c.in-Some.ensures.there) up (rw c.from.ensures at c.answer_at.ensures) refl
-    c.drop_first.new.self (verdict_of c.in-Ok.answer c.answer_at.new.bytes)
+    c.requires.inside c.in-Some.ensures.there) up (rw (c.from-client.ensures, c.if-goes_on_at.ensures.unchanged) at c.answer_at.ensures) refl
+    c.drop_first-in-Ok.new.self (verdict_of c.in-Ok.answer c.answer_at.new.bytes)
     (message_of c.in-Ok.answer c.answer_at.new.bytes) (search rules)
-    (search rules) c.drop_first.ensures.kept c.send_answer.ensures.kept c.drop_first.ensures.moved
+    (search rules) c.drop_first-in-Ok.ensures.kept c.send_answer.ensures.kept c.drop_first-in-Ok.ensures.moved
     c.send_answer.ensures.moved room)
+
+pub returns-then-goes_on_at : goal.returns-then-goes_on_at
+returns-then-goes_on_at g c = λ config s h up room.
+    client-moved g.A.Agent.represents g.A.Agent.terms g.D.Directory.perm_of config c.args.self.now _ s c.args.link
+    c.args.channel c.in-Some.beat.now _ h c.requires.inside
+    (first-brought g.A.Agent.represents g.A.Agent.terms g.D.Directory.perm_of config c.args.self.now s c.args.link
+    c.args.channel c.in-Some.beat.now h c.requires.inside c.in-Some.ensures.there) c.drop_first.ensures.kept
+    c.drop_first.ensures.moved room up (rw c.from-client.ensures at c.if-goes_on_at.ensures.taken) refl

@@ -1,27 +1,33 @@
 use Rattle.std.proofs.Common.{◌∷◌}
+use Rattle.tl_coherence.specs.declared.event.Event.TheVariants.{Ask}
 use Rattle.tl_world.specs.statement.World.{IsWorld}
 use Rattle.tl_world.proofs.Happened.{reached-step}
 use Rattle.tl_world.proofs.world.World.step.Goals as goal
 
-pub returns-clause-reached : goal.returns-clause-reached
-returns-clause-reached g c = λ config log r.
+pub returns-in-Ask-clause-reached : goal.returns-in-Ask-clause-reached
+returns-in-Ask-clause-reached g c = λ config log r. rw c.in-Ask.is
     (reached-step g.A.Agent.represents g.A.Agent.terms g.D.Directory.perm_of config c.self.inside.state _ log
-    c.args.event c.step.new.outcome
-    (rw (← c.self.view_is) at r) c.prove_typed.ensures (c.step.ensures config) c.count.ensures.requests
-    c.count.ensures.releases).0
+    (Ask c.in-Ask.client.now c.in-Ask.operation.now) c.ask_if_there.new.outcome (rw (← c.self.view_is) at r)
+    c.prove_typed.ensures (c.ask_if_there.ensures config) c.count.ensures.requests c.count.ensures.releases).0
 
-pub returns-clause-outcome : goal.returns-clause-outcome
-returns-clause-outcome g c = λ config log r.
+pub returns-in-Ask-clause-outcome : goal.returns-in-Ask-clause-outcome
+returns-in-Ask-clause-outcome g c = λ config log r. rw c.in-Ask.is
     (reached-step g.A.Agent.represents g.A.Agent.terms g.D.Directory.perm_of config c.self.inside.state _ log
-    c.args.event c.step.new.outcome
-    (rw (← c.self.view_is) at r) c.prove_typed.ensures (c.step.ensures config) c.count.ensures.requests
-    c.count.ensures.releases).1
+    (Ask c.in-Ask.client.now c.in-Ask.operation.now) c.ask_if_there.new.outcome (rw (← c.self.view_is) at r)
+    c.prove_typed.ensures (c.ask_if_there.ensures config) c.count.ensures.requests c.count.ensures.releases).1
+
+pub returns-in-Deliver-clause-reached : goal.returns-in-Deliver-clause-reached
+returns-in-Deliver-clause-reached g c = λ config log r. rw c.in-Deliver.is (c.deliver.ensures.reached config log r)
+
+pub returns-in-Deliver-clause-outcome : goal.returns-in-Deliver-clause-outcome
+returns-in-Deliver-clause-outcome g c = λ config log r. rw c.in-Deliver.is (c.deliver.ensures.outcome config log r)
 
 pub invariant_of-self : goal.invariant_of-self
 unfolding IsWorld
 invariant_of-self g c =
     let (config, log, reached) = c.self.invariant.1 in
+    let event = Ask c.in-Ask.client.now c.in-Ask.operation.now in
     let is = reached-step g.A.Agent.represents g.A.Agent.terms g.D.Directory.perm_of config c.self.inside.state _ log
-    c.args.event c.step.new.outcome
-    reached c.prove_typed.ensures (c.step.ensures config) c.count.ensures.requests c.count.ensures.releases in
-    (c.self.invariant.0, (config, (c.args.event, c.step.new.outcome) ∷ log, is.0))
+    event c.ask_if_there.new.outcome reached c.prove_typed.ensures (c.ask_if_there.ensures config)
+    c.count.ensures.requests c.count.ensures.releases in
+    (c.self.invariant.0, (config, (event, c.ask_if_there.new.outcome) ∷ log, is.0))

@@ -1,6 +1,0 @@
-use Rattle.std.proofs.Common.{sym}
-use Rattle.tl_burst.proofs.ControlFields.{c_beat_here}
-use Rattle.tl_world.proofs.ring.change_c.Goals as goal
-
-pub returns : goal.returns
-returns g c = sym (c_beat_here c.args.m.now c.args.i _ c.requires.same c.copy_lanes.ensures.here (sym c.bit_of-x.ensures))

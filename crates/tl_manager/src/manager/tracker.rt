@@ -240,7 +240,11 @@ impl<const W: usize> Trackers<W> {
             tracker_at self.new n ≡ (if number == n then tracker.entry else tracker_at self.old n) }
         ensures count { self.new.count ≡ self.old.count }
     {
-        self.used = self.used_with(number, tracker.is_free());
+        let free = tracker.is_free();
+        if free && number >= self.used {
+            return;
+        }
+        self.used = self.used_with(number, free);
         self.all[usize::from(number)] = tracker;
     }
 }

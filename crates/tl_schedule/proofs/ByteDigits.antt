@@ -1,10 +1,11 @@
 -- The digits of bytes, the last byte first.
 use Rattle.std.proofs.Common.{◌≡◌, ◌<◌, ◌≤◌, ℕ, suc, ◌+◌, ◌-◌, ◌^◌, List, [], ◌∷◌, ◌++◌, length, get_or, take, drop}
-use Rattle.std.proofs.Common.{refl, sym, arith, append_assoc, lit<}
+use Rattle.std.proofs.Common.{refl, sym, ap, ◌∙◌, arith, append_assoc, lit<}
 use Rattle.std.proofs.Math.Nat.{pow-le-pow_right}
 use Rattle.std.proofs.Math.Seq.{drop-cons}
-use Rattle.std.proofs.lemmas.List.{append-nil, drop_all, take_all}
+use Rattle.std.proofs.lemmas.List.{append-nil, drop-drop, drop_all, take-append-drop, take_all}
 use Rattle.tl_beat.specs.statement.Digits.{digits, lane_digits}
+use Rattle.tl_beat.proofs.LaneDigits.{halves-digits}
 
 no_digits : lane_digits [] ≡ []
 unfolding lane_digits
@@ -14,11 +15,9 @@ one_more_byte : (x : ℕ) (xs : List ℕ) → lane_digits (x ∷ xs) ≡ lane_di
 unfolding lane_digits
 one_more_byte x xs = refl
 
--- before the first byte
-pub append-none : (bytes old : List ℕ) → old ≡ old ++ lane_digits (drop (length bytes - 0) bytes)
-append-none bytes old =
-    let past : drop (length bytes - 0) bytes ≡ [] = drop_all (length bytes - 0) bytes (omega arith) in
-    rw (past, no_digits, append-nil) refl
+-- behind the last byte
+pub nothing_behind : (n : ℕ) (bytes old : List ℕ) → length bytes ≤ n → old ≡ old ++ lane_digits (drop n bytes)
+nothing_behind n bytes old le = rw (drop_all n bytes le, no_digits, append-nil) refl
 
 pub append-step : (i : ℕ) (bytes old out pair : List ℕ) → i < length bytes
     → pair ≡ digits 2 (get_or bytes (length bytes - 1 - i) 0)
@@ -32,6 +31,15 @@ append-step i bytes old out pair lt two so_far =
     rw (so_far, two, at, after, cut, one_more_byte)
     (append_assoc old (lane_digits (drop (suc (length bytes - 1 - i)) bytes))
     (digits 2 (get_or bytes (length bytes - 1 - i) 0)))
+
+-- the digits of the eight bytes before those that are written
+pub eight_more : (at : ℕ) (bytes old out eight : List ℕ) → eight ≡ lane_digits (take 8 (drop at bytes))
+    → out ≡ old ++ lane_digits (drop (at + 8) bytes) → out ++ eight ≡ old ++ lane_digits (drop at bytes)
+eight_more at bytes old out eight is so_far =
+    let cut : drop at bytes ≡ take 8 (drop at bytes) ++ drop (at + 8) bytes = sym (take-append-drop 8 (drop at bytes))
+    ∙ ap (λ (xs : List ℕ). take 8 (drop at bytes) ++ xs) (drop-drop 8 at bytes) in
+    halves-digits old out (out ++ eight) (drop at bytes) (take 8 (drop at bytes)) (drop (at + 8) bytes) so_far
+    (ap (λ (xs : List ℕ). out ++ xs) is) cut
 
 -- the two digits, one after the other
 pub both-pushed : (x : ℕ) (text pair : List ℕ) → pair ≡ digits 2 x

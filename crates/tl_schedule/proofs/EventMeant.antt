@@ -2,7 +2,8 @@
 use Rattle.std.proofs.Common.{◌≡◌, ℕ, ◌≤◌, Bool, true, false, List, refl, ap}
 use Rattle.std.proofs.Math.Bridge.{le_prop}
 use Rattle.std.proofs.lemmas.Bool.{leb-true, le-leb}
-use Rattle.std.specs.Prelude.{nat_le, Option, Some, None, option_map}
+use Rattle.std.specs.Prelude.{nat_le, Option, Some, None, option_map, replicate}
+use Rattle.tl_beat.specs.declared.opcode.OpA.TheVariants as a
 use Rattle.tl_burst.specs.declared.message.Message.TheVariants as message
 use Rattle.tl_burst.specs.declared.message.MessageA.{MessageA}
 use Rattle.tl_client.specs.declared.operation.Op.TheVariants as op
@@ -10,7 +11,7 @@ use Rattle.tl_coherence.specs.declared.event.Event.TheVariants as event
 use Rattle.tl_schedule.specs.declared.access.Request.{Request}
 use Rattle.tl_schedule.specs.declared.name.Word.{Word}
 use Rattle.tl_schedule.specs.statement.EventLine.{Asked, Said, Load, Store, Acquire, Whole, Release, Access, Deliver}
-use Rattle.tl_schedule.specs.statement.EventLine.{Fits, event_of}
+use Rattle.tl_schedule.specs.statement.EventLine.{Fits, Get, event_of, lanes_of}
 use Rattle.tl_schedule.specs.code.EventReading.{access_at, asked_at, meant, meant_by, request_of, size_if, small_size}
 use Rattle.tl_schedule.specs.code.FieldReading.{front, number_in, size_in}
 
@@ -64,3 +65,13 @@ access_meant {w} k client size address fields others rest r small e f h = go (as
     go (Some x) is g =
         let same : r ≡ request_of w size address x = cc in
         rw (e, f, is, same, small_size-is size small) refl
+
+-- the message of a Get is the one that is meant
+pub get_meant : {w : ℕ} (client size address mask : ℕ) (small : size ≤ 6) → mask ≡ lanes_of w size address 1
+    → Some (event.Ask client (op.Access (message.A (made {w = w} size address (record {
+      opcode = a.Get;
+      param = 0;
+      payload = replicate 64 0;
+      mask = mask;
+    }) small)))) ≡ meant (Access client size address Get)
+get_meant client size address mask small e = rw (e, small_size-is size small) refl

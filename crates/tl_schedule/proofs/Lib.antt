@@ -9,4 +9,5 @@ pub mod EventTaken
 pub mod EventAgain
 pub mod WholeLines
 pub mod Commons
+pub mod Gets
 pub mod ByteDigits

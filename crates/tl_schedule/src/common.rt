@@ -4,9 +4,8 @@
 ghost use Rattle.std.specs.Prelude.{◌≡◌, ◌∷◌, ◌++◌, [], IfSome, codes};
 ghost use Rattle.tl_schedule.specs.statement.CommonLine.{SpellsCommon};
 ghost use Rattle.tl_schedule.specs.code.CommonReading.{HasFields, SpellsBody};
-ghost use Rattle.tl_schedule.specs.code.FieldReading.{size_in};
 
-use crate::field::number;
+use crate::field::{number, size_of};
 use crate::name::channel;
 use tl_beat::beat::Link;
 use tl_beat::channel::Channel;
@@ -31,24 +30,12 @@ pub enum Common {
     },
 }
 
-/// The size of a Load or a Store.
-#[inline(always)]
-fn size_of(digit: u8) -> Option<u8>
-    ensures { result ≡ size_in 3 (digit ∷ []) }
-{
-    let size = number(&[digit], 1)? as u8;
-    if size > 3 {
-        return None;
-    }
-    Some(size)
-}
-
 #[inline(always)]
 fn load(client: &[u8], size: u8, address: &[u8]) -> Option<Common>
     ensures { IfSome result (HasFields (client.now ∷ codes "load" ∷ (size ∷ []) ∷ address.now ∷ [])) }
 {
     let client = number(client, 2)? as u8;
-    let size = size_of(size)?;
+    let size = size_of(&[size], 3)?;
     let address = number(address, 8)? as u32;
     Some(Common::Load {
         client,

@@ -39,6 +39,19 @@ pub fn number(field: &[u8], count: u8) -> Option<u64>
     Some(number)
 }
 
+/// The size up to a limit that a field of one digit spells.
+#[inline(always)]
+pub fn size_of(field: &[u8], limit: u8) -> Option<u8>
+    ensures value { result ≡ size_in limit field.now }
+    ensures within { IfSome result (λ size. size ≤ limit) }
+{
+    let size = number(field, 1)? as u8;
+    if size > limit {
+        return None;
+    }
+    Some(size)
+}
+
 /// The byte of the two digits at the front, and what follows them.
 fn pair(bytes: &[u8]) -> Option<(u8, &[u8])>
     ensures { GivesRest result (pair_at bytes.now) }
@@ -122,11 +135,8 @@ pub fn size_field(bytes: &[u8], limit: u8) -> Option<(u8, &[u8])>
     ensures gives { Gives result (front (size_in limit) (fields_behind bytes.now)) }
     ensures within { IfSome result (λ x. x.0 ≤ limit) }
 {
-    let (size, rest) = number_field(bytes, 1)?;
-    let size = size as u8;
-    if size > limit {
-        return None;
-    }
+    let (field, rest) = next(bytes)?;
+    let size = size_of(field, limit)?;
     Some((size, rest))
 }
 

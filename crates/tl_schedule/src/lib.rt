@@ -5,6 +5,7 @@
 pub mod access;
 pub mod common;
 mod field;
+mod get;
 pub mod header;
 pub mod line;
 pub mod name;

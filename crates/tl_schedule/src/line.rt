@@ -13,6 +13,7 @@ use crate::access::asked_request;
 use crate::field::{
     address_field, block_field, cut, is_end, last_bytes, number, number_field, size_field,
 };
+use crate::get::get_event;
 use crate::name::{Word, channel_field, grow_field, prune_field, word_field};
 use tl_beat::beat::Link;
 use tl_burst::message::{Message, MessageA};
@@ -173,14 +174,25 @@ fn client(body: &[u8]) -> Option<(u8, &[u8])>
     Some((client as u8, rest))
 }
 
-/// A line without its line feed that says an event.
-fn ask<const W: usize>(body: &[u8]) -> Option<Event<W>>
+/// A line without its line feed that says an event, read from left to right.
+fn any_ask<const W: usize>(body: &[u8]) -> Option<Event<W>>
     requires { IsWidth W }
     ensures { result ≡ meant_by (ask_at W (pieces body.now)) }
 {
     let (client, rest) = client(body)?;
     let (word, rest) = word_field(rest)?;
     said(word, client, rest)
+}
+
+/// A line without its line feed that says an event.
+fn ask<const W: usize>(body: &[u8]) -> Option<Event<W>>
+    requires { IsWidth W }
+    ensures { result ≡ meant_by (ask_at W (pieces body.now)) }
+{
+    match get_event(body) {
+        Some(get) => Some(get),
+        None => any_ask(body),
+    }
 }
 
 /// A line without its line feed.

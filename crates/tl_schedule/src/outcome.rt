@@ -1,10 +1,11 @@
 //! Writes the lines of outcomes.
 
-ghost use Rattle.std.specs.Prelude.{◌≡◌, ◌<◌, ◌≤◌, ◌^◌, ◌++◌, ◌∷◌, [], length, take, OnOk};
+ghost use Rattle.std.specs.Prelude.{◌≡◌, ◌<◌, ◌≤◌, ◌%◌, ◌^◌, ◌++◌, ◌∷◌, [], length, take, OnOk};
 ghost use Rattle.std.specs.Int.{to_le_bytes, w64};
 ghost use Rattle.tl_beat.specs.statement.Digits.{digit_char, digits, lane_digits};
 ghost use Rattle.tl_beat.specs.statement.Line.{IsWritable, fields_of, spaced};
 ghost use Rattle.tl_beat.specs.statement.Width.{IsWidth};
+ghost use Rattle.tl_client.specs.declared.reply.Reply.TheVariants.{Value};
 ghost use Rattle.tl_schedule.specs.statement.OutcomeLine.{HasLine, answer_line, asked_size, busy_name, data_text, done_text};
 ghost use Rattle.tl_schedule.specs.statement.OutcomeLine.{drained_line, finish_text, link_of, outcome_line};
 ghost use Rattle.tl_schedule.specs.statement.OutcomeLine.{outcome_text, perm_name, reply_text, trace_text};
@@ -38,8 +39,8 @@ fn pair(byte: u8) -> [u8; 2]
     [digit(byte / 16), digit(byte % 16)]
 }
 
-/// Appends the digits of a block's bytes at most, the last byte first.
-fn append_bytes(bytes: &[u8], out: &mut Vec<u8>) -> Result<(), AllocError>
+/// Appends the digits of a block's bytes at most, one byte at a time, the last byte first.
+fn append_each(bytes: &[u8], out: &mut Vec<u8>) -> Result<(), AllocError>
     requires { length bytes.now ≤ 64 }
     ensures { OnOk result (out.new.items ≡ out.old.items ++ lane_digits bytes.now) }
 {
@@ -51,6 +52,31 @@ fn append_bytes(bytes: &[u8], out: &mut Vec<u8>) -> Result<(), AllocError>
         text.push(low);
     }
     out.extend_from_slice(&text)
+}
+
+/// Appends the digits of bytes, eight at a time, the last byte first.
+fn append_eights(bytes: &[u8], out: &mut Vec<u8>) -> Result<(), AllocError>
+    requires { length bytes.now % 8 ≡ 0 }
+    ensures { OnOk result (out.new.items ≡ out.old.items ++ lane_digits bytes.now) }
+{
+    let count = bytes.len() / 8;
+    for i in 0..count {
+        let at = 8 * (count - 1 - i);
+        out.extend_from_slice(&sixteen_digits(&bytes[at..at + 8]))?;
+    }
+    Ok(())
+}
+
+/// Appends the digits of a block's bytes at most, the last byte first.
+fn append_bytes(bytes: &[u8], out: &mut Vec<u8>) -> Result<(), AllocError>
+    requires { length bytes.now ≤ 64 }
+    ensures { OnOk result (out.new.items ≡ out.old.items ++ lane_digits bytes.now) }
+{
+    if bytes.len() % 8 == 0 {
+        append_eights(bytes, out)
+    } else {
+        append_each(bytes, out)
+    }
 }
 
 /// How many of these bytes are shown, where `2^size` are.
@@ -76,16 +102,28 @@ fn append_data(size: u8, bytes: &[u8], out: &mut Vec<u8>) -> Result<(), AllocErr
     append_bytes(shown(size, bytes), out)
 }
 
-/// Appends the digits of the low `2^size` bytes of a number, eight at most.
-fn append_value(size: u8, value: u64, out: &mut Vec<u8>) -> Result<(), AllocError>
-    ensures { OnOk result (out.new.items ≡ out.old.items ++ data_text size (to_le_bytes w64 value)) }
+/// Appends the line of a number of eight bytes that was read.
+fn append_whole_value(value: u64, out: &mut Vec<u8>) -> Result<(), AllocError>
+    ensures { OnOk result (out.new.items ≡ out.old.items ++ reply_text 3 (Value value) ++ 10 ∷ []) }
 {
-    let bytes = value.to_le_bytes();
+    let mut text = ArrayVec::<u8, 32>::new();
+    let _ = text.try_extend_from_slice(b"value ");
+    let _ = text.try_extend_from_slice(&sixteen_digits(&value.to_le_bytes()));
+    text.push(b'\n');
+    out.extend_from_slice(&text)
+}
+
+/// Appends the line of a number of which the low `2^size` bytes were read, eight at most.
+fn append_value(size: u8, value: u64, out: &mut Vec<u8>) -> Result<(), AllocError>
+    ensures { OnOk result (out.new.items ≡ out.old.items ++ reply_text size (Value value) ++ 10 ∷ []) }
+{
     if size == 3 {
-        out.extend_from_slice(&sixteen_digits(&bytes))
-    } else {
-        append_data(size, &bytes, out)
+        return append_whole_value(value, out);
     }
+    out.extend_from_slice(b"value ")?;
+    append_data(size, &value.to_le_bytes(), out)?;
+    out.push(b'\n')?;
+    Ok(())
 }
 
 fn busy_name(busy: Busy) -> &'static str
@@ -100,24 +138,25 @@ fn busy_name(busy: Busy) -> &'static str
     }
 }
 
-/// Appends the answer to an operation.
+/// Appends the line of an answer to an operation.
 fn append_reply(size: u8, reply: Reply, out: &mut Vec<u8>) -> Result<(), AllocError>
-    ensures { OnOk result (out.new.items ≡ out.old.items ++ reply_text size reply) }
+    ensures { OnOk result (out.new.items ≡ out.old.items ++ reply_text size reply ++ 10 ∷ []) }
 {
     match reply {
-        Reply::Value(value) => {
-            out.extend_from_slice(b"value ")?;
-            append_value(size, value, out)
-        }
-        Reply::Stored => out.extend_from_slice(b"stored"),
-        Reply::Miss => out.extend_from_slice(b"miss"),
+        Reply::Value(value) => append_value(size, value, out),
+        Reply::Stored => out.extend_from_slice(b"stored\n"),
+        Reply::Miss => out.extend_from_slice(b"miss\n"),
         Reply::Started(source) => {
-            out.extend_from_slice(b"started ")?;
-            out.extend_from_slice(&pair(source))
+            let [high, low] = pair(source);
+            out.extend_from_slice(&[
+                b's', b't', b'a', b'r', b't', b'e', b'd', b' ', high, low, b'\n',
+            ])
         }
         Reply::Busy(busy) => {
             out.extend_from_slice(b"busy ")?;
-            out.extend_from_slice(busy_name(busy).as_bytes())
+            out.extend_from_slice(busy_name(busy).as_bytes())?;
+            out.push(b'\n')?;
+            Ok(())
         }
     }
 }
@@ -152,12 +191,11 @@ fn append_finish(finish: &Finish, out: &mut Vec<u8>) -> Result<(), AllocError>
 }
 
 /// Appends what stands behind a beat that ends an operation.
-fn append_done(source: u8, finish: &Finish, out: &mut Vec<u8>) -> Result<(), AllocError>
+fn append_end(source: u8, finish: &Finish, out: &mut Vec<u8>) -> Result<(), AllocError>
     ensures { OnOk result (out.new.items ≡ out.old.items ++ done_text source finish.now) }
 {
-    out.extend_from_slice(b" done ")?;
-    out.extend_from_slice(&pair(source))?;
-    out.push(b' ')?;
+    let [high, low] = pair(source);
+    out.extend_from_slice(&[b' ', b'd', b'o', b'n', b'e', b' ', high, low, b' '])?;
     append_finish(finish, out)
 }
 
@@ -173,6 +211,25 @@ fn append_beat<const W: usize>(
 {
     write_line(link, beat, out)?;
     out.pop();
+    Ok(())
+}
+
+/// Appends the line of a beat that ends an operation.
+fn append_done<const W: usize>(
+    link: Link,
+    beat: &Beat<W>,
+    source: u8,
+    finish: &Finish,
+    out: &mut Vec<u8>,
+) -> Result<(), AllocError>
+    requires width { IsWidth W }
+    requires writable { IsWritable beat.now }
+    ensures { OnOk result (out.new.items ≡ out.old.items
+        ++ (spaced (fields_of link beat.now) ++ done_text source finish.now) ++ 10 ∷ []) }
+{
+    append_beat(link, beat, out)?;
+    append_end(source, finish, out)?;
+    out.push(b'\n')?;
     Ok(())
 }
 
@@ -199,33 +256,6 @@ fn link_of<const W: usize>(event: &Event<W>) -> Link
     }
 }
 
-/// Appends the text of what comes of an event.
-fn append_text<const W: usize>(
-    event: &Event<W>,
-    outcome: &Outcome<W>,
-    out: &mut Vec<u8>,
-) -> Result<(), AllocError>
-    requires width { IsWidth W }
-    requires writable { HasLine outcome.now }
-    ensures { OnOk result (out.new.items ≡ out.old.items ++ outcome_text event.now outcome.now) }
-{
-    match outcome {
-        Outcome::Replied { reply } => append_reply(asked_size(event), *reply, out),
-        Outcome::Empty => out.extend_from_slice(b"empty"),
-        Outcome::Stalled => out.extend_from_slice(b"stalled"),
-        Outcome::Moved { beat } => append_beat(link_of(event), beat, out),
-        Outcome::Done {
-            beat,
-            source,
-            finish,
-        } => {
-            append_beat(link_of(event), beat, out)?;
-            append_done(*source, finish, out)
-        }
-        Outcome::NoSuchClient => out.extend_from_slice(b"no client"),
-    }
-}
-
 /// Appends the line of what comes of an event. A beat that was taken must have room in its line.
 pub fn append_outcome<const W: usize>(
     event: &Event<W>,
@@ -236,9 +266,18 @@ pub fn append_outcome<const W: usize>(
     requires writable { HasLine outcome.now }
     ensures { OnOk result (out.new.items ≡ out.old.items ++ outcome_line event.now outcome.now) }
 {
-    append_text(event, outcome, out)?;
-    out.push(b'\n')?;
-    Ok(())
+    match outcome {
+        Outcome::Replied { reply } => append_reply(asked_size(event), *reply, out),
+        Outcome::Empty => out.extend_from_slice(b"empty\n"),
+        Outcome::Stalled => out.extend_from_slice(b"stalled\n"),
+        Outcome::Moved { beat } => write_line(link_of(event), beat, out),
+        Outcome::Done {
+            beat,
+            source,
+            finish,
+        } => append_done(link_of(event), beat, *source, finish, out),
+        Outcome::NoSuchClient => out.extend_from_slice(b"no client\n"),
+    }
 }
 
 /// Appends the line of what a client answers to a Load of this size, or with size 0 to a Store.
@@ -247,11 +286,7 @@ pub fn append_answer(size: u8, answer: Option<Reply>, out: &mut Vec<u8>) -> Resu
 {
     match answer {
         None => out.extend_from_slice(b"no client\n"),
-        Some(reply) => {
-            append_reply(size, reply, out)?;
-            out.push(b'\n')?;
-            Ok(())
-        }
+        Some(reply) => append_reply(size, reply, out),
     }
 }
 

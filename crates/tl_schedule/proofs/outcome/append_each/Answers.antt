@@ -1,11 +1,11 @@
 use Rattle.std.proofs.Common.{◌≡◌, ◌++◌, [], refl, rules, arith}
-use Rattle.tl_schedule.proofs.ByteDigits.{append-none, append-step, both-pushed}
-use Rattle.tl_schedule.proofs.outcome.append_bytes.Goals as goal
+use Rattle.tl_schedule.proofs.ByteDigits.{append-step, both-pushed, nothing_behind}
+use Rattle.tl_schedule.proofs.outcome.append_each.Goals as goal
 
 pub loop-i-init : goal.loop-i-init
 loop-i-init c =
     let empty : c.new-text.result.items ≡ [] = search rules in
-    record { text = rw empty (append-none c.args.bytes.now []); len = rw empty refl }
+    record { text = rw empty (nothing_behind _ c.args.bytes.now [] (omega arith)); len = rw empty refl }
 
 pub loop-i-preserved : goal.loop-i-preserved
 loop-i-preserved c =

@@ -1,6 +1,6 @@
 use Rattle.std.proofs.Common.{◌≡◌, ◌-◌, ◌*◌, drop, length}
 use Rattle.tl_beat.specs.statement.Digits.{lane_digits}
-use Rattle.tl_schedule.proofs.outcome.append_bytes.Given as goal
+use Rattle.tl_schedule.proofs.outcome.append_each.Given as goal
 
 abbrev pub invariant-loop-i : goal.invariant-loop-i
 invariant-loop-i l = record {

@@ -1,20 +1,19 @@
 use Rattle.std.proofs.Common.{◌∷◌}
-use Rattle.tl_coherence.specs.declared.event.Event.TheVariants.{Ask}
 use Rattle.tl_world.specs.statement.World.{IsWorld}
 use Rattle.tl_world.proofs.Happened.{reached-step}
 use Rattle.tl_world.proofs.world.World.step.Goals as goal
 
 pub returns-in-Ask-clause-reached : goal.returns-in-Ask-clause-reached
-returns-in-Ask-clause-reached g c = λ config log r. rw c.in-Ask.is
+returns-in-Ask-clause-reached g c = λ config log r.
     (reached-step g.A.Agent.represents g.A.Agent.terms g.D.Directory.perm_of config c.self.inside.state _ log
-    (Ask c.in-Ask.client.now c.in-Ask.operation.now) c.ask_if_there.new.outcome (rw (← c.self.view_is) at r)
-    c.prove_typed.ensures (c.ask_if_there.ensures config) c.count.ensures.requests c.count.ensures.releases).0
+    c.args.event c.ask_if_there.new.outcome (rw (← c.self.view_is) at r) c.prove_typed.ensures
+    (rw (← c.in-Ask.is) at (c.ask_if_there.ensures config)) c.count.ensures.requests c.count.ensures.releases).0
 
 pub returns-in-Ask-clause-outcome : goal.returns-in-Ask-clause-outcome
-returns-in-Ask-clause-outcome g c = λ config log r. rw c.in-Ask.is
+returns-in-Ask-clause-outcome g c = λ config log r.
     (reached-step g.A.Agent.represents g.A.Agent.terms g.D.Directory.perm_of config c.self.inside.state _ log
-    (Ask c.in-Ask.client.now c.in-Ask.operation.now) c.ask_if_there.new.outcome (rw (← c.self.view_is) at r)
-    c.prove_typed.ensures (c.ask_if_there.ensures config) c.count.ensures.requests c.count.ensures.releases).1
+    c.args.event c.ask_if_there.new.outcome (rw (← c.self.view_is) at r) c.prove_typed.ensures
+    (rw (← c.in-Ask.is) at (c.ask_if_there.ensures config)) c.count.ensures.requests c.count.ensures.releases).1
 
 pub returns-in-Deliver-clause-reached : goal.returns-in-Deliver-clause-reached
 returns-in-Deliver-clause-reached g c = λ config log r. rw c.in-Deliver.is (c.deliver.ensures.reached config log r)
@@ -26,8 +25,7 @@ pub invariant_of-self : goal.invariant_of-self
 unfolding IsWorld
 invariant_of-self g c =
     let (config, log, reached) = c.self.invariant.1 in
-    let event = Ask c.in-Ask.client.now c.in-Ask.operation.now in
     let is = reached-step g.A.Agent.represents g.A.Agent.terms g.D.Directory.perm_of config c.self.inside.state _ log
-    event c.ask_if_there.new.outcome reached c.prove_typed.ensures (c.ask_if_there.ensures config)
-    c.count.ensures.requests c.count.ensures.releases in
-    (c.self.invariant.0, (config, (event, c.ask_if_there.new.outcome) ∷ log, is.0))
+    c.args.event c.ask_if_there.new.outcome reached c.prove_typed.ensures
+    (rw (← c.in-Ask.is) at (c.ask_if_there.ensures config)) c.count.ensures.requests c.count.ensures.releases in
+    (c.self.invariant.0, (config, (c.args.event, c.ask_if_there.new.outcome) ∷ log, is.0))

@@ -41,8 +41,8 @@ pub trait Agent<const W: usize>: Drop {
             represents self.new (asked (terms self.old) operation.entry e).after }
         ensures terms { terms self.new ≡ terms self.old };
 
-    /// Answers an operation as `ask` does, with the message that is handed out, which is where it answers `Started`,
-    /// written where it is to stand.
+    /// Answers an operation as `ask` does, with the message written where it is to stand. One is handed out exactly
+    /// with the answer `Started`; with any other, what stands there is left.
     fn ask_into(&mut self, operation: &Op<W>, message: &mut Message<W>) -> Reply
         ensures reply { (e : Endpoint W) → represents self.old e →
             result ≡ (asked (terms self.old) operation.now e).reply }

@@ -56,8 +56,6 @@ impl<const W: usize> AnyClient<W> {
 
 impl<const W: usize> Agent<W> for AnyClient<W> {
     ghost use Rattle.tl_client.specs.code.KnowsAny.{KnowsAny, any_terms};
-    ghost use Rattle.std.specs.Prelude.{None};
-    ghost use Rattle.tl_client.specs.statement.Answer.{handed};
     ghost use Rattle.tl_client.specs.statement.Ask.{asked};
     ghost use Rattle.tl_client.specs.statement.Endpoint.{Endpoint};
 
@@ -80,16 +78,7 @@ impl<const W: usize> Agent<W> for AnyClient<W> {
         }
     }
 
-    fn ask_into(&mut self, operation: &Op<W>, message: &mut Message<W>) -> Reply
-        ensures reply { (e : Endpoint W) → KnowsAny self.old e →
-            result ≡ (asked (any_terms self.old) operation.now e).reply }
-        ensures message { (e : Endpoint W) → KnowsAny self.old e →
-            handed result message.new ≡ (asked (any_terms self.old) operation.now e).message }
-        ensures after { (e : Endpoint W) → KnowsAny self.old e →
-            KnowsAny self.new (asked (any_terms self.old) operation.now e).after }
-        ensures terms { any_terms self.new ≡ any_terms self.old }
-        ensures left { handed result message.new ≡ None → message.new ≡ message.old }
-    {
+    fn ask_into(&mut self, operation: &Op<W>, message: &mut Message<W>) -> Reply {
         match self {
             AnyClient::Caching(client) => client.ask_into(operation, message),
             AnyClient::Plain(client) => client.ask_into(operation, message),

@@ -93,8 +93,6 @@ impl<const W: usize> Caching<W> {
 
 impl<const W: usize> Agent<W> for Caching<W> {
     ghost use Rattle.tl_client.specs.code.KnowsCaching.{KnowsCaching, caching_terms};
-    ghost use Rattle.std.specs.Prelude.{None};
-    ghost use Rattle.tl_client.specs.statement.Answer.{handed};
     ghost use Rattle.tl_client.specs.statement.Ask.{asked};
     ghost use Rattle.tl_client.specs.statement.Endpoint.{Endpoint};
 
@@ -116,16 +114,7 @@ impl<const W: usize> Agent<W> for Caching<W> {
         (reply, reply.handed(message))
     }
 
-    fn ask_into(&mut self, operation: &Op<W>, message: &mut Message<W>) -> Reply
-        ensures reply { (e : Endpoint W) → KnowsCaching self.old e →
-            result ≡ (asked (caching_terms self.old) operation.now e).reply }
-        ensures message { (e : Endpoint W) → KnowsCaching self.old e →
-            handed result message.new ≡ (asked (caching_terms self.old) operation.now e).message }
-        ensures after { (e : Endpoint W) → KnowsCaching self.old e →
-            KnowsCaching self.new (asked (caching_terms self.old) operation.now e).after }
-        ensures terms { caching_terms self.new ≡ caching_terms self.old }
-        ensures left { handed result message.new ≡ None → message.new ≡ message.old }
-    {
+    fn ask_into(&mut self, operation: &Op<W>, message: &mut Message<W>) -> Reply {
         match self.busy(operation) {
             Some(busy) => Reply::Busy(busy),
             None => self.begin(operation, message),

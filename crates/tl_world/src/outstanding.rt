@@ -1,7 +1,8 @@
 //! How many requests and Releases are outstanding.
 
-ghost use Rattle.std.specs.Prelude.{◌≡◌, ◌+◌, ◌*◌, ◌/◌, true, false};
+ghost use Rattle.std.specs.Prelude.{ℕ, ◌≡◌, ◌+◌, ◌*◌, ◌/◌, true, false};
 ghost use Rattle.tl_beat.specs.statement.Width.{IsWidth};
+ghost use Rattle.tl_coherence.specs.declared.event.Event.TheVariants.{Ask};
 ghost use Rattle.tl_coherence.specs.statement.Load;
 ghost use Rattle.tl_world.specs.code.Opened.{counted};
 
@@ -9,22 +10,16 @@ use tl_beat::beat::Beat;
 use tl_client::operation::Op;
 use tl_client::reply::Reply;
 use tl_client::verdict::Finish;
-use tl_coherence::event::{Event, Outcome};
+use tl_coherence::event::Outcome;
 
 /// A request was started.
-fn starts_request<const W: usize>(event: &Event<W>, outcome: &Outcome<W>) -> bool
-    ensures { result ≡ Load.starts_request event.now outcome.now }
+fn starts_request<const W: usize>(operation: &Op<W>, outcome: &Outcome<W>) -> bool
+    ensures { (client : ℕ) → result ≡ Load.starts_request (Ask client operation.now) outcome.now }
 {
-    match (event, outcome) {
+    match (operation, outcome) {
+        (Op::Release { .. }, _) => false,
         (
-            Event::Ask {
-                operation: Op::Release { .. },
-                ..
-            },
             _,
-        ) => false,
-        (
-            Event::Ask { .. },
             Outcome::Replied {
                 reply: Reply::Started(_),
             },
@@ -34,15 +29,12 @@ fn starts_request<const W: usize>(event: &Event<W>, outcome: &Outcome<W>) -> boo
 }
 
 /// A Release was started.
-fn starts_release<const W: usize>(event: &Event<W>, outcome: &Outcome<W>) -> bool
-    ensures { result ≡ Load.starts_release event.now outcome.now }
+fn starts_release<const W: usize>(operation: &Op<W>, outcome: &Outcome<W>) -> bool
+    ensures { (client : ℕ) → result ≡ Load.starts_release (Ask client operation.now) outcome.now }
 {
-    match (event, outcome) {
+    match (operation, outcome) {
         (
-            Event::Ask {
-                operation: Op::Release { .. },
-                ..
-            },
+            Op::Release { .. },
             Outcome::Replied {
                 reply: Reply::Started(_),
             },
@@ -99,21 +91,23 @@ pub struct Outstanding {
 }
 
 impl Outstanding {
-    /// Something has happened.
-    pub fn count<const W: usize>(&mut self, event: &Event<W>, outcome: &Outcome<W>)
-        ensures requests { self.new.requests
-            ≡ counted (Load.starts_request event.now outcome.now) (Load.ends_request outcome.now) self.old.requests }
-        ensures releases { self.new.releases
-            ≡ counted (Load.starts_release event.now outcome.now) (Load.ends_release outcome.now) self.old.releases }
+    /// A client was asked for an operation.
+    pub fn count_ask<const W: usize>(&mut self, operation: &Op<W>, outcome: &Outcome<W>)
+        ensures requests { (client : ℕ) → self.new.requests
+            ≡ counted (Load.starts_request (Ask client operation.now) outcome.now) (Load.ends_request outcome.now)
+            self.old.requests }
+        ensures releases { (client : ℕ) → self.new.releases
+            ≡ counted (Load.starts_release (Ask client operation.now) outcome.now) (Load.ends_release outcome.now)
+            self.old.releases }
     {
         self.requests = after(
             self.requests,
-            starts_request(event, outcome),
+            starts_request(operation, outcome),
             ends_request(outcome),
         );
         self.releases = after(
             self.releases,
-            starts_release(event, outcome),
+            starts_release(operation, outcome),
             ends_release(outcome),
         );
     }

@@ -30,6 +30,7 @@ use std::marker::Model;
 use tl_beat::beat::Link;
 use tl_beat::channel::Channel;
 use tl_client::agent::Agent;
+use tl_client::operation::Op;
 use tl_client::reply::Reply;
 use tl_coherence::event::{Event, Outcome};
 use tl_manager::directory::Directory;
@@ -109,17 +110,26 @@ impl<const W: usize, A: Agent<W>, D: Directory> World<W, A, D> {
             result ≡ (stepped config event.entry (system_after config log)).outcome }
     {
         let mut outcome = Outcome::Empty;
-        match &event {
-            Event::Ask { client, operation } => {
-                prove_typed(&event);
-                self.state
-                    .network
-                    .ask_if_there(*client, operation, &mut outcome);
-                self.state.outstanding.count(&event, &outcome);
-            }
-            Event::Deliver { link, channel } => self.deliver(*link, *channel, &mut outcome),
+        match event {
+            Event::Ask { client, operation } => self.ask(client, &operation, &mut outcome),
+            Event::Deliver { link, channel } => self.deliver(link, channel, &mut outcome),
         }
         outcome
+    }
+
+    /// A client is asked for an operation, as by `step`: what comes of it is written where it is to stand.
+    pub fn ask(&mut self, client: u8, operation: &Op<W>, outcome: &mut Outcome<W>)
+        ensures world { IsWorld A.represents A.terms D.perm_of self.old }
+        ensures reached { (config : Config) (log : Log W) →
+            IsReached A.represents A.terms D.perm_of config self.old log →
+            IsReached A.represents A.terms D.perm_of config self.new ((Ask client operation.now, outcome.new) ∷ log) }
+        ensures outcome { (config : Config) (log : Log W) →
+            IsReached A.represents A.terms D.perm_of config self.old log →
+            outcome.new ≡ (stepped config (Ask client operation.now) (system_after config log)).outcome }
+    {
+        prove_typed(operation);
+        self.state.network.ask_if_there(client, operation, outcome);
+        self.state.outstanding.count_ask(operation, outcome);
     }
 
     /// The first beat of a channel of a link is brought to the end that takes it, as by `step`: what comes of it is

@@ -2,12 +2,15 @@
 use Rattle.std.proofs.Common.{◌≡◌, ◌<◌, ◌≤◌, ◌+◌, zero, suc, ℕ, Bool, true, false, not, List, [], ◌∷◌, Some, None, refl}
 use Rattle.std.proofs.Common.{ap, sym, ◌∙◌, inl, inr, length, arith}
 use Rattle.std.proofs.lemmas.Bool.{cases_eq, cases_lt}
+use Rattle.std.proofs.Math.Bool.{and-false}
 use Rattle.std.proofs.lemmas.Option.{slice_get_past}
 use Rattle.std.specs.Prelude.{slice_get, slice_index_or}
 use Rattle.std.specs.Int.{bit_at}
 use Rattle.tl_beat.specs.declared.beat.Beat.{Beat}
+use Rattle.tl_beat.specs.declared.beat.Beat.TheVariants as beat
 use Rattle.tl_beat.specs.declared.beat.Link.{Link}
 use Rattle.tl_beat.specs.declared.channel.Channel.{Channel}
+use Rattle.tl_burst.specs.statement.Messages.{History}
 use Rattle.tl_burst.specs.statement.Part.{is_empty}
 use Rattle.tl_params.specs.declared.config.Config.{Config}
 use Rattle.tl_params.specs.declared.perm.Perm.{Perm}
@@ -17,8 +20,10 @@ use Rattle.tl_manager.specs.code.Bit.{bit_if}
 use Rattle.tl_manager.specs.code.Knows.{Knows}
 use Rattle.tl_manager.specs.statement.End as manager_end
 use Rattle.tl_manager.specs.statement.Offer as manager
+use Rattle.tl_manager.proofs.judging.Stalls.{never-stalled}
+use Rattle.tl_rules.specs.statement.Conformance.{Trace}
 use Rattle.tl_world.specs.code.Carrying.{word_of, Carries}
-use Rattle.tl_world.specs.code.Holds.{clients_of, Holds}
+use Rattle.tl_world.specs.code.Holds.{clients_of, may_wait, Holds}
 use Rattle.tl_coherence.specs.statement.Movable.{moves, is_movable, first_movable, movable_on}
 use Rattle.tl_coherence.specs.statement.Step.{is_to_client}
 use Rattle.tl_coherence.specs.statement.System.{System, terms_at}
@@ -88,6 +93,21 @@ lowest-first config ch links link s others lower is =
 
 -- ---- of one
 
+unwaiting : {w : ℕ} (x : Beat w) (t : History w) → may_wait x ≡ false → client.waits x t ≡ false
+unwaiting (beat.A x) t never = absurd cc
+unwaiting (beat.B x) t never = absurd cc
+unwaiting (beat.C x) t never = refl
+unwaiting (beat.D x) t never = refl
+unwaiting (beat.E x) t never = refl
+
+unserved : {w : ℕ} (config : Config) (link : Link) (x : Beat w) (t : Trace w) → may_wait x ≡ false
+    → manager.must_wait config link x t ≡ false
+unserved config link (beat.A x) t never = absurd cc
+unserved config link (beat.B x) t never = absurd cc
+unserved config link (beat.C x) t never = refl
+unserved config link (beat.D x) t never = refl
+unserved config link (beat.E x) t never = refl
+
 module _ {w : ℕ} {A M : Type 0} (knows : A → Endpoint w → Type 0) (terms : A → EndConfig) (perm_of : M → ℕ → ℕ → Perm)
     (config : Config) (network : Network w A M)
     (s : System w) (h : Holds knows terms perm_of config network s)
@@ -114,6 +134,20 @@ module _ {w : ℕ} {A M : Type 0} (knows : A → Endpoint w → Type 0) (terms :
         → moves config (terms_at config link.0) link.0 ch (x ∷ []) s ≡ not stalled
     moves-manager x stalled down is =
         rw (h.terms_are link.0 one below, down) (ap not (sym (is config s.manager h.manager)))
+
+    -- a beat that nobody stalls
+    pub moves-anyway : (x : Beat w) → may_wait x ≡ false
+        → moves config (terms_at config link.0) link.0 ch (x ∷ []) s ≡ not false
+    unfolding client.stalls
+    moves-anyway x never = go (is_to_client ch) refl
+      where
+        waits_not : (e : Endpoint w) → client.waits x e.past ≡ false
+        waits_not e = unwaiting x e.past never
+
+        go : (up : Bool) → is_to_client ch ≡ up → moves config (terms_at config link.0) link.0 ch (x ∷ []) s ≡ not false
+        go true up = moves-client x false up (λ e d in_ known. sym (rw (waits_not e) (and-false _)))
+        go false down = moves-manager x false down
+            (λ config e known. sym (never-stalled config link ch x e (unserved config link x e.trace never)))
 
     pub first-moves : (x : Beat w) (stalled : Bool) → Some x ≡ slice_get (s.channels link.0 ch) 0
         → moves config (terms_at config link.0) link.0 ch (x ∷ []) s ≡ not stalled

@@ -3,7 +3,7 @@
 ghost use Rattle.std.specs.Prelude.{◌≡◌, ◌<◌, ◌∷◌, [], not};
 ghost use Rattle.tl_beat.specs.statement.Width.{IsWidth};
 ghost use Rattle.tl_params.specs.declared.config.Config.{Config};
-ghost use Rattle.tl_world.specs.code.Holds.{Holds, clients_of};
+ghost use Rattle.tl_world.specs.code.Holds.{Holds, clients_of, may_wait};
 ghost use Rattle.tl_coherence.specs.statement.Movable;
 ghost use Rattle.tl_coherence.specs.statement.Movable.{is_movable};
 ghost use Rattle.tl_coherence.specs.statement.System.{System, terms_at};
@@ -18,6 +18,13 @@ use tl_client::agent::Agent;
 use tl_manager::directory::Directory;
 use tl_manager::word::with_bit;
 
+/// Whether the end that takes a beat may stall it: a manager stalls requests, a client Probes.
+fn may_wait<const W: usize>(beat: &Beat<W>) -> bool
+    ensures { result ≡ may_wait beat.now }
+{
+    matches!(beat, Beat::A(_) | Beat::B(_))
+}
+
 impl<const W: usize, A: Agent<W>, D: Directory> Network<W, A, D> {
     /// Whether the end that takes the beat stalls it.
     fn stalls(&self, link: Link, channel: Channel, beat: &Beat<W>) -> bool
@@ -26,6 +33,9 @@ impl<const W: usize, A: Agent<W>, D: Directory> Network<W, A, D> {
             link.0 < clients_of config →
             Movable.moves config (terms_at config link.0) link.0 channel (beat.now ∷ []) s ≡ not result }
     {
+        if !may_wait(beat) {
+            return false;
+        }
         if is_to_client(channel) {
             stalls_at(&self.clients, usize::from(link.0), channel, beat)
         } else {

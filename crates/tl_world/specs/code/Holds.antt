@@ -1,5 +1,7 @@
 -- What a world holds, and what becomes of it by an event.
 use Rattle.std.specs.Prelude.{ℕ, Bool, true, false, ◌≡◌, ◌<◌, ◌≤◌, ◌/◌, length, slice_index_or, Some}
+use Rattle.tl_beat.specs.declared.beat.Beat.{Beat}
+use Rattle.tl_beat.specs.declared.beat.Beat.TheVariants as beat
 use Rattle.tl_beat.specs.declared.channel.Channel.{Channel}
 use Rattle.tl_params.specs.declared.config.Config.{Config}
 use Rattle.tl_params.specs.declared.perm.Perm.{Perm}
@@ -51,3 +53,9 @@ pub record IsStepped {w : ℕ} {A M : Type 0} (knows : A → client.Endpoint w �
 abbrev pub is_stay : Verdict → Bool
 is_stay verdict.Stalled = true
 is_stay _ = false
+
+-- a beat that its taker may stall: a request or a Probe
+abbrev pub may_wait : {w : ℕ} → Beat w → Bool
+may_wait (beat.A x) = true
+may_wait (beat.B x) = true
+may_wait _ = false

@@ -7,6 +7,7 @@ pub mod Continued
 pub mod Keeping
 pub mod Keepings
 pub mod LooksUp
+pub mod Middle
 pub mod Knowing
 pub mod Numbered
 pub mod Touching

@@ -5,3 +5,4 @@ pub mod Keeps
 pub mod KnownBlocks
 pub mod LinkState
 pub mod Past
+pub mod Lawful

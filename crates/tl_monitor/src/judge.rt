@@ -1,14 +1,17 @@
 //! Judges a beat after what its link has carried, and takes it.
 
-ghost use Rattle.std.specs.Prelude.{IsTrue, Some, true, false, ◌≡◌};
+ghost use Rattle.std.specs.Prelude.{IsTrue, None, Some, true, false, ◌≡◌};
+ghost use Rattle.std.specs.Bool.{OnTrue, OnFalse};
 ghost use Rattle.tl_beat.specs.statement.Control.{channel_of};
 ghost use Rattle.tl_beat.specs.statement.Width.{IsWidth};
 ghost use Rattle.tl_burst.specs.statement.Messages.{History};
 ghost use Rattle.tl_burst.specs.statement.Part.{is_small};
+ghost use Rattle.tl_params.specs.declared.level.Level.{Level};
 ghost use Rattle.tl_params.specs.declared.profile.Profile.{Profile};
 ghost use Rattle.tl_rules.specs.statement.Conformance;
 ghost use Rattle.tl_monitor.specs.code.Bursts.{burst_on};
-ghost use Rattle.tl_monitor.specs.code.LinkState.{is_first};
+ghost use Rattle.tl_monitor.specs.code.Lawful.{IsLawful};
+ghost use Rattle.tl_monitor.specs.code.LinkState.{is_first, IsNext};
 ghost use Rattle.tl_monitor.specs.code.Keeps.{Keeps, answered, TakesBeat};
 
 use crate::bursts::Unfinished;
@@ -73,6 +76,37 @@ impl LinkState {
         Ok(None)
     }
 
+    /// Takes a beat in the middle of a response that has the control fields of those before it, where neither corrupt
+    /// nor denied is set: whether it was taken. Otherwise nothing changes. It breaks no rule, as those before it break none.
+    fn goes_on<const W: usize>(&mut self, beat: &Beat<W>) -> bool
+        requires { IsWidth W }
+        ensures rule { OnTrue result ((level : Level) (p : Profile) (t : History W) →
+            IsLawful W level self.old.bursts.d → Keeps self.old t → None ≡ Conformance.broken_after level p beat.now t) }
+        ensures next { OnTrue result (IsNext self.old beat.now self.new) }
+        ensures lawful { OnTrue result ((level : Level) →
+            IsLawful W level self.old.bursts.d → IsLawful W level self.new.bursts.d) }
+        ensures unchanged { OnFalse result (self.new ≡ self.old) }
+    {
+        let Beat::D(response) = beat else {
+            return false;
+        };
+        let Some(burst) = self.bursts.d else {
+            return false;
+        };
+        if burst.left <= 1
+            || response.corrupt
+            || response.denied
+            || !beat.has_control(&burst.control)
+        {
+            return false;
+        }
+        self.bursts.d = Some(Unfinished {
+            control: burst.control,
+            left: burst.left - 1,
+        });
+        true
+    }
+
     /// The first rule that a beat breaks on a link of this level, or none, and then takes it. Without memory
     /// nothing changes.
     #[tactic(auto, unfolding(tl_rules::specs::statement::Conformance::broken_after))]
@@ -83,9 +117,14 @@ impl LinkState {
         beat: &Beat<W>,
     ) -> Result<Option<Rule>, AllocError>
         requires { IsWidth W }
-        ensures rule { (t : History W) → Keeps self.old t → answered result ≡ Conformance.broken_after level profile beat.now t }
+        ensures rule { (t : History W) → IsLawful W level self.old.bursts.d → Keeps self.old t →
+            answered result ≡ Conformance.broken_after level profile beat.now t }
         ensures takes { TakesBeat self.old beat.now self.new result }
+        ensures lawful { IsLawful W level self.old.bursts.d → IsLawful W level self.new.bursts.d }
     {
+        if self.goes_on(beat) {
+            return Ok(None);
+        }
         match check_beat(level, beat.channel(), beat) {
             Err(rule) => Ok(Some(rule)),
             Ok(()) => match self.bursts.on(beat.channel()) {

@@ -5,6 +5,7 @@ ghost use Rattle.tl_beat.specs.declared.beat.Beat.{Beat};
 ghost use Rattle.tl_beat.specs.statement.Width.{IsWidth};
 ghost use Rattle.tl_params.specs.declared.level.Level.{Level};
 ghost use Rattle.tl_params.specs.declared.profile.Profile.{Profile};
+ghost use Rattle.tl_monitor.specs.code.Lawful.{AreLawful};
 ghost use Rattle.tl_rules.specs.statement.Conformance.{Trace, broken_on_link, on_link};
 
 use crate::fault::MonitorFault;
@@ -25,6 +26,7 @@ pub struct Monitor<const W: usize> {
     links: Vec<MonitoredLink>,
     profile: Profile,
     closed: bool,
+    ghost lawful: { AreLawful W links.items },
 }
 
 /// A link of a monitor: its level, and what is kept of the beats that it has carried.

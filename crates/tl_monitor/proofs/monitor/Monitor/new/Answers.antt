@@ -1,6 +1,7 @@
 use Rattle.std.proofs.Common.{length, refl, sym, arith, ◌∙◌}
 use Rattle.std.proofs.lemmas.Bool.{eqb-false}
 use Rattle.tl_monitor.proofs.Knowing.{knows-new}
+use Rattle.tl_monitor.proofs.Middle.{lawful-new}
 use Rattle.tl_monitor.proofs.monitor.Monitor.new.Goals as goal
 
 pub returns : goal.returns
@@ -9,3 +10,6 @@ returns g c =
       (omega (arith, some), omega arith),
       knows-new _ c.args.levels.now c.args.profile refl refl c.in-Ok.ensures,
     )
+
+pub invariant_of-result : goal.invariant_of-result
+invariant_of-result g c = record { lawful = lawful-new c.args.levels.now c.in-Ok.links.items c.in-Ok.ensures }

@@ -1,9 +1,9 @@
-use Rattle.std.proofs.Common.{rules}
-use Rattle.tl_schedule.proofs.ByteDigits.{append-none, append-step}
+use Rattle.std.proofs.Common.{arith, rules}
+use Rattle.tl_schedule.proofs.ByteDigits.{append-step, nothing_behind}
 use Rattle.tl_random.proofs.text.put_bytes.Goals as goal
 
 pub loop-i-init : goal.loop-i-init
-loop-i-init c = append-none c.args.bytes.now c.args.out.now.items
+loop-i-init c = nothing_behind _ c.args.bytes.now c.args.out.now.items (omega arith)
 
 pub loop-i-preserved : goal.loop-i-preserved
 loop-i-preserved c =

@@ -1,11 +1,9 @@
 -- Fields of digits at their places are read from left to right.
-use Rattle.std.proofs.Common.{◌≡◌, ℕ, suc, ◌+◌, ◌-◌, ◌*◌, ◌<◌, ◌≤◌, Bool, true, false, cond, List, [], ◌∷◌, length}
-use Rattle.std.proofs.Common.{take, drop, refl, sym, ◌∙◌, arith}
+use Rattle.std.proofs.Common.{◌≡◌, ℕ, suc, ◌+◌, ◌-◌, ◌*◌, ◌<◌, ◌≤◌, Bool, true, false, cond, List, [], ◌∷◌, ◌++◌, length}
+use Rattle.std.proofs.Common.{take, drop, refl, sym, arith}
 use Rattle.std.proofs.lemmas.List.{take_rest}
 use Rattle.std.proofs.lemmas.Bool.{ltb-true, and_parts}
 use Rattle.std.specs.Prelude.{Ok, slice_index, ◌&&◌, nat_lt}
-use Rattle.std.specs.Int.{from_be_bytes}
-use mir.Syntax.{w32}
 use Rattle.tl_beat.specs.statement.Digits.{is_digit, digit_value}
 use Rattle.tl_beat.specs.code.FromLeft.{value_or_16, digits_at, field_at, head_at}
 
@@ -21,12 +19,12 @@ digit_is c v e lt = go (is_digit c) refl e
     go true is f = record { is = is; value = sym f }
     go false is f = absurd (omega arith)
 
-digit_at-is : (number n c v : ℕ) (cs : List ℕ) → IsDigit c v
+pub digit_at-is : (number n c v : ℕ) (cs : List ℕ) → IsDigit c v
     → digits_at number (suc n) (c ∷ cs) ≡ digits_at (16 * number + v) n cs
 unfolding digits_at
 digit_at-is number n c v cs d = rw (d.is, d.value) refl
 
-no_digit : (number : ℕ) (cs : List ℕ) → digits_at number 0 cs ≡ Ok (number, cs)
+pub no_digit : (number : ℕ) (cs : List ℕ) → digits_at number 0 cs ≡ Ok (number, cs)
 unfolding digits_at
 no_digit number cs = refl
 
@@ -102,48 +100,8 @@ head_places (x0 ∷ x1 ∷ x2 ∷ x3 ∷ x4 ∷ x5 ∷ x6 ∷ x7 ∷ x8 ∷ x9 �
 head_places bytes l1 l0 o p z s1 s0 long e2 e6 e8 e10 e13 v0 v1 v5 v7 v9 v11 v12 small =
     absurd (omega arith)
 
--- four values of digits
-abbrev four_digits : ℕ → ℕ → ℕ → ℕ → Bool
-four_digits a b c d = ((nat_lt a 16 && nat_lt b 16) && nat_lt c 16) && nat_lt d 16
-
-are_four : (a b c d : ℕ) → four_digits a b c d ≡ true → (a < 16) × (b < 16) × (c < 16) × (d < 16)
-are_four a b c d e =
-    let (abc, is_d) = and_parts ((nat_lt a 16 && nat_lt b 16) && nat_lt c 16) (nat_lt d 16) e in
-    let (ab, is_c) = and_parts (nat_lt a 16 && nat_lt b 16) (nat_lt c 16) abc in
-    let (is_a, is_b) = and_parts (nat_lt a 16) (nat_lt b 16) ab in
-    (ltb-true a 16 is_a, ltb-true b 16 is_b, ltb-true c 16 is_c, ltb-true d 16 is_d)
-
-eight : (a b c d e f g h : ℕ) → from_be_bytes w32 ((16 * a + b) ∷ (16 * c + d) ∷ (16 * e + f) ∷ (16 * g + h) ∷ [])
-    ≡ 16 * (16 * (16 * (16 * (16 * (16 * (16 * a + b) + c) + d) + e) + f) + g) + h
-eight a b c d e f g h = omega arith
-
-pub eight_places : (bytes : List ℕ) (n a b c d e f g h : ℕ) → 9 ≤ length bytes → slice_index bytes 8 ≡ 32
-    → a ≡ value_or_16 (slice_index bytes 0) → b ≡ value_or_16 (slice_index bytes 1)
-    → c ≡ value_or_16 (slice_index bytes 2) → d ≡ value_or_16 (slice_index bytes 3)
-    → e ≡ value_or_16 (slice_index bytes 4) → f ≡ value_or_16 (slice_index bytes 5)
-    → g ≡ value_or_16 (slice_index bytes 6) → h ≡ value_or_16 (slice_index bytes 7)
-    → (four_digits a b c d && four_digits e f g h) ≡ true
-    → n ≡ from_be_bytes w32 ((16 * a + b) ∷ (16 * c + d) ∷ (16 * e + f) ∷ (16 * g + h) ∷ [])
-    → field_at 8 bytes ≡ Ok (n, take (length bytes - 9) (drop 9 bytes))
-eight_places (x0 ∷ x1 ∷ x2 ∷ x3 ∷ x4 ∷ x5 ∷ x6 ∷ x7 ∷ x8 ∷ rest) n a b c d e f g h long e8 v0 v1 v2 v3 v4 v5 v6 v7 small
-    is =
-    let bytes = x0 ∷ x1 ∷ x2 ∷ x3 ∷ x4 ∷ x5 ∷ x6 ∷ x7 ∷ x8 ∷ rest in
-    let halves = and_parts (four_digits a b c d) (four_digits e f g h) small in
-    let (b0, b1, b2, b3) = are_four a b c d halves.0 in
-    let (b4, b5, b6, b7) = are_four e f g h halves.1 in
-    rw (
-      take_rest bytes 9,
-      e8,
-      is ∙ eight a b c d e f g h,
-      digit_at-is 0 7 x0 a (x1 ∷ x2 ∷ x3 ∷ x4 ∷ x5 ∷ x6 ∷ x7 ∷ 32 ∷ rest) (digit_is x0 a v0 b0),
-      behind_zero,
-      digit_at-is _ 6 x1 b (x2 ∷ x3 ∷ x4 ∷ x5 ∷ x6 ∷ x7 ∷ 32 ∷ rest) (digit_is x1 b v1 b1),
-      digit_at-is _ 5 x2 c (x3 ∷ x4 ∷ x5 ∷ x6 ∷ x7 ∷ 32 ∷ rest) (digit_is x2 c v2 b2),
-      digit_at-is _ 4 x3 d (x4 ∷ x5 ∷ x6 ∷ x7 ∷ 32 ∷ rest) (digit_is x3 d v3 b3),
-      digit_at-is _ 3 x4 e (x5 ∷ x6 ∷ x7 ∷ 32 ∷ rest) (digit_is x4 e v4 b4),
-      digit_at-is _ 2 x5 f (x6 ∷ x7 ∷ 32 ∷ rest) (digit_is x5 f v5 b5),
-      digit_at-is _ 1 x6 g (x7 ∷ 32 ∷ rest) (digit_is x6 g v6 b6),
-      digit_at-is _ 0 x7 h (32 ∷ rest) (digit_is x7 h v7 b7),
-      no_digit _ (32 ∷ rest),
-    ) refl
-eight_places bytes n a b c d e f g h long e8 v0 v1 v2 v3 v4 v5 v6 v7 small is = absurd (omega arith)
+pub field_of_eight : (bytes field behind : List ℕ) (number : ℕ) → bytes ≡ field ++ behind → 1 ≤ length behind
+    → slice_index behind 0 ≡ 32 → digits_at 0 8 (field ++ behind) ≡ Ok (number, behind)
+    → field_at 8 bytes ≡ Ok (number, take (length behind - 1) (drop 1 behind))
+field_of_eight bytes field [] number e long space read = absurd (omega arith)
+field_of_eight bytes field (c ∷ cs) number e long space read = rw (e, read, space, take_rest (c ∷ cs) 1) refl

@@ -15,5 +15,6 @@ pub mod VectorLanes
 pub mod LaneDigits
 pub mod SpelledLines
 pub mod ReadLines
+pub mod Placed
 pub mod WellSpelled
 pub mod Written

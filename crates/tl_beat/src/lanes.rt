@@ -1,10 +1,38 @@
 //! Digits to lanes and lanes to digits, sixteen digits at a time.
 
-ghost use Rattle.std.specs.Prelude.{◌≡◌, ◌+◌, ◌++◌, ℕ, List, length, IfSome};
-ghost use Rattle.tl_beat.specs.code.FromLeft.{lanes_at};
+ghost use Rattle.std.specs.Prelude.{◌≡◌, ◌+◌, ◌++◌, ℕ, List, length, map, IfSome, Ok};
+ghost use Rattle.tl_beat.specs.code.FromLeft.{digits_at, lanes_at, value_or_16};
 ghost use Rattle.tl_beat.specs.statement.Digits.{lane_digits};
 
 use std::simd::prelude::*;
+
+/// The value of each byte as a digit, or 16 where it is none.
+#[inline(always)]
+fn values<const N: usize>(bytes: Simd<u8, N>) -> Simd<u8, N>
+    ensures { result ≡ map value_or_16 bytes.entry }
+{
+    let numbers = bytes - Simd::splat(b'0');
+    let letters = bytes - Simd::splat(b'a');
+    let others = letters
+        .simd_lt(Simd::splat(6))
+        .select(letters + Simd::splat(10), Simd::splat(16));
+    numbers.simd_lt(Simd::splat(10)).select(numbers, others)
+}
+
+/// The number that eight digits spell.
+#[inline(always)]
+pub(crate) fn eight_digit_number(field: &[u8; 8]) -> Option<u32>
+    ensures { IfSome result (λ number. (rest : List ℕ) → digits_at 0 8 (field.now ++ rest) ≡ Ok (number, rest)) }
+{
+    let values = values(u8x8::from_array(*field));
+    if !values.simd_lt(u8x8::splat(16)).all() {
+        return None;
+    }
+    let high = values.swizzle([0, 2, 4, 6]);
+    let low = values.swizzle([1, 3, 5, 7]);
+    let bytes = high * u8x4::splat(16) + low;
+    Some(u32::from_be_bytes(bytes.to_array()))
+}
 
 /// The eight lanes that sixteen digits spell, the last lane first.
 #[inline(always)]
@@ -18,12 +46,7 @@ pub(crate) fn eight_lanes(field: &[u8]) -> Option<[u8; 8]>
     let bytes = u8x16::from_array([
         *a, *b, *c, *d, *e, *f, *g, *h, *i, *j, *k, *l, *m, *n, *o, *p,
     ]);
-    let numbers = bytes - u8x16::splat(b'0');
-    let letters = bytes - u8x16::splat(b'a');
-    let others = letters
-        .simd_lt(u8x16::splat(6))
-        .select(letters + u8x16::splat(10), u8x16::splat(16));
-    let values = numbers.simd_lt(u8x16::splat(10)).select(numbers, others);
+    let values = values(bytes);
     if !values.simd_lt(u8x16::splat(16)).all() {
         return None;
     }

@@ -3,16 +3,16 @@
 mod field;
 mod line;
 
-ghost use Rattle.std.specs.Prelude.{◌≡◌, ◌==◌, ◌^◌, ◌<◌, ℕ, List, Some, Ok, IfOk, IfSome, position};
+ghost use Rattle.std.specs.Prelude.{◌≡◌, ◌==◌, ◌^◌, ◌<◌, ℕ, List, Some, Ok, IfErr, IfOk, MatchOption, position};
 ghost use Rattle.std.specs.List.{after_first};
 ghost use Rattle.std.specs.Result.{result_err};
 ghost use Rattle.tl_beat.specs.declared.beat.Link.{Link};
 ghost use Rattle.tl_beat.specs.declared.beat.Beat.{Beat};
-ghost use Rattle.tl_beat.specs.code.FromLeft.{letter_in, spaces_in, body_at, line_at, line_with};
+ghost use Rattle.tl_beat.specs.code.FromLeft.{letter_in, spaces_in, body_at, line_at, line_with, placed};
 ghost use Rattle.tl_beat.specs.statement.Line.{Spells, line_fault};
 ghost use Rattle.tl_beat.specs.statement.Width.{IsWidth};
 
-use crate::beat::{Beat, Link};
+use crate::beat::{Beat, BeatE, Link};
 use crate::fault::LineFault;
 use crate::read::line::{any_head, line_a, line_b, line_c, line_d, line_e, spelled_head};
 
@@ -49,34 +49,36 @@ fn spaces(bytes: &[u8]) -> usize
     bytes.iter().filter(|b| **b == b' ').count()
 }
 
-/// The line of a channel with this letter, which has this many spaces.
+/// The line of a channel with this letter, which has this many spaces, read over a beat: its link.
 #[tactic(auto, unfolding(crate::specs::code::FromLeft::line_a_at, crate::specs::code::FromLeft::line_b_at, crate::specs::code::FromLeft::line_c_at, crate::specs::code::FromLeft::line_d_at))]
 fn line_with<const W: usize>(
     letter: Option<u8>,
     spaces: usize,
     bytes: &[u8],
-) -> Result<(Link, Beat<W>), LineFault>
+    beat: &mut Beat<W>,
+) -> Result<Link, LineFault>
     requires { IsWidth W }
-    ensures { result ≡ line_with letter spaces bytes.now }
+    ensures read { placed result beat.new ≡ line_with letter spaces bytes.now }
+    ensures unchanged { IfErr result (λ _. beat.new ≡ beat.old) }
 {
     match letter {
         Some(b'A') if spaces == 9 => {
             let (head, rest) = any_head(bytes)?;
-            line_a(head, rest)
+            line_a(head, rest, beat)
         }
         Some(b'B') if spaces == 9 => {
             let (head, rest) = any_head(bytes)?;
-            line_b(head, rest)
+            line_b(head, rest, beat)
         }
         Some(b'C') if spaces == 8 => {
             let (head, rest) = any_head(bytes)?;
-            line_c(head, rest)
+            line_c(head, rest, beat)
         }
         Some(b'D') if spaces == 9 => {
             let (head, rest) = any_head(bytes)?;
-            line_d(head, rest)
+            line_d(head, rest, beat)
         }
-        Some(b'E') if spaces == 2 => line_e(bytes),
+        Some(b'E') if spaces == 2 => line_e(bytes, beat),
         Some(b'A'..=b'E') => Err(LineFault::F1),
         _ => Err(LineFault::F2),
     }
@@ -85,67 +87,96 @@ fn line_with<const W: usize>(
 /// A line without its line feed, by its letter and its spaces first.
 #[cold]
 #[inline(never)]
-fn any_body<const W: usize>(bytes: &[u8]) -> Result<(Link, Beat<W>), LineFault>
+fn any_body<const W: usize>(bytes: &[u8], beat: &mut Beat<W>) -> Result<Link, LineFault>
     requires { IsWidth W }
-    ensures { result ≡ body_at bytes.now }
+    ensures read { placed result beat.new ≡ body_at bytes.now }
+    ensures unchanged { IfErr result (λ _. beat.new ≡ beat.old) }
 {
     let spaces = spaces(bytes);
     if spaces == 0 {
         return Err(LineFault::F1);
     }
-    line_with(letter(after_space(bytes)), spaces, bytes)
+    line_with(letter(after_space(bytes)), spaces, bytes, beat)
 }
 
 /// A line without its line feed, its letter at the fourth place.
 #[inline(always)]
-fn spelled_body<const W: usize>(bytes: &[u8]) -> Result<(Link, Beat<W>), LineFault>
+fn spelled_body<const W: usize>(bytes: &[u8], beat: &mut Beat<W>) -> Option<Link>
     requires { IsWidth W }
-    ensures { IfOk result (λ read. body_at bytes.now ≡ Ok read) }
+    ensures { MatchOption result (beat.new ≡ beat.old) (λ link. body_at bytes.now ≡ Ok (link, beat.new)) }
 {
     let [_, _, _, letter, b' ', ..] = bytes else {
-        return Err(LineFault::F1);
+        return None;
     };
     if *letter == b'E' {
-        return line_e(bytes);
+        return line_e(bytes, beat).ok();
     }
-    let Some((head, rest)) = spelled_head(bytes) else {
-        return Err(LineFault::F1);
-    };
+    let (head, rest) = spelled_head(bytes)?;
     match *letter {
-        b'A' => line_a(head, rest),
-        b'B' => line_b(head, rest),
-        b'C' => line_c(head, rest),
-        b'D' => line_d(head, rest),
-        _ => Err(LineFault::F1),
+        b'A' => line_a(head, rest, beat).ok(),
+        b'B' => line_b(head, rest, beat).ok(),
+        b'C' => line_c(head, rest, beat).ok(),
+        b'D' => line_d(head, rest, beat).ok(),
+        _ => None,
     }
 }
 
 /// A line without its line feed. Where it spells no beat, its first fault is looked for.
 #[inline(always)]
-fn body<const W: usize>(bytes: &[u8]) -> Result<(Link, Beat<W>), LineFault>
+fn body<const W: usize>(bytes: &[u8], beat: &mut Beat<W>) -> Result<Link, LineFault>
     requires { IsWidth W }
-    ensures { result ≡ body_at bytes.now }
+    ensures read { placed result beat.new ≡ body_at bytes.now }
+    ensures unchanged { IfErr result (λ _. beat.new ≡ beat.old) }
 {
-    let read = spelled_body(bytes);
-    if read.is_ok() {
-        return read;
+    match spelled_body(bytes, beat) {
+        Some(link) => Ok(link),
+        None => any_body(bytes, beat),
     }
-    any_body(bytes)
 }
 
 /// A line, by its length and its line feed first.
-#[inline(always)]
-fn whole_line<const W: usize>(line: &[u8]) -> Result<(Link, Beat<W>), LineFault>
+#[inline(never)]
+fn place_line<const W: usize>(line: &[u8], beat: &mut Beat<W>) -> Result<Link, LineFault>
     requires { IsWidth W }
-    ensures { result ≡ line_at line.now }
+    ensures read { placed result beat.new ≡ line_at line.now }
+    ensures unchanged { IfErr result (λ _. beat.new ≡ beat.old) }
 {
     if line.len() > 256 {
         return Err(LineFault::F1);
     }
     match line {
-        [bytes @ .., b'\n'] => body(bytes),
+        [bytes @ .., b'\n'] => body(bytes, beat),
         _ => Err(LineFault::F1),
     }
+}
+
+/// The link and the beat that a line spells.
+#[inline(always)]
+fn whole_line<const W: usize>(line: &[u8]) -> Result<(Link, Beat<W>), LineFault>
+    requires { IsWidth W }
+    ensures { result ≡ line_at line.now }
+{
+    let mut beat = Beat::E(BeatE { sink: 0 });
+    let link = place_line(line, &mut beat)?;
+    Ok((link, beat))
+}
+
+/// Reads a line of text, its line feed included, over a beat of `W` bytes (4, 8 or 16), and answers its
+/// link. A line that spells no beat is refused by its first fault, and leaves the beat as it was. It reads
+/// any bytes and takes no memory, and a line of more than 256 bytes is refused unread.
+#[inline(always)]
+pub fn read_into<const W: usize>(line: &[u8], beat: &mut Beat<W>) -> Result<Link, LineFault>
+    requires { IsWidth W }
+
+    // What is read is spelled by the line, whatever the line spells is read, and the fault of a line that
+    // spells none is the first of the table.
+    ensures spelled { IfOk result (λ link. Spells line.now link beat.new) }
+    ensures every_spelling { (link : Link) (read : Beat W) → Spells line.now link read →
+        (result ≡ Ok link) × (beat.new ≡ read) }
+    ensures fault { result_err result ≡ line_fault W line.now }
+    ensures unchanged { IfErr result (λ _. beat.new ≡ beat.old) }
+{
+    place_line(line, beat)
 }
 
 /// Reads a line of text, its line feed included, as a link and a beat of `W` bytes (4, 8 or 16).

@@ -6,6 +6,10 @@ use Rattle.std.specs.Prelude.{Some, None, Result, Ok, Err, nat_le, nat_lt, slice
 use Rattle.std.specs.List.{after_first}
 use Rattle.std.specs.Io.BufRead.{ends_with_byte}
 use Rattle.tl_beat.specs.declared.beat.Link.{Link}
+use Rattle.tl_beat.specs.declared.beat.BeatA.{BeatA}
+use Rattle.tl_beat.specs.declared.beat.BeatB.{BeatB}
+use Rattle.tl_beat.specs.declared.beat.BeatC.{BeatC}
+use Rattle.tl_beat.specs.declared.beat.BeatD.{BeatD}
 use Rattle.tl_beat.specs.declared.beat.Beat.{Beat}
 use Rattle.tl_beat.specs.declared.beat.Beat.TheVariants as beat
 use Rattle.tl_beat.specs.declared.fault.LineFault.{LineFault}
@@ -107,6 +111,25 @@ tail_at w bytes =
       Ok (lanes, corrupt))
     else Err F3
 
+-- ---- a line that is read over a beat
+
+-- the link and the beat that stand there then, or the fault
+abbrev pub placed : {w : ℕ} → Result Link LineFault → Beat w → Result (Link × Beat w) LineFault
+placed (Ok link) beat = Ok (link, beat)
+placed (Err fault) beat = Err fault
+
+abbrev pub on_a : {w : ℕ} → ℕ → Result (BeatA w) LineFault → Result (Link × Beat w) LineFault
+on_a link read = read >>= λ x. Ok (linked link (beat.A x))
+
+abbrev pub on_b : {w : ℕ} → ℕ → Result (BeatB w) LineFault → Result (Link × Beat w) LineFault
+on_b link read = read >>= λ x. Ok (linked link (beat.B x))
+
+abbrev pub on_c : {w : ℕ} → ℕ → Result (BeatC w) LineFault → Result (Link × Beat w) LineFault
+on_c link read = read >>= λ x. Ok (linked link (beat.C x))
+
+abbrev pub on_d : {w : ℕ} → ℕ → Result (BeatD w) LineFault → Result (Link × Beat w) LineFault
+on_d link read = read >>= λ x. Ok (linked link (beat.D x))
+
 -- ---- the line of each channel, without its line feed
 
 unfoldable pub line_a_at : {w : ℕ} → List ℕ → Result (Link × Beat w) LineFault
@@ -115,8 +138,7 @@ line_a_at {w} bytes = do
   address ← field_at 8 head.1
   mask ← field_at (w / 4) address.1
   tail ← tail_at w mask.1
-  x ← made_a head.0.opcode head.0.param head.0.size head.0.source address.0 mask.0 tail.0 tail.1
-  Ok (linked head.0.link (beat.A x))
+  on_a head.0.link (made_a head.0.opcode head.0.param head.0.size head.0.source address.0 mask.0 tail.0 tail.1)
 
 unfoldable pub line_b_at : {w : ℕ} → List ℕ → Result (Link × Beat w) LineFault
 line_b_at {w} bytes = do
@@ -124,16 +146,14 @@ line_b_at {w} bytes = do
   address ← field_at 8 head.1
   mask ← field_at (w / 4) address.1
   tail ← tail_at w mask.1
-  x ← made_b head.0.opcode head.0.param head.0.size head.0.source address.0 mask.0 tail.0 tail.1
-  Ok (linked head.0.link (beat.B x))
+  on_b head.0.link (made_b head.0.opcode head.0.param head.0.size head.0.source address.0 mask.0 tail.0 tail.1)
 
 unfoldable pub line_c_at : {w : ℕ} → List ℕ → Result (Link × Beat w) LineFault
 line_c_at {w} bytes = do
   head ← head_at bytes
   address ← field_at 8 head.1
   tail ← tail_at w address.1
-  x ← made_c head.0.opcode head.0.param head.0.size head.0.source address.0 tail.0 tail.1
-  Ok (linked head.0.link (beat.C x))
+  on_c head.0.link (made_c head.0.opcode head.0.param head.0.size head.0.source address.0 tail.0 tail.1)
 
 unfoldable pub line_d_at : {w : ℕ} → List ℕ → Result (Link × Beat w) LineFault
 line_d_at {w} bytes = do
@@ -141,8 +161,7 @@ line_d_at {w} bytes = do
   sink ← field_at 2 head.1
   denied ← bit_field_at sink.1
   tail ← tail_at w denied.1
-  x ← made_d head.0.opcode head.0.param head.0.size head.0.source sink.0 denied.0 tail.0 tail.1
-  Ok (linked head.0.link (beat.D x))
+  on_d head.0.link (made_d head.0.opcode head.0.param head.0.size head.0.source sink.0 denied.0 tail.0 tail.1)
 
 unfoldable pub line_e_at : {w : ℕ} → List ℕ → Result (Link × Beat w) LineFault
 line_e_at bytes = do

@@ -8,7 +8,8 @@ ghost use Rattle.tl_beat.specs.code.FromLeft.{value_or_16, data_at, tail_at, Giv
 ghost use Rattle.tl_beat.specs.statement.Width.{IsWidth};
 
 use crate::fault::LineFault;
-use crate::lanes::eight_lanes;
+use crate::lanes::{eight_digit_number, eight_lanes};
+use std::simd::u8x8;
 
 /// The value of each byte as a digit, or 16 where it is none.
 const VALUES: [u8; 256] = [
@@ -117,20 +118,12 @@ pub(crate) fn byte(bytes: &[u8]) -> Result<(u8, &[u8]), LineFault>
 fn eight_digits(bytes: &[u8]) -> Option<(u32, &[u8])>
     ensures { IfSome result (λ read. field_at 8 bytes.now ≡ Ok (read.0, read.1.now)) }
 {
-    match bytes {
-        [a, b, c, d, e, f, g, h, b' ', rest @ ..] => {
-            let (a, b, c, d) = (value(*a), value(*b), value(*c), value(*d));
-            let (e, f, g, h) = (value(*e), value(*f), value(*g), value(*h));
-            let first_are = (a < 16) & (b < 16) & (c < 16) & (d < 16);
-            let last_are = (e < 16) & (f < 16) & (g < 16) & (h < 16);
-            if !(first_are & last_are) {
-                return None;
-            }
-            let bytes = [16 * a + b, 16 * c + d, 16 * e + f, 16 * g + h];
-            Some((u32::from_be_bytes(bytes), rest))
-        }
-        _ => None,
-    }
+    let (field, behind) = bytes.split_first_chunk::<8>()?;
+    let [b' ', rest @ ..] = behind else {
+        return None;
+    };
+    let number = eight_digit_number(field)?;
+    Some((number, rest))
 }
 
 /// A number of eight digits and a space, from left to right.
@@ -228,7 +221,7 @@ fn copy_eight(lanes: &mut [u8], at: usize, eight: &[u8; 8])
     requires { at + 8 ≤ length lanes.old }
     ensures { lanes.new ≡ take at lanes.old ++ (eight.now ++ drop (at + 8) lanes.old) }
 {
-    lanes[at..at + 8].copy_from_slice(eight);
+    u8x8::from_array(*eight).copy_to_slice(&mut lanes[at..at + 8]);
 }
 
 /// Eight lanes at a time.

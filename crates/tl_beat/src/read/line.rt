@@ -1,7 +1,8 @@
 //! Reading the line of each channel.
 
-ghost use Rattle.std.specs.Prelude.{◌≡◌, ◌<◌, ◌/◌, ◌^◌, ℕ, List, IfOk, IfSome, Ok, drop};
+ghost use Rattle.std.specs.Prelude.{◌≡◌, ◌<◌, ◌/◌, ◌^◌, ℕ, List, IfErr, IfOk, IfSome, Ok, drop};
 ghost use Rattle.tl_beat.specs.code.FromLeft.{head_at, line_a_at, line_b_at, line_c_at, line_d_at, line_e_at, Gives};
+ghost use Rattle.tl_beat.specs.code.FromLeft.{on_a, on_b, on_c, on_d, placed};
 ghost use Rattle.tl_beat.specs.code.Reading.{made_a, made_b, made_c, made_d, at_most};
 ghost use Rattle.tl_beat.specs.statement.Width.{IsWidth};
 
@@ -103,13 +104,16 @@ fn at_most(param: u8, greatest: u8) -> Result<u8, LineFault>
 }
 
 #[inline(always)]
-fn beat_a<const W: usize>(
+fn place_a<const W: usize>(
     head: Head,
     address: u32,
     mask: u16,
     tail: (Option<[u8; W]>, bool),
-) -> Result<BeatA<W>, LineFault>
-    ensures { result ≡ made_a head.opcode head.param head.size head.source address mask tail.entry.0 tail.entry.1 }
+    beat: &mut Beat<W>,
+) -> Result<Link, LineFault>
+    ensures read { placed result beat.new ≡ on_a head.link
+        (made_a head.opcode head.param head.size head.source address mask tail.entry.0 tail.entry.1) }
+    ensures unchanged { IfErr result (λ _. beat.new ≡ beat.old) }
 {
     let opcode = OpA::with_code(head.opcode).ok_or(LineFault::F4)?;
     let param = at_most(head.param, 7)?;
@@ -117,7 +121,7 @@ fn beat_a<const W: usize>(
     if lanes.is_some() != opcode.carries_data() {
         return Err(LineFault::F6);
     }
-    Ok(BeatA {
+    *beat = Beat::A(BeatA {
         opcode,
         param,
         size: head.size,
@@ -126,17 +130,21 @@ fn beat_a<const W: usize>(
         mask,
         lanes,
         corrupt,
-    })
+    });
+    Ok(Link(head.link))
 }
 
 #[inline(always)]
-fn beat_b<const W: usize>(
+fn place_b<const W: usize>(
     head: Head,
     address: u32,
     mask: u16,
     tail: (Option<[u8; W]>, bool),
-) -> Result<BeatB<W>, LineFault>
-    ensures { result ≡ made_b head.opcode head.param head.size head.source address mask tail.entry.0 tail.entry.1 }
+    beat: &mut Beat<W>,
+) -> Result<Link, LineFault>
+    ensures read { placed result beat.new ≡ on_b head.link
+        (made_b head.opcode head.param head.size head.source address mask tail.entry.0 tail.entry.1) }
+    ensures unchanged { IfErr result (λ _. beat.new ≡ beat.old) }
 {
     let opcode = OpB::with_code(head.opcode).ok_or(LineFault::F4)?;
     let param = at_most(head.param, 7)?;
@@ -144,7 +152,7 @@ fn beat_b<const W: usize>(
     if lanes.is_some() != opcode.carries_data() {
         return Err(LineFault::F6);
     }
-    Ok(BeatB {
+    *beat = Beat::B(BeatB {
         opcode,
         param,
         size: head.size,
@@ -153,16 +161,20 @@ fn beat_b<const W: usize>(
         mask,
         lanes,
         corrupt,
-    })
+    });
+    Ok(Link(head.link))
 }
 
 #[inline(always)]
-fn beat_c<const W: usize>(
+fn place_c<const W: usize>(
     head: Head,
     address: u32,
     tail: (Option<[u8; W]>, bool),
-) -> Result<BeatC<W>, LineFault>
-    ensures { result ≡ made_c head.opcode head.param head.size head.source address tail.entry.0 tail.entry.1 }
+    beat: &mut Beat<W>,
+) -> Result<Link, LineFault>
+    ensures read { placed result beat.new ≡ on_c head.link
+        (made_c head.opcode head.param head.size head.source address tail.entry.0 tail.entry.1) }
+    ensures unchanged { IfErr result (λ _. beat.new ≡ beat.old) }
 {
     let opcode = OpC::with_code(head.opcode).ok_or(LineFault::F4)?;
     let param = at_most(head.param, 7)?;
@@ -170,7 +182,7 @@ fn beat_c<const W: usize>(
     if lanes.is_some() != opcode.carries_data() {
         return Err(LineFault::F6);
     }
-    Ok(BeatC {
+    *beat = Beat::C(BeatC {
         opcode,
         param,
         size: head.size,
@@ -178,17 +190,21 @@ fn beat_c<const W: usize>(
         address,
         lanes,
         corrupt,
-    })
+    });
+    Ok(Link(head.link))
 }
 
 #[inline(always)]
-fn beat_d<const W: usize>(
+fn place_d<const W: usize>(
     head: Head,
     sink: u8,
     denied: bool,
     tail: (Option<[u8; W]>, bool),
-) -> Result<BeatD<W>, LineFault>
-    ensures { result ≡ made_d head.opcode head.param head.size head.source sink denied tail.entry.0 tail.entry.1 }
+    beat: &mut Beat<W>,
+) -> Result<Link, LineFault>
+    ensures read { placed result beat.new ≡ on_d head.link
+        (made_d head.opcode head.param head.size head.source sink denied tail.entry.0 tail.entry.1) }
+    ensures unchanged { IfErr result (λ _. beat.new ≡ beat.old) }
 {
     let opcode = OpD::with_code(head.opcode).ok_or(LineFault::F4)?;
     let param = at_most(head.param, 3)?;
@@ -196,7 +212,7 @@ fn beat_d<const W: usize>(
     if lanes.is_some() != opcode.carries_data() {
         return Err(LineFault::F6);
     }
-    Ok(BeatD {
+    *beat = Beat::D(BeatD {
         opcode,
         param,
         size: head.size,
@@ -205,74 +221,93 @@ fn beat_d<const W: usize>(
         denied,
         lanes,
         corrupt,
-    })
+    });
+    Ok(Link(head.link))
 }
 
-/// The line of a beat of channel A, without its line feed.
+/// The line of a beat of channel A, without its line feed, read over a beat: its link.
 #[tactic(auto, unfolding(crate::specs::code::FromLeft::line_a_at))]
 #[inline(always)]
-pub(crate) fn line_a<const W: usize>(head: Head, rest: &[u8]) -> Result<(Link, Beat<W>), LineFault>
+pub(crate) fn line_a<const W: usize>(
+    head: Head,
+    rest: &[u8],
+    beat: &mut Beat<W>,
+) -> Result<Link, LineFault>
     requires { IsWidth W }
-    ensures { (bytes : List ℕ) → head_at bytes ≡ Ok (head, rest.now) → result ≡ line_a_at bytes }
+    ensures read { (bytes : List ℕ) → head_at bytes ≡ Ok (head, rest.now) → placed result beat.new ≡ line_a_at bytes }
+    ensures unchanged { IfErr result (λ _. beat.new ≡ beat.old) }
 {
     let (address, rest) = address(rest)?;
     let (mask, rest) = mask::<W>(rest)?;
     let tail = tail(rest)?;
-    let beat = beat_a(head, address, mask, tail)?;
-    Ok((Link(head.link), Beat::A(beat)))
+    place_a(head, address, mask, tail, beat)
 }
 
-/// The line of a beat of channel B, without its line feed.
+/// The line of a beat of channel B, without its line feed, read over a beat: its link.
 #[tactic(auto, unfolding(crate::specs::code::FromLeft::line_b_at))]
 #[inline(always)]
-pub(crate) fn line_b<const W: usize>(head: Head, rest: &[u8]) -> Result<(Link, Beat<W>), LineFault>
+pub(crate) fn line_b<const W: usize>(
+    head: Head,
+    rest: &[u8],
+    beat: &mut Beat<W>,
+) -> Result<Link, LineFault>
     requires { IsWidth W }
-    ensures { (bytes : List ℕ) → head_at bytes ≡ Ok (head, rest.now) → result ≡ line_b_at bytes }
+    ensures read { (bytes : List ℕ) → head_at bytes ≡ Ok (head, rest.now) → placed result beat.new ≡ line_b_at bytes }
+    ensures unchanged { IfErr result (λ _. beat.new ≡ beat.old) }
 {
     let (address, rest) = address(rest)?;
     let (mask, rest) = mask::<W>(rest)?;
     let tail = tail(rest)?;
-    let beat = beat_b(head, address, mask, tail)?;
-    Ok((Link(head.link), Beat::B(beat)))
+    place_b(head, address, mask, tail, beat)
 }
 
-/// The line of a beat of channel C, without its line feed.
+/// The line of a beat of channel C, without its line feed, read over a beat: its link.
 #[tactic(auto, unfolding(crate::specs::code::FromLeft::line_c_at))]
 #[inline(always)]
-pub(crate) fn line_c<const W: usize>(head: Head, rest: &[u8]) -> Result<(Link, Beat<W>), LineFault>
+pub(crate) fn line_c<const W: usize>(
+    head: Head,
+    rest: &[u8],
+    beat: &mut Beat<W>,
+) -> Result<Link, LineFault>
     requires { IsWidth W }
-    ensures { (bytes : List ℕ) → head_at bytes ≡ Ok (head, rest.now) → result ≡ line_c_at bytes }
+    ensures read { (bytes : List ℕ) → head_at bytes ≡ Ok (head, rest.now) → placed result beat.new ≡ line_c_at bytes }
+    ensures unchanged { IfErr result (λ _. beat.new ≡ beat.old) }
 {
     let (address, rest) = address(rest)?;
     let tail = tail(rest)?;
-    let beat = beat_c(head, address, tail)?;
-    Ok((Link(head.link), Beat::C(beat)))
+    place_c(head, address, tail, beat)
 }
 
-/// The line of a beat of channel D, without its line feed.
+/// The line of a beat of channel D, without its line feed, read over a beat: its link.
 #[tactic(auto, unfolding(crate::specs::code::FromLeft::line_d_at))]
 #[inline(always)]
-pub(crate) fn line_d<const W: usize>(head: Head, rest: &[u8]) -> Result<(Link, Beat<W>), LineFault>
+pub(crate) fn line_d<const W: usize>(
+    head: Head,
+    rest: &[u8],
+    beat: &mut Beat<W>,
+) -> Result<Link, LineFault>
     requires { IsWidth W }
-    ensures { (bytes : List ℕ) → head_at bytes ≡ Ok (head, rest.now) → result ≡ line_d_at bytes }
+    ensures read { (bytes : List ℕ) → head_at bytes ≡ Ok (head, rest.now) → placed result beat.new ≡ line_d_at bytes }
+    ensures unchanged { IfErr result (λ _. beat.new ≡ beat.old) }
 {
     let (sink, rest) = byte(rest)?;
     let (denied, rest) = bit_field(rest)?;
     let tail = tail(rest)?;
-    let beat = beat_d(head, sink, denied, tail)?;
-    Ok((Link(head.link), Beat::D(beat)))
+    place_d(head, sink, denied, tail, beat)
 }
 
-/// The line of a beat of channel E, without its line feed.
+/// The line of a beat of channel E, without its line feed, read over a beat: its link.
 #[tactic(auto, unfolding(crate::specs::code::FromLeft::line_e_at))]
 #[inline(always)]
-pub(crate) fn line_e<const W: usize>(bytes: &[u8]) -> Result<(Link, Beat<W>), LineFault>
-    ensures { result ≡ line_e_at bytes.now }
+pub(crate) fn line_e<const W: usize>(bytes: &[u8], beat: &mut Beat<W>) -> Result<Link, LineFault>
+    ensures read { placed result beat.new ≡ line_e_at bytes.now }
+    ensures unchanged { IfErr result (λ _. beat.new ≡ beat.old) }
 {
     let (link, rest) = byte(bytes)?;
     let (sink, rest) = digits(without_letter(rest), 2)?;
     if !rest.is_empty() {
         return Err(LineFault::F3);
     }
-    Ok((Link(link), Beat::E(BeatE { sink: sink as u8 })))
+    *beat = Beat::E(BeatE { sink: sink as u8 });
+    Ok(Link(link))
 }

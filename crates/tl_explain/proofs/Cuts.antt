@@ -1,5 +1,5 @@
 -- The fields of a beat line stand at their places.
-use Rattle.std.proofs.Common.{get_or-append-add, ◌≡◌, ℕ, ◌+◌, ◌-◌, ◌/◌, ◌<◌, List, [], ◌∷◌, ◌++◌, length, take}
+use Rattle.std.proofs.Common.{get_or-append-add, ◌≡◌, ℕ, ◌+◌, ◌-◌, ◌/◌, List, [], ◌∷◌, ◌++◌, length, take}
 use Rattle.std.proofs.Common.{drop, refl, ap, ◌∙◌, arith, append_assoc, length-append, codes, inl, inr}
 use Rattle.std.specs.Prelude.{slice_range, unwrap_or, Option, Bool, true, false, slice_index}
 use Rattle.std.proofs.lemmas.List.{length-drop, take_all}
@@ -7,13 +7,13 @@ use Rattle.std.proofs.Math.Seq.{take-append_seam}
 use Rattle.tl_beat.specs.statement.Digits.{digits, bit_text}
 use Rattle.tl_beat.specs.statement.Line.{spaced}
 use Rattle.tl_beat.specs.statement.Width.{IsWidth}
-use Rattle.tl_explain.specs.declared.columns.TheConstants.{FIRST_FIELD, PARAM, BEHIND_ADDRESS, SINK, DENIED}
+use Rattle.tl_explain.specs.declared.columns.TheConstants.{FIRST_FIELD, PARAM, BEHIND_ADDRESS}
 use Rattle.tl_explain.specs.declared.columns.TheConstants.{BEHIND_DENIED}
-use Rattle.tl_explain.specs.code.Cuts.{address_text, head_text, size_and_source, tail_text}
+use Rattle.tl_explain.specs.code.Cuts.{address_text, head_text, sink_text, size_and_source, tail_text}
 use Rattle.tl_explain.specs.code.Cuts.{request_text, release_text, response_text, acknowledgement_text}
 use Rattle.tl_explain.specs.statement.Text.{param_text}
 
-to_end : (k : ℕ) (line : List ℕ) → slice_range line k (length line) ≡ drop k line
+pub to_end : (k : ℕ) (line : List ℕ) → slice_range line k (length line) ≡ drop k line
 to_end k line = take_all (length line - k) (drop k line) (omega (arith, length-drop k line))
 
 -- data, corrupt and the line feed
@@ -24,19 +24,6 @@ tail_of_three d a b =
     let front : length (d ++ a ∷ b ∷ 10 ∷ []) - 3 ≡ length d = omega (arith, length-append d (a ∷ b ∷ 10 ∷ [])) in
     let back : length (d ++ a ∷ b ∷ 10 ∷ []) - 2 ≡ length d + 1 = omega (arith, length-append d (a ∷ b ∷ 10 ∷ [])) in
     rw (front, back, take-append_seam d (a ∷ b ∷ 10 ∷ []), get_or-append-add d (a ∷ b ∷ 10 ∷ []) 1 0) refl
-
-first_of : (tail : List ℕ) → 0 < length tail → take 1 tail ≡ slice_index tail 0 ∷ []
-first_of [] some = absurd (omega arith)
-first_of (c ∷ cs) some = refl
-
--- data of one byte, corrupt and the line feed
-pub tail_of_four : (tail : List ℕ) → length tail ≡ 4
-    → tail_text tail ≡ codes " data=" ++ slice_index tail 0 ∷ (codes " corrupt=" ++ slice_index tail 2 ∷ 10 ∷ [])
-unfolding tail_text
-tail_of_four tail four =
-    let front : length tail - 3 ≡ 1 = omega arith in
-    let back : length tail - 2 ≡ 2 = omega arith in
-    rw (front, back, first_of tail (omega arith)) refl
 
 tail_is : (d : List ℕ) (bit : Bool) → tail_text ((d ++ 32 ∷ bit_text bit) ++ 10 ∷ []) ≡ codes
     " data=" ++ (d ++ (codes " corrupt=" ++ (bit_text bit ++ 10 ∷ [])))
@@ -57,12 +44,12 @@ head_then line name param rest =
 request_then : (m : ℕ) (line name : List ℕ) (param : Option (List ℕ))
     → request_text m line name param ≡ take FIRST_FIELD
     line ++ (name ++ (32 ∷ (unwrap_or param (slice_index line PARAM ∷ [])
-    ++ (size_and_source line (address_text line [])
+    ++ (address_text line
     ++ (codes " mask=" ++ (slice_range line BEHIND_ADDRESS (BEHIND_ADDRESS + m) ++ tail_text
     (drop (BEHIND_ADDRESS + m + 1) line)))))))
 unfolding request_text
 request_then m line name param =
-    four_parts (head_text line name param) (size_and_source line (address_text line [])) (codes " mask=")
+    four_parts (head_text line name param) (address_text line) (codes " mask=")
     (slice_range line BEHIND_ADDRESS (BEHIND_ADDRESS + m))
     (tail_text (slice_range line (BEHIND_ADDRESS + m + 1) (length line)))
     ∙ head_then line name param _ ∙ rw (to_end (BEHIND_ADDRESS + m + 1) line) refl
@@ -112,7 +99,7 @@ request_is w (inr (inr sixteen)) = rw sixteen request_four
 release_then : (line name : List ℕ) (param : Option (List ℕ))
     → release_text line name param ≡ take FIRST_FIELD
     line ++ (name ++ (32 ∷ (unwrap_or param (slice_index line PARAM ∷ [])
-    ++ (size_and_source line (address_text line []) ++ tail_text (drop BEHIND_ADDRESS line)))))
+    ++ (address_text line ++ tail_text (drop BEHIND_ADDRESS line)))))
 unfolding release_text
 release_then line name param = append_assoc (head_text line name param) _ _ ∙ head_then line name param _ ∙ rw
     (to_end BEHIND_ADDRESS line) refl
@@ -134,8 +121,7 @@ release_is link opcode name known param size source address d corrupt =
 response_then : (line name : List ℕ) (param : Option (List ℕ))
     → response_text line name param ≡ take FIRST_FIELD
     line ++ (name ++ (32 ∷ (unwrap_or param (slice_index line PARAM ∷ [])
-    ++ (size_and_source line (codes " sink=" ++ slice_index line SINK ∷ slice_index line (SINK + 1)
-    ∷ (codes " denied=" ++ slice_index line DENIED ∷ [])) ++ tail_text (drop BEHIND_DENIED line)))))
+    ++ (sink_text line ++ tail_text (drop BEHIND_DENIED line)))))
 unfolding response_text
 response_then line name param = append_assoc (head_text line name param) _ _ ∙ head_then line name param _ ∙ rw
     (to_end BEHIND_DENIED line) refl
@@ -149,7 +135,7 @@ pub response_is : (link opcode : ℕ) (name : List ℕ) (known : Option (List �
     ∷ (codes "source=" ++ digits 2 source) ∷ (codes "sink=" ++ digits 2 sink)
     ∷ (codes "denied=" ++ bit_text denied) ∷ (codes "data=" ++ d) ∷ (codes "corrupt=" ++ bit_text corrupt) ∷ []) ++ 10
     ∷ []
-unfolding digits spaced size_and_source
+unfolding digits spaced size_and_source sink_text
 response_is link opcode name known param size source sink false d corrupt =
     response_then (spaced (digits 2 link ∷ (68 ∷ []) ∷ digits 1 opcode ∷ digits 1 param ∷ digits 1 size ∷ digits 2
     source ∷ digits 2 sink ∷ (48 ∷ []) ∷ d

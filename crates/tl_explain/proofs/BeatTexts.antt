@@ -1,5 +1,6 @@
 -- The text of a beat, from the line that spells it.
-use Rattle.std.proofs.Common.{◌≡◌, ℕ, ◌+◌, ◌-◌, ◌≤◌, ◌/◌, List, [], ◌∷◌, ◌++◌, length, refl, arith, length-append, inl, inr}
+use Rattle.std.proofs.Common.{◌≡◌, ℕ, ◌+◌, ◌-◌, ◌≤◌, ◌/◌, List, [], ◌∷◌, ◌++◌, length, refl, arith}
+use Rattle.std.proofs.Common.{length-append, inl, inr}
 use Rattle.std.specs.Prelude.{Bool, true, false, Option, None, Some}
 use Rattle.tl_beat.specs.declared.beat.Link.{Link}
 use Rattle.tl_beat.specs.declared.beat.BeatA.{BeatA}
@@ -68,7 +69,9 @@ data_of w None are = inl refl
 data_of w (Some lanes) are = inr (omega (arith, length-lane_digits lanes, are.0))
 
 request_data : (w : ℕ) → IsWidth w → (letter link opcode param size source address mask : ℕ) (d : List ℕ)
-    (corrupt : Bool) → length (request_line (w / 4) letter link opcode param size source address mask d corrupt) - (BEHIND_ADDRESS + w / 4 + 1 + DATA_END) ≡ length d
+    (corrupt : Bool)
+    → length (request_line (w / 4) letter link opcode param size source address mask d corrupt)
+    - (BEHIND_ADDRESS + w / 4 + 1 + DATA_END) ≡ length d
 unfolding digits spaced
 request_data w (inl four) letter link opcode param size source address mask d corrupt =
     rw four (omega (arith, end_length d corrupt))
@@ -112,7 +115,8 @@ data_c {w} line link x s =
 
 response_data : (link opcode param size source sink : ℕ) (denied : Bool) (d : List ℕ) (corrupt : Bool)
     → length (spaced (digits 2 link ∷ (68 ∷ []) ∷ digits 1 opcode ∷ digits 1 param ∷ digits 1 size ∷ digits 2
-    source ∷ digits 2 sink ∷ bit_text denied ∷ d ∷ bit_text corrupt ∷ []) ++ 10 ∷ []) - (BEHIND_DENIED + DATA_END) ≡ length d
+    source ∷ digits 2 sink ∷ bit_text denied ∷ d ∷ bit_text corrupt ∷ []) ++ 10 ∷ [])
+    - (BEHIND_DENIED + DATA_END) ≡ length d
 unfolding digits spaced
 response_data link opcode param size source sink false d corrupt = omega (arith, end_length d corrupt)
 response_data link opcode param size source sink true d corrupt = omega (arith, end_length d corrupt)

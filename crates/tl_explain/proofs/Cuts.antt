@@ -1,19 +1,19 @@
 -- The fields of a beat line stand at their places.
-use Rattle.std.proofs.Common.{get_or-append-add, ◌≡◌, ℕ, ◌+◌, ◌-◌, ◌/◌, List, [], ◌∷◌, ◌++◌, length, take}
+use Rattle.std.proofs.Common.{◌≡◌, ℕ, ◌+◌, ◌-◌, ◌/◌, List, [], ◌∷◌, ◌++◌, length, take}
 use Rattle.std.proofs.Common.{drop, refl, ap, ◌∙◌, arith, append_assoc, length-append, codes, inl, inr}
 use Rattle.std.specs.Prelude.{slice_range, unwrap_or, Option, Bool, true, false, slice_index}
 use Rattle.std.proofs.lemmas.List.{length-drop, take_all}
-use Rattle.std.proofs.Math.Seq.{take-append_seam}
+use Rattle.std.proofs.Math.Seq.{drop-append-add, take-append_seam}
 use Rattle.tl_beat.specs.statement.Digits.{digits, bit_text}
 use Rattle.tl_beat.specs.statement.Line.{spaced}
 use Rattle.tl_beat.specs.statement.Width.{IsWidth}
 use Rattle.tl_explain.specs.declared.columns.TheConstants.{FIRST_FIELD, PARAM, BEHIND_ADDRESS}
 use Rattle.tl_explain.specs.declared.columns.TheConstants.{BEHIND_DENIED}
-use Rattle.tl_explain.specs.code.Cuts.{address_text, head_text, sink_text, size_and_source, tail_text}
+use Rattle.tl_explain.specs.code.Cuts.{address_text, head_text, part, sink_text, size_and_source, tail_text}
 use Rattle.tl_explain.specs.code.Cuts.{request_text, release_text, response_text, acknowledgement_text}
 use Rattle.tl_explain.specs.statement.Text.{param_text}
 
-pub to_end : (k : ℕ) (line : List ℕ) → slice_range line k (length line) ≡ drop k line
+to_end : (k : ℕ) (line : List ℕ) → slice_range line k (length line) ≡ drop k line
 to_end k line = take_all (length line - k) (drop k line) (omega (arith, length-drop k line))
 
 -- data, corrupt and the line feed
@@ -23,7 +23,7 @@ unfolding tail_text
 tail_of_three d a b =
     let front : length (d ++ a ∷ b ∷ 10 ∷ []) - 3 ≡ length d = omega (arith, length-append d (a ∷ b ∷ 10 ∷ [])) in
     let back : length (d ++ a ∷ b ∷ 10 ∷ []) - 2 ≡ length d + 1 = omega (arith, length-append d (a ∷ b ∷ 10 ∷ [])) in
-    rw (front, back, take-append_seam d (a ∷ b ∷ 10 ∷ []), get_or-append-add d (a ∷ b ∷ 10 ∷ []) 1 0) refl
+    rw (front, back, take-append_seam d (a ∷ b ∷ 10 ∷ []), drop-append-add d (a ∷ b ∷ 10 ∷ []) 1) refl
 
 tail_is : (d : List ℕ) (bit : Bool) → tail_text ((d ++ 32 ∷ bit_text bit) ++ 10 ∷ []) ≡ codes
     " data=" ++ (d ++ (codes " corrupt=" ++ (bit_text bit ++ 10 ∷ [])))
@@ -45,12 +45,12 @@ request_then : (m : ℕ) (line name : List ℕ) (param : Option (List ℕ))
     → request_text m line name param ≡ take FIRST_FIELD
     line ++ (name ++ (32 ∷ (unwrap_or param (slice_index line PARAM ∷ [])
     ++ (address_text line
-    ++ (codes " mask=" ++ (slice_range line BEHIND_ADDRESS (BEHIND_ADDRESS + m) ++ tail_text
+    ++ (codes " mask=" ++ (part line BEHIND_ADDRESS m ++ tail_text
     (drop (BEHIND_ADDRESS + m + 1) line)))))))
 unfolding request_text
 request_then m line name param =
     four_parts (head_text line name param) (address_text line) (codes " mask=")
-    (slice_range line BEHIND_ADDRESS (BEHIND_ADDRESS + m))
+    (part line BEHIND_ADDRESS m)
     (tail_text (slice_range line (BEHIND_ADDRESS + m + 1) (length line)))
     ∙ head_then line name param _ ∙ rw (to_end (BEHIND_ADDRESS + m + 1) line) refl
 

@@ -4,7 +4,7 @@ use Rattle.std.proofs.lemmas.List.{length-take-le, take-take, take-append-drop}
 use Rattle.std.proofs.Math.Seq.{take-append-add}
 
 -- a place among the first k bytes that are written
-short_of : (at k n : ℕ) (old mid bytes : List ℕ) → n ≤ k → at ≤ length old
+pub short_of : (at k n : ℕ) (old mid bytes : List ℕ) → n ≤ k → at ≤ length old
     → take (at + k) mid ≡ take at old ++ take k bytes → take (at + n) mid ≡ take at old ++ take n bytes
 short_of at k n old mid bytes few inside first =
     let start : at + n ≡ length (take at old) + n = ap (λ m. m + n) (sym (length-take-le at old inside)) in

@@ -1,13 +1,14 @@
 //! Writes a beat line as a readable line. The digits are those of the beat line.
 
-ghost use Rattle.std.specs.Prelude.{◌≡◌, ◌+◌, ◌*◌, ◌≤◌, ◌/◌, ◌++◌, length, take, OnOk, option_map};
-ghost use Rattle.std.specs.Prelude.{unwrap_or, slice_range, ◌<◌, ◌-◌, [], ◌∷◌};
+ghost use Rattle.std.specs.Prelude.{◌≡◌, ◌+◌, ◌-◌, ◌*◌, ◌/◌, ◌<◌, ◌≤◌, ◌++◌, [], ◌∷◌, length, take, OnOk};
+ghost use Rattle.std.specs.Prelude.{option_map, unwrap_or};
 ghost use Rattle.tl_beat.specs.declared.beat.Link.{Link};
 ghost use Rattle.tl_beat.specs.statement.Line.{Spells};
 ghost use Rattle.tl_beat.specs.statement.Width.{IsWidth};
 ghost use Rattle.tl_explain.specs.statement.Text.{text_of};
-ghost use Rattle.tl_explain.specs.code.Cuts.{IsShort, HasData, acknowledgement_text, address_text, head_text};
-ghost use Rattle.tl_explain.specs.code.Cuts.{release_text, request_text, response_text, sink_text, size_and_source, tail_text};
+ghost use Rattle.tl_explain.specs.code.Cuts.{HasData, IsShort, acknowledgement_text, address_text, head_text, part};
+ghost use Rattle.tl_explain.specs.code.Cuts.{release_text, request_text, response_text, sink_text, size_and_source};
+ghost use Rattle.tl_explain.specs.code.Cuts.{tail_text};
 
 use crate::columns::{
     ADDRESS, BEHIND_ADDRESS, BEHIND_DENIED, CORRUPT, DATA_END, DENIED, FIRST_FIELD, PARAM, SINK,
@@ -20,18 +21,19 @@ use tl_beat::beat::Beat;
 /// At least as many bytes as a readable line has.
 const ROOM: usize = 128;
 
-/// The `K` bytes at a place.
+/// The `K` bytes from a place on.
 #[inline(always)]
 fn bytes_at<const K: usize>(bytes: &[u8], at: usize) -> [u8; K]
     requires { at + K ≤ length bytes.now }
-    ensures { result ≡ slice_range bytes.now at (at + K) }
+    ensures { result ≡ part bytes.now at K }
 {
     let mut chunk = [0; K];
     chunk.copy_from_slice(&bytes[at..at + K]);
     chunk
 }
 
-/// Writes bytes at a place, and answers the place behind them.
+/// Writes bytes at a place, and answers the place behind them. The bytes are a value, as a copy from a slice
+/// to a slice is made a test of whether the two overlap.
 #[inline(always)]
 fn put<const K: usize>(room: &mut [u8], at: usize, bytes: [u8; K]) -> usize
     requires room { at + K ≤ length room.old }
@@ -41,18 +43,6 @@ fn put<const K: usize>(room: &mut [u8], at: usize, bytes: [u8; K]) -> usize
 {
     room[at..at + K].copy_from_slice(&bytes);
     at + K
-}
-
-/// The same of one byte.
-#[inline(always)]
-fn put_byte(room: &mut [u8], at: usize, byte: u8) -> usize
-    requires room { at + 1 ≤ length room.old }
-    ensures text { take result room.new ≡ take at room.old ++ byte ∷ [] }
-    ensures end { result ≡ at + 1 }
-    ensures len { length room.new ≡ length room.old }
-{
-    room[at] = byte;
-    at + 1
 }
 
 /// The same of `K` to `2 * K` bytes, by the first `K` and the last `K`, which are copied without a call.
@@ -65,8 +55,10 @@ fn put_halves<const K: usize>(room: &mut [u8], at: usize, bytes: &[u8]) -> usize
     ensures len { length room.new ≡ length room.old }
 {
     let back = bytes.len() - K;
-    put(room, at, bytes_at::<K>(bytes, 0));
-    put(room, at + back, bytes_at::<K>(bytes, back))
+    let first = bytes_at::<K>(bytes, 0);
+    let last = bytes_at::<K>(bytes, back);
+    put(room, at, first);
+    put(room, at + back, last)
 }
 
 /// The same of a name, by its halves.
@@ -93,14 +85,28 @@ fn put_name(room: &mut [u8], at: usize, name: &str) -> usize
 fn put_param(room: &mut [u8], at: usize, digit: u8, param: Option<&str>) -> usize
     requires param { IsShort (option_map (λ s. s.now) param) }
     requires room { at + 13 ≤ length room.old }
-    ensures text { take result room.new ≡ take at room.old ++ unwrap_or (option_map (λ s. s.now) param.entry) (digit ∷ []) }
+    ensures text { take result room.new
+        ≡ take at room.old ++ unwrap_or (option_map (λ s. s.now) param.entry) (digit ∷ []) }
     ensures end { result ≤ at + 13 }
     ensures len { length room.new ≡ length room.old }
 {
     match param {
         Some(name) => put_name(room, at, name),
-        None => put_byte(room, at, digit),
+        None => put(room, at, [digit]),
     }
+}
+
+/// Link and channel. The bytes behind them are copied too, as eight bytes are copied at once.
+#[inline(always)]
+fn put_front(room: &mut [u8], line: &[u8]) -> usize
+    requires line { FIRST_FIELD + 3 ≤ length line.now }
+    requires room { 8 ≤ length room.old }
+    ensures text { take result room.new ≡ take FIRST_FIELD line.now }
+    ensures end { result ≡ FIRST_FIELD }
+    ensures len { length room.new ≡ length room.old }
+{
+    put(room, 0, bytes_at::<8>(line, 0));
+    FIRST_FIELD
 }
 
 /// Link, channel, name and param.
@@ -115,9 +121,9 @@ fn put_head(room: &mut [u8], line: &[u8], name: &str, param: Option<&str>) -> us
     ensures end { result ≤ 33 }
     ensures len { length room.new ≡ ROOM }
 {
-    let at = put(room, 0, bytes_at::<FIRST_FIELD>(line, 0));
+    let at = put_front(room, line);
     let at = put_name(room, at, name);
-    let at = put_byte(room, at, b' ');
+    let at = put(room, at, [b' ']);
     put_param(room, at, line[PARAM], param)
 }
 
@@ -132,7 +138,7 @@ fn put_size_and_source(room: &mut [u8], at: usize, line: &[u8]) -> usize
     ensures len { length room.new ≡ length room.old }
 {
     let at = put(room, at, *b" size=");
-    let at = put_byte(room, at, line[SIZE]);
+    let at = put(room, at, bytes_at::<1>(line, SIZE));
     let at = put(room, at, *b" source=");
     put(room, at, bytes_at::<2>(line, SOURCE))
 }
@@ -166,7 +172,7 @@ fn put_sink(room: &mut [u8], at: usize, line: &[u8]) -> usize
     let at = put(room, at, *b" sink=");
     let at = put(room, at, bytes_at::<2>(line, SINK));
     let at = put(room, at, *b" denied=");
-    put_byte(room, at, line[DENIED])
+    put(room, at, bytes_at::<1>(line, DENIED))
 }
 
 /// The data, or the dash of none: a number of bytes that the compiler knows is copied without a call.
@@ -180,9 +186,9 @@ fn put_data<const W: usize>(room: &mut [u8], at: usize, bytes: &[u8]) -> usize
     ensures len { length room.new ≡ length room.old }
 {
     if bytes.len() == 1 {
-        return put_byte(room, at, bytes[0]);
+        return put(room, at, bytes_at::<1>(bytes, 0));
     }
-    put_halves::<W>(room, at, bytes)
+    put_halves::<W>(room, at, &bytes[..2 * W])
 }
 
 /// Data and the corrupt bit.
@@ -199,8 +205,7 @@ fn put_tail<const W: usize>(room: &mut [u8], at: usize, tail: &[u8]) -> usize
     let at = put(room, at, *b" data=");
     let at = put_data::<W>(room, at, &tail[..tail.len() - DATA_END]);
     let at = put(room, at, *b" corrupt=");
-    let at = put_byte(room, at, tail[tail.len() - CORRUPT]);
-    put_byte(room, at, b'\n')
+    put(room, at, bytes_at::<CORRUPT>(tail, tail.len() - CORRUPT))
 }
 
 /// The digits of the mask, of which the compiler knows the number.
@@ -209,7 +214,7 @@ fn put_mask<const W: usize>(room: &mut [u8], at: usize, line: &[u8]) -> usize
     requires width { IsWidth W }
     requires line { BEHIND_ADDRESS + W / 4 ≤ length line.now }
     requires room { at + 4 ≤ length room.old }
-    ensures text { take result room.new ≡ take at room.old ++ slice_range line.now BEHIND_ADDRESS (BEHIND_ADDRESS + W / 4) }
+    ensures text { take result room.new ≡ take at room.old ++ part line.now BEHIND_ADDRESS (W / 4) }
     ensures end { result ≡ at + W / 4 }
     ensures len { length room.new ≡ length room.old }
 {
@@ -303,7 +308,7 @@ fn put_acknowledgement(room: &mut [u8], line: &[u8]) -> usize
     ensures end { result ≤ ROOM }
     ensures len { length room.new ≡ ROOM }
 {
-    let at = put(room, 0, bytes_at::<FIRST_FIELD>(line, 0));
+    let at = put_front(room, line);
     let at = put(room, at, *b"GrantAck sink=");
     put(room, at, bytes_at::<3>(line, FIRST_FIELD))
 }
@@ -324,16 +329,19 @@ fn put_beat<const W: usize>(room: &mut [u8], line: &[u8], beat: &Beat<W>) -> usi
             put_request::<W>(room, line, beat.opcode.name(), param)
         }
         Beat::B(beat) => {
+            let name = beat.opcode.name();
             let param = name_on_b(beat.opcode, beat.param);
-            put_request::<W>(room, line, beat.opcode.name(), param)
+            put_request::<W>(room, line, name, param)
         }
         Beat::C(beat) => {
+            let name = beat.opcode.name();
             let param = name_on_c(beat.opcode, beat.param);
-            put_release::<W>(room, line, beat.opcode.name(), param)
+            put_release::<W>(room, line, name, param)
         }
         Beat::D(beat) => {
+            let name = beat.opcode.name();
             let param = name_on_d(beat.opcode, beat.param);
-            put_response::<W>(room, line, beat.opcode.name(), param)
+            put_response::<W>(room, line, name, param)
         }
         Beat::E(_) => put_acknowledgement(room, line),
     }

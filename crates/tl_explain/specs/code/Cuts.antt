@@ -1,6 +1,6 @@
 -- The readable line, from the places of the fields in the beat line. A field before the data stands at
 -- a fixed place.
-use Rattle.std.specs.Prelude.{⊤, ℕ, ◌≡◌, ◌⊎◌, ◌*◌, ◌+◌, ◌-◌, List, [], ◌∷◌, ◌++◌, length, take, codes}
+use Rattle.std.specs.Prelude.{⊤, ℕ, ◌≡◌, ◌⊎◌, ◌*◌, ◌+◌, ◌-◌, List, [], ◌∷◌, ◌++◌, length, take, drop, codes}
 use Rattle.std.specs.Prelude.{unwrap_or, slice_index, slice_range, ◌≤◌, Option, None, Some}
 use Rattle.tl_explain.specs.declared.columns.TheConstants.{FIRST_FIELD, PARAM, SIZE, SOURCE, ADDRESS, BEHIND_ADDRESS}
 use Rattle.tl_explain.specs.declared.columns.TheConstants.{SINK, DENIED, BEHIND_DENIED, CORRUPT, DATA_END}
@@ -14,6 +14,10 @@ IsShort (Some name) = (2 ≤ length name) × (length name ≤ 13)
 abbrev pub HasData : ℕ → ℕ → Type 0
 HasData w n = (n ≡ 1) ⊎ (n ≡ 2 * w)
 
+-- n bytes of a line, from a place on
+abbrev pub part : List ℕ → ℕ → ℕ → List ℕ
+part line at n = take n (drop at line)
+
 -- the link and the letter, a name and a param
 unfoldable pub head_text : List ℕ → List ℕ → Option (List ℕ) → List ℕ
 head_text line name param = take FIRST_FIELD line ++ name ++ 32 ∷ [] ++ unwrap_or param
@@ -21,27 +25,27 @@ head_text line name param = take FIRST_FIELD line ++ name ++ 32 ∷ [] ++ unwrap
 
 -- size and source
 unfoldable pub size_and_source : List ℕ → List ℕ
-size_and_source line = codes " size=" ++ slice_index line SIZE ∷ [] ++ codes " source=" ++ slice_range line SOURCE (SOURCE + 2)
+size_and_source line = codes " size=" ++ part line SIZE 1 ++ codes " source=" ++ part line SOURCE 2
 
 -- size, source and the eight digits of the address
 unfoldable pub address_text : List ℕ → List ℕ
-address_text line = size_and_source line ++ codes " address=" ++ slice_range line ADDRESS (ADDRESS + 8)
+address_text line = size_and_source line ++ codes " address=" ++ part line ADDRESS 8
 
 -- size, source, sink and denied
 unfoldable pub sink_text : List ℕ → List ℕ
 sink_text line =
-    size_and_source line ++ codes " sink=" ++ slice_range line SINK (SINK + 2) ++ codes " denied="
-    ++ slice_index line DENIED ∷ []
+    size_and_source line ++ codes " sink=" ++ part line SINK 2 ++ codes " denied="
+    ++ part line DENIED 1
 
 -- data and corrupt, which end a line
 unfoldable pub tail_text : List ℕ → List ℕ
 tail_text tail = codes " data=" ++ take (length tail - DATA_END)
-    tail ++ (codes " corrupt=" ++ slice_index tail (length tail - CORRUPT) ∷ 10 ∷ [])
+    tail ++ (codes " corrupt=" ++ part tail (length tail - CORRUPT) CORRUPT)
 
 unfoldable pub request_text : ℕ → List ℕ → List ℕ → Option (List ℕ) → List ℕ
 request_text mask line name param =
     head_text line name param ++ address_text line ++ codes " mask="
-    ++ slice_range line BEHIND_ADDRESS (BEHIND_ADDRESS + mask)
+    ++ part line BEHIND_ADDRESS mask
     ++ tail_text (slice_range line (BEHIND_ADDRESS + mask + 1) (length line))
 
 unfoldable pub release_text : List ℕ → List ℕ → Option (List ℕ) → List ℕ
@@ -53,5 +57,4 @@ response_text line name param =
     head_text line name param ++ sink_text line ++ tail_text (slice_range line BEHIND_DENIED (length line))
 
 unfoldable pub acknowledgement_text : List ℕ → List ℕ
-acknowledgement_text line = take FIRST_FIELD line ++ codes "GrantAck sink=" ++ slice_range line FIRST_FIELD
-    (FIRST_FIELD + 3)
+acknowledgement_text line = take FIRST_FIELD line ++ codes "GrantAck sink=" ++ part line FIRST_FIELD 3

@@ -1,5 +1,5 @@
-use Rattle.std.proofs.Common.{arith, ◌-◌, ◌+◌, ◌≡◌, take, length, ap, ◌∙◌}
-use Rattle.tl_explain.proofs.Cuts.{to_end}
+use Rattle.std.proofs.Common.{arith, ◌-◌, ◌≡◌, length, drop, length-drop}
+use Rattle.std.proofs.lemmas.List.{take_all}
 use Rattle.tl_explain.proofs.Halves.{halves}
 use Rattle.tl_explain.proofs.text.put_halves.Goals as goal
 
@@ -7,9 +7,8 @@ pub returns-clause-text : goal.returns-clause-text
 returns-clause-text g c =
     let bytes = c.args.bytes.now in
     let back = length bytes - g.row.K in
-    let end : back + g.row.K ≡ length bytes = omega (arith, c.requires.halves) in
-    let whole : 0 + g.row.K - 0 ≡ g.row.K = omega arith in
-    let first : c.bytes_at.result ≡ take g.row.K bytes = c.bytes_at.ensures ∙ ap (λ n. take n bytes) whole in
-    rw (c.put-2.ensures.text, c.bytes_at-2.ensures, end, to_end back bytes)
+    let last : c.bytes_at-last.result ≡ drop back bytes = rw c.bytes_at-last.ensures
+    (take_all g.row.K (drop back bytes) (omega (arith, length-drop back bytes, c.requires.halves))) in
+    rw (c.put-2.ensures.text, last)
     (halves c.args.at g.row.K back c.args.room.now c.put.new.room bytes (omega (arith, c.requires.halves))
-    (omega (arith, c.requires.room)) (rw (first, c.put.ensures.end) at c.put.ensures.text))
+    (omega (arith, c.requires.room)) (rw (c.bytes_at-first.ensures, c.put.ensures.end) at c.put.ensures.text))

@@ -15,35 +15,35 @@ use Rattle.tl_beat.specs.statement.Names.{a_name, b_name, c_name, d_name}
 use Rattle.tl_beat.specs.statement.Opcode.{a_code, b_code, c_code, d_code}
 use Rattle.tl_beat.specs.statement.Width.{IsWidth}
 use Rattle.tl_explain.specs.declared.columns.TheConstants.{FIRST_FIELD, BEHIND_ADDRESS, BEHIND_DENIED, DATA_END}
-use Rattle.tl_explain.specs.code.Cuts.{HasData, request_text, release_text, response_text, acknowledgement_text}
+use Rattle.tl_explain.specs.code.Cuts.{HasData, head_text, request_text, release_text, response_text, acknowledgement_text}
 use Rattle.tl_explain.specs.statement.ParamNames.{a_param_name, b_param_name, c_param_name, d_param_name}
 use Rattle.tl_explain.specs.statement.Text.{text_of}
 use Rattle.tl_explain.proofs.Cuts.{request_line, request_is, release_is, response_is, acknowledgement_is}
 use Rattle.tl_beat.proofs.SpelledDigits.{length-lane_digits}
 
 pub text_a : {w : ℕ} (line : List ℕ) (link : Link) (x : BeatA w) → IsWidth w → Spells line link (A x)
-    → request_text (w / 4) line (a_name x.opcode) (a_param_name x.opcode x.param) ≡ text_of link (A x)
+    → request_text (w / 4) line (head_text line (a_name x.opcode)) (a_param_name x.opcode x.param) ≡ text_of link (A x)
 text_a {w} line link x width s =
     rw s.is_line (request_is w width 65 link.0 (a_code x.opcode) (a_name x.opcode) (a_param_name x.opcode x.param)
     x.param x.size x.source x.address x.mask (lanes_text x.lanes) x.corrupt)
 
 pub text_b : {w : ℕ} (line : List ℕ) (link : Link) (x : BeatB w) → IsWidth w → Spells line link (B x)
-    → request_text (w / 4) line (b_name x.opcode) (b_param_name x.opcode x.param) ≡ text_of link (B x)
+    → request_text (w / 4) line (head_text line (b_name x.opcode)) (b_param_name x.opcode x.param) ≡ text_of link (B x)
 text_b {w} line link x width s =
     rw s.is_line (request_is w width 66 link.0 (b_code x.opcode) (b_name x.opcode) (b_param_name x.opcode x.param)
     x.param x.size x.source x.address x.mask (lanes_text x.lanes) x.corrupt)
 
 pub text_c : {w : ℕ} (line : List ℕ) (link : Link) (x : BeatC w) → Spells line link (C x)
-    → release_text line (c_name x.opcode) (c_param_name x.opcode x.param) ≡ text_of link (C x)
+    → release_text line (head_text line (c_name x.opcode)) (c_param_name x.opcode x.param) ≡ text_of link (C x)
 text_c {w} line link x s =
-    rw s.is_line (release_is link.0 (c_code x.opcode) (c_name x.opcode) (c_param_name x.opcode x.param) x.param x.size
-    x.source x.address (lanes_text x.lanes) x.corrupt)
+    release_is link.0 (c_code x.opcode) (c_name x.opcode) (c_param_name x.opcode x.param) x.param x.size
+    x.source x.address (lanes_text x.lanes) x.corrupt line s.is_line
 
 pub text_d : {w : ℕ} (line : List ℕ) (link : Link) (x : BeatD w) → Spells line link (D x)
-    → response_text line (d_name x.opcode) (d_param_name x.opcode x.param) ≡ text_of link (D x)
+    → response_text line (head_text line (d_name x.opcode)) (d_param_name x.opcode x.param) ≡ text_of link (D x)
 text_d {w} line link x s =
-    rw s.is_line (response_is link.0 (d_code x.opcode) (d_name x.opcode) (d_param_name x.opcode x.param) x.param x.size
-    x.source x.sink x.denied (lanes_text x.lanes) x.corrupt)
+    response_is link.0 (d_code x.opcode) (d_name x.opcode) (d_param_name x.opcode x.param) x.param x.size
+    x.source x.sink x.denied (lanes_text x.lanes) x.corrupt line s.is_line
 
 pub text_e : {w : ℕ} (line : List ℕ) (link : Link) (x : BeatE) → Spells {w = w} line link (E x)
     → acknowledgement_text line ≡ text_of {w = w} link (E x)

@@ -109,22 +109,20 @@ fn put_front(room: &mut [u8], line: &[u8]) -> usize
     FIRST_FIELD
 }
 
-/// Link, channel, name and param.
+/// Link, channel and name.
 #[inline(always)]
 #[tactic(auto, unfolding(crate::specs::code::Cuts::head_text))]
-fn put_head(room: &mut [u8], line: &[u8], name: &str, param: Option<&str>) -> usize
+fn put_head(room: &mut [u8], line: &[u8], name: &str) -> usize
     requires line { FIRST_FIELD + 3 ≤ length line.now }
     requires name { (2 ≤ length name.now) × (length name.now ≤ 14) }
-    requires param { IsShort (option_map (λ s. s.now) param) }
     requires room { length room.old ≡ ROOM }
-    ensures text { take result room.new ≡ head_text line.now name.now (option_map (λ s. s.now) param.entry) }
-    ensures end { result ≤ 33 }
+    ensures text { take result room.new ≡ head_text line.now name.now }
+    ensures end { result ≤ 20 }
     ensures len { length room.new ≡ ROOM }
 {
     let at = put_front(room, line);
     let at = put_name(room, at, name);
-    let at = put(room, at, [b' ']);
-    put_param(room, at, line[PARAM], param)
+    put(room, at, [b' '])
 }
 
 /// Size and source of a line of channels A to D.
@@ -227,73 +225,70 @@ fn put_mask<const W: usize>(room: &mut [u8], at: usize, line: &[u8]) -> usize
     }
 }
 
-/// Size, source, address and mask of a line of channels A and B.
+/// What stands behind the name in a line of channels A and B.
 #[inline(always)]
 #[tactic(auto, unfolding(crate::specs::code::Cuts::request_text))]
 fn put_request<const W: usize>(
     room: &mut [u8],
+    at: usize,
     line: &[u8],
-    name: &str,
     param: Option<&str>,
 ) -> usize
     requires width { IsWidth W }
     requires line { HasData W (length line.now - (BEHIND_ADDRESS + W / 4 + 1 + DATA_END)) }
-    requires name { (2 ≤ length name.now) × (length name.now ≤ 14) }
     requires param { IsShort (option_map (λ s. s.now) param) }
-    requires room { length room.old ≡ ROOM }
-    ensures text { take result room.new ≡ request_text (W / 4) line.now name.now (option_map (λ s. s.now) param.entry) }
+    requires room { (at ≤ 20) × (length room.old ≡ ROOM) }
+    ensures text { take result room.new ≡ request_text (W / 4) line.now (take at room.old) (option_map (λ s. s.now) param.entry) }
     ensures end { result ≤ ROOM }
     ensures len { length room.new ≡ ROOM }
 {
-    let at = put_head(room, line, name, param);
+    let at = put_param(room, at, line[PARAM], param);
     let at = put_address(room, at, line);
     let at = put(room, at, *b" mask=");
     let at = put_mask::<W>(room, at, line);
     put_tail::<W>(room, at, &line[BEHIND_ADDRESS + W / 4 + 1..])
 }
 
-/// A line of channel C.
+/// What stands behind the name in a line of channel C.
 #[inline(always)]
 #[tactic(auto, unfolding(crate::specs::code::Cuts::release_text))]
 fn put_release<const W: usize>(
     room: &mut [u8],
+    at: usize,
     line: &[u8],
-    name: &str,
     param: Option<&str>,
 ) -> usize
     requires width { IsWidth W }
     requires line { HasData W (length line.now - (BEHIND_ADDRESS + DATA_END)) }
-    requires name { (2 ≤ length name.now) × (length name.now ≤ 14) }
     requires param { IsShort (option_map (λ s. s.now) param) }
-    requires room { length room.old ≡ ROOM }
-    ensures text { take result room.new ≡ release_text line.now name.now (option_map (λ s. s.now) param.entry) }
+    requires room { (at ≤ 20) × (length room.old ≡ ROOM) }
+    ensures text { take result room.new ≡ release_text line.now (take at room.old) (option_map (λ s. s.now) param.entry) }
     ensures end { result ≤ ROOM }
     ensures len { length room.new ≡ ROOM }
 {
-    let at = put_head(room, line, name, param);
+    let at = put_param(room, at, line[PARAM], param);
     let at = put_address(room, at, line);
     put_tail::<W>(room, at, &line[BEHIND_ADDRESS..])
 }
 
-/// A line of channel D.
+/// What stands behind the name in a line of channel D.
 #[inline(always)]
 #[tactic(auto, unfolding(crate::specs::code::Cuts::response_text))]
 fn put_response<const W: usize>(
     room: &mut [u8],
+    at: usize,
     line: &[u8],
-    name: &str,
     param: Option<&str>,
 ) -> usize
     requires width { IsWidth W }
     requires line { HasData W (length line.now - (BEHIND_DENIED + DATA_END)) }
-    requires name { (2 ≤ length name.now) × (length name.now ≤ 14) }
     requires param { IsShort (option_map (λ s. s.now) param) }
-    requires room { length room.old ≡ ROOM }
-    ensures text { take result room.new ≡ response_text line.now name.now (option_map (λ s. s.now) param.entry) }
+    requires room { (at ≤ 20) × (length room.old ≡ ROOM) }
+    ensures text { take result room.new ≡ response_text line.now (take at room.old) (option_map (λ s. s.now) param.entry) }
     ensures end { result ≤ ROOM }
     ensures len { length room.new ≡ ROOM }
 {
-    let at = put_head(room, line, name, param);
+    let at = put_param(room, at, line[PARAM], param);
     let at = put_sink(room, at, line);
     put_tail::<W>(room, at, &line[BEHIND_DENIED..])
 }
@@ -325,23 +320,24 @@ fn put_beat<const W: usize>(room: &mut [u8], line: &[u8], beat: &Beat<W>) -> usi
 {
     match beat {
         Beat::A(beat) => {
+            let at = put_head(room, line, beat.opcode.name());
             let param = name_on_a(beat.opcode, beat.param);
-            put_request::<W>(room, line, beat.opcode.name(), param)
+            put_request::<W>(room, at, line, param)
         }
         Beat::B(beat) => {
-            let name = beat.opcode.name();
+            let at = put_head(room, line, beat.opcode.name());
             let param = name_on_b(beat.opcode, beat.param);
-            put_request::<W>(room, line, name, param)
+            put_request::<W>(room, at, line, param)
         }
         Beat::C(beat) => {
-            let name = beat.opcode.name();
+            let at = put_head(room, line, beat.opcode.name());
             let param = name_on_c(beat.opcode, beat.param);
-            put_release::<W>(room, line, name, param)
+            put_release::<W>(room, at, line, param)
         }
         Beat::D(beat) => {
-            let name = beat.opcode.name();
+            let at = put_head(room, line, beat.opcode.name());
             let param = name_on_d(beat.opcode, beat.param);
-            put_response::<W>(room, line, name, param)
+            put_response::<W>(room, at, line, param)
         }
         Beat::E(_) => put_acknowledgement(room, line),
     }

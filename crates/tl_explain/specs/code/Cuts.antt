@@ -18,10 +18,13 @@ HasData w n = (n ≡ 1) ⊎ (n ≡ 2 * w)
 abbrev pub part : List ℕ → ℕ → ℕ → List ℕ
 part line at n = take n (drop at line)
 
--- the link and the letter, a name and a param
-unfoldable pub head_text : List ℕ → List ℕ → Option (List ℕ) → List ℕ
-head_text line name param = take FIRST_FIELD line ++ name ++ 32 ∷ [] ++ unwrap_or param
-    (slice_index line PARAM ∷ [])
+-- the link and the letter, and a name
+unfoldable pub head_text : List ℕ → List ℕ → List ℕ
+head_text line name = take FIRST_FIELD line ++ name ++ 32 ∷ []
+
+-- a param by its name, or by its digit
+abbrev pub param_part : List ℕ → Option (List ℕ) → List ℕ
+param_part line param = unwrap_or param (slice_index line PARAM ∷ [])
 
 -- size and source
 unfoldable pub size_and_source : List ℕ → List ℕ
@@ -43,18 +46,18 @@ tail_text tail = codes " data=" ++ take (length tail - DATA_END)
     tail ++ (codes " corrupt=" ++ part tail (length tail - CORRUPT) CORRUPT)
 
 unfoldable pub request_text : ℕ → List ℕ → List ℕ → Option (List ℕ) → List ℕ
-request_text mask line name param =
-    head_text line name param ++ address_text line ++ codes " mask="
+request_text mask line head param =
+    head ++ param_part line param ++ address_text line ++ codes " mask="
     ++ part line BEHIND_ADDRESS mask
     ++ tail_text (slice_range line (BEHIND_ADDRESS + mask + 1) (length line))
 
 unfoldable pub release_text : List ℕ → List ℕ → Option (List ℕ) → List ℕ
-release_text line name param =
-    head_text line name param ++ address_text line ++ tail_text (slice_range line BEHIND_ADDRESS (length line))
+release_text line head param =
+    head ++ param_part line param ++ address_text line ++ tail_text (slice_range line BEHIND_ADDRESS (length line))
 
 unfoldable pub response_text : List ℕ → List ℕ → Option (List ℕ) → List ℕ
-response_text line name param =
-    head_text line name param ++ sink_text line ++ tail_text (slice_range line BEHIND_DENIED (length line))
+response_text line head param =
+    head ++ param_part line param ++ sink_text line ++ tail_text (slice_range line BEHIND_DENIED (length line))
 
 unfoldable pub acknowledgement_text : List ℕ → List ℕ
 acknowledgement_text line = take FIRST_FIELD line ++ codes "GrantAck sink=" ++ part line FIRST_FIELD 3

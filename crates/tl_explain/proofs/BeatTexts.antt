@@ -15,7 +15,8 @@ use Rattle.tl_beat.specs.statement.Names.{a_name, b_name, c_name, d_name}
 use Rattle.tl_beat.specs.statement.Opcode.{a_code, b_code, c_code, d_code}
 use Rattle.tl_beat.specs.statement.Width.{IsWidth}
 use Rattle.tl_explain.specs.declared.columns.TheConstants.{FIRST_FIELD, BEHIND_ADDRESS, BEHIND_DENIED, DATA_END}
-use Rattle.tl_explain.specs.code.Cuts.{HasData, head_text, request_text, release_text, response_text, acknowledgement_text}
+use Rattle.tl_explain.specs.code.Cuts.{HasData, head_text, request_text, release_text, response_text}
+use Rattle.tl_explain.specs.code.Cuts.{acknowledgement_text}
 use Rattle.tl_explain.specs.statement.ParamNames.{a_param_name, b_param_name, c_param_name, d_param_name}
 use Rattle.tl_explain.specs.statement.Text.{text_of}
 use Rattle.tl_explain.proofs.Cuts.{request_line, request_is, release_is, response_is, acknowledgement_is}

@@ -103,7 +103,8 @@ release_then line name param = append_assoc (head_text line name ++ param_part l
 
 pub release_is : (link opcode : ℕ) (name : List ℕ) (known : Option (List ℕ)) (param size source address : ℕ)
     (d : List ℕ) (corrupt : Bool)
-    → (line : List ℕ) → line ≡ spaced (digits 2 link ∷ (67 ∷ []) ∷ digits 1 opcode ∷ digits 1 param ∷ digits 1 size ∷ digits 2
+    → (line : List ℕ)
+    → line ≡ spaced (digits 2 link ∷ (67 ∷ []) ∷ digits 1 opcode ∷ digits 1 param ∷ digits 1 size ∷ digits 2
     source ∷ digits 8 address ∷ d ∷ bit_text corrupt ∷ []) ++ 10 ∷ []
     → release_text line (head_text line name) known
     ≡ spaced (digits 2 link ∷ (67 ∷ []) ∷ name ∷ param_text known param ∷ (codes "size=" ++ digits 1 size)
@@ -125,7 +126,8 @@ response_then line name param = append_assoc (head_text line name ++ param_part 
 
 pub response_is : (link opcode : ℕ) (name : List ℕ) (known : Option (List ℕ)) (param size source sink : ℕ)
     (denied : Bool) (d : List ℕ) (corrupt : Bool)
-    → (line : List ℕ) → line ≡ spaced (digits 2 link ∷ (68 ∷ []) ∷ digits 1 opcode ∷ digits 1 param ∷ digits 1 size ∷ digits 2
+    → (line : List ℕ)
+    → line ≡ spaced (digits 2 link ∷ (68 ∷ []) ∷ digits 1 opcode ∷ digits 1 param ∷ digits 1 size ∷ digits 2
     source ∷ digits 2 sink ∷ bit_text denied
     ∷ d ∷ bit_text corrupt ∷ []) ++ 10 ∷ []
     → response_text line (head_text line name) known

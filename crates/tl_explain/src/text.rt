@@ -238,7 +238,8 @@ fn put_request<const W: usize>(
     requires line { HasData W (length line.now - (BEHIND_ADDRESS + W / 4 + 1 + DATA_END)) }
     requires param { IsShort (option_map (λ s. s.now) param) }
     requires room { (at ≤ 20) × (length room.old ≡ ROOM) }
-    ensures text { take result room.new ≡ request_text (W / 4) line.now (take at room.old) (option_map (λ s. s.now) param.entry) }
+    ensures text { take result room.new
+        ≡ request_text (W / 4) line.now (take at room.old) (option_map (λ s. s.now) param.entry) }
     ensures end { result ≤ ROOM }
     ensures len { length room.new ≡ ROOM }
 {
@@ -262,7 +263,8 @@ fn put_release<const W: usize>(
     requires line { HasData W (length line.now - (BEHIND_ADDRESS + DATA_END)) }
     requires param { IsShort (option_map (λ s. s.now) param) }
     requires room { (at ≤ 20) × (length room.old ≡ ROOM) }
-    ensures text { take result room.new ≡ release_text line.now (take at room.old) (option_map (λ s. s.now) param.entry) }
+    ensures text { take result room.new
+        ≡ release_text line.now (take at room.old) (option_map (λ s. s.now) param.entry) }
     ensures end { result ≤ ROOM }
     ensures len { length room.new ≡ ROOM }
 {
@@ -284,7 +286,8 @@ fn put_response<const W: usize>(
     requires line { HasData W (length line.now - (BEHIND_DENIED + DATA_END)) }
     requires param { IsShort (option_map (λ s. s.now) param) }
     requires room { (at ≤ 20) × (length room.old ≡ ROOM) }
-    ensures text { take result room.new ≡ response_text line.now (take at room.old) (option_map (λ s. s.now) param.entry) }
+    ensures text { take result room.new
+        ≡ response_text line.now (take at room.old) (option_map (λ s. s.now) param.entry) }
     ensures end { result ≤ ROOM }
     ensures len { length room.new ≡ ROOM }
 {

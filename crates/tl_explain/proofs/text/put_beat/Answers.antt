@@ -31,7 +31,13 @@ put_request-requires-in-B-clause-line g c = data_b c.args.line.now c.requires.sp
 
 pub returns-in-B-clause-text : goal.returns-in-B-clause-text
 returns-in-B-clause-text g c = λ link s.
-    rw (c.in-B.is, c.put_request-in-B.ensures.text, c.put_head-at-in-B.ensures.text, c.name-in-B.ensures, c.name_on_b-param.ensures)
+    rw (
+      c.in-B.is,
+      c.put_request-in-B.ensures.text,
+      c.put_head-at-in-B.ensures.text,
+      c.name-in-B.ensures,
+      c.name_on_b-param.ensures,
+    )
     (text_b c.args.line.now link c.in-B.beat c.requires.width (rw c.in-B.is at s))
 
 pub put_head-at-requires-in-C-clause-line : goal.put_head-at-requires-in-C-clause-line
@@ -47,7 +53,13 @@ put_release-requires-clause-line g c = data_c c.args.line.now c.requires.spelled
 
 pub returns-in-C-clause-text : goal.returns-in-C-clause-text
 returns-in-C-clause-text g c = λ link s.
-    rw (c.in-C.is, c.put_release.ensures.text, c.put_head-at-in-C.ensures.text, c.name-in-C.ensures, c.name_on_c-param.ensures)
+    rw (
+      c.in-C.is,
+      c.put_release.ensures.text,
+      c.put_head-at-in-C.ensures.text,
+      c.name-in-C.ensures,
+      c.name_on_c-param.ensures,
+    )
     (text_c c.args.line.now link c.in-C.beat (rw c.in-C.is at s))
 
 pub put_head-at-requires-in-D-clause-line : goal.put_head-at-requires-in-D-clause-line
@@ -63,7 +75,13 @@ put_response-requires-clause-line g c = data_d c.args.line.now c.requires.spelle
 
 pub returns-in-D-clause-text : goal.returns-in-D-clause-text
 returns-in-D-clause-text g c = λ link s.
-    rw (c.in-D.is, c.put_response.ensures.text, c.put_head-at-in-D.ensures.text, c.name-in-D.ensures, c.name_on_d-param.ensures)
+    rw (
+      c.in-D.is,
+      c.put_response.ensures.text,
+      c.put_head-at-in-D.ensures.text,
+      c.name-in-D.ensures,
+      c.name_on_d-param.ensures,
+    )
     (text_d c.args.line.now link c.in-D.beat (rw c.in-D.is at s))
 
 pub put_acknowledgement-requires-clause-line : goal.put_acknowledgement-requires-clause-line

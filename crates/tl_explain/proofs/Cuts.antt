@@ -1,15 +1,15 @@
 -- The fields of a beat line stand at their places.
-use Rattle.std.proofs.Common.{get_or-append-add, ◌≡◌, ℕ, ◌+◌, ◌-◌, ◌/◌, ◌<◌, List, [], ◌∷◌, ◌++◌, length, take}
+use Rattle.std.proofs.Common.{◌≡◌, ℕ, ◌+◌, ◌-◌, ◌/◌, List, [], ◌∷◌, ◌++◌, length, take}
 use Rattle.std.proofs.Common.{drop, refl, ap, ◌∙◌, arith, append_assoc, length-append, codes, inl, inr}
-use Rattle.std.specs.Prelude.{slice_range, unwrap_or, Option, Bool, true, false, slice_index}
+use Rattle.std.specs.Prelude.{slice_range, Option, Bool, true, false}
 use Rattle.std.proofs.lemmas.List.{length-drop, take_all}
-use Rattle.std.proofs.Math.Seq.{take-append_seam}
+use Rattle.std.proofs.Math.Seq.{drop-append-add, take-append_seam}
 use Rattle.tl_beat.specs.statement.Digits.{digits, bit_text}
 use Rattle.tl_beat.specs.statement.Line.{spaced}
 use Rattle.tl_beat.specs.statement.Width.{IsWidth}
-use Rattle.tl_explain.specs.declared.columns.TheConstants.{FIRST_FIELD, PARAM, BEHIND_ADDRESS, SINK, DENIED}
+use Rattle.tl_explain.specs.declared.columns.TheConstants.{FIRST_FIELD, BEHIND_ADDRESS}
 use Rattle.tl_explain.specs.declared.columns.TheConstants.{BEHIND_DENIED}
-use Rattle.tl_explain.specs.code.Cuts.{address_text, head_text, size_and_source, tail_text}
+use Rattle.tl_explain.specs.code.Cuts.{address_text, head_text, param_part, part, sink_text, size_and_source, tail_text}
 use Rattle.tl_explain.specs.code.Cuts.{request_text, release_text, response_text, acknowledgement_text}
 use Rattle.tl_explain.specs.statement.Text.{param_text}
 
@@ -23,20 +23,7 @@ unfolding tail_text
 tail_of_three d a b =
     let front : length (d ++ a ∷ b ∷ 10 ∷ []) - 3 ≡ length d = omega (arith, length-append d (a ∷ b ∷ 10 ∷ [])) in
     let back : length (d ++ a ∷ b ∷ 10 ∷ []) - 2 ≡ length d + 1 = omega (arith, length-append d (a ∷ b ∷ 10 ∷ [])) in
-    rw (front, back, take-append_seam d (a ∷ b ∷ 10 ∷ []), get_or-append-add d (a ∷ b ∷ 10 ∷ []) 1 0) refl
-
-first_of : (tail : List ℕ) → 0 < length tail → take 1 tail ≡ slice_index tail 0 ∷ []
-first_of [] some = absurd (omega arith)
-first_of (c ∷ cs) some = refl
-
--- data of one byte, corrupt and the line feed
-pub tail_of_four : (tail : List ℕ) → length tail ≡ 4
-    → tail_text tail ≡ codes " data=" ++ slice_index tail 0 ∷ (codes " corrupt=" ++ slice_index tail 2 ∷ 10 ∷ [])
-unfolding tail_text
-tail_of_four tail four =
-    let front : length tail - 3 ≡ 1 = omega arith in
-    let back : length tail - 2 ≡ 2 = omega arith in
-    rw (front, back, first_of tail (omega arith)) refl
+    rw (front, back, take-append_seam d (a ∷ b ∷ 10 ∷ []), drop-append-add d (a ∷ b ∷ 10 ∷ []) 1) refl
 
 tail_is : (d : List ℕ) (bit : Bool) → tail_text ((d ++ 32 ∷ bit_text bit) ++ 10 ∷ []) ≡ codes
     " data=" ++ (d ++ (codes " corrupt=" ++ (bit_text bit ++ 10 ∷ [])))
@@ -48,22 +35,19 @@ four_parts : (a b c d rest : List ℕ) → (((a ++ b) ++ c) ++ d) ++ rest ≡ a 
 four_parts a b c d rest = simp append_assoc
 
 head_then : (line name : List ℕ) (param : Option (List ℕ)) (rest : List ℕ)
-    → head_text line name param ++ rest ≡ take FIRST_FIELD
-    line ++ (name ++ (32 ∷ (unwrap_or param (slice_index line PARAM ∷ []) ++ rest)))
+    → (head_text line name ++ param_part line param) ++ rest ≡ take FIRST_FIELD line
+    ++ (name ++ (32 ∷ (param_part line param ++ rest)))
 unfolding head_text
-head_then line name param rest =
-    four_parts (take FIRST_FIELD line) name (32 ∷ []) (unwrap_or param (slice_index line PARAM ∷ [])) rest
+head_then line name param rest = four_parts (take FIRST_FIELD line) name (32 ∷ []) (param_part line param) rest
 
 request_then : (m : ℕ) (line name : List ℕ) (param : Option (List ℕ))
-    → request_text m line name param ≡ take FIRST_FIELD
-    line ++ (name ++ (32 ∷ (unwrap_or param (slice_index line PARAM ∷ [])
-    ++ (size_and_source line (address_text line [])
-    ++ (codes " mask=" ++ (slice_range line BEHIND_ADDRESS (BEHIND_ADDRESS + m) ++ tail_text
-    (drop (BEHIND_ADDRESS + m + 1) line)))))))
+    → request_text m line (head_text line name) param ≡ take FIRST_FIELD line
+    ++ (name ++ (32 ∷ (param_part line param ++ (address_text line
+    ++ (codes " mask=" ++ (part line BEHIND_ADDRESS m ++ tail_text (drop (BEHIND_ADDRESS + m + 1) line)))))))
 unfolding request_text
 request_then m line name param =
-    four_parts (head_text line name param) (size_and_source line (address_text line [])) (codes " mask=")
-    (slice_range line BEHIND_ADDRESS (BEHIND_ADDRESS + m))
+    four_parts (head_text line name ++ param_part line param) (address_text line) (codes " mask=")
+    (part line BEHIND_ADDRESS m)
     (tail_text (slice_range line (BEHIND_ADDRESS + m + 1) (length line)))
     ∙ head_then line name param _ ∙ rw (to_end (BEHIND_ADDRESS + m + 1) line) refl
 
@@ -82,8 +66,9 @@ request_words m letter link name known param size source address mask d corrupt 
 abbrev RequestIs : ℕ → Type 0
 RequestIs m = (letter link opcode : ℕ) (name : List ℕ) (known : Option (List ℕ)) (param size source address mask : ℕ)
     (d : List ℕ) (corrupt : Bool)
-    → request_text m (request_line m letter link opcode param size source address mask d corrupt) name
-    known ≡ request_words m letter link name known param size source address mask d corrupt
+    → request_text m (request_line m letter link opcode param size source address mask d corrupt)
+    (head_text (request_line m letter link opcode param size source address mask d corrupt) name) known
+    ≡ request_words m letter link name known param size source address mask d corrupt
 
 request_one : RequestIs 1
 unfolding digits spaced size_and_source address_text
@@ -110,56 +95,57 @@ request_is w (inr (inr sixteen)) = rw sixteen request_four
 
 -- the same of channel C
 release_then : (line name : List ℕ) (param : Option (List ℕ))
-    → release_text line name param ≡ take FIRST_FIELD
-    line ++ (name ++ (32 ∷ (unwrap_or param (slice_index line PARAM ∷ [])
-    ++ (size_and_source line (address_text line []) ++ tail_text (drop BEHIND_ADDRESS line)))))
+    → release_text line (head_text line name) param ≡ take FIRST_FIELD line
+    ++ (name ++ (32 ∷ (param_part line param ++ (address_text line ++ tail_text (drop BEHIND_ADDRESS line)))))
 unfolding release_text
-release_then line name param = append_assoc (head_text line name param) _ _ ∙ head_then line name param _ ∙ rw
-    (to_end BEHIND_ADDRESS line) refl
+release_then line name param = append_assoc (head_text line name ++ param_part line param) _ _
+    ∙ head_then line name param _ ∙ rw (to_end BEHIND_ADDRESS line) refl
 
 pub release_is : (link opcode : ℕ) (name : List ℕ) (known : Option (List ℕ)) (param size source address : ℕ)
     (d : List ℕ) (corrupt : Bool)
-    → release_text (spaced (digits 2 link ∷ (67 ∷ []) ∷ digits 1 opcode ∷ digits 1 param ∷ digits 1 size ∷ digits 2
-    source ∷ digits 8 address ∷ d ∷ bit_text corrupt ∷ []) ++ 10 ∷ []) name known
+    → (line : List ℕ)
+    → line ≡ spaced (digits 2 link ∷ (67 ∷ []) ∷ digits 1 opcode ∷ digits 1 param ∷ digits 1 size ∷ digits 2
+    source ∷ digits 8 address ∷ d ∷ bit_text corrupt ∷ []) ++ 10 ∷ []
+    → release_text line (head_text line name) known
     ≡ spaced (digits 2 link ∷ (67 ∷ []) ∷ name ∷ param_text known param ∷ (codes "size=" ++ digits 1 size)
     ∷ (codes "source=" ++ digits 2 source) ∷ (codes "address=" ++ digits 8 address)
     ∷ (codes "data=" ++ d) ∷ (codes "corrupt=" ++ bit_text corrupt) ∷ []) ++ 10 ∷ []
 unfolding digits spaced size_and_source address_text
-release_is link opcode name known param size source address d corrupt =
-    release_then (spaced (digits 2 link ∷ (67 ∷ []) ∷ digits 1 opcode ∷ digits 1 param ∷ digits 1 size ∷ digits 2
+release_is link opcode name known param size source address d corrupt line is = rw is
+    (release_then (spaced (digits 2 link ∷ (67 ∷ []) ∷ digits 1 opcode ∷ digits 1 param ∷ digits 1 size ∷ digits 2
     source ∷ digits 8 address ∷ d ∷ bit_text corrupt ∷ []) ++ 10 ∷ []) name known
-    ∙ rw (tail_is d corrupt, append_assoc name, append_assoc (param_text known param), append_assoc d) refl
+    ∙ rw (tail_is d corrupt, append_assoc name, append_assoc (param_text known param), append_assoc d) refl)
 
 -- of channel D
 response_then : (line name : List ℕ) (param : Option (List ℕ))
-    → response_text line name param ≡ take FIRST_FIELD
-    line ++ (name ++ (32 ∷ (unwrap_or param (slice_index line PARAM ∷ [])
-    ++ (size_and_source line (codes " sink=" ++ slice_index line SINK ∷ slice_index line (SINK + 1)
-    ∷ (codes " denied=" ++ slice_index line DENIED ∷ [])) ++ tail_text (drop BEHIND_DENIED line)))))
+    → response_text line (head_text line name) param ≡ take FIRST_FIELD line
+    ++ (name ++ (32 ∷ (param_part line param ++ (sink_text line ++ tail_text (drop BEHIND_DENIED line)))))
 unfolding response_text
-response_then line name param = append_assoc (head_text line name param) _ _ ∙ head_then line name param _ ∙ rw
-    (to_end BEHIND_DENIED line) refl
+response_then line name param = append_assoc (head_text line name ++ param_part line param) _ _
+    ∙ head_then line name param _ ∙ rw (to_end BEHIND_DENIED line) refl
 
 pub response_is : (link opcode : ℕ) (name : List ℕ) (known : Option (List ℕ)) (param size source sink : ℕ)
     (denied : Bool) (d : List ℕ) (corrupt : Bool)
-    → response_text (spaced (digits 2 link ∷ (68 ∷ []) ∷ digits 1 opcode ∷ digits 1 param ∷ digits 1 size ∷ digits 2
+    → (line : List ℕ)
+    → line ≡ spaced (digits 2 link ∷ (68 ∷ []) ∷ digits 1 opcode ∷ digits 1 param ∷ digits 1 size ∷ digits 2
     source ∷ digits 2 sink ∷ bit_text denied
-    ∷ d ∷ bit_text corrupt ∷ []) ++ 10 ∷ []) name known
+    ∷ d ∷ bit_text corrupt ∷ []) ++ 10 ∷ []
+    → response_text line (head_text line name) known
     ≡ spaced (digits 2 link ∷ (68 ∷ []) ∷ name ∷ param_text known param ∷ (codes "size=" ++ digits 1 size)
     ∷ (codes "source=" ++ digits 2 source) ∷ (codes "sink=" ++ digits 2 sink)
     ∷ (codes "denied=" ++ bit_text denied) ∷ (codes "data=" ++ d) ∷ (codes "corrupt=" ++ bit_text corrupt) ∷ []) ++ 10
     ∷ []
-unfolding digits spaced size_and_source
-response_is link opcode name known param size source sink false d corrupt =
-    response_then (spaced (digits 2 link ∷ (68 ∷ []) ∷ digits 1 opcode ∷ digits 1 param ∷ digits 1 size ∷ digits 2
+unfolding digits spaced size_and_source sink_text
+response_is link opcode name known param size source sink false d corrupt line is = rw is
+    (response_then (spaced (digits 2 link ∷ (68 ∷ []) ∷ digits 1 opcode ∷ digits 1 param ∷ digits 1 size ∷ digits 2
     source ∷ digits 2 sink ∷ (48 ∷ []) ∷ d
     ∷ bit_text corrupt ∷ []) ++ 10 ∷ []) name known
-    ∙ rw (tail_is d corrupt, append_assoc name, append_assoc (param_text known param), append_assoc d) refl
-response_is link opcode name known param size source sink true d corrupt =
-    response_then (spaced (digits 2 link ∷ (68 ∷ []) ∷ digits 1 opcode ∷ digits 1 param ∷ digits 1 size ∷ digits 2
+    ∙ rw (tail_is d corrupt, append_assoc name, append_assoc (param_text known param), append_assoc d) refl)
+response_is link opcode name known param size source sink true d corrupt line is = rw is
+    (response_then (spaced (digits 2 link ∷ (68 ∷ []) ∷ digits 1 opcode ∷ digits 1 param ∷ digits 1 size ∷ digits 2
     source ∷ digits 2 sink ∷ (49 ∷ []) ∷ d
     ∷ bit_text corrupt ∷ []) ++ 10 ∷ []) name known
-    ∙ rw (tail_is d corrupt, append_assoc name, append_assoc (param_text known param), append_assoc d) refl
+    ∙ rw (tail_is d corrupt, append_assoc name, append_assoc (param_text known param), append_assoc d) refl)
 
 -- and of channel E
 pub acknowledgement_is : (link sink : ℕ)

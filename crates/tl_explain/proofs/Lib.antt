@@ -4,9 +4,11 @@ pub mod convicts
 pub mod first
 pub mod follows
 pub mod Found
+pub mod Halves
 pub mod Ordered
 pub mod Places
 pub mod Plain
 pub mod Rests
+pub mod Room
 pub mod sound
 pub mod WholeBursts

@@ -1,260 +1,348 @@
 //! Writes a beat line as a readable line. The digits are those of the beat line.
 
-ghost use Rattle.std.specs.Prelude.{◌≡◌, ◌+◌, ◌<◌, ◌≤◌, ◌/◌, ◌++◌, length, OnOk, option_map};
-ghost use Rattle.std.specs.Prelude.{unwrap_or, slice_index, codes, [], ◌∷◌};
+ghost use Rattle.std.specs.Prelude.{◌≡◌, ◌+◌, ◌-◌, ◌*◌, ◌/◌, ◌<◌, ◌≤◌, ◌++◌, [], ◌∷◌, length, take, OnOk};
+ghost use Rattle.std.specs.Prelude.{option_map, unwrap_or};
 ghost use Rattle.tl_beat.specs.declared.beat.Link.{Link};
 ghost use Rattle.tl_beat.specs.statement.Line.{Spells};
 ghost use Rattle.tl_beat.specs.statement.Width.{IsWidth};
 ghost use Rattle.tl_explain.specs.statement.Text.{text_of};
-ghost use Rattle.tl_explain.specs.code.Cuts.{IsShort, acknowledgement_text, address_text, head_text, release_text};
-ghost use Rattle.tl_explain.specs.code.Cuts.{request_text, response_text, size_and_source, tail_text};
+ghost use Rattle.tl_explain.specs.code.Cuts.{HasData, IsShort, acknowledgement_text, address_text, head_text, part};
+ghost use Rattle.tl_explain.specs.code.Cuts.{release_text, request_text, response_text, sink_text, size_and_source};
+ghost use Rattle.tl_explain.specs.code.Cuts.{tail_text};
 
 use crate::columns::{
     ADDRESS, BEHIND_ADDRESS, BEHIND_DENIED, CORRUPT, DATA_END, DENIED, FIRST_FIELD, PARAM, SINK,
     SIZE, SOURCE,
 };
 use crate::params::{name_on_a, name_on_b, name_on_c, name_on_d};
-use arrayvec::ArrayVec;
 use std::alloc::AllocError;
 use tl_beat::beat::Beat;
 
-/// The digits in the words of `address_block`, `sink_block` and `append_tail`.
-const SIZE_DIGIT: usize = 6;
+/// At least as many bytes as a readable line has.
+const ROOM: usize = 128;
 
-const SOURCE_DIGITS: usize = 15;
-
-const ADDRESS_DIGITS: usize = 26;
-
-const SINK_DIGITS: usize = 23;
-
-const DENIED_DIGIT: usize = 33;
-
-const CORRUPT_DIGIT: usize = 9;
-
-/// The bytes in the words of `append_dash`.
-const DASH: usize = 6;
-
-const DASH_CORRUPT: usize = 16;
-
-/// Appends bytes that there is room for.
+/// The `K` bytes from a place on.
 #[inline(always)]
-fn append(text: &mut ArrayVec<u8, 128>, bytes: &[u8])
-    requires { length text.old.items + length bytes.now ≤ 128 }
-    ensures text { text.new.items ≡ text.old.items ++ bytes.now }
-    ensures len { length text.new.items ≡ length text.old.items + length bytes.now }
+fn bytes_at<const K: usize>(bytes: &[u8], at: usize) -> [u8; K]
+    requires { at + K ≤ length bytes.now }
+    ensures { result ≡ part bytes.now at K }
 {
-    let _ = text.try_extend_from_slice(bytes);
+    let mut chunk = [0; K];
+    chunk.copy_from_slice(&bytes[at..at + K]);
+    chunk
+}
+
+/// Writes bytes at a place, and answers the place behind them. The bytes are a value, as a copy from a slice
+/// to a slice is made a test of whether the two overlap.
+#[inline(always)]
+fn put<const K: usize>(room: &mut [u8], at: usize, bytes: [u8; K]) -> usize
+    requires room { at + K ≤ length room.old }
+    ensures text { take result room.new ≡ take at room.old ++ bytes.entry }
+    ensures end { result ≡ at + K }
+    ensures len { length room.new ≡ length room.old }
+{
+    room[at..at + K].copy_from_slice(&bytes);
+    at + K
+}
+
+/// The same of `K` to `2 * K` bytes, by the first `K` and the last `K`, which are copied without a call.
+#[inline(always)]
+fn put_halves<const K: usize>(room: &mut [u8], at: usize, bytes: &[u8]) -> usize
+    requires halves { (K ≤ length bytes.now) × (length bytes.now ≤ 2 * K) }
+    requires room { at + length bytes.now ≤ length room.old }
+    ensures text { take result room.new ≡ take at room.old ++ bytes.now }
+    ensures end { result ≡ at + length bytes.now }
+    ensures len { length room.new ≡ length room.old }
+{
+    let back = bytes.len() - K;
+    let first = bytes_at::<K>(bytes, 0);
+    let last = bytes_at::<K>(bytes, back);
+    put(room, at, first);
+    put(room, at + back, last)
+}
+
+/// The same of a name, by its halves.
+#[inline(always)]
+fn put_name(room: &mut [u8], at: usize, name: &str) -> usize
+    requires name { (2 ≤ length name.now) × (length name.now ≤ 16) }
+    requires room { at + length name.now ≤ length room.old }
+    ensures text { take result room.new ≡ take at room.old ++ name.now }
+    ensures end { result ≡ at + length name.now }
+    ensures len { length room.new ≡ length room.old }
+{
+    let bytes = name.as_bytes();
+    if bytes.len() < 4 {
+        put_halves::<2>(room, at, bytes)
+    } else if bytes.len() < 8 {
+        put_halves::<4>(room, at, bytes)
+    } else {
+        put_halves::<8>(room, at, bytes)
+    }
 }
 
 /// A param by its name, or by its digit where it has none.
 #[inline(always)]
-fn append_param(text: &mut ArrayVec<u8, 128>, digit: u8, param: Option<&str>)
-    requires { (length text.old.items < 32) × IsShort (option_map (λ s. s.now) param) }
-    ensures text { text.new.items ≡ text.old.items ++ unwrap_or (option_map (λ s. s.now) param.entry) (digit ∷ []) }
-    ensures len { length text.new.items ≤ length text.old.items + 13 }
+fn put_param(room: &mut [u8], at: usize, digit: u8, param: Option<&str>) -> usize
+    requires param { IsShort (option_map (λ s. s.now) param) }
+    requires room { at + 13 ≤ length room.old }
+    ensures text { take result room.new
+        ≡ take at room.old ++ unwrap_or (option_map (λ s. s.now) param.entry) (digit ∷ []) }
+    ensures end { result ≤ at + 13 }
+    ensures len { length room.new ≡ length room.old }
 {
     match param {
-        Some(name) => append(text, name.as_bytes()),
-        None => text.push(digit),
+        Some(name) => put_name(room, at, name),
+        None => put(room, at, [digit]),
     }
 }
 
-/// Link, channel, name and param.
+/// Link and channel. The bytes behind them are copied too, as eight bytes are copied at once.
+#[inline(always)]
+fn put_front(room: &mut [u8], line: &[u8]) -> usize
+    requires line { FIRST_FIELD + 3 ≤ length line.now }
+    requires room { 8 ≤ length room.old }
+    ensures text { take result room.new ≡ take FIRST_FIELD line.now }
+    ensures end { result ≡ FIRST_FIELD }
+    ensures len { length room.new ≡ length room.old }
+{
+    put(room, 0, bytes_at::<8>(line, 0));
+    FIRST_FIELD
+}
+
+/// Link, channel and name.
 #[inline(always)]
 #[tactic(auto, unfolding(crate::specs::code::Cuts::head_text))]
-fn append_head(text: &mut ArrayVec<u8, 128>, line: &[u8], name: &str, param: Option<&str>)
-    requires line { SOURCE + 2 ≤ length line.now }
-    requires names { (length name.now ≤ 14) × IsShort (option_map (λ s. s.now) param) }
-    requires empty { text.old.items ≡ [] }
-    ensures text { text.new.items ≡ head_text line.now name.now (option_map (λ s. s.now) param.entry) }
-    ensures len { length text.new.items ≤ 33 }
+fn put_head(room: &mut [u8], line: &[u8], name: &str) -> usize
+    requires line { FIRST_FIELD + 3 ≤ length line.now }
+    requires name { (2 ≤ length name.now) × (length name.now ≤ 14) }
+    requires room { length room.old ≡ ROOM }
+    ensures text { take result room.new ≡ head_text line.now name.now }
+    ensures end { result ≤ 20 }
+    ensures len { length room.new ≡ ROOM }
 {
-    append(text, &line[..FIRST_FIELD]);
-    append(text, name.as_bytes());
-    text.push(b' ');
-    append_param(text, line[PARAM], param);
+    let at = put_front(room, line);
+    let at = put_name(room, at, name);
+    put(room, at, [b' '])
+}
+
+/// Size and source of a line of channels A to D.
+#[inline(always)]
+#[tactic(auto, unfolding(crate::specs::code::Cuts::size_and_source))]
+fn put_size_and_source(room: &mut [u8], at: usize, line: &[u8]) -> usize
+    requires line { SOURCE + 2 ≤ length line.now }
+    requires room { at + 17 ≤ length room.old }
+    ensures text { take result room.new ≡ take at room.old ++ size_and_source line.now }
+    ensures end { result ≡ at + 17 }
+    ensures len { length room.new ≡ length room.old }
+{
+    let at = put(room, at, *b" size=");
+    let at = put(room, at, bytes_at::<1>(line, SIZE));
+    let at = put(room, at, *b" source=");
+    put(room, at, bytes_at::<2>(line, SOURCE))
 }
 
 /// Size, source and address of a line of channels A to C.
 #[inline(always)]
-#[tactic(auto, unfolding(crate::specs::code::Cuts::size_and_source, crate::specs::code::Cuts::address_text))]
-fn address_block(line: &[u8]) -> [u8; 34]
-    requires { ADDRESS + 8 ≤ length line.now }
-    ensures { result ≡ size_and_source line.now (address_text line.now []) }
+#[tactic(auto, unfolding(crate::specs::code::Cuts::address_text))]
+fn put_address(room: &mut [u8], at: usize, line: &[u8]) -> usize
+    requires line { ADDRESS + 8 ≤ length line.now }
+    requires room { at + 34 ≤ length room.old }
+    ensures text { take result room.new ≡ take at room.old ++ address_text line.now }
+    ensures end { result ≡ at + 34 }
+    ensures len { length room.new ≡ length room.old }
 {
-    let mut block = *b" size=0 source=00 address=00000000";
-    block[SIZE_DIGIT] = line[SIZE];
-    block[SOURCE_DIGITS] = line[SOURCE];
-    block[SOURCE_DIGITS + 1] = line[SOURCE + 1];
-    block[ADDRESS_DIGITS] = line[ADDRESS];
-    block[ADDRESS_DIGITS + 1] = line[ADDRESS + 1];
-    block[ADDRESS_DIGITS + 2] = line[ADDRESS + 2];
-    block[ADDRESS_DIGITS + 3] = line[ADDRESS + 3];
-    block[ADDRESS_DIGITS + 4] = line[ADDRESS + 4];
-    block[ADDRESS_DIGITS + 5] = line[ADDRESS + 5];
-    block[ADDRESS_DIGITS + 6] = line[ADDRESS + 6];
-    block[ADDRESS_DIGITS + 7] = line[ADDRESS + 7];
-    block
+    let at = put_size_and_source(room, at, line);
+    let at = put(room, at, *b" address=");
+    put(room, at, bytes_at::<8>(line, ADDRESS))
 }
 
 /// Size, source, sink and denied of a line of channel D.
 #[inline(always)]
-#[tactic(auto, unfolding(crate::specs::code::Cuts::size_and_source))]
-fn sink_block(line: &[u8]) -> [u8; 34]
-    requires { DENIED < length line.now }
-    ensures { result ≡ size_and_source line.now (codes " sink=" ++ slice_index line.now SINK
-        ∷ slice_index line.now (SINK + 1) ∷ (codes " denied=" ++ slice_index line.now DENIED ∷ [])) }
+#[tactic(auto, unfolding(crate::specs::code::Cuts::sink_text))]
+fn put_sink(room: &mut [u8], at: usize, line: &[u8]) -> usize
+    requires line { DENIED < length line.now }
+    requires room { at + 34 ≤ length room.old }
+    ensures text { take result room.new ≡ take at room.old ++ sink_text line.now }
+    ensures end { result ≡ at + 34 }
+    ensures len { length room.new ≡ length room.old }
 {
-    let mut block = *b" size=0 source=00 sink=00 denied=0";
-    block[SIZE_DIGIT] = line[SIZE];
-    block[SOURCE_DIGITS] = line[SOURCE];
-    block[SOURCE_DIGITS + 1] = line[SOURCE + 1];
-    block[SINK_DIGITS] = line[SINK];
-    block[SINK_DIGITS + 1] = line[SINK + 1];
-    block[DENIED_DIGIT] = line[DENIED];
-    block
+    let at = put_size_and_source(room, at, line);
+    let at = put(room, at, *b" sink=");
+    let at = put(room, at, bytes_at::<2>(line, SINK));
+    let at = put(room, at, *b" denied=");
+    put(room, at, bytes_at::<1>(line, DENIED))
 }
 
-/// The dash of no data, and the corrupt bit.
+/// The data, or the dash of none: a number of bytes that the compiler knows is copied without a call.
 #[inline(always)]
-fn append_dash(text: &mut ArrayVec<u8, 128>, tail: &[u8])
-    requires four { length tail.now ≡ 4 }
-    requires room { length text.old.items + 18 ≤ 128 }
-    ensures { text.new.items ≡ text.old.items ++ tail_text tail.now }
+fn put_data<const W: usize>(room: &mut [u8], at: usize, bytes: &[u8]) -> usize
+    requires width { IsWidth W }
+    requires bytes { HasData W (length bytes.now) }
+    requires room { at + length bytes.now ≤ length room.old }
+    ensures text { take result room.new ≡ take at room.old ++ bytes.now }
+    ensures end { result ≡ at + length bytes.now }
+    ensures len { length room.new ≡ length room.old }
 {
-    let mut end = *b" data=- corrupt=0\n";
-    end[DASH] = tail[0];
-    end[DASH_CORRUPT] = tail[2];
-    append(text, &end);
+    if bytes.len() == 1 {
+        return put(room, at, bytes_at::<1>(bytes, 0));
+    }
+    put_halves::<W>(room, at, &bytes[..2 * W])
 }
 
 /// Data and the corrupt bit.
 #[inline(always)]
 #[tactic(auto, unfolding(crate::specs::code::Cuts::tail_text))]
-fn append_tail<const W: usize>(text: &mut ArrayVec<u8, 128>, tail: &[u8])
+fn put_tail<const W: usize>(room: &mut [u8], at: usize, tail: &[u8]) -> usize
     requires width { IsWidth W }
-    requires tail { DATA_END ≤ length tail.now }
-    requires room { length text.old.items + length tail.now + 14 ≤ 128 }
-    ensures { text.new.items ≡ text.old.items ++ tail_text tail.now }
+    requires tail { HasData W (length tail.now - DATA_END) }
+    requires room { at + 49 ≤ length room.old }
+    ensures text { take result room.new ≡ take at room.old ++ tail_text tail.now }
+    ensures end { result ≤ at + 49 }
+    ensures len { length room.new ≡ length room.old }
 {
-    if tail.len() == 4 {
-        return append_dash(text, tail);
-    }
-    let mut end = *b" corrupt=0\n";
-    end[CORRUPT_DIGIT] = tail[tail.len() - CORRUPT];
-    let data = &tail[..tail.len() - DATA_END];
-    append(text, b" data=");
-    // A number of bytes that the compiler knows is copied without a call.
-    if data.len() == 2 * W {
-        append(text, &data[..2 * W]);
-    } else {
-        append(text, data);
-    }
-    append(text, &end);
+    let at = put(room, at, *b" data=");
+    let at = put_data::<W>(room, at, &tail[..tail.len() - DATA_END]);
+    let at = put(room, at, *b" corrupt=");
+    put(room, at, bytes_at::<CORRUPT>(tail, tail.len() - CORRUPT))
 }
 
-/// Size, source, address and mask of a line of channels A and B.
+/// The digits of the mask, of which the compiler knows the number.
+#[inline(always)]
+fn put_mask<const W: usize>(room: &mut [u8], at: usize, line: &[u8]) -> usize
+    requires width { IsWidth W }
+    requires line { BEHIND_ADDRESS + W / 4 ≤ length line.now }
+    requires room { at + 4 ≤ length room.old }
+    ensures text { take result room.new ≡ take at room.old ++ part line.now BEHIND_ADDRESS (W / 4) }
+    ensures end { result ≡ at + W / 4 }
+    ensures len { length room.new ≡ length room.old }
+{
+    if W == 4 {
+        put(room, at, bytes_at::<1>(line, BEHIND_ADDRESS))
+    } else if W == 8 {
+        put(room, at, bytes_at::<2>(line, BEHIND_ADDRESS))
+    } else {
+        put(room, at, bytes_at::<4>(line, BEHIND_ADDRESS))
+    }
+}
+
+/// What stands behind the name in a line of channels A and B.
 #[inline(always)]
 #[tactic(auto, unfolding(crate::specs::code::Cuts::request_text))]
-fn append_request<const W: usize>(
-    text: &mut ArrayVec<u8, 128>,
+fn put_request<const W: usize>(
+    room: &mut [u8],
+    at: usize,
     line: &[u8],
-    name: &str,
     param: Option<&str>,
-)
+) -> usize
     requires width { IsWidth W }
-    requires line { (BEHIND_ADDRESS + 1 + DATA_END + W / 4 ≤ length line.now) × (length line.now ≤ 63) }
-    requires names { (length name.now ≤ 14) × IsShort (option_map (λ s. s.now) param) }
-    requires empty { text.old.items ≡ [] }
-    ensures { text.new.items ≡ request_text (W / 4) line.now name.now (option_map (λ s. s.now) param.entry) }
+    requires line { HasData W (length line.now - (BEHIND_ADDRESS + W / 4 + 1 + DATA_END)) }
+    requires param { IsShort (option_map (λ s. s.now) param) }
+    requires room { (at ≤ 20) × (length room.old ≡ ROOM) }
+    ensures text { take result room.new
+        ≡ request_text (W / 4) line.now (take at room.old) (option_map (λ s. s.now) param.entry) }
+    ensures end { result ≤ ROOM }
+    ensures len { length room.new ≡ ROOM }
 {
-    let mask = W / 4;
-    append_head(text, line, name, param);
-    append(text, &address_block(line));
-    append(text, b" mask=");
-    append(text, &line[BEHIND_ADDRESS..BEHIND_ADDRESS + mask]);
-    append_tail::<W>(text, &line[BEHIND_ADDRESS + mask + 1..]);
+    let at = put_param(room, at, line[PARAM], param);
+    let at = put_address(room, at, line);
+    let at = put(room, at, *b" mask=");
+    let at = put_mask::<W>(room, at, line);
+    put_tail::<W>(room, at, &line[BEHIND_ADDRESS + W / 4 + 1..])
 }
 
-/// A line of channel C.
+/// What stands behind the name in a line of channel C.
 #[inline(always)]
 #[tactic(auto, unfolding(crate::specs::code::Cuts::release_text))]
-fn append_release<const W: usize>(
-    text: &mut ArrayVec<u8, 128>,
+fn put_release<const W: usize>(
+    room: &mut [u8],
+    at: usize,
     line: &[u8],
-    name: &str,
     param: Option<&str>,
-)
+) -> usize
     requires width { IsWidth W }
-    requires line { (BEHIND_ADDRESS + DATA_END ≤ length line.now) × (length line.now ≤ 63) }
-    requires names { (length name.now ≤ 14) × IsShort (option_map (λ s. s.now) param) }
-    requires empty { text.old.items ≡ [] }
-    ensures { text.new.items ≡ release_text line.now name.now (option_map (λ s. s.now) param.entry) }
+    requires line { HasData W (length line.now - (BEHIND_ADDRESS + DATA_END)) }
+    requires param { IsShort (option_map (λ s. s.now) param) }
+    requires room { (at ≤ 20) × (length room.old ≡ ROOM) }
+    ensures text { take result room.new
+        ≡ release_text line.now (take at room.old) (option_map (λ s. s.now) param.entry) }
+    ensures end { result ≤ ROOM }
+    ensures len { length room.new ≡ ROOM }
 {
-    append_head(text, line, name, param);
-    append(text, &address_block(line));
-    append_tail::<W>(text, &line[BEHIND_ADDRESS..]);
+    let at = put_param(room, at, line[PARAM], param);
+    let at = put_address(room, at, line);
+    put_tail::<W>(room, at, &line[BEHIND_ADDRESS..])
 }
 
-/// A line of channel D.
+/// What stands behind the name in a line of channel D.
 #[inline(always)]
 #[tactic(auto, unfolding(crate::specs::code::Cuts::response_text))]
-fn append_response<const W: usize>(
-    text: &mut ArrayVec<u8, 128>,
+fn put_response<const W: usize>(
+    room: &mut [u8],
+    at: usize,
     line: &[u8],
-    name: &str,
     param: Option<&str>,
-)
+) -> usize
     requires width { IsWidth W }
-    requires line { (BEHIND_DENIED + DATA_END ≤ length line.now) × (length line.now ≤ 63) }
-    requires names { (length name.now ≤ 14) × IsShort (option_map (λ s. s.now) param) }
-    requires empty { text.old.items ≡ [] }
-    ensures { text.new.items ≡ response_text line.now name.now (option_map (λ s. s.now) param.entry) }
+    requires line { HasData W (length line.now - (BEHIND_DENIED + DATA_END)) }
+    requires param { IsShort (option_map (λ s. s.now) param) }
+    requires room { (at ≤ 20) × (length room.old ≡ ROOM) }
+    ensures text { take result room.new
+        ≡ response_text line.now (take at room.old) (option_map (λ s. s.now) param.entry) }
+    ensures end { result ≤ ROOM }
+    ensures len { length room.new ≡ ROOM }
 {
-    append_head(text, line, name, param);
-    append(text, &sink_block(line));
-    append_tail::<W>(text, &line[BEHIND_DENIED..]);
+    let at = put_param(room, at, line[PARAM], param);
+    let at = put_sink(room, at, line);
+    put_tail::<W>(room, at, &line[BEHIND_DENIED..])
 }
 
 /// A line of channel E.
 #[inline(always)]
 #[tactic(auto, unfolding(crate::specs::code::Cuts::acknowledgement_text))]
-fn append_acknowledgement(text: &mut ArrayVec<u8, 128>, line: &[u8])
-    requires line { (FIRST_FIELD ≤ length line.now) × (length line.now ≤ 63) }
-    requires empty { text.old.items ≡ [] }
-    ensures { text.new.items ≡ acknowledgement_text line.now }
+fn put_acknowledgement(room: &mut [u8], line: &[u8]) -> usize
+    requires line { FIRST_FIELD + 3 ≤ length line.now }
+    requires room { length room.old ≡ ROOM }
+    ensures text { take result room.new ≡ acknowledgement_text line.now }
+    ensures end { result ≤ ROOM }
+    ensures len { length room.new ≡ ROOM }
 {
-    append(text, &line[..FIRST_FIELD]);
-    append(text, b"GrantAck sink=");
-    append(text, &line[FIRST_FIELD..]);
+    let at = put_front(room, line);
+    let at = put(room, at, *b"GrantAck sink=");
+    put(room, at, bytes_at::<3>(line, FIRST_FIELD))
 }
 
-/// The readable line of the beat that a line spells.
+/// Writes the readable line of the beat that a line spells, and answers its length.
 #[inline(always)]
-fn append_beat<const W: usize>(text: &mut ArrayVec<u8, 128>, line: &[u8], beat: &Beat<W>)
+fn put_beat<const W: usize>(room: &mut [u8], line: &[u8], beat: &Beat<W>) -> usize
     requires width { IsWidth W }
     requires spelled { (link : Link) × Spells line.now link beat.now }
-    requires empty { text.old.items ≡ [] }
-    ensures { (link : Link) → Spells line.now link beat.now → text.new.items ≡ text_of link beat.now }
+    requires room { length room.old ≡ ROOM }
+    ensures text { (link : Link) → Spells line.now link beat.now → take result room.new ≡ text_of link beat.now }
+    ensures end { result ≤ ROOM }
+    ensures len { length room.new ≡ ROOM }
 {
     match beat {
         Beat::A(beat) => {
+            let at = put_head(room, line, beat.opcode.name());
             let param = name_on_a(beat.opcode, beat.param);
-            append_request::<W>(text, line, beat.opcode.name(), param);
+            put_request::<W>(room, at, line, param)
         }
         Beat::B(beat) => {
+            let at = put_head(room, line, beat.opcode.name());
             let param = name_on_b(beat.opcode, beat.param);
-            append_request::<W>(text, line, beat.opcode.name(), param);
+            put_request::<W>(room, at, line, param)
         }
         Beat::C(beat) => {
+            let at = put_head(room, line, beat.opcode.name());
             let param = name_on_c(beat.opcode, beat.param);
-            append_release::<W>(text, line, beat.opcode.name(), param);
+            put_release::<W>(room, at, line, param)
         }
         Beat::D(beat) => {
+            let at = put_head(room, line, beat.opcode.name());
             let param = name_on_d(beat.opcode, beat.param);
-            append_response::<W>(text, line, beat.opcode.name(), param);
+            put_response::<W>(room, at, line, param)
         }
-        Beat::E(_) => append_acknowledgement(text, line),
+        Beat::E(_) => put_acknowledgement(room, line),
     }
 }
 
@@ -269,7 +357,9 @@ pub fn append_text<const W: usize>(
     ensures { OnOk result ((link : Link) → Spells line.now link beat.now →
         out.new.items ≡ out.old.items ++ text_of link beat.now) }
 {
-    let mut text = ArrayVec::new();
-    append_beat(&mut text, line, beat);
-    out.extend_from_slice(text.as_slice())
+    let start = out.len();
+    out.extend_from_slice(&[0; ROOM])?;
+    let len = put_beat(&mut out[start..], line, beat);
+    out.truncate(start + len);
+    Ok(())
 }

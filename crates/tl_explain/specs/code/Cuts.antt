@@ -1,56 +1,63 @@
 -- The readable line, from the places of the fields in the beat line. A field before the data stands at
 -- a fixed place.
-use Rattle.std.specs.Prelude.{⊤, ℕ, ◌+◌, ◌-◌, List, [], ◌∷◌, ◌++◌, length, take, codes}
+use Rattle.std.specs.Prelude.{⊤, ℕ, ◌≡◌, ◌⊎◌, ◌*◌, ◌+◌, ◌-◌, List, [], ◌∷◌, ◌++◌, length, take, drop, codes}
 use Rattle.std.specs.Prelude.{unwrap_or, slice_index, slice_range, ◌≤◌, Option, None, Some}
 use Rattle.tl_explain.specs.declared.columns.TheConstants.{FIRST_FIELD, PARAM, SIZE, SOURCE, ADDRESS, BEHIND_ADDRESS}
 use Rattle.tl_explain.specs.declared.columns.TheConstants.{SINK, DENIED, BEHIND_DENIED, CORRUPT, DATA_END}
 
--- at most 13 bytes, where there are some
+-- 2 to 13 bytes, where there are some
 abbrev pub IsShort : Option (List ℕ) → Type 0
 IsShort None = ⊤
-IsShort (Some name) = length name ≤ 13
+IsShort (Some name) = (2 ≤ length name) × (length name ≤ 13)
 
--- the link and the letter, a name and a param
-unfoldable pub head_text : List ℕ → List ℕ → Option (List ℕ) → List ℕ
-head_text line name param = take FIRST_FIELD line ++ name ++ 32 ∷ [] ++ unwrap_or param
-    (slice_index line PARAM ∷ [])
+-- how many bytes the data of a beat of w bytes has: those of the dash, or two digits for each byte
+abbrev pub HasData : ℕ → ℕ → Type 0
+HasData w n = (n ≡ 1) ⊎ (n ≡ 2 * w)
 
--- size and source, and what stands before the next field
-unfoldable pub size_and_source : List ℕ → List ℕ → List ℕ
-size_and_source line next =
-    codes " size=" ++ slice_index line SIZE
-    ∷ (codes " source=" ++ slice_index line SOURCE ∷ slice_index line (SOURCE + 1) ∷ next)
+-- n bytes of a line, from a place on
+abbrev pub part : List ℕ → ℕ → ℕ → List ℕ
+part line at n = take n (drop at line)
 
--- the eight digits of the address
-unfoldable pub address_text : List ℕ → List ℕ → List ℕ
-address_text line next =
-    codes " address=" ++ slice_index line ADDRESS ∷ slice_index line (ADDRESS + 1) ∷ slice_index line (ADDRESS + 2)
-    ∷ slice_index line (ADDRESS + 3) ∷ slice_index line (ADDRESS + 4) ∷ slice_index line (ADDRESS + 5)
-    ∷ slice_index line (ADDRESS + 6) ∷ slice_index line (ADDRESS + 7) ∷ next
+-- the link and the letter, and a name
+unfoldable pub head_text : List ℕ → List ℕ → List ℕ
+head_text line name = take FIRST_FIELD line ++ name ++ 32 ∷ []
+
+-- a param by its name, or by its digit
+abbrev pub param_part : List ℕ → Option (List ℕ) → List ℕ
+param_part line param = unwrap_or param (slice_index line PARAM ∷ [])
+
+-- size and source
+unfoldable pub size_and_source : List ℕ → List ℕ
+size_and_source line = codes " size=" ++ part line SIZE 1 ++ codes " source=" ++ part line SOURCE 2
+
+-- size, source and the eight digits of the address
+unfoldable pub address_text : List ℕ → List ℕ
+address_text line = size_and_source line ++ codes " address=" ++ part line ADDRESS 8
+
+-- size, source, sink and denied
+unfoldable pub sink_text : List ℕ → List ℕ
+sink_text line =
+    size_and_source line ++ codes " sink=" ++ part line SINK 2 ++ codes " denied="
+    ++ part line DENIED 1
 
 -- data and corrupt, which end a line
 unfoldable pub tail_text : List ℕ → List ℕ
 tail_text tail = codes " data=" ++ take (length tail - DATA_END)
-    tail ++ (codes " corrupt=" ++ slice_index tail (length tail - CORRUPT) ∷ 10 ∷ [])
+    tail ++ (codes " corrupt=" ++ part tail (length tail - CORRUPT) CORRUPT)
 
 unfoldable pub request_text : ℕ → List ℕ → List ℕ → Option (List ℕ) → List ℕ
-request_text mask line name param =
-    head_text line name param ++ size_and_source line (address_text line []) ++ codes " mask="
-    ++ slice_range line BEHIND_ADDRESS (BEHIND_ADDRESS + mask)
+request_text mask line head param =
+    head ++ param_part line param ++ address_text line ++ codes " mask="
+    ++ part line BEHIND_ADDRESS mask
     ++ tail_text (slice_range line (BEHIND_ADDRESS + mask + 1) (length line))
 
 unfoldable pub release_text : List ℕ → List ℕ → Option (List ℕ) → List ℕ
-release_text line name param =
-    head_text line name param ++ size_and_source line (address_text line []) ++ tail_text
-    (slice_range line BEHIND_ADDRESS (length line))
+release_text line head param =
+    head ++ param_part line param ++ address_text line ++ tail_text (slice_range line BEHIND_ADDRESS (length line))
 
 unfoldable pub response_text : List ℕ → List ℕ → Option (List ℕ) → List ℕ
-response_text line name param =
-    head_text line name param
-    ++ size_and_source line (codes " sink=" ++ slice_index line SINK ∷ slice_index line (SINK + 1)
-    ∷ (codes " denied=" ++ slice_index line DENIED ∷ []))
-    ++ tail_text (slice_range line BEHIND_DENIED (length line))
+response_text line head param =
+    head ++ param_part line param ++ sink_text line ++ tail_text (slice_range line BEHIND_DENIED (length line))
 
 unfoldable pub acknowledgement_text : List ℕ → List ℕ
-acknowledgement_text line = take FIRST_FIELD line ++ codes "GrantAck sink=" ++ slice_range line FIRST_FIELD
-    (length line)
+acknowledgement_text line = take FIRST_FIELD line ++ codes "GrantAck sink=" ++ part line FIRST_FIELD 3

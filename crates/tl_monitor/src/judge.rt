@@ -2,19 +2,16 @@
 
 ghost use Rattle.std.specs.Prelude.{IsTrue, None, Some, true, false, ◌≡◌};
 ghost use Rattle.std.specs.Bool.{OnTrue, OnFalse};
-ghost use Rattle.tl_beat.specs.statement.Control.{channel_of};
 ghost use Rattle.tl_beat.specs.statement.Width.{IsWidth};
 ghost use Rattle.tl_burst.specs.statement.Messages.{History};
 ghost use Rattle.tl_burst.specs.statement.Part.{is_small};
 ghost use Rattle.tl_params.specs.declared.level.Level.{Level};
 ghost use Rattle.tl_params.specs.declared.profile.Profile.{Profile};
 ghost use Rattle.tl_rules.specs.statement.Conformance;
-ghost use Rattle.tl_monitor.specs.code.Bursts.{burst_on};
 ghost use Rattle.tl_monitor.specs.code.Lawful.{IsLawful};
 ghost use Rattle.tl_monitor.specs.code.LinkState.{is_first, IsNext};
 ghost use Rattle.tl_monitor.specs.code.Keeps.{Keeps, answered, TakesBeat};
 
-use crate::bursts::Unfinished;
 use crate::link_state::LinkState;
 use std::alloc::AllocError;
 use tl_beat::beat::Beat;
@@ -52,18 +49,17 @@ impl LinkState {
     }
 
     /// The rule of bursts that a later beat of a message breaks, or none, and then takes it.
-    fn go_on<const W: usize>(
-        &mut self,
-        burst: Unfinished,
-        beat: &Beat<W>,
-    ) -> Result<Option<Rule>, AllocError>
+    fn go_on<const W: usize>(&mut self, beat: &Beat<W>) -> Result<Option<Rule>, AllocError>
         requires width { IsWidth W }
         requires small { IsTrue (is_small beat.now) }
-        requires burst { burst_on self.old.bursts (channel_of beat.now) ≡ Some burst }
+        requires later { is_first beat.now self.old ≡ false }
         ensures rule { (p : Profile) (t : History W) → Keeps self.old t →
             answered result ≡ Conformance.broken_in_order p beat.now t }
         ensures takes { TakesBeat self.old beat.now self.new result }
     {
+        let Some(burst) = self.bursts.of(beat) else {
+            return Ok(None);
+        };
         if !beat.has_control(&burst.control) {
             return Ok(Some(Rule::S1));
         }
@@ -90,7 +86,7 @@ impl LinkState {
         let Beat::D(response) = beat else {
             return false;
         };
-        let Some(burst) = self.bursts.d else {
+        let Some(burst) = &mut self.bursts.d else {
             return false;
         };
         if burst.left <= 1
@@ -100,10 +96,7 @@ impl LinkState {
         {
             return false;
         }
-        self.bursts.d = Some(Unfinished {
-            control: burst.control,
-            left: burst.left - 1,
-        });
+        burst.left -= 1;
         true
     }
 
@@ -127,10 +120,13 @@ impl LinkState {
         }
         match check_beat(level, beat.channel(), beat) {
             Err(rule) => Ok(Some(rule)),
-            Ok(()) => match self.bursts.on(beat.channel()) {
-                None => self.begin(profile, beat),
-                Some(burst) => self.go_on(burst, beat),
-            },
+            Ok(()) => {
+                if self.bursts.begins(beat) {
+                    self.begin(profile, beat)
+                } else {
+                    self.go_on(beat)
+                }
+            }
         }
     }
 }

@@ -10,22 +10,89 @@ ghost use Rattle.tl_params.specs.declared.profile.Profile.{Profile};
 ghost use Rattle.tl_rules.specs.statement.Conformance;
 ghost use Rattle.tl_monitor.specs.code.Lawful.{IsLawful};
 ghost use Rattle.tl_monitor.specs.code.LinkState.{is_first, IsNext};
-ghost use Rattle.tl_monitor.specs.code.Keeps.{Keeps, answered, TakesBeat};
+ghost use Rattle.tl_monitor.specs.code.Keeps.{Keeps, answered, Takes, TakesBeat};
+ghost use Rattle.tl_monitor.specs.code.LinkState.{is_access};
+ghost use Rattle.tl_rules.specs.statement.History.{is_acquire};
+ghost use Rattle.tl_beat.specs.declared.beat.Beat.TheVariants.{A, D};
 
-use crate::link_state::LinkState;
+use crate::link_state::{LinkState, is_access};
 use std::alloc::AllocError;
-use tl_beat::beat::Beat;
+use tl_beat::beat::{Beat, BeatA, BeatD};
 use tl_burst::burst::burst_length;
+use tl_rules::kind::{answers, is_acquire};
 use tl_rules::legality::beat::check_beat;
 use tl_rules::level::Level;
 use tl_rules::order::broken_order;
+use tl_rules::past::Past;
 use tl_rules::profile::Profile;
 use tl_rules::rule::Rule;
 
 impl LinkState {
+    /// Judges the first beat of a request that bears on no block, and takes it where it breaks no rule of the order
+    /// of messages.
+    #[inline(always)]
+    fn begin_request<const W: usize>(&mut self, x: &BeatA<W>, beat: &Beat<W>) -> Option<Rule>
+        requires width { IsWidth W }
+        requires small { IsTrue (is_small beat.now) }
+        requires first { is_first beat.now self.old ≡ true }
+        requires same { beat.now ≡ A x.now }
+        requires access { is_acquire x.now.opcode ≡ false }
+        ensures rule { (p : Profile) (t : History W) → Keeps self.old t → result ≡ Conformance.broken_in_order p beat.now t }
+        ensures takes { Takes self.old beat.now self.new result }
+    {
+        if self.requests.get(x.source).is_some() {
+            return Some(Rule::H1);
+        }
+        self.take_access(true, burst_length(beat) <= 1, beat);
+        None
+    }
+
+    /// The same of an answer that bears on no block.
+    #[inline(always)]
+    fn begin_answer<const W: usize>(&mut self, x: &BeatD<W>, beat: &Beat<W>) -> Option<Rule>
+        requires width { IsWidth W }
+        requires small { IsTrue (is_small beat.now) }
+        requires first { is_first beat.now self.old ≡ true }
+        requires same { beat.now ≡ D x.now }
+        requires access { is_access x.now.opcode ≡ true }
+        ensures rule { (p : Profile) (t : History W) → Keeps self.old t → result ≡ Conformance.broken_in_order p beat.now t }
+        ensures takes { Takes self.old beat.now self.new result }
+    {
+        let Some(request) = Past::<W>::request(self, x.source) else {
+            return Some(Rule::H2);
+        };
+        if !answers(x.opcode, request.opcode) {
+            return Some(Rule::H2);
+        }
+        if x.size != request.size {
+            return Some(Rule::H3);
+        }
+        self.take_access(true, burst_length(beat) <= 1, beat);
+        None
+    }
+
     /// The rule of the order of messages that the first beat of a message breaks, or none, and then
     /// takes it.
     fn begin<const W: usize>(
+        &mut self,
+        profile: Profile,
+        beat: &Beat<W>,
+    ) -> Result<Option<Rule>, AllocError>
+        requires width { IsWidth W }
+        requires small { IsTrue (is_small beat.now) }
+        requires first { is_first beat.now self.old ≡ true }
+        ensures rule { (t : History W) → Keeps self.old t → answered result ≡ Conformance.broken_in_order profile beat.now t }
+        ensures takes { TakesBeat self.old beat.now self.new result }
+    {
+        match beat {
+            Beat::A(x) if !is_acquire(x.opcode) => Ok(self.begin_request(x, beat)),
+            Beat::D(x) if is_access(x.opcode) => Ok(self.begin_answer(x, beat)),
+            _ => self.begin_transfer(profile, beat),
+        }
+    }
+
+    /// The same of the messages that bear on a block.
+    fn begin_transfer<const W: usize>(
         &mut self,
         profile: Profile,
         beat: &Beat<W>,

@@ -11,7 +11,7 @@ ghost use Rattle.tl_rules.specs.code.Tables.{empty_block, request_next, release_
 ghost use Rattle.tl_monitor.specs.code.Count.{at};
 ghost use Rattle.tl_monitor.specs.code.Blocks.{open_of};
 ghost use Rattle.tl_monitor.specs.code.KnownBlocks.{known_in};
-ghost use Rattle.tl_monitor.specs.code.LinkState.{is_block, is_first, completes, sink_with, touched, block_of_request};
+ghost use Rattle.tl_monitor.specs.code.LinkState.{is_access, is_block, is_first, completes, sink_with, touched, block_of_request};
 ghost use Rattle.tl_monitor.specs.code.LinkState.{block_of_release, entries_in, IsNext, OpensBlock, IsEmpty};
 
 use crate::bursts::Bursts;
@@ -19,6 +19,7 @@ use crate::byte_table::ByteTable;
 use crate::known_blocks::KnownBlocks;
 use std::alloc::{AllocError, Global};
 use tl_beat::beat::{Beat, BeatA, BeatB, BeatC, BeatD, BeatE};
+use tl_beat::opcode::OpD;
 use tl_rules::key::block_at;
 use tl_rules::kind::{
     capped, is_acquire, is_grant, is_probe, is_probe_ack, is_release, is_release_ack, reported,
@@ -169,6 +170,13 @@ fn update_block<const W: usize>(
     }
 }
 
+/// Whether an answer bears on no block.
+pub fn is_access(opcode: OpD) -> bool
+    ensures { result ≡ is_access opcode }
+{
+    matches!(opcode, OpD::AccessAck | OpD::AccessAckData | OpD::HintAck)
+}
+
 impl LinkState {
     /// What is kept of a link that has carried nothing.
     pub fn new(alloc: Global) -> Self
@@ -212,6 +220,7 @@ impl LinkState {
     }
 
     /// Updates what is pending by its source and by its sink.
+    #[inline(always)]
     fn update_keys<const W: usize>(
         &mut self,
         first: bool,
@@ -237,6 +246,7 @@ impl LinkState {
     }
 
     /// Updates what is pending of the request that a beat answers, and of its sink.
+    #[inline(always)]
     fn update_answered<const W: usize>(
         &mut self,
         first: bool,
@@ -260,6 +270,23 @@ impl LinkState {
                 self.requests.set(x.source, None);
             }
         }
+    }
+
+    /// Takes a beat that breaks no rule and changes nothing of a block.
+    #[inline(always)]
+    pub fn take_access<const W: usize>(&mut self, first: bool, last: bool, beat: &Beat<W>)
+        requires width { IsWidth W }
+        requires small { IsTrue (is_small beat.now) }
+        requires first { first ≡ is_first beat.now self.old }
+        requires last { last ≡ completes beat.now self.old }
+        requires access { touched first last beat.now self.old ≡ None }
+        ensures { IsNext self.old beat.now self.new }
+    {
+        self.update_keys(first, last, beat, None);
+        if first && last {
+            return;
+        }
+        self.bursts.take(last, beat);
     }
 
     /// Takes a beat that breaks no rule, which begins a message or doesn't, and completes it or doesn't.

@@ -201,6 +201,7 @@ impl LinkState {
     /// Takes a beat that breaks no rule, which begins a message or doesn't, and completes it or doesn't.
     /// Without memory nothing changes; that can only be where nothing was open or held of a block, and
     /// now something is.
+    #[inline(always)]
     pub fn take<const W: usize>(
         &mut self,
         first: bool,

@@ -87,11 +87,16 @@ impl LinkState {
         match beat {
             Beat::A(x) if !is_acquire(x.opcode) => Ok(self.begin_request(x, beat)),
             Beat::D(x) if is_access(x.opcode) => Ok(self.begin_answer(x, beat)),
-            _ => self.begin_transfer(profile, beat),
+            Beat::A(_) => self.begin_transfer(profile, beat),
+            Beat::B(_) => self.begin_transfer(profile, beat),
+            Beat::C(_) => self.begin_transfer(profile, beat),
+            Beat::D(_) => self.begin_transfer(profile, beat),
+            Beat::E(_) => self.begin_transfer(profile, beat),
         }
     }
 
     /// The same of the messages that bear on a block.
+    #[inline(always)]
     fn begin_transfer<const W: usize>(
         &mut self,
         profile: Profile,

@@ -58,6 +58,7 @@ fn release_of<const W: usize>(x: &BeatC<W>) -> Release
 }
 
 /// Updates what is open and held of the block that a beat bears on, where there is one.
+#[inline(always)]
 fn update_block<const W: usize>(
     blocks: &mut KnownBlocks,
     first: bool,
@@ -101,6 +102,7 @@ impl LinkState {
     }
 
     /// The block of the message that a beat answers, where it changes something of one.
+    #[inline(always)]
     fn answered<const W: usize>(&self, x: &BeatD<W>) -> Option<u32>
         ensures { result ≡ (if is_release_ack x.now.opcode then block_of_release (at self.now.releases x.now.source)
             else if is_grant x.now.opcode then block_of_request (at self.now.requests x.now.source) else None) }
@@ -115,6 +117,7 @@ impl LinkState {
     }
 
     /// The block that a beat changes something of.
+    #[inline(always)]
     pub fn touched<const W: usize>(&self, first: bool, last: bool, beat: &Beat<W>) -> Option<u32>
         ensures { result ≡ touched first last beat.now self.now }
     {

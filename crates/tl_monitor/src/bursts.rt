@@ -30,6 +30,7 @@ pub struct Bursts {
 }
 
 /// Takes the next beat of a burst, which completes the message or doesn't.
+#[inline(always)]
 fn advance<const W: usize>(last: bool, beat: &Beat<W>, burst: &mut Option<Unfinished>)
     requires width { IsWidth W }
     requires small { IsTrue (is_small beat.now) }
@@ -91,6 +92,7 @@ impl Bursts {
     }
 
     /// Takes a beat, which completes its message or doesn't.
+    #[inline(always)]
     pub fn take<const W: usize>(&mut self, last: bool, beat: &Beat<W>)
         requires width { IsWidth W }
         requires small { IsTrue (is_small beat.now) }

@@ -37,7 +37,8 @@ impl LinkState {
         requires first { is_first beat.now self.old ≡ true }
         requires same { beat.now ≡ A x.now }
         requires access { is_acquire x.now.opcode ≡ false }
-        ensures rule { (p : Profile) (t : History W) → Keeps self.old t → result ≡ Conformance.broken_in_order p beat.now t }
+        ensures rule { (p : Profile) (t : History W) → Keeps self.old t →
+            result ≡ Conformance.broken_in_order p beat.now t }
         ensures takes { Takes self.old beat.now self.new result }
     {
         if self.requests.get(x.source).is_some() {
@@ -55,7 +56,8 @@ impl LinkState {
         requires first { is_first beat.now self.old ≡ true }
         requires same { beat.now ≡ D x.now }
         requires access { is_access x.now.opcode ≡ true }
-        ensures rule { (p : Profile) (t : History W) → Keeps self.old t → result ≡ Conformance.broken_in_order p beat.now t }
+        ensures rule { (p : Profile) (t : History W) → Keeps self.old t →
+            result ≡ Conformance.broken_in_order p beat.now t }
         ensures takes { Takes self.old beat.now self.new result }
     {
         let Some(request) = Past::<W>::request(self, x.source) else {
@@ -81,7 +83,8 @@ impl LinkState {
         requires width { IsWidth W }
         requires small { IsTrue (is_small beat.now) }
         requires first { is_first beat.now self.old ≡ true }
-        ensures rule { (t : History W) → Keeps self.old t → answered result ≡ Conformance.broken_in_order profile beat.now t }
+        ensures rule { (t : History W) → Keeps self.old t →
+            answered result ≡ Conformance.broken_in_order profile beat.now t }
         ensures takes { TakesBeat self.old beat.now self.new result }
     {
         match beat {
@@ -105,7 +108,8 @@ impl LinkState {
         requires width { IsWidth W }
         requires small { IsTrue (is_small beat.now) }
         requires first { is_first beat.now self.old ≡ true }
-        ensures rule { (t : History W) → Keeps self.old t → answered result ≡ Conformance.broken_in_order profile beat.now t }
+        ensures rule { (t : History W) → Keeps self.old t →
+            answered result ≡ Conformance.broken_in_order profile beat.now t }
         ensures takes { TakesBeat self.old beat.now self.new result }
     {
         let last = burst_length(beat) <= 1;
@@ -121,7 +125,8 @@ impl LinkState {
     }
 
     /// The rule of bursts that a later beat of a message breaks, or none, and then takes it.
-    fn go_on<const W: usize>(&mut self, beat: &Beat<W>) -> Result<Option<Rule>, AllocError>
+    #[inline(always)]
+    fn go_on_in_arm<const W: usize>(&mut self, beat: &Beat<W>) -> Result<Option<Rule>, AllocError>
         requires width { IsWidth W }
         requires small { IsTrue (is_small beat.now) }
         requires later { is_first beat.now self.old ≡ false }
@@ -142,6 +147,24 @@ impl LinkState {
         let block = self.touched(false, true, beat);
         self.take(false, true, beat, block)?;
         Ok(None)
+    }
+
+    /// The same, put into an arm for each channel, so that the ways of the other channels drop out there.
+    fn go_on<const W: usize>(&mut self, beat: &Beat<W>) -> Result<Option<Rule>, AllocError>
+        requires width { IsWidth W }
+        requires small { IsTrue (is_small beat.now) }
+        requires later { is_first beat.now self.old ≡ false }
+        ensures rule { (p : Profile) (t : History W) → Keeps self.old t →
+            answered result ≡ Conformance.broken_in_order p beat.now t }
+        ensures takes { TakesBeat self.old beat.now self.new result }
+    {
+        match beat {
+            Beat::A(_) => self.go_on_in_arm(beat),
+            Beat::B(_) => self.go_on_in_arm(beat),
+            Beat::C(_) => self.go_on_in_arm(beat),
+            Beat::D(_) => self.go_on_in_arm(beat),
+            Beat::E(_) => self.go_on_in_arm(beat),
+        }
     }
 
     /// Takes a beat in the middle of a response that has the control fields of those before it, where neither corrupt

@@ -11,8 +11,8 @@ ghost use Rattle.tl_rules.specs.code.Tables.{empty_block, request_next, release_
 ghost use Rattle.tl_monitor.specs.code.Count.{at};
 ghost use Rattle.tl_monitor.specs.code.Blocks.{open_of};
 ghost use Rattle.tl_monitor.specs.code.KnownBlocks.{known_in};
-ghost use Rattle.tl_monitor.specs.code.LinkState.{is_access, is_block, is_first, completes, sink_with, touched, block_of_request};
-ghost use Rattle.tl_monitor.specs.code.LinkState.{block_of_release, entries_in, IsNext, OpensBlock, IsEmpty};
+ghost use Rattle.tl_monitor.specs.code.LinkState.{is_access, is_block, is_first, completes, sink_with, touched};
+ghost use Rattle.tl_monitor.specs.code.LinkState.{block_of_request, block_of_release, entries_in, IsNext, OpensBlock, IsEmpty};
 
 use crate::bursts::Bursts;
 use crate::byte_table::ByteTable;

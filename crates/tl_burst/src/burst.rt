@@ -14,6 +14,7 @@ use crate::message::{Message, MessageA, MessageB, MessageC, MessageD};
 use tl_beat::beat::{Beat, BeatA, BeatB, BeatC, BeatD, BeatE};
 
 /// How many beats of `W` bytes a burst of this size has.
+#[inline(always)]
 fn beats_for<const W: usize>(carries_data: bool, size: u8) -> u8
     requires width { IsWidth W }
     requires small { size ≤ 6 }
@@ -43,6 +44,7 @@ pub fn beats_of<const W: usize>(message: &Message<W>) -> u8
 }
 
 /// How many beats the burst of this beat has.
+#[inline(always)]
 pub fn burst_length<const W: usize>(beat: &Beat<W>) -> u8
     requires width { IsWidth W }
     requires small { IsTrue (is_small beat.now) }

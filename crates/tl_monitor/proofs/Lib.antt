@@ -1,3 +1,4 @@
+pub mod Accesses
 pub mod Counts
 pub mod OpenBlocks
 pub mod Inserting

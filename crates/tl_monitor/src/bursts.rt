@@ -8,7 +8,6 @@ ghost use Rattle.tl_burst.specs.statement.Part.{is_small};
 ghost use Rattle.tl_monitor.specs.code.Bursts.{burst_on, is_last, burst_next, burst_with};
 
 use tl_beat::beat::Beat;
-use tl_beat::channel::Channel;
 use tl_beat::control::Control;
 use tl_burst::burst::burst_length;
 
@@ -31,6 +30,7 @@ pub struct Bursts {
 }
 
 /// Takes the next beat of a burst, which completes the message or doesn't.
+#[inline(always)]
 fn advance<const W: usize>(last: bool, beat: &Beat<W>, burst: &mut Option<Unfinished>)
     requires width { IsWidth W }
     requires small { IsTrue (is_small beat.now) }
@@ -69,27 +69,30 @@ impl Bursts {
         }
     }
 
-    /// What is unfinished on a channel.
-    pub fn on(&self, channel: Channel) -> Option<Unfinished>
-        ensures { result ≡ burst_on self.now channel }
+    /// What is unfinished on the channel of a beat.
+    #[inline(always)]
+    pub fn of<const W: usize>(&self, beat: &Beat<W>) -> &Option<Unfinished>
+        ensures { result.now ≡ burst_on self.now (Messages.channel_of beat.now) }
     {
-        match channel {
-            Channel::A => self.a,
-            Channel::B => self.b,
-            Channel::C => self.c,
-            Channel::D => self.d,
-            Channel::E => self.e,
+        match beat {
+            Beat::A(_) => &self.a,
+            Beat::B(_) => &self.b,
+            Beat::C(_) => &self.c,
+            Beat::D(_) => &self.d,
+            Beat::E(_) => &self.e,
         }
     }
 
     /// Whether a beat begins a message.
+    #[inline(always)]
     pub fn begins<const W: usize>(&self, beat: &Beat<W>) -> bool
         ensures { result ≡ is_none (burst_on self.now (Messages.channel_of beat.now)) }
     {
-        self.on(beat.channel()).is_none()
+        self.of(beat).is_none()
     }
 
     /// Takes a beat, which completes its message or doesn't.
+    #[inline(always)]
     pub fn take<const W: usize>(&mut self, last: bool, beat: &Beat<W>)
         requires width { IsWidth W }
         requires small { IsTrue (is_small beat.now) }

@@ -2,30 +2,77 @@
 
 ghost use Rattle.std.specs.Prelude.{IsTrue, None, Some, true, false, ◌≡◌};
 ghost use Rattle.std.specs.Bool.{OnTrue, OnFalse};
-ghost use Rattle.tl_beat.specs.statement.Control.{channel_of};
 ghost use Rattle.tl_beat.specs.statement.Width.{IsWidth};
 ghost use Rattle.tl_burst.specs.statement.Messages.{History};
 ghost use Rattle.tl_burst.specs.statement.Part.{is_small};
 ghost use Rattle.tl_params.specs.declared.level.Level.{Level};
 ghost use Rattle.tl_params.specs.declared.profile.Profile.{Profile};
 ghost use Rattle.tl_rules.specs.statement.Conformance;
-ghost use Rattle.tl_monitor.specs.code.Bursts.{burst_on};
 ghost use Rattle.tl_monitor.specs.code.Lawful.{IsLawful};
 ghost use Rattle.tl_monitor.specs.code.LinkState.{is_first, IsNext};
-ghost use Rattle.tl_monitor.specs.code.Keeps.{Keeps, answered, TakesBeat};
+ghost use Rattle.tl_monitor.specs.code.Keeps.{Keeps, answered, Takes, TakesBeat};
+ghost use Rattle.tl_monitor.specs.code.LinkState.{is_access};
+ghost use Rattle.tl_rules.specs.statement.History.{is_acquire};
+ghost use Rattle.tl_beat.specs.declared.beat.Beat.TheVariants.{A, D};
 
-use crate::bursts::Unfinished;
-use crate::link_state::LinkState;
+use crate::link_state::{LinkState, is_access};
 use std::alloc::AllocError;
-use tl_beat::beat::Beat;
+use tl_beat::beat::{Beat, BeatA, BeatD};
 use tl_burst::burst::burst_length;
+use tl_rules::kind::{answers, is_acquire};
 use tl_rules::legality::beat::check_beat;
 use tl_rules::level::Level;
 use tl_rules::order::broken_order;
+use tl_rules::past::Past;
 use tl_rules::profile::Profile;
 use tl_rules::rule::Rule;
 
 impl LinkState {
+    /// Judges the first beat of a request that bears on no block, and takes it where it breaks no rule of the order
+    /// of messages.
+    #[inline(always)]
+    fn begin_request<const W: usize>(&mut self, x: &BeatA<W>, beat: &Beat<W>) -> Option<Rule>
+        requires width { IsWidth W }
+        requires small { IsTrue (is_small beat.now) }
+        requires first { is_first beat.now self.old ≡ true }
+        requires same { beat.now ≡ A x.now }
+        requires access { is_acquire x.now.opcode ≡ false }
+        ensures rule { (p : Profile) (t : History W) → Keeps self.old t →
+            result ≡ Conformance.broken_in_order p beat.now t }
+        ensures takes { Takes self.old beat.now self.new result }
+    {
+        if self.requests.get(x.source).is_some() {
+            return Some(Rule::H1);
+        }
+        self.take_access(true, burst_length(beat) <= 1, beat);
+        None
+    }
+
+    /// The same of an answer that bears on no block.
+    #[inline(always)]
+    fn begin_answer<const W: usize>(&mut self, x: &BeatD<W>, beat: &Beat<W>) -> Option<Rule>
+        requires width { IsWidth W }
+        requires small { IsTrue (is_small beat.now) }
+        requires first { is_first beat.now self.old ≡ true }
+        requires same { beat.now ≡ D x.now }
+        requires access { is_access x.now.opcode ≡ true }
+        ensures rule { (p : Profile) (t : History W) → Keeps self.old t →
+            result ≡ Conformance.broken_in_order p beat.now t }
+        ensures takes { Takes self.old beat.now self.new result }
+    {
+        let Some(request) = Past::<W>::request(self, x.source) else {
+            return Some(Rule::H2);
+        };
+        if !answers(x.opcode, request.opcode) {
+            return Some(Rule::H2);
+        }
+        if x.size != request.size {
+            return Some(Rule::H3);
+        }
+        self.take_access(true, burst_length(beat) <= 1, beat);
+        None
+    }
+
     /// The rule of the order of messages that the first beat of a message breaks, or none, and then
     /// takes it.
     fn begin<const W: usize>(
@@ -36,7 +83,33 @@ impl LinkState {
         requires width { IsWidth W }
         requires small { IsTrue (is_small beat.now) }
         requires first { is_first beat.now self.old ≡ true }
-        ensures rule { (t : History W) → Keeps self.old t → answered result ≡ Conformance.broken_in_order profile beat.now t }
+        ensures rule { (t : History W) → Keeps self.old t →
+            answered result ≡ Conformance.broken_in_order profile beat.now t }
+        ensures takes { TakesBeat self.old beat.now self.new result }
+    {
+        match beat {
+            Beat::A(x) if !is_acquire(x.opcode) => Ok(self.begin_request(x, beat)),
+            Beat::D(x) if is_access(x.opcode) => Ok(self.begin_answer(x, beat)),
+            Beat::A(_) => self.begin_transfer(profile, beat),
+            Beat::B(_) => self.begin_transfer(profile, beat),
+            Beat::C(_) => self.begin_transfer(profile, beat),
+            Beat::D(_) => self.begin_transfer(profile, beat),
+            Beat::E(_) => self.begin_transfer(profile, beat),
+        }
+    }
+
+    /// The same of the messages that bear on a block.
+    #[inline(always)]
+    fn begin_transfer<const W: usize>(
+        &mut self,
+        profile: Profile,
+        beat: &Beat<W>,
+    ) -> Result<Option<Rule>, AllocError>
+        requires width { IsWidth W }
+        requires small { IsTrue (is_small beat.now) }
+        requires first { is_first beat.now self.old ≡ true }
+        ensures rule { (t : History W) → Keeps self.old t →
+            answered result ≡ Conformance.broken_in_order profile beat.now t }
         ensures takes { TakesBeat self.old beat.now self.new result }
     {
         let last = burst_length(beat) <= 1;
@@ -52,18 +125,18 @@ impl LinkState {
     }
 
     /// The rule of bursts that a later beat of a message breaks, or none, and then takes it.
-    fn go_on<const W: usize>(
-        &mut self,
-        burst: Unfinished,
-        beat: &Beat<W>,
-    ) -> Result<Option<Rule>, AllocError>
+    #[inline(always)]
+    fn go_on_in_arm<const W: usize>(&mut self, beat: &Beat<W>) -> Result<Option<Rule>, AllocError>
         requires width { IsWidth W }
         requires small { IsTrue (is_small beat.now) }
-        requires burst { burst_on self.old.bursts (channel_of beat.now) ≡ Some burst }
+        requires later { is_first beat.now self.old ≡ false }
         ensures rule { (p : Profile) (t : History W) → Keeps self.old t →
             answered result ≡ Conformance.broken_in_order p beat.now t }
         ensures takes { TakesBeat self.old beat.now self.new result }
     {
+        let Some(burst) = self.bursts.of(beat) else {
+            return Ok(None);
+        };
         if !beat.has_control(&burst.control) {
             return Ok(Some(Rule::S1));
         }
@@ -74,6 +147,24 @@ impl LinkState {
         let block = self.touched(false, true, beat);
         self.take(false, true, beat, block)?;
         Ok(None)
+    }
+
+    /// The same, put into an arm for each channel, so that the ways of the other channels drop out there.
+    fn go_on<const W: usize>(&mut self, beat: &Beat<W>) -> Result<Option<Rule>, AllocError>
+        requires width { IsWidth W }
+        requires small { IsTrue (is_small beat.now) }
+        requires later { is_first beat.now self.old ≡ false }
+        ensures rule { (p : Profile) (t : History W) → Keeps self.old t →
+            answered result ≡ Conformance.broken_in_order p beat.now t }
+        ensures takes { TakesBeat self.old beat.now self.new result }
+    {
+        match beat {
+            Beat::A(_) => self.go_on_in_arm(beat),
+            Beat::B(_) => self.go_on_in_arm(beat),
+            Beat::C(_) => self.go_on_in_arm(beat),
+            Beat::D(_) => self.go_on_in_arm(beat),
+            Beat::E(_) => self.go_on_in_arm(beat),
+        }
     }
 
     /// Takes a beat in the middle of a response that has the control fields of those before it, where neither corrupt
@@ -90,7 +181,7 @@ impl LinkState {
         let Beat::D(response) = beat else {
             return false;
         };
-        let Some(burst) = self.bursts.d else {
+        let Some(burst) = &mut self.bursts.d else {
             return false;
         };
         if burst.left <= 1
@@ -100,10 +191,7 @@ impl LinkState {
         {
             return false;
         }
-        self.bursts.d = Some(Unfinished {
-            control: burst.control,
-            left: burst.left - 1,
-        });
+        burst.left -= 1;
         true
     }
 
@@ -127,10 +215,13 @@ impl LinkState {
         }
         match check_beat(level, beat.channel(), beat) {
             Err(rule) => Ok(Some(rule)),
-            Ok(()) => match self.bursts.on(beat.channel()) {
-                None => self.begin(profile, beat),
-                Some(burst) => self.go_on(burst, beat),
-            },
+            Ok(()) => {
+                if self.bursts.begins(beat) {
+                    self.begin(profile, beat)
+                } else {
+                    self.go_on(beat)
+                }
+            }
         }
     }
 }

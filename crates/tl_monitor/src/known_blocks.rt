@@ -1,14 +1,16 @@
 //! What is open of blocks and held of them, where the block that came last is kept by itself.
 
-ghost use Rattle.std.specs.Prelude.{ℕ, OnOk, OnErr, if◌then◌else◌, ◌==◌, ◌≡◌, ◌<◌, ◌≤◌, ◌^◌, ◌*◌};
-ghost use Rattle.tl_rules.specs.code.Tables.{empty_block};
+ghost use Rattle.std.specs.Prelude.{ℕ, OnOk, OnErr, if◌then◌else◌, ◌==◌, ◌≡◌, ◌≢◌, ◌<◌, ◌≤◌, ◌^◌, ◌*◌};
+ghost use Rattle.tl_rules.specs.code.Tables.{block_next, empty_block};
 ghost use Rattle.tl_monitor.specs.code.Count.{sum_below};
 ghost use Rattle.tl_monitor.specs.code.Blocks.{block_in, open_of};
 ghost use Rattle.tl_monitor.specs.code.KnownBlocks.{Known, known_in};
 
 use crate::blocks::{Blocks, EMPTY, open_of};
+use crate::change::change_block;
 use std::alloc::{AllocError, Global};
 use std::marker::Model;
+use tl_beat::beat::Beat;
 use tl_rules::table::Block;
 
 /// What is open or held of blocks. Of these the one that came last is stored only when another comes: many
@@ -62,25 +64,55 @@ impl KnownBlocks {
         }
     }
 
-    /// Writes what is open and held of a block. Without memory nothing changes; that can only be
-    /// where nothing was open or held of the block, and now something is.
-    pub fn set(&mut self, block: u32, value: Block) -> Result<(), AllocError>
-        ensures changed { OnOk result ((k : ℕ) →
-            known_in self.new k ≡ (if k == block then value else known_in self.old k)) }
+    /// Makes of a block that isn't the one that came last what a beat does that bears on it, as `change`.
+    #[inline(never)]
+    fn change_other<const W: usize>(
+        &mut self,
+        block: u32,
+        first: bool,
+        last: bool,
+        beat: &Beat<W>,
+    ) -> Result<(), AllocError>
+        requires { block ≢ self.old.newest }
+        ensures changed { OnOk result ((k : ℕ) → known_in self.new k ≡
+            (if k == block then block_next first last beat.now (known_in self.old k) else known_in self.old k)) }
         ensures unchanged { OnErr result (self.new ≡ self.old) }
-        ensures new { OnErr result ((known_in self.old block ≡ empty_block) × (0 < open_of value)) }
+        ensures new { OnErr result ((known_in self.old block ≡ empty_block)
+            × (0 < open_of (block_next first last beat.now (known_in self.old block)))) }
     {
-        if block == self.newest {
-            self.value = value;
-            return Ok(());
-        }
-        if open_of(&value) == 0 || open_of(&self.stored.get(block)) > 0 {
+        let old = self.stored.get(block);
+        let mut value = old;
+        change_block(first, last, beat, &mut value);
+        if open_of(&value) == 0 || open_of(&old) > 0 {
             return self.stored.set(block, value);
         }
         self.stored.add(self.newest, self.value)?;
         self.newest = block;
         self.value = value;
         Ok(())
+    }
+
+    /// Makes of a block what a beat does that bears on it. Without memory nothing changes; that can only be
+    /// where nothing was open or held of the block, and now something is.
+    #[inline(always)]
+    pub fn change<const W: usize>(
+        &mut self,
+        block: u32,
+        first: bool,
+        last: bool,
+        beat: &Beat<W>,
+    ) -> Result<(), AllocError>
+        ensures changed { OnOk result ((k : ℕ) → known_in self.new k ≡
+            (if k == block then block_next first last beat.now (known_in self.old k) else known_in self.old k)) }
+        ensures unchanged { OnErr result (self.new ≡ self.old) }
+        ensures new { OnErr result ((known_in self.old block ≡ empty_block)
+            × (0 < open_of (block_next first last beat.now (known_in self.old block)))) }
+    {
+        if block == self.newest {
+            change_block(first, last, beat, &mut self.value);
+            return Ok(());
+        }
+        self.change_other(block, first, last, beat)
     }
 
     /// How many keys of blocks are pending, and blocks held.

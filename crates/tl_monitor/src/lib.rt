@@ -4,6 +4,7 @@
 mod blocks;
 mod bursts;
 pub mod byte_table;
+mod change;
 pub mod fault;
 mod judge;
 mod known_blocks;

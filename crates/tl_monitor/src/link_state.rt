@@ -5,26 +5,25 @@ ghost use Rattle.tl_beat.specs.statement.Width.{IsWidth};
 ghost use Rattle.tl_burst.specs.statement.Part.{is_small};
 ghost use Rattle.tl_rules.specs.code.Tables;
 ghost use Rattle.tl_beat.specs.declared.beat.Beat.TheVariants as beat;
-ghost use Rattle.tl_rules.specs.code.Open.{request_fields, probe_fields};
+ghost use Rattle.tl_rules.specs.code.Open.{request_fields};
 ghost use Rattle.tl_rules.specs.statement.History.{is_grant, is_release_ack};
 ghost use Rattle.tl_rules.specs.code.Tables.{empty_block, request_next, release_next, release_fields};
 ghost use Rattle.tl_monitor.specs.code.Count.{at};
 ghost use Rattle.tl_monitor.specs.code.Blocks.{open_of};
 ghost use Rattle.tl_monitor.specs.code.KnownBlocks.{known_in};
-ghost use Rattle.tl_monitor.specs.code.LinkState.{is_block, is_first, completes, sink_with, touched, block_of_request};
-ghost use Rattle.tl_monitor.specs.code.LinkState.{block_of_release, entries_in, IsNext, OpensBlock, IsEmpty};
+ghost use Rattle.tl_monitor.specs.code.LinkState.{is_access, is_block, is_first, completes, sink_with, touched};
+ghost use Rattle.tl_monitor.specs.code.LinkState.{block_of_request, block_of_release, entries_in, IsNext, OpensBlock, IsEmpty};
 
 use crate::bursts::Bursts;
 use crate::byte_table::ByteTable;
 use crate::known_blocks::KnownBlocks;
 use std::alloc::{AllocError, Global};
-use tl_beat::beat::{Beat, BeatA, BeatB, BeatC, BeatD, BeatE};
+use tl_beat::beat::{Beat, BeatA, BeatC, BeatD};
+use tl_beat::opcode::OpD;
 use tl_rules::key::block_at;
-use tl_rules::kind::{
-    capped, is_acquire, is_grant, is_probe, is_probe_ack, is_release, is_release_ack, reported,
-};
-use tl_rules::past::{Probe, Request};
-use tl_rules::table::{Block, Release};
+use tl_rules::kind::{is_acquire, is_grant, is_probe, is_release, is_release_ack};
+use tl_rules::past::Request;
+use tl_rules::table::Release;
 
 /// What is kept of a link: the bursts that are unfinished, and what is pending with the control fields
 /// of the message that opened it, by source, by sink and by block.
@@ -58,93 +57,8 @@ fn release_of<const W: usize>(x: &BeatC<W>) -> Release
     }
 }
 
-fn probe_of<const W: usize>(x: &BeatB<W>) -> Probe
-    ensures { Some result ≡ probe_fields (Some x.now) }
-{
-    Probe {
-        opcode: x.opcode,
-        param: x.param,
-    }
-}
-
-fn after_a<const W: usize>(first: bool, last: bool, x: &BeatA<W>, block: Block) -> Block
-    ensures { result ≡ Tables.block_next first last (beat.A x.now) block }
-{
-    Block {
-        acquire: first && is_acquire(x.opcode) || block.acquire,
-        ..block
-    }
-}
-
-fn after_b<const W: usize>(first: bool, last: bool, x: &BeatB<W>, block: Block) -> Block
-    ensures { result ≡ Tables.block_next first last (beat.B x.now) block }
-{
-    if first && is_probe(x.opcode) {
-        Block {
-            probe: Some(probe_of(x)),
-            ..block
-        }
-    } else {
-        block
-    }
-}
-
-fn after_c<const W: usize>(first: bool, last: bool, x: &BeatC<W>, block: Block) -> Block
-    ensures { result ≡ Tables.block_next first last (beat.C x.now) block }
-{
-    let answers = last && is_probe_ack(x.opcode);
-    let says = last && (is_probe_ack(x.opcode) || is_release(x.opcode));
-    Block {
-        held: if says { reported(x.param) } else { block.held },
-        release: first && is_release(x.opcode) || block.release,
-        probe: if answers { None } else { block.probe },
-        ..block
-    }
-}
-
-fn after_d<const W: usize>(first: bool, last: bool, x: &BeatD<W>, block: Block) -> Block
-    ensures { result ≡ Tables.block_next first last (beat.D x.now) block }
-{
-    let begins = first && is_grant(x.opcode);
-    let grants = last && is_grant(x.opcode);
-    let acks = last && is_release_ack(x.opcode);
-    Block {
-        held: if grants { capped(x.param) } else { block.held },
-        acquire: !grants && block.acquire,
-        release: !acks && block.release,
-        grant: if begins { Some(x.sink) } else { block.grant },
-        ..block
-    }
-}
-
-fn after_e(first: bool, last: bool, x: &BeatE, block: Block) -> Block
-    ensures { result ≡ Tables.block_next {w = 8} first last (beat.E x.now) block }
-{
-    if last && block.grant == Some(x.sink) {
-        Block {
-            grant: None,
-            ..block
-        }
-    } else {
-        block
-    }
-}
-
-/// What a beat makes of the block that it bears on, where it begins a message or doesn't, and
-/// completes it or doesn't.
-fn block_next<const W: usize>(first: bool, last: bool, beat: &Beat<W>, block: Block) -> Block
-    ensures { result ≡ Tables.block_next first last beat.now block }
-{
-    match beat {
-        Beat::A(x) => after_a(first, last, x, block),
-        Beat::B(x) => after_b(first, last, x, block),
-        Beat::C(x) => after_c(first, last, x, block),
-        Beat::D(x) => after_d(first, last, x, block),
-        Beat::E(x) => after_e(first, last, x, block),
-    }
-}
-
 /// Updates what is open and held of the block that a beat bears on, where there is one.
+#[inline(always)]
 fn update_block<const W: usize>(
     blocks: &mut KnownBlocks,
     first: bool,
@@ -162,11 +76,15 @@ fn update_block<const W: usize>(
 {
     match block {
         None => Ok(()),
-        Some(block) => {
-            let next = block_next(first, last, beat, blocks.get(block));
-            blocks.set(block, next)
-        }
+        Some(block) => blocks.change(block, first, last, beat),
     }
+}
+
+/// Whether an answer bears on no block.
+pub fn is_access(opcode: OpD) -> bool
+    ensures { result ≡ is_access opcode }
+{
+    matches!(opcode, OpD::AccessAck | OpD::AccessAckData | OpD::HintAck)
 }
 
 impl LinkState {
@@ -184,6 +102,7 @@ impl LinkState {
     }
 
     /// The block of the message that a beat answers, where it changes something of one.
+    #[inline(always)]
     fn answered<const W: usize>(&self, x: &BeatD<W>) -> Option<u32>
         ensures { result ≡ (if is_release_ack x.now.opcode then block_of_release (at self.now.releases x.now.source)
             else if is_grant x.now.opcode then block_of_request (at self.now.requests x.now.source) else None) }
@@ -198,6 +117,7 @@ impl LinkState {
     }
 
     /// The block that a beat changes something of.
+    #[inline(always)]
     pub fn touched<const W: usize>(&self, first: bool, last: bool, beat: &Beat<W>) -> Option<u32>
         ensures { result ≡ touched first last beat.now self.now }
     {
@@ -212,6 +132,7 @@ impl LinkState {
     }
 
     /// Updates what is pending by its source and by its sink.
+    #[inline(always)]
     fn update_keys<const W: usize>(
         &mut self,
         first: bool,
@@ -237,6 +158,7 @@ impl LinkState {
     }
 
     /// Updates what is pending of the request that a beat answers, and of its sink.
+    #[inline(always)]
     fn update_answered<const W: usize>(
         &mut self,
         first: bool,
@@ -262,9 +184,27 @@ impl LinkState {
         }
     }
 
+    /// Takes a beat that breaks no rule and changes nothing of a block.
+    #[inline(always)]
+    pub fn take_access<const W: usize>(&mut self, first: bool, last: bool, beat: &Beat<W>)
+        requires width { IsWidth W }
+        requires small { IsTrue (is_small beat.now) }
+        requires first { first ≡ is_first beat.now self.old }
+        requires last { last ≡ completes beat.now self.old }
+        requires access { touched first last beat.now self.old ≡ None }
+        ensures { IsNext self.old beat.now self.new }
+    {
+        self.update_keys(first, last, beat, None);
+        if first && last {
+            return;
+        }
+        self.bursts.take(last, beat);
+    }
+
     /// Takes a beat that breaks no rule, which begins a message or doesn't, and completes it or doesn't.
     /// Without memory nothing changes; that can only be where nothing was open or held of a block, and
     /// now something is.
+    #[inline(always)]
     pub fn take<const W: usize>(
         &mut self,
         first: bool,

@@ -13,8 +13,8 @@ use tl_rules::past::{Past, Probe, Request};
 use tl_rules::perm::Perm;
 
 /// Whether a burst that isn't complete is of a request with this source.
-fn comes_request(source: u8, burst: Option<Unfinished>) -> bool
-    ensures { result ≡ comes_request source burst }
+fn comes_request(source: u8, burst: &Option<Unfinished>) -> bool
+    ensures { result ≡ comes_request source burst.now }
 {
     match burst {
         Some(
@@ -28,8 +28,8 @@ fn comes_request(source: u8, burst: Option<Unfinished>) -> bool
 }
 
 /// Whether a burst that isn't complete is of a Release with this source.
-fn comes_release(source: u8, burst: Option<Unfinished>) -> bool
-    ensures { result ≡ comes_release source burst }
+fn comes_release(source: u8, burst: &Option<Unfinished>) -> bool
+    ensures { result ≡ comes_release source burst.now }
 {
     match burst {
         Some(
@@ -43,8 +43,8 @@ fn comes_release(source: u8, burst: Option<Unfinished>) -> bool
 }
 
 /// Whether a burst that isn't complete is of a Grant with this sink.
-fn comes_grant(sink: u8, burst: Option<Unfinished>) -> bool
-    ensures { result ≡ comes_grant sink burst }
+fn comes_grant(sink: u8, burst: &Option<Unfinished>) -> bool
+    ensures { result ≡ comes_grant sink burst.now }
 {
     match burst {
         Some(
@@ -62,6 +62,7 @@ impl<const W: usize> Past<W> for LinkState {
 
     ghost knows = { λ k t. Keeps k t };
 
+    #[inline(always)]
     fn is_pending(&self, key: Key) -> bool {
         match key {
             Key::RequestSource(source) => self.requests.get(source).is_some(),
@@ -79,7 +80,7 @@ impl<const W: usize> Past<W> for LinkState {
     }
 
     fn request(&self, source: u8) -> Option<Request> {
-        if comes_request(source, self.bursts.a) {
+        if comes_request(source, &self.bursts.a) {
             None
         } else {
             self.requests.get(source)
@@ -87,7 +88,7 @@ impl<const W: usize> Past<W> for LinkState {
     }
 
     fn release(&self, source: u8) -> Option<u8> {
-        if comes_release(source, self.bursts.c) {
+        if comes_release(source, &self.bursts.c) {
             return None;
         }
         Some(self.releases.get(source)?.size)
@@ -98,6 +99,6 @@ impl<const W: usize> Past<W> for LinkState {
     }
 
     fn has_grant(&self, sink: u8) -> bool {
-        self.sinks.get(sink).is_some() && !comes_grant(sink, self.bursts.d)
+        self.sinks.get(sink).is_some() && !comes_grant(sink, &self.bursts.d)
     }
 }

@@ -24,6 +24,7 @@ use tl_params::profile::Profile;
 use tl_params::report::report_of;
 use tl_params::rule::Rule;
 
+#[inline(always)]
 fn either_pending<const W: usize, P: Past<W>>(one: Key, other: Key, past: &P) -> bool
     ensures { (t : History W) → P.knows past.now t → result ≡ (pending one t || pending other t) }
 {
@@ -41,6 +42,7 @@ fn grows_from(param: u8, perm: Perm) -> bool
     }
 }
 
+#[inline(always)]
 fn broken_a<const W: usize, P: Past<W>>(x: &BeatA<W>, past: &P) -> Option<Rule>
     ensures { (t : History W) → P.knows past.now t → result ≡ Conformance.broken_a x.now t }
 {
@@ -60,6 +62,7 @@ fn broken_a<const W: usize, P: Past<W>>(x: &BeatA<W>, past: &P) -> Option<Rule>
     None
 }
 
+#[inline(always)]
 fn broken_b<const W: usize, P: Past<W>>(x: &BeatB<W>, past: &P) -> Option<Rule>
     ensures { (t : History W) → P.knows past.now t → result ≡ Conformance.broken_b x.now t }
 {
@@ -135,6 +138,7 @@ fn broken_probe_ack<const W: usize, P: Past<W>>(x: &BeatC<W>, past: &P) -> Optio
     None
 }
 
+#[inline(always)]
 fn broken_c<const W: usize, P: Past<W>>(x: &BeatC<W>, past: &P) -> Option<Rule>
     ensures { (t : History W) → P.knows past.now t → result ≡ Conformance.broken_c x.now t }
 {
@@ -224,6 +228,7 @@ fn broken_answer<const W: usize, P: Past<W>>(
     None
 }
 
+#[inline(always)]
 fn broken_d<const W: usize, P: Past<W>>(profile: Profile, x: &BeatD<W>, past: &P) -> Option<Rule>
     ensures { (t : History W) → P.knows past.now t →
         result ≡ Conformance.broken_d profile x.now t }
@@ -235,6 +240,7 @@ fn broken_d<const W: usize, P: Past<W>>(profile: Profile, x: &BeatD<W>, past: &P
     }
 }
 
+#[inline(always)]
 fn broken_e<const W: usize, P: Past<W>>(x: &BeatE, past: &P) -> Option<Rule>
     ensures { (t : History W) → P.knows past.now t → result ≡ Conformance.broken_e x.now t }
 {
@@ -247,6 +253,7 @@ fn broken_e<const W: usize, P: Past<W>>(x: &BeatE, past: &P) -> Option<Rule>
 
 /// The first rule of the order of messages that a message which begins with this beat breaks.
 #[tactic(auto, unfolding(crate::specs::statement::Conformance::broken_order))]
+#[inline(always)]
 pub fn broken_order<const W: usize, P: Past<W>>(
     profile: Profile,
     beat: &Beat<W>,

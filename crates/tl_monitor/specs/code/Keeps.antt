@@ -33,9 +33,13 @@ abbrev pub answered : {E : Type 0} → Result (Option Rule) E → Option Rule
 answered (Ok rule) = rule
 answered (Err e) = None
 
+-- a beat is taken where no rule is answered; otherwise nothing changes
+abbrev pub Takes : {w : ℕ} → LinkState → Beat w → LinkState → Option Rule → Type 0
+Takes old x new None = IsNext old x new
+Takes old x new (Some rule) = new ≡ old
+
 -- a beat is taken where no rule is answered; otherwise nothing changes. Where memory is wanting something was to be opened
 -- or held of a block of which nothing was.
 abbrev pub TakesBeat : {w : ℕ} {E : Type 0} → LinkState → Beat w → LinkState → Result (Option Rule) E → Type 0
-TakesBeat old x new (Ok None) = IsNext old x new
-TakesBeat old x new (Ok (Some rule)) = new ≡ old
+TakesBeat old x new (Ok rule) = Takes old x new rule
 TakesBeat old x new (Err e) = (new ≡ old) × ((b : ℕ) × OpensBlock old x b)

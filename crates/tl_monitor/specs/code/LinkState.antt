@@ -1,9 +1,11 @@
 -- What the tables of a link say, and what they say with one more beat.
-use Rattle.std.specs.Prelude.{ℕ, Bool, false, ◌==◌, ◌≡◌, ◌<◌, ◌+◌, ◌^◌, ◌&&◌, ◌||◌, if◌then◌else◌, Option, Some, None}
+use Rattle.std.specs.Prelude.{ℕ, Bool, true, false, ◌==◌, ◌≡◌, ◌<◌, ◌+◌, ◌^◌, ◌&&◌, ◌||◌, if◌then◌else◌, Option, Some, None}
 use Rattle.std.specs.Prelude.{is_some, is_none}
 use Rattle.tl_beat.specs.declared.beat.Beat.{Beat}
 use Rattle.tl_beat.specs.declared.beat.Beat.TheVariants as beat
 use Rattle.tl_beat.specs.declared.channel.Channel.{Channel}
+use Rattle.tl_beat.specs.declared.opcode.OpD.{OpD}
+use Rattle.tl_beat.specs.declared.opcode.OpD.TheVariants as d
 use Rattle.tl_burst.specs.statement.Messages.{channel_of}
 use Rattle.tl_rules.specs.declared.past.Request.{Request}
 use Rattle.tl_rules.specs.declared.table.Release.{Release}
@@ -29,6 +31,13 @@ block_of_request (Some r) = Some r.block
 abbrev pub block_of_release : Option Release → Option ℕ
 block_of_release None = None
 block_of_release (Some r) = Some r.block
+
+-- an answer of this opcode bears on no block
+abbrev pub is_access : OpD → Bool
+is_access d.AccessAck = true
+is_access d.AccessAckData = true
+is_access d.HintAck = true
+is_access _ = false
 
 -- the block that a beat changes something of
 abbrev pub touched : {w : ℕ} → Bool → Bool → Beat w → LinkState → Option ℕ

@@ -1,10 +1,12 @@
 -- The place of the first LF cuts the first line off.
-use Rattle.std.proofs.Common.{◌≡◌, ◌<◌, ℕ, ◌+◌, List, [], ◌∷◌, ◌++◌, length, take, drop, get_or, true, false, Bool}
+use Rattle.std.proofs.Common.{◌≡◌, ◌<◌, ◌≤◌, ℕ, ◌+◌, List, [], ◌∷◌, ◌++◌, length, take, drop, get_or, true, false, Bool}
 use Rattle.std.proofs.Common.{refl, ap, ◌∙◌, arith}
 use Rattle.std.proofs.lemmas.Bool.{eqb-true}
 use Rattle.std.proofs.lemmas.List.{take_more, take-append-drop, get_or-take, length-take-le}
 use Rattle.std.proofs.lemmas.List.Elements.{All-from_get_or}
-use Rattle.std.specs.Prelude.{◌==◌}
+use Rattle.std.proofs.lemmas.Simd.{run_in_chunk_fails, run_in_chunk_stops}
+use Rattle.std.specs.List.{prefix_len}
+use Rattle.std.specs.Prelude.{◌==◌, not}
 use Rattle.memchr.specs.Find.{NoneBefore, Passes, is_byte}
 use Rattle.tl_engine.specs.code.Lines.{LacksLf, IsLine}
 
@@ -25,3 +27,19 @@ cut_line bytes k first is =
     let more : take (k + 1) bytes ≡ take k bytes ++ 10 ∷ [] =
     take_more bytes k 0 first.high ∙ ap (λ (x : ℕ). take k bytes ++ x ∷ []) lf in
     ((take k bytes, lacks, more), take-append-drop (k + 1) bytes)
+
+-- among the bytes at the front, the first LF of all
+pub near_line : (bytes : List ℕ) (k : ℕ) → 64 ≤ length bytes → k ≡ prefix_len (λ b. not (b == 10)) (take 64 bytes)
+    → k < 64 → NoneBefore (Passes (is_byte 10) bytes) 0 (length bytes) k × Passes (is_byte 10) bytes k
+near_line bytes k room is near =
+    let place : 0 + k ≡ k = omega arith in (
+      record {
+        low = omega arith;
+        high = omega arith;
+        before = λ i low high lf.
+            let other : (get_or bytes i 0 == 10) ≡ false =
+            run_in_chunk_fails (is_byte 10) bytes 0 64 k 0 room is i low (omega arith) in
+            absurd cc;
+      },
+      rw place at (run_in_chunk_stops (is_byte 10) bytes 0 64 k 0 room is near),
+    )

@@ -41,6 +41,7 @@ impl<const W: usize> BeatJudge<W> {
     }
 
     /// Judges the next beat. A judge that has found one at fault isn't asked again.
+    #[inline(always)]
     pub fn push(&mut self, link: Link, beat: &Beat<W>) -> Result<Option<Fault>, AllocError>
         requires { IsWidth W }
         ensures { IfOk result (λ fault. (together : Bool) (levels : List Level) (p : Profile) (t : Trace W) →

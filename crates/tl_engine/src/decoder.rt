@@ -6,8 +6,9 @@ ghost use Rattle.tl_engine.specs.statement.Decoded.{DecodesBefore, DecodesTo, is
 use crate::fault::Fault;
 use crate::line_handler::LineHandler;
 use std::alloc::AllocError;
+use tl_beat::beat::{Beat, BeatE};
 use tl_beat::fault::LineFault;
-use tl_beat::read::read_line;
+use tl_beat::read::read_into;
 use tl_explain::text::append_text;
 
 /// Judges lines of beats of `W` bytes (4, 8 or 16), each for itself: a line that spells a beat has a
@@ -24,9 +25,11 @@ impl<const W: usize> LineHandler for Decoder<W> {
 
     ghost ends = { λ _ _. ⊤ };
 
+    #[inline(always)]
     fn handle_line(&mut self, line: &[u8], out: &mut Vec<u8>) -> Result<Option<Fault>, AllocError> {
-        match read_line::<W>(line) {
-            Ok((_, beat)) => {
+        let mut beat = Beat::<W>::E(BeatE { sink: 0 });
+        match read_into(line, &mut beat) {
+            Ok(_) => {
                 append_text(line, &beat, out)?;
                 Ok(None)
             }

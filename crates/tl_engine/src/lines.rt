@@ -1,6 +1,9 @@
 //! Cuts an input that comes in pieces into its lines.
 
-ghost use Rattle.std.specs.Prelude.{◌≡◌, ◌+◌, ◌++◌, [], ◌≤◌, ◌<◌, ◌^◌, ◌-◌, ℕ, List, IfOk, IfErr, MatchOption, Ok, length};
+ghost use Rattle.std.specs.Prelude.{◌≡◌, ◌+◌, ◌++◌, [], ◌≤◌, ◌<◌, ◌^◌, ◌-◌, ◌==◌, not, ℕ, List, length};
+ghost use Rattle.std.specs.Prelude.{IfOk, IfErr, MatchOption, Ok};
+ghost use Rattle.std.specs.List.{prefix_len};
+ghost use Rattle.memchr.specs.Find.{IsFirstByte, is_byte};
 ghost use Rattle.tl_engine.specs.statement.Fault.{fault_text};
 ghost use Rattle.tl_engine.specs.code.Judging.{Ends};
 ghost use Rattle.tl_engine.specs.code.Lines.{IsLine, IsOpen, LacksLf, lines_of};
@@ -13,6 +16,7 @@ use crate::status::{Status, ToolFault};
 use arrayvec::ArrayVec;
 use memchr::memchr;
 use std::alloc::AllocError;
+use std::simd::u8x64;
 
 /// A handler, with the number of lines that it has judged, and the beginning of a line whose end
 /// hasn't come.
@@ -33,13 +37,42 @@ impl From<AllocError> for ToolFault {
     }
 }
 
+/// How many of these bytes stand before the first LF.
+#[inline(always)]
+fn near_end(bytes: &[u8; 64]) -> usize
+    ensures { result ≡ prefix_len (λ b. not (b == 10)) bytes.now }
+{
+    let ends = u8x64::from_array(*bytes)
+        .simd_eq(u8x64::splat(b'\n'))
+        .to_bitmask();
+    if ends == 0 {
+        64
+    } else {
+        ends.trailing_zeros() as usize
+    }
+}
+
+/// The place of the first LF, which mostly is among the first 64 bytes.
+#[inline(always)]
+fn line_end(bytes: &[u8]) -> Option<usize>
+    ensures { IsFirstByte (is_byte 10) bytes.now result }
+{
+    if let Some(front) = bytes.first_chunk::<64>() {
+        let end = near_end(front);
+        if end < 64 {
+            return Some(end);
+        }
+    }
+    memchr(b'\n', bytes)
+}
+
 /// The first line of these bytes with its LF, and what follows it.
 #[inline(always)]
 pub(crate) fn first_line(bytes: &[u8]) -> Option<(&[u8], &[u8])>
     ensures { MatchOption result (LacksLf bytes.now) (λ parts. IsLine parts.0.now
         × (parts.0.now ++ parts.1.now ≡ bytes.now)) }
 {
-    let end = memchr(b'\n', bytes)?;
+    let end = line_end(bytes)?;
     Some(bytes.split_at(end + 1))
 }
 
@@ -52,6 +85,7 @@ fn number_after(count: u64) -> Result<u64, ToolFault>
 }
 
 /// Judges the line after these many, and appends its text or its fault.
+#[inline(always)]
 fn handle_counted_line<H: LineHandler>(
     handler: &mut H,
     count: &mut u64,

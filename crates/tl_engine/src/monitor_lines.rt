@@ -1,9 +1,9 @@
 //! Judges a recorded trace.
 
-ghost use Rattle.std.specs.Prelude.{Bool, ◌≡◌, ◌++◌, IfOk, OnOk, ⊤};
-ghost use Rattle.std.specs.Result.{result_err};
-ghost use Rattle.tl_beat.specs.statement.Line.{Spells, line_fault};
+ghost use Rattle.std.specs.Prelude.{Bool, ◌≡◌, ◌++◌, ℕ, List, IfOk, OnOk, ⊤};
 ghost use Rattle.tl_beat.specs.statement.Width.{IsWidth};
+ghost use Rattle.tl_engine.specs.code.Judging.{Judges};
+ghost use Rattle.tl_engine.specs.declared.monitor_lines.MonitorLines.{MonitorLines};
 ghost use Rattle.tl_engine.specs.code.Watching.{Begins, JudgedSo, KnowsLines, Watches};
 ghost use Rattle.tl_engine.specs.code.Watching.{end_by, is_together, word_by};
 
@@ -13,9 +13,9 @@ use crate::header::read_header;
 use crate::line_handler::LineHandler;
 use itoa::Buffer;
 use std::alloc::{AllocError, Global};
-use tl_beat::beat::{Beat, Link};
+use tl_beat::beat::{Beat, BeatE};
 use tl_beat::fault::LineFault;
-use tl_beat::read::read_line;
+use tl_beat::read::read_into;
 use tl_params::width::Width;
 
 /// Judges the lines of a trace: the header, and then the beats of up to 16 links, of each by itself, or of
@@ -29,23 +29,14 @@ pub enum MonitorLines<const TOGETHER: usize> {
     Sixteen(BeatJudge<16>),
 }
 
-/// The beat of a line, written once where its caller wants it: put into the caller it is copied more often.
-#[inline(never)]
-fn read_beat<const W: usize>(line: &[u8]) -> Result<(Link, Beat<W>), LineFault>
-    requires { IsWidth W }
-    ensures spelled { IfOk result (λ read. Spells line.now read.0 read.1) }
-    ensures fault { result_err result ≡ line_fault W line.now }
-{
-    read_line(line)
-}
-
 /// Judges the line of the next beat. A judge that has found one at fault isn't asked again.
 fn watch<const W: usize>(judge: &mut BeatJudge<W>, line: &[u8]) -> Result<Option<Fault>, AllocError>
     requires { IsWidth W }
     ensures { IfOk result (λ fault. (together : Bool) → Watches together judge.old judge.new line.now fault) }
 {
-    match read_beat(line) {
-        Ok((link, beat)) => judge.push(link, &beat),
+    let mut beat = Beat::E(BeatE { sink: 0 });
+    match read_into(line, &mut beat) {
+        Ok(link) => judge.push(link, &beat),
         Err(fault) => Ok(Some(Fault::Line(fault))),
     }
 }
@@ -88,6 +79,27 @@ fn begin<const TOGETHER: usize>(
     Ok(Some(monitor_lines))
 }
 
+/// Goes on with the judges that the header names. A line of another form is at fault.
+#[cold]
+#[inline(never)]
+fn start<const TOGETHER: usize>(
+    monitor_lines: &mut MonitorLines<TOGETHER>,
+    alloc: Global,
+    line: &[u8],
+) -> Result<Option<Fault>, AllocError>
+    requires { monitor_lines.old ≡ MonitorLines.Waiting alloc }
+    ensures { (said : List ℕ) → IfOk result (Judges KnowsLines (JudgedSo (is_together TOGETHER)) monitor_lines.old
+        monitor_lines.new line.now said said) }
+{
+    match begin(alloc, line)? {
+        None => Ok(Some(Fault::Header)),
+        Some(begun) => {
+            *monitor_lines = begun;
+            Ok(None)
+        }
+    }
+}
+
 impl<const TOGETHER: usize> LineHandler for MonitorLines<TOGETHER> {
     ghost knows = { KnowsLines };
 
@@ -95,19 +107,17 @@ impl<const TOGETHER: usize> LineHandler for MonitorLines<TOGETHER> {
 
     ghost ends = { λ _ _. ⊤ };
 
+    #[inline(always)]
     fn handle_line(
         &mut self,
         line: &[u8],
         _out: &mut Vec<u8>,
     ) -> Result<Option<Fault>, AllocError> {
         match self {
-            MonitorLines::Waiting(alloc) => match begin(*alloc, line)? {
-                None => Ok(Some(Fault::Header)),
-                Some(monitor_lines) => {
-                    *self = monitor_lines;
-                    Ok(None)
-                }
-            },
+            MonitorLines::Waiting(alloc) => {
+                let alloc = *alloc;
+                start(self, alloc, line)
+            }
             MonitorLines::Four(judge) => watch(judge, line),
             MonitorLines::Eight(judge) => watch(judge, line),
             MonitorLines::Sixteen(judge) => watch(judge, line),

@@ -1,10 +1,9 @@
 use Rattle.tl_engine.specs.declared.monitor_lines.MonitorLines.TheVariants.{Four, Eight, Sixteen}
-use Rattle.tl_engine.proofs.Judged.{header_bad, watched}
+use Rattle.tl_engine.proofs.Judged.{watched}
 use Rattle.tl_engine.proofs.monitor_lines.MonitorLinesLineHandler.handle_line.Goals as goal
 
-pub returns-in-None-clause-judges : goal.returns-in-None-clause-judges
-returns-in-None-clause-judges g c = rw c.in-Waiting.is
-    (header_bad g.row.TOGETHER _ c.args.line.now _ (rw c.in-None.is at c.in_ok-begin-in-Waiting.ensures))
+pub returns-in-Waiting-clause-judges : goal.returns-in-Waiting-clause-judges
+returns-in-Waiting-clause-judges g c = rw c.in-Waiting.is (c.start.ensures c.args._out.now.items)
 
 pub returns-in-Four-clause-judges : goal.returns-in-Four-clause-judges
 returns-in-Four-clause-judges g c = rw c.in-Four.is (watched g.row.TOGETHER Four (λ judge lines text k. k) (λ judge lines text k. k)

@@ -112,9 +112,42 @@ impl<const W: usize> Beat<W> {
     }
 
     /// Whether these are the beat's control fields.
+    #[inline(always)]
     pub fn has_control(&self, control: &Control) -> bool
         ensures { result ≡ has_control self.now control.now }
     {
-        self.control() == *control
+        match (self, control) {
+            (Beat::A(x), Control::A(y)) => {
+                x.opcode == y.opcode
+                    && x.param == y.param
+                    && x.size == y.size
+                    && x.source == y.source
+                    && x.address == y.address
+            }
+            (Beat::B(x), Control::B(y)) => {
+                x.opcode == y.opcode
+                    && x.param == y.param
+                    && x.size == y.size
+                    && x.source == y.source
+                    && x.address == y.address
+            }
+            (Beat::C(x), Control::C(y)) => {
+                x.opcode == y.opcode
+                    && x.param == y.param
+                    && x.size == y.size
+                    && x.source == y.source
+                    && x.address == y.address
+            }
+            (Beat::D(x), Control::D(y)) => {
+                x.opcode == y.opcode
+                    && x.param == y.param
+                    && x.size == y.size
+                    && x.source == y.source
+                    && x.sink == y.sink
+                    && x.denied == y.denied
+            }
+            (Beat::E(x), Control::E(sink)) => x.sink == *sink,
+            _ => false,
+        }
     }
 }

@@ -5,7 +5,7 @@ ghost use Rattle.tl_beat.specs.statement.Width.{IsWidth};
 ghost use Rattle.tl_beat.specs.declared.channel.Channel.TheVariants as channel;
 ghost use Rattle.tl_burst.specs.statement.Messages;
 ghost use Rattle.tl_burst.specs.statement.Part.{is_small};
-ghost use Rattle.tl_monitor.specs.code.Bursts.{burst_on, is_last, burst_next, burst_with};
+ghost use Rattle.tl_monitor.specs.code.Bursts.{burst_on, is_last, burst_next, burst_with, IsMiddle};
 
 use tl_beat::beat::Beat;
 use tl_beat::control::Control;
@@ -49,6 +49,17 @@ fn advance<const W: usize>(last: bool, beat: &Beat<W>, burst: &mut Option<Unfini
         control: beat.control(),
         left,
     });
+}
+
+/// Counts a beat in the middle of a burst, which has the control fields of those before it.
+#[inline(always)]
+fn count_in<const W: usize>(beat: &Beat<W>, burst: &mut Option<Unfinished>)
+    requires { IsMiddle beat.now burst.old }
+    ensures { burst.new ≡ burst_next beat.now burst.old }
+{
+    if let Some(burst) = burst {
+        burst.left -= 1;
+    }
 }
 
 impl Bursts {
@@ -109,6 +120,25 @@ impl Bursts {
             Beat::C(_) => advance(last, beat, &mut self.c),
             Beat::D(_) => advance(last, beat, &mut self.d),
             Beat::E(_) => advance(last, beat, &mut self.e),
+        }
+    }
+
+    /// Counts a beat in the middle of its burst.
+    #[inline(always)]
+    pub fn count<const W: usize>(&mut self, beat: &Beat<W>)
+        requires { IsMiddle beat.now (burst_on self.old (Messages.channel_of beat.now)) }
+        ensures a { self.new.a ≡ burst_with channel.A beat.now self.old.a }
+        ensures b { self.new.b ≡ burst_with channel.B beat.now self.old.b }
+        ensures c { self.new.c ≡ burst_with channel.C beat.now self.old.c }
+        ensures d { self.new.d ≡ burst_with channel.D beat.now self.old.d }
+        ensures e { self.new.e ≡ burst_with channel.E beat.now self.old.e }
+    {
+        match beat {
+            Beat::A(_) => count_in(beat, &mut self.a),
+            Beat::B(_) => count_in(beat, &mut self.b),
+            Beat::C(_) => count_in(beat, &mut self.c),
+            Beat::D(_) => count_in(beat, &mut self.d),
+            Beat::E(_) => count_in(beat, &mut self.e),
         }
     }
 }

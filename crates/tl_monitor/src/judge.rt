@@ -141,7 +141,7 @@ impl LinkState {
             return Ok(Some(Rule::S1));
         }
         if burst.left > 1 {
-            self.bursts.take(false, beat);
+            self.bursts.count(beat);
             return Ok(None);
         }
         let block = self.touched(false, true, beat);

@@ -1,11 +1,11 @@
 -- What a table of unfinished bursts says of each channel.
 use Rattle.std.specs.Prelude.{ℕ, Bool, List, [], ◌∷◌, ◌+◌, ◌-◌, ◌==◌, ◌≡◌, ◌<◌, if◌then◌else◌, length, nat_le, Option}
-use Rattle.std.specs.Prelude.{Some, None}
+use Rattle.std.specs.Prelude.{Some, None, true}
 use Rattle.tl_beat.specs.declared.beat.Beat.{Beat}
 use Rattle.tl_beat.specs.declared.channel.Channel.{Channel}
 use Rattle.tl_beat.specs.declared.channel.Channel.TheVariants as channel
 use Rattle.tl_burst.specs.statement.Messages.{burst_length, on}
-use Rattle.tl_beat.specs.statement.Control.{control_of}
+use Rattle.tl_beat.specs.statement.Control.{control_of, has_control}
 use Rattle.tl_monitor.specs.declared.bursts.Unfinished.{Unfinished}
 use Rattle.tl_monitor.specs.declared.bursts.Bursts.{Bursts}
 
@@ -28,6 +28,11 @@ IsOf {w} (Some u) beats =
 abbrev pub is_last : {w : ℕ} → Beat w → Option Unfinished → Bool
 is_last x None = nat_le (burst_length x) 1
 is_last x (Some u) = nat_le u.left 1
+
+-- the beat is one in the middle of the burst, with the control fields of those before it
+abbrev pub IsMiddle : {w : ℕ} → Beat w → Option Unfinished → Type 0
+IsMiddle x None = ⊥
+IsMiddle x (Some u) = (has_control x u.control ≡ true) × (1 < u.left)
 
 -- how many beats come after this one
 abbrev pub left_after : {w : ℕ} → Beat w → Option Unfinished → ℕ

@@ -30,6 +30,7 @@ pub enum MonitorLines<const TOGETHER: usize> {
 }
 
 /// Judges the line of the next beat. A judge that has found one at fault isn't asked again.
+#[inline(always)]
 fn watch<const W: usize>(judge: &mut BeatJudge<W>, line: &[u8]) -> Result<Option<Fault>, AllocError>
     requires { IsWidth W }
     ensures { IfOk result (λ fault. (together : Bool) → Watches together judge.old judge.new line.now fault) }

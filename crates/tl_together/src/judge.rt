@@ -301,6 +301,7 @@ impl<const W: usize> Judge<W> {
 
     /// Judges a beat of a link, and takes it where it breaks no rule. After a broken rule every call is
     /// answered `Closed`. At `Memory` the judge knows what it knew before.
+    #[inline(never)]
     pub fn push(&mut self, link: Link, beat: &Beat<W>) -> Result<(), JudgeFault>
         requires { IsWidth W }
         ensures answer { (levels : List Level) (p : Profile) (t : Trace W) (closed : Bool) →

@@ -1,7 +1,9 @@
 //! Judges the lines of a schedule by playing them.
 
 ghost use Rattle.std.specs.Prelude.{◌≡◌, IfOk, ⊤};
+ghost use Rattle.tl_engine.specs.declared.run_lines.RunLines.{RunLines};
 ghost use Rattle.tl_engine.specs.statement.Played.{Played};
+ghost use Rattle.tl_engine.specs.code.Judging.{Judges};
 ghost use Rattle.tl_engine.specs.code.Playing.{KnowsSchedule, Opens, is_trace};
 
 use crate::fault::Fault;
@@ -47,6 +49,28 @@ fn open<const TRACES: usize>(
     Ok(Some(run_lines))
 }
 
+/// Goes on with the world that the header names. A line of another form is at fault.
+#[cold]
+#[inline(never)]
+fn start<const TRACES: usize>(
+    run_lines: &mut RunLines<TRACES>,
+    alloc: Global,
+    line: &[u8],
+    out: &mut Vec<u8>,
+) -> Result<Option<Fault>, AllocError>
+    requires { run_lines.old ≡ RunLines.Waiting alloc }
+    ensures { IfOk result (Judges KnowsSchedule (Played (is_trace TRACES)) run_lines.old run_lines.new line.now
+        out.old.items out.new.items) }
+{
+    match open(alloc, line, out)? {
+        None => Ok(Some(Fault::Header)),
+        Some(opened) => {
+            *run_lines = opened;
+            Ok(None)
+        }
+    }
+}
+
 impl<const TRACES: usize> LineHandler for RunLines<TRACES> {
     ghost knows = { KnowsSchedule };
 
@@ -54,15 +78,13 @@ impl<const TRACES: usize> LineHandler for RunLines<TRACES> {
 
     ghost ends = { λ _ _. ⊤ };
 
+    #[inline(always)]
     fn handle_line(&mut self, line: &[u8], out: &mut Vec<u8>) -> Result<Option<Fault>, AllocError> {
         match self {
-            RunLines::Waiting(alloc) => match open(*alloc, line, out)? {
-                None => Ok(Some(Fault::Header)),
-                Some(run_lines) => {
-                    *self = run_lines;
-                    Ok(None)
-                }
-            },
+            RunLines::Waiting(alloc) => {
+                let alloc = *alloc;
+                start(self, alloc, line, out)
+            }
             RunLines::Four(world) => play(TRACES == 1, world, line, out),
             RunLines::Eight(world) => play(TRACES == 1, world, line, out),
             RunLines::Sixteen(world) => play(TRACES == 1, world, line, out),

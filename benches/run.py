@@ -17,7 +17,7 @@ import traceback
 sys.path.insert(0, os.path.join(os.path.dirname(os.path.abspath(__file__)), "tests"))
 
 from harness import LIBRARY, TESTS, TLTOOL, Failed
-for subject in ("names", "recorder", "library", "python_library", "checker", "agents"):
+for subject in ("names", "pages", "recorder", "library", "python_library", "checker", "agents"):
     __import__(subject)  # adds its tests
 
 

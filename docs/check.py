@@ -1,6 +1,7 @@
 #!/usr/bin/env python3
 """Compares docs/ARCHITECTURE.md with the tree: each file, definition, law and lemma that its tables name exists, and its
-lists of files that must be believed are those that following imports finds. --count prints these with their lines."""
+lists of files that must be believed are those that following imports finds. --count prints these with their lines, and
+--above CRATE the crates that stand on one, the lowest first."""
 import pathlib
 import re
 import sys
@@ -52,11 +53,35 @@ def listed(text):
     return {f"{folder}/{name}".replace("/", ".") for folder, names in lines for name in re.findall(r"`(\w+)`", names)}
 
 
+def libraries():
+    """The crates of crates.txt, each with those of this repository that it names."""
+    lines = [line for line in (ROOT / "crates.txt").read_text().splitlines() if line and not line.startswith("#")]
+    named = {re.split(r"[ :]", line)[0]: line.split(":")[1].split() for line in lines}
+    return {crate: [it for it in below if it in named] for crate, below in named.items()}
+
+
+def below(crates, known):
+    """These crates and what they stand on."""
+    found = set(crates)
+    for crate in crates:
+        found |= below(known[crate], known)
+    return found
+
+
+def above(crate):
+    """The crates that stand on one, the lowest first."""
+    known = libraries()
+    found = [it for it in known if crate in below(known[it], known)]
+    return sorted(found, key=lambda it: len(below([it], known)))
+
+
 def check_crates():
-    named = {row[0].strip("`") for row in rows(section("Crates"))}
-    lines = (ROOT / "crates.txt").read_text().splitlines()
-    real = {re.split(r"[ :]", line)[0] for line in lines if line and not line.startswith("#")}
-    check(named == real, f"crates: the page and crates.txt differ in {sorted(named ^ real)}")
+    named = {row[0].strip("`"): re.findall(r"`(\w+)`", row[2]) for row in rows(section("Crates"))}
+    known = libraries()
+    check(set(named) == set(known), f"crates: the page and crates.txt differ in {sorted(set(named) ^ set(known))}")
+    for crate in set(named) & set(known):
+        wrong = below(named[crate], known) ^ below(known[crate], known)
+        check(not wrong, f"{crate}: the page and crates.txt differ in what it stands on: {sorted(wrong)}")
 
 
 def check_clauses():
@@ -108,6 +133,9 @@ def check_paths():
         check((ROOT / path).exists(), f"no {path}")
 
 
+if "--above" in sys.argv:
+    print(*above(sys.argv[sys.argv.index("--above") + 1]), sep="\n")
+    sys.exit(0)
 for it in (check_crates, check_clauses, check_folders, check_lists, check_paths):
     it()
 print(*faults, sep="\n", end="\n" if faults else "")

@@ -18,13 +18,16 @@ module _ {w : ℕ} {A M : Type 0} (knows : A → Endpoint w → Type 0) (terms :
     (config : Config) where
   pub promised : (contents : WorldState w A M) (log : Log w) → IsReached knows terms perm_of config contents log
       → Promised config log
-  promised contents log r = record {
-    run = r.sound.run;
-    coherent = r.sound.coherent;
-    unrefused =
-        r.sound.unrefused;
-    moving = r.sound.moving;
-  }
+  promised contents log r =
+      let sound = r.theorem.headline config log r.given in
+      record {
+        run = sound.run;
+        coherent = sound.coherent;
+        unrefused = sound.unrefused;
+        moving = sound.moving;
+        given = r.given;
+        theorem = r.theorem;
+      }
 
   pub replayed : (events : List (Event w)) (old new : List (Outcome w)) (result : Result (WorldState w A M) NewFault)
       → IsReplayed knows terms perm_of config events old new result
@@ -42,6 +45,6 @@ module _ {w : ℕ} {A M : Type 0} (knows : A → Endpoint w → Type 0) (terms :
     where
       go : (x y : Bool) → (if x then held_at ((system_after config log).clients c) block else perm.None) ≡ perm.Trunk
           → q ≡ (if y then held_at ((system_after config log).clients d) block else perm.None) → q ≡ perm.None
-      go true true e f = f ∙ r.sound.coherent.one_writer c d block apart e
+      go true true e f = f ∙ (r.theorem.headline config log r.given).coherent.one_writer c d block apart e
       go true false e f = f
       go false y e f = absurd cc

@@ -7,3 +7,4 @@ pub mod LoneAcquireSteps
 pub mod Machined
 pub mod Performed
 pub mod Soundness
+pub mod Whole

@@ -35,7 +35,7 @@ use Rattle.tl_rules.specs.statement.Windows.{is_free}
 use Rattle.tl_coherence.specs.protocol.Packet.{Acquire, Answer, Grant, GrantAck, Kind, Packet, Probe, ProbeAck, Release}
 use Rattle.tl_coherence.specs.protocol.Packet.{ReleaseAck, Request}
 use Rattle.tl_coherence.specs.protocol.Phase.{AcquireOpen, cap_fits, grow_fits, AcquirePhase, NoAcquire, Granting}
-use Rattle.tl_coherence.specs.protocol.Protocol.{Block, is_on, packet, packets_on, view, Acquires, Asked}
+use Rattle.tl_coherence.specs.protocol.Protocol.{Block, GrantSent, is_on, packet, packets_on, view, Acquires, Asked}
 use Rattle.tl_coherence.specs.protocol.Protocol.{Replied, SourceState}
 use Rattle.tl_coherence.specs.protocol.Tokens.{is_unserved, is_wanting, shown}
 use Rattle.tl_coherence.specs.refinement.AbstractStep.{AbstractState}
@@ -165,6 +165,14 @@ due-free {w} config log given c block due n = free-where n None perm.Branch bloc
           (held_at_most (b.pair other) (view b.service other) ((is.invariant.blocks block).phases other)))
           (recorded_low other ne)
     ]
+
+-- a Grant of a block is on its way to one client alone
+one-granted : {w : ℕ} (h : AbstractState w) (c other block : ℕ) → IsGrantDue c block h.state
+    → IsGrantDue other block h.state → other ≡ c
+one-granted h c other block due elsewhere = sent_to (sym elsewhere.service ∙ due.service)
+  where
+    sent_to : {a b : ℕ} {d e : Bool} {k l : Cap} → GrantSent a d k ≡ GrantSent b e l → a ≡ b
+    sent_to e = cc
 
 -- ---- a response that has begun
 
@@ -367,6 +375,12 @@ response-moved {w} config log given c (beat.D x) queue beats = record {
   free = λ n block granted. due-free config log given c block
       (grant-burst config log given c x queue beats block
       (subst (λ (past : History w). grants block x past ≡ true) (trace-flows c log) granted)).due n;
+  alone = λ block granted other y older begun_so of_block. one-granted (shadow config log) c other block
+      (grant-burst config log given c x queue beats block
+      (subst (λ (past : History w). grants block x past ≡ true) (trace-flows c log) granted)).due
+      (begun-due config log given other block y older
+      (ap (unfinished channel.D) (sym (trace-flows other log)) ∙ begun_so)
+      (subst (λ (past : History w). grants block y past ≡ true) (trace-flows other log) of_block));
 }
 response-moved config log given c (beat.A x) queue beats = λ y older e. fresh config log given c x queue beats y older
     (ap (unfinished channel.D) (sym (trace-flows c log)) ∙ e)

@@ -66,11 +66,13 @@ const TRACES: [&str; 44] = [
 ];
 
 /// The traces whose links are judged together.
-const TOGETHER: [&str; 10] = [
+const TOGETHER: [&str; 12] = [
     "two_caches.trace",
     "wrong_report.trace",
     "rules/M1.trace",
     "rules/M1_right.trace",
+    "rules/M1_begun.trace",
+    "rules/M1_begun_right.trace",
     "rules/M2.trace",
     "rules/M2_right.trace",
     "rules/M3.trace",

@@ -51,8 +51,8 @@ fn grant_beside_a_holder() -> Explanation
 {
     Explanation {
         messages: "Grant, GrantData",
-        sentence: "the cap is toT and another link holds something of the block, or toB and another link holds Trunk of it",
-        basis: "what the last Grant, ProbeAck or Release of the block left on each other link",
+        sentence: "the cap is toT and another link holds or is being granted something of the block, or toB and another link holds or is being granted Trunk of it",
+        basis: "what the last Grant, ProbeAck or Release of the block left on each other link, and a Grant of it that has begun there",
         example: Example {
             wrong: "tltrace 1 C C\n\
 00 A 7 1 6 00 00000000 ff - 0\n\

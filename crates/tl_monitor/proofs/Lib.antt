@@ -1,6 +1,7 @@
 pub mod Accesses
 pub mod Counts
 pub mod OpenBlocks
+pub mod Granted
 pub mod Inserting
 pub mod KnownBlocks
 pub mod Judged

@@ -1,5 +1,6 @@
 pub mod Blocks
 pub mod Bursts
+pub mod Coming
 pub mod Count
 pub mod Keeps
 pub mod KnownBlocks

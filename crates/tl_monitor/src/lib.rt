@@ -6,6 +6,7 @@ mod bursts;
 pub mod byte_table;
 mod change;
 pub mod fault;
+mod granting;
 mod judge;
 mod known_blocks;
 mod link_state;

@@ -37,6 +37,7 @@ pub struct MonitoredLink {
 }
 
 impl<const W: usize> Monitor<W> {
+    ghost use Rattle.tl_monitor.specs.statement.Granting.{coming_on, granted_on};
     ghost use Rattle.tl_monitor.specs.statement.Numbers.{IsMoreWhereRefused, entry_count};
     ghost use Rattle.tl_monitor.specs.statement.Knows.{Knows, IsNew, Answers, fault_of, recorded_after, closed_after};
     ghost use Rattle.tl_monitor.specs.statement.Knows.{request_on, held_on, begins_on, LeavesOthers, AreEmpty};
@@ -131,6 +132,33 @@ impl<const W: usize> Monitor<W> {
             return Perm::None;
         }
         Past::<W>::held(&self.links[n].state, block)
+    }
+
+    /// What the Grant of a block gives on a link that has begun and isn't complete; nothing on a link without a
+    /// level.
+    pub fn coming(&self, link: Link, block: u32) -> Option<Perm>
+        ensures { (levels : List Level) (p : Profile) (t : Trace W) (closed : Bool) →
+            Knows self.now levels p t closed →
+            result ≡ coming_on levels link block t }
+    {
+        let n = usize::from(link.0);
+        if n >= self.links.len() {
+            return None;
+        }
+        self.links[n].state.coming(block)
+    }
+
+    /// What is held of a block on a link, a Grant counted from its first beat on; nothing on a link without a
+    /// level.
+    pub fn granted(&self, link: Link, block: u32) -> Perm
+        ensures { (levels : List Level) (p : Profile) (t : Trace W) (closed : Bool) →
+            Knows self.now levels p t closed →
+            result ≡ granted_on levels link block t }
+    {
+        match self.coming(link, block) {
+            None => self.held(link, block),
+            Some(given) => given,
+        }
     }
 
     /// Whether a beat begins a message on its link; on a link without a level none does.

@@ -1,7 +1,7 @@
 -- What a judge's tables answer of the rules of memory.
 use Rattle.std.proofs.Common.{◌≡◌, ℕ, Bool, true, false, ◌&&◌, ◌||◌, ◌<◌, List, length, refl, sym, ap, ◌∙◌}
 use Rattle.std.proofs.Common.{◌+◌}
-use Rattle.std.specs.Prelude.{if◌then◌else◌, Option, Some, None, is_some, nat_le}
+use Rattle.std.specs.Prelude.{if◌then◌else◌, Option, Some, None, is_some, nat_le, ◌==◌}
 use Rattle.std.proofs.Math.Numerals.{add-one}
 use Rattle.std.proofs.lemmas.Bool.{lt-ltb}
 use Rattle.tl_beat.specs.declared.beat.Beat.{Beat}
@@ -15,9 +15,10 @@ use Rattle.tl_rules.specs.code.Open.{open_request}
 use Rattle.tl_rules.specs.declared.past.Request.{Request}
 use Rattle.tl_rules.specs.statement.Conformance.{Trace, on_link}
 use Rattle.tl_rules.specs.statement.History.{begins, is_grant, held, capped}
+use Rattle.tl_monitor.specs.statement.Granting.{granted, granted_on}
 use Rattle.tl_monitor.specs.statement.Knows.{held_on, begins_on, request_on}
-use Rattle.tl_rules.specs.statement.Windows.{is_free, is_spared, leaves, needs, has_window}
-use Rattle.tl_together.specs.statement.Coherence.{is_performed}
+use Rattle.tl_rules.specs.statement.Windows.{is_free, leaves, needs, has_window}
+use Rattle.tl_together.specs.statement.Coherence.{is_grantable, is_performed}
 use Rattle.tl_together.specs.statement.Coherence.{broken_grant, broken_access, broken_response, broken_memory}
 use Rattle.tl_together.specs.statement.Coherence.{broken_beginning, broken_bytes, memory_rule_or}
 use Rattle.tl_memory.specs.code.Taking.{request_answered}
@@ -28,21 +29,38 @@ use Rattle.tl_together.specs.code.Windows.{asked_at, last_free, last_in, window_
 use Rattle.tl_together.proofs.Windowed.{free_window, window-is}
 
 -- one link more
-pub free_more : {w : ℕ} (levels : List Level) (n : ℕ) (link : Link) (spared : Option ℕ) (given h : Perm) (block : ℕ)
+pub free_more : {w : ℕ} (levels : List Level) (n : ℕ) (link : Link) (given h : Perm) (block : ℕ)
     (t : Trace w) (free left now : Bool)
-    → link.0 ≡ n → n < length levels → h ≡ held_on levels link block t → free ≡ is_free n spared given block t
-    → left ≡ (is_spared n spared || leaves given h)
-    → now ≡ (free && left) → now ≡ is_free (n + 1) spared given block t
+    → link.0 ≡ n → n < length levels → h ≡ held_on levels link block t → free ≡ is_free n None given block t
+    → left ≡ leaves given h
+    → now ≡ (free && left) → now ≡ is_free (n + 1) None given block t
 unfolding is_free
-free_more levels n link spared given h block t free left now link_is lt held_is free_is left_is now_is =
+free_more levels n link given h block t free left now link_is lt held_is free_is left_is now_is =
     let here : h ≡ held block (on_link n t) = held_is ∙ rw (lt-ltb link.0 (length levels) (rw link_is lt))
     (ap (λ m. held block (on_link m t)) link_is) in
     now_is ∙ rw (add-one, free_is, left_is, here) refl
 
-pub free_none : {w : ℕ} (spared : Option ℕ) (given : Perm) (block : ℕ) (t : Trace w)
-    → true ≡ is_free 0 spared given block t
+pub free_none : {w : ℕ} (given : Perm) (block : ℕ) (t : Trace w)
+    → true ≡ is_free 0 None given block t
 unfolding is_free
-free_none spared given block t = refl
+free_none given block t = refl
+
+-- the same of what is granted
+pub grantable_none : {w : ℕ} (link : ℕ) (given : Perm) (block : ℕ) (t : Trace w)
+    → true ≡ is_grantable 0 link given block t
+unfolding is_grantable
+grantable_none link given block t = refl
+
+pub grantable_more : {w : ℕ} (levels : List Level) (n link : ℕ) (other : Link) (given h : Perm) (block : ℕ)
+    (t : Trace w) (free left now : Bool)
+    → other.0 ≡ n → n < length levels → h ≡ granted_on levels other block t → free ≡ is_grantable n link given block t
+    → left ≡ ((link == n) || leaves given h)
+    → now ≡ (free && left) → now ≡ is_grantable (n + 1) link given block t
+unfolding is_grantable
+grantable_more levels n link other given h block t free left now other_is lt granted_is free_is left_is now_is =
+    let here : h ≡ granted block (on_link n t) = granted_is ∙ rw (lt-ltb other.0 (length levels) (rw other_is lt))
+    (ap (λ m. granted block (on_link m t)) other_is) in
+    now_is ∙ rw (add-one, free_is, left_is, here) refl
 
 -- of all links, where these are they
 pub free_all : {w : ℕ} (n links block : ℕ) (t : Trace w) (reading writing : Bool) → n ≡ links
@@ -98,7 +116,7 @@ asked_is levels link s t r lt some = sym (rw (lt-ltb link.0 (length levels) lt) 
 
 pub grant_is : {w : ℕ} (links n link : ℕ) (x : BeatD w) (given : Perm) (asked : Request) (t : Trace w) (r : Bool)
     → links ≡ n → given ≡ capped x.param
-    → r ≡ is_free links (Some link) given asked.block t → (b : Bool) → r ≡ b
+    → r ≡ is_grantable links link given asked.block t → (b : Bool) → r ≡ b
     → (if b then None else Some M1) ≡ broken_grant n link x (Some asked) t
 grant_is links n link x given asked t r links_is given_is r_is b e =
     ap (λ c. if c then None else Some M1) (sym e ∙ r_is ∙ rw (links_is, given_is) refl)

@@ -20,7 +20,7 @@ use Rattle.tl_together.specs.declared.breach.Breach.TheVariants.{OfLink, OfMemor
 use Rattle.tl_together.specs.declared.breach.MemoryRule.TheVariants.{M1, M4}
 use Rattle.tl_rules.specs.statement.Windows.{is_free, has_window}
 use Rattle.tl_bytes.specs.statement.Bytes.{before_last, carried_byte, each_from, may_be, may_read, pending_accesses}
-use Rattle.tl_together.specs.statement.Coherence.{breach_from, first_breach}
+use Rattle.tl_together.specs.statement.Coherence.{breach_from, first_breach, is_grantable}
 
 -- beats of 8 bytes of block 0, on these links
 abbrev acquire_perm : ℕ → ℕ → Link × Beat 8
@@ -151,7 +151,8 @@ one_writes rest = acquire_perm 0 1 ∷ grant 0 0 0 ∷ grant_ack 0 0 ∷ rest
 -- Trunk for both
 two_writers : first_breach two_caches profile.One (one_writes (acquire_perm 1 1 ∷ grant 1 0 1 ∷ [])) ≡ Some
     (4, OfMemory M1)
-unfolding breach_from is_free has_window on_link unfinished request_of release_of probe_of grant_sink pending held
+unfolding breach_from is_free is_grantable has_window on_link unfinished request_of release_of probe_of grant_sink pending
+    held
     illegal first_illegal each_below broken_order broken_after pending_accesses each_from may_read before_last may_be
     carried_byte
 two_writers = refl
@@ -159,7 +160,8 @@ two_writers = refl
 -- a copy beside Trunk
 a_reader_beside_a_writer : first_breach two_caches profile.One (one_writes (acquire_perm 1 0 ∷ grant 1 1 1 ∷ [])) ≡ Some
     (4, OfMemory M1)
-unfolding breach_from is_free has_window on_link unfinished request_of release_of probe_of grant_sink pending held
+unfolding breach_from is_free is_grantable has_window on_link unfinished request_of release_of probe_of grant_sink pending
+    held
     illegal first_illegal each_below broken_order broken_after pending_accesses each_from may_read before_last may_be
     carried_byte
 a_reader_beside_a_writer = refl
@@ -167,7 +169,8 @@ a_reader_beside_a_writer = refl
 -- the first has given all up
 one_after_the_other : first_breach two_caches profile.One
     (one_writes (acquire_perm 1 1 ∷ probe_perm 0 2 ∷ probe_ack 0 1 ∷ grant 1 0 1 ∷ [])) ≡ None
-unfolding breach_from is_free has_window on_link unfinished request_of release_of probe_of grant_sink pending held
+unfolding breach_from is_free is_grantable has_window on_link unfinished request_of release_of probe_of grant_sink pending
+    held
     illegal first_illegal each_below broken_order broken_after pending_accesses each_from may_read before_last may_be
     carried_byte
 one_after_the_other = refl
@@ -175,21 +178,72 @@ one_after_the_other = refl
 -- the first has kept a copy, and the second has one
 two_readers : first_breach two_caches profile.One
     (one_writes (acquire_perm 1 0 ∷ probe_perm 0 1 ∷ probe_ack 0 0 ∷ grant 1 1 1 ∷ [])) ≡ None
-unfolding breach_from is_free has_window on_link unfinished request_of release_of probe_of grant_sink pending held
+unfolding breach_from is_free is_grantable has_window on_link unfinished request_of release_of probe_of grant_sink pending
+    held
     illegal first_illegal each_below broken_order broken_after pending_accesses each_from may_read before_last may_be
     carried_byte
 two_readers = refl
 
+-- one block for both: each asks for it with its bytes, and the first beats of both answers
+abbrev acquire_block : ℕ → ℕ → Link × Beat 8
+acquire_block link param = (
+  record { 0 = link },
+  beat.A (record {
+    opcode = a.AcquireBlock;
+    param = param;
+    size = 6;
+    source = 0;
+    address = 0;
+    mask = 255;
+    lanes = None;
+    corrupt = false;
+    carries = refl;
+  }),
+)
+
+abbrev grant_data : ℕ → ℕ → ℕ → Link × Beat 8
+grant_data link cap sink = (
+  record { 0 = link },
+  beat.D (record {
+    opcode = d.GrantData;
+    param = cap;
+    size = 6;
+    source = 0;
+    sink = sink;
+    denied = false;
+    lanes = Some eight;
+    corrupt = false;
+    carries = refl;
+  }),
+)
+
+granted_to_both : first_breach two_caches profile.One
+    (acquire_block 0 1 ∷ acquire_block 1 1 ∷ grant_data 0 0 0 ∷ grant_data 1 0 1 ∷ []) ≡ Some (3, OfMemory M1)
+unfolding breach_from is_free is_grantable has_window on_link unfinished request_of release_of probe_of grant_sink pending
+    held illegal first_illegal each_below broken_order broken_after pending_accesses each_from may_read before_last may_be
+    carried_byte
+granted_to_both = refl
+
+-- to read, both may
+granted_to_readers : first_breach two_caches profile.One
+    (acquire_block 0 0 ∷ acquire_block 1 0 ∷ grant_data 0 1 0 ∷ grant_data 1 1 1 ∷ []) ≡ None
+unfolding breach_from is_free is_grantable has_window on_link unfinished request_of release_of probe_of grant_sink pending
+    held illegal first_illegal each_below broken_order broken_after pending_accesses each_from may_read before_last may_be
+    carried_byte
+granted_to_readers = refl
+
 -- a Get that is answered while another link may write
 a_get_beside_a_writer : first_breach two_caches profile.One (one_writes (get 1 ∷ answer 1 ∷ [])) ≡ Some (4, OfMemory M4)
-unfolding breach_from is_free has_window on_link unfinished request_of release_of probe_of grant_sink pending held
+unfolding breach_from is_free is_grantable has_window on_link unfinished request_of release_of probe_of grant_sink pending
+    held
     illegal first_illegal each_below broken_order broken_after pending_accesses each_from may_read before_last may_be
     carried_byte
 a_get_beside_a_writer = refl
 
 -- an access that is denied isn't performed, and needs no moment
 a_denied_get_beside_a_writer : first_breach two_caches profile.One (one_writes (get 1 ∷ denial 1 ∷ [])) ≡ None
-unfolding breach_from is_free has_window on_link unfinished request_of release_of probe_of grant_sink pending held
+unfolding breach_from is_free is_grantable has_window on_link unfinished request_of release_of probe_of grant_sink pending
+    held
     illegal first_illegal each_below broken_order broken_after pending_accesses each_from may_read before_last may_be
     carried_byte
 a_denied_get_beside_a_writer = refl
@@ -197,21 +251,24 @@ a_denied_get_beside_a_writer = refl
 -- the other has become a reader first
 a_get_after_a_probe : first_breach two_caches profile.One
     (one_writes (get 1 ∷ probe_perm 0 1 ∷ probe_ack 0 0 ∷ answer 1 ∷ [])) ≡ None
-unfolding breach_from is_free has_window on_link unfinished request_of release_of probe_of grant_sink pending held
+unfolding breach_from is_free is_grantable has_window on_link unfinished request_of release_of probe_of grant_sink pending
+    held
     illegal first_illegal each_below broken_order broken_after pending_accesses each_from may_read before_last may_be
     carried_byte
 a_get_after_a_probe = refl
 
 -- the Get was performed before the other became a writer, and its answer comes later
 a_late_answer : first_breach two_caches profile.One (get 1 ∷ one_writes (answer 1 ∷ [])) ≡ None
-unfolding breach_from is_free has_window on_link unfinished request_of release_of probe_of grant_sink pending held
+unfolding breach_from is_free is_grantable has_window on_link unfinished request_of release_of probe_of grant_sink pending
+    held
     illegal first_illegal each_below broken_order broken_after pending_accesses each_from may_read before_last may_be
     carried_byte
 a_late_answer = refl
 
 -- a broken rule of the link comes first
 a_rule_of_the_link : first_breach two_caches profile.One (one_writes (grant 1 0 1 ∷ [])) ≡ Some (3, OfLink H2)
-unfolding breach_from is_free has_window on_link unfinished request_of release_of probe_of grant_sink pending held
+unfolding breach_from is_free is_grantable has_window on_link unfinished request_of release_of probe_of grant_sink pending
+    held
     illegal first_illegal each_below broken_order broken_after pending_accesses each_from may_read before_last may_be
     carried_byte
 a_rule_of_the_link = refl

@@ -16,7 +16,7 @@ use Rattle.tl_bytes.specs.statement.Bytes.{may_be, may_read, pending_accesses, w
 use Rattle.tl_bytes.proofs.WorkedBeats.{acquire, done, eight, found, get, grant_ack, grant_beat, put}
 use Rattle.tl_together.specs.declared.breach.Breach.TheVariants.{OfMemory}
 use Rattle.tl_together.specs.declared.breach.MemoryRule.TheVariants.{M1, M2, M3, M4}
-use Rattle.tl_together.specs.statement.Coherence.{breach_from, first_breach}
+use Rattle.tl_together.specs.statement.Coherence.{breach_from, first_breach, is_grantable}
 
 abbrev two_caches : List Level
 two_caches = level.C ∷ level.C ∷ []
@@ -36,28 +36,32 @@ read v = get 1 0 3 255 ∷ found 1 0 3 (eight v) ∷ []
 
 -- a Grant of what was there before
 a_stale_grant : first_breach two_caches profile.One (twice_written (granted 5)) ≡ Some (5, OfMemory M2)
-unfolding breach_from is_free has_window on_link unfinished request_of release_of probe_of grant_sink pending held
+unfolding breach_from is_free is_grantable has_window on_link unfinished request_of release_of probe_of grant_sink pending
+    held
     illegal first_illegal each_below broken_order broken_after may_be may_read pending_accesses carried_byte
     bytes_carried carried_mask windows_since window_began last_window last_told each_from before_last effect
 a_stale_grant = refl
 
 -- of what was written last
 a_true_grant : first_breach two_caches profile.One (twice_written (granted 7)) ≡ None
-unfolding breach_from is_free has_window on_link unfinished request_of release_of probe_of grant_sink pending held
+unfolding breach_from is_free is_grantable has_window on_link unfinished request_of release_of probe_of grant_sink pending
+    held
     illegal first_illegal each_below broken_order broken_after may_be may_read pending_accesses carried_byte
     bytes_carried carried_mask windows_since window_began last_window last_told each_from before_last effect
 a_true_grant = refl
 
 -- a Get of what was there before
 a_stale_get : first_breach two_caches profile.One (twice_written (read 5)) ≡ Some (5, OfMemory M3)
-unfolding breach_from is_free has_window on_link unfinished request_of release_of probe_of grant_sink pending held
+unfolding breach_from is_free is_grantable has_window on_link unfinished request_of release_of probe_of grant_sink pending
+    held
     illegal first_illegal each_below broken_order broken_after may_be may_read pending_accesses carried_byte
     bytes_carried carried_mask windows_since window_began last_window last_told each_from before_last effect
 a_stale_get = refl
 
 -- of what was written last
 a_true_get : first_breach two_caches profile.One (twice_written (read 7)) ≡ None
-unfolding breach_from is_free has_window on_link unfinished request_of release_of probe_of grant_sink pending held
+unfolding breach_from is_free is_grantable has_window on_link unfinished request_of release_of probe_of grant_sink pending
+    held
     illegal first_illegal each_below broken_order broken_after may_be may_read pending_accesses carried_byte
     bytes_carried carried_mask windows_since window_began last_window last_told each_from before_last effect
 a_true_get = refl
@@ -67,7 +71,8 @@ a_stale_grant_beside_a_writer : first_breach two_caches profile.One
     (twice_written
     (acquire 0 1 0 255 ∷ replicate 8 (grant_beat 0 0 0 0 (eight 7)) ++ grant_ack 0 0 ∷ granted 5))
     ≡ Some (15, OfMemory M1)
-unfolding breach_from is_free has_window on_link unfinished request_of release_of probe_of grant_sink pending held
+unfolding breach_from is_free is_grantable has_window on_link unfinished request_of release_of probe_of grant_sink pending
+    held
     illegal first_illegal each_below broken_order broken_after may_be may_read pending_accesses carried_byte
     bytes_carried carried_mask windows_since window_began last_window last_told each_from before_last effect
 a_stale_grant_beside_a_writer = refl
@@ -77,7 +82,8 @@ a_stale_get_beside_a_writer : first_breach two_caches profile.One
     (twice_written
     (acquire 0 1 0 255 ∷ replicate 8 (grant_beat 0 0 0 0 (eight 7)) ++ grant_ack 0 0 ∷ read 5))
     ≡ Some (15, OfMemory M4)
-unfolding breach_from is_free has_window on_link unfinished request_of release_of probe_of grant_sink pending held
+unfolding breach_from is_free is_grantable has_window on_link unfinished request_of release_of probe_of grant_sink pending
+    held
     illegal first_illegal each_below broken_order broken_after may_be may_read pending_accesses carried_byte
     bytes_carried carried_mask windows_since window_began last_window last_told each_from before_last effect
 a_stale_get_beside_a_writer = refl
@@ -90,14 +96,16 @@ granted_later v =
 
 -- what was there before, in a beat behind the first
 a_stale_second_beat : first_breach two_caches profile.One (granted_later 4) ≡ Some (5, OfMemory M2)
-unfolding breach_from is_free has_window on_link unfinished request_of release_of probe_of grant_sink pending held
+unfolding breach_from is_free is_grantable has_window on_link unfinished request_of release_of probe_of grant_sink pending
+    held
     illegal first_illegal each_below broken_order broken_after may_be may_read pending_accesses carried_byte
     bytes_carried carried_mask windows_since window_began last_window last_told each_from before_last effect
 a_stale_second_beat = refl
 
 -- what was written
 a_true_second_beat : first_breach two_caches profile.One (granted_later 5) ≡ None
-unfolding breach_from is_free has_window on_link unfinished request_of release_of probe_of grant_sink pending held
+unfolding breach_from is_free is_grantable has_window on_link unfinished request_of release_of probe_of grant_sink pending
+    held
     illegal first_illegal each_below broken_order broken_after may_be may_read pending_accesses carried_byte
     bytes_carried carried_mask windows_since window_began last_window last_told each_from before_last effect
 a_true_second_beat = refl

@@ -17,6 +17,7 @@ ghost use Rattle.tl_params.specs.declared.level.Level.{Level};
 ghost use Rattle.tl_params.specs.declared.profile.Profile.{Profile};
 ghost use Rattle.tl_rules.specs.code.Open.{open_request};
 ghost use Rattle.tl_rules.specs.statement.Conformance.{Trace, broken_on_link, on_link};
+ghost use Rattle.tl_monitor.specs.statement.Granting.{coming_on};
 ghost use Rattle.tl_monitor.specs.statement.Knows.{request_on};
 ghost use Rattle.tl_together.specs.code.Windows.{asked_at};
 
@@ -26,6 +27,7 @@ use tl_beat::beat::{Beat, Link};
 use tl_memory::expected::Expected;
 use tl_memory::memory::Change;
 use tl_rules::past::Request;
+use tl_rules::perm::Perm;
 
 impl<const W: usize> Judge<W> {
     ghost use Rattle.tl_together.specs.statement.Knows.{Knows};
@@ -36,6 +38,15 @@ impl<const W: usize> Judge<W> {
             result ≡ request_on levels link source t }
     {
         self.monitor.request(link, source)
+    }
+
+    /// What the Grant of a block gives on a link that has begun and isn't complete; nothing on a link without a
+    /// level.
+    pub fn coming(&self, link: Link, block: u32) -> Option<Perm>
+        ensures { (levels : List Level) (p : Profile) (t : Trace W) → Knows self.now levels p t false →
+            result ≡ coming_on levels link block t }
+    {
+        self.monitor.coming(link, block)
     }
 
     /// How many beats had been taken with the last beat of the request with this source that is pending on a link.

@@ -1,19 +1,20 @@
 //! For whom a block is free: what the links of a manager leave of it.
 
-ghost use Rattle.std.specs.Prelude.{ℕ, Bool, false, List, None, length, option_map, ◌&&◌, ◌||◌, ◌≡◌};
+ghost use Rattle.std.specs.Prelude.{ℕ, Bool, false, List, None, length, option_map, ◌==◌, ◌&&◌, ◌||◌, ◌≡◌};
 ghost use Rattle.tl_params.specs.declared.level.Level.{Level};
 ghost use Rattle.tl_params.specs.declared.perm.Perm.TheVariants as perm;
 ghost use Rattle.tl_params.specs.declared.profile.Profile.{Profile};
 ghost use Rattle.tl_rules.specs.statement.Conformance.{Trace};
 ghost use Rattle.tl_rules.specs.statement.Windows as window;
 ghost use Rattle.tl_monitor.specs.statement.Knows as of_link;
+ghost use Rattle.tl_together.specs.statement.Coherence;
 
 use tl_beat::beat::Link;
 use tl_monitor::monitor::Monitor;
 use tl_rules::perm::Perm;
 
 /// Whether another may hold so much of a block beside one who has so much of it.
-fn leaves(given: Perm, held: Perm) -> bool
+pub fn leaves(given: Perm, held: Perm) -> bool
     ensures { result ≡ window.leaves given held }
 {
     match given {
@@ -23,23 +24,6 @@ fn leaves(given: Perm, held: Perm) -> bool
     }
 }
 
-/// Whether a link is the one that is spared.
-fn is_spared(link: u8, spared: Option<u8>) -> bool
-    ensures { result ≡ window.is_spared link spared }
-{
-    match spared {
-        None => false,
-        Some(own) => own == link,
-    }
-}
-
-/// Whether a link is spared, or leaves a block to one who has so much of it.
-pub fn is_left(link: u8, spared: Option<u8>, given: Perm, held: Perm) -> bool
-    ensures { result ≡ (window.is_spared link spared || window.leaves given held) }
-{
-    is_spared(link, spared) || leaves(given, held)
-}
-
 /// Whether both are true.
 fn both(one: bool, other: bool) -> bool
     ensures { result ≡ (one && other) }
@@ -47,22 +31,44 @@ fn both(one: bool, other: bool) -> bool
     one && other
 }
 
-/// Whether each of so many links, but the one that is spared, leaves a block to one who has so much of it.
-pub fn is_free<const W: usize>(
+/// Whether a link is the other one, or leaves a block to one who has so much of it.
+fn is_own_or_leaves(link: u8, other: u8, given: Perm, held: Perm) -> bool
+    ensures { result ≡ ((other == link) || window.leaves given held) }
+{
+    other == link || leaves(given, held)
+}
+
+/// Whether each of so many links leaves a block to one who has so much of it.
+pub fn is_free<const W: usize>(monitor: &Monitor<W>, links: u8, given: Perm, block: u32) -> bool
+    ensures { (levels : List Level) (p : Profile) (t : Trace W) →
+        of_link.Knows monitor.now levels p t false → links ≡ length levels →
+        result ≡ window.is_free links None given block t }
+{
+    let mut free = true;
+    for n in 0..links {
+        let held = monitor.held(Link(n), block);
+        free = both(free, leaves(given, held));
+    }
+    free
+}
+
+/// Whether each of so many links, but this one, holds no more of a block than may be held beside so much of it, a
+/// Grant counted from its first beat on.
+pub fn is_grantable<const W: usize>(
     monitor: &Monitor<W>,
     links: u8,
-    spared: Option<u8>,
+    link: u8,
     given: Perm,
     block: u32,
 ) -> bool
     ensures { (levels : List Level) (p : Profile) (t : Trace W) →
         of_link.Knows monitor.now levels p t false → links ≡ length levels →
-        result ≡ window.is_free links spared given block t }
+        result ≡ Coherence.is_grantable links link given block t }
 {
     let mut free = true;
     for n in 0..links {
-        let held = monitor.held(Link(n), block);
-        free = both(free, is_left(n, spared, given, held));
+        let granted = monitor.granted(Link(n), block);
+        free = both(free, is_own_or_leaves(n, link, given, granted));
     }
     free
 }
@@ -74,7 +80,7 @@ pub fn freed<const W: usize>(monitor: &Monitor<W>, links: u8, held: Option<u32>)
         result ≡ option_map (λ block. window.is_free (length levels) None perm.Trunk block t) held }
 {
     let block = held?;
-    Some(is_free(monitor, links, None, Perm::Trunk, block))
+    Some(is_free(monitor, links, Perm::Trunk, block))
 }
 
 /// For whom a block is free.

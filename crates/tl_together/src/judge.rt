@@ -18,7 +18,7 @@ ghost use Rattle.tl_together.specs.code.Windows.{asked_in, last_in, closes, faul
 
 use crate::breach::{Breach, MemoryRule};
 use crate::fault::JudgeFault;
-use crate::free::{freed, is_free};
+use crate::free::{freed, is_free, is_grantable};
 use crate::notes::{note_request, note_window};
 use crate::windows::{Window, Windows};
 use std::alloc::{AllocError, Global};
@@ -189,7 +189,7 @@ impl<const W: usize> Judge<W> {
             is_some (open_request source (on_link link.0 t)) ≡ true →
             result ≡ window.has_window (length levels) link.0 source given block t }
     {
-        if is_free(&self.monitor, self.links, None, given, block) {
+        if is_free(&self.monitor, self.links, given, block) {
             return true;
         }
         match asked_in(&self.asked, usize::from(link.0), source) {
@@ -204,13 +204,8 @@ impl<const W: usize> Judge<W> {
             KnowsTrace self.now levels p t →
             result ≡ Coherence.broken_grant (length levels) link.0 x.now (Some asked) t }
     {
-        if is_free(
-            &self.monitor,
-            self.links,
-            Some(link.0),
-            capped(x.param),
-            asked.block,
-        ) {
+        let given = capped(x.param);
+        if is_grantable(&self.monitor, self.links, link.0, given, asked.block) {
             None
         } else {
             Some(MemoryRule::M1)

@@ -50,6 +50,7 @@ use Rattle.tl_one_memory.specs.statement.TrueBytes.{AreTrue}
 use Rattle.tl_true_bytes.specs.code.Beside.{IsBeside, after_access, happened, performed_all, run_of, with_end}
 use Rattle.tl_true_bytes.specs.code.Beside.{with_reply, with_whole}
 use Rattle.tl_true_bytes.specs.statement.TrueWorlds.{TrueWorlds}
+use Rattle.tl_true_bytes.specs.statement.WorldRuns.{WorldRuns}
 use Rattle.tl_true_bytes.proofs.Performing.{performs-well}
 use Rattle.tl_true_bytes.proofs.Runs.{asked-none, beside-log, happened-beside}
 use Rattle.tl_true_bytes.proofs.Taken.{IsTakenWell, taken}
@@ -310,6 +311,16 @@ run-of-log config (x ∷ log) given =
     performed-run config log x.0 x.1 given (happened x.0 x.1 (one_memory_after config log) (run_of config log))
     (happened-beside config log x.0 x.1 given (beside-log config log before))
     (happened-run config log x.0 x.1 given (run-of-log config log before))
+
+pub world_runs : {w : ℕ} → WorldRuns w
+world_runs config log given =
+    let beside = beside-log config log given in
+    record {
+      run = run_of config log;
+      is_run = run-of-log config log given;
+      trace_is = beside.trace_is;
+      memory_is = beside.memory_is;
+    }
 
 pub true_worlds : {w : ℕ} → TrueWorlds w
 true_worlds config log given =

@@ -1,2 +1,3 @@
 pub mod Concord
 pub mod TrueWorlds
+pub mod WorldRuns

@@ -1,8 +1,15 @@
-//! That no beat of a world breaks a rule of memory, or any rule, as laws.
+//! That what a world's links carry comes of one memory, and that no beat of it breaks a rule, as laws.
 
 ghost use Rattle.tl_beat.specs.statement.Width.{IsWidth};
 ghost use Rattle.tl_true_bytes.specs.statement.Concord.{Concord};
 ghost use Rattle.tl_true_bytes.specs.statement.TrueWorlds.{TrueWorlds};
+ghost use Rattle.tl_true_bytes.specs.statement.WorldRuns.{WorldRuns};
+
+/// Whatever happens to a manager and its clients, what their links carry comes of a run of one memory.
+pub fn comes_of_one_memory<const W: usize>()
+    requires { IsWidth W }
+    ensures { WorldRuns W }
+{}
 
 /// Whatever happens to a manager and its clients, each beat of a GrantData that their links carry has bytes that may be
 /// granted, and each beat of an AccessAckData bytes that its request may bring.

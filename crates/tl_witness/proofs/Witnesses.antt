@@ -3,7 +3,7 @@ use Rattle.std.proofs.Common.{◌≡◌, ℕ, suc, zero, pred, List, [], ◌∷�
 use Rattle.std.proofs.Common.{length, inl, inr, refl, sym}
 use Rattle.std.proofs.Common.{ap, ◌∙◌, Bool, true, false, Option, Some, None, slice_get, slice_set, arith}
 use Rattle.std.proofs.Common.{append_assoc}
-use Rattle.std.specs.Prelude.{◌||◌}
+use Rattle.std.specs.Prelude.{if◌then◌else◌, option_map, ◌==◌}
 use Rattle.std.proofs.lemmas.Bool.{ne_eqb}
 use Rattle.std.proofs.lemmas.List.{append-nil, length-set}
 use Rattle.std.proofs.lemmas.Option.{same_Some}
@@ -12,14 +12,18 @@ use Rattle.tl_beat.specs.declared.beat.Link.{Link}
 use Rattle.tl_params.specs.declared.perm.Perm.{Perm}
 use Rattle.tl_rules.specs.statement.Conformance.{Trace, on_link}
 use Rattle.tl_rules.specs.statement.History.{held}
-use Rattle.tl_rules.specs.statement.Windows.{is_spared, leaves}
+use Rattle.tl_rules.specs.statement.Windows.{leaves}
+use Rattle.tl_beat.specs.declared.channel.Channel.TheVariants as channel
+use Rattle.tl_explain.specs.code.Recorded.{IsBegun}
+use Rattle.tl_explain.specs.declared.bursts.Begun.{Begun}
+use Rattle.tl_monitor.specs.statement.Granting.{coming, given_by}
 use Rattle.tl_explain.specs.code.Recorded.{IsRecord}
 use Rattle.tl_explain.specs.declared.reason.Held.{Held}
 use Rattle.tl_explain.specs.declared.recorder.Recorder.{Recorder}
 use Rattle.tl_explain.specs.declared.told.Mention.{Mention}
 use Rattle.tl_explain.specs.declared.turns.Subject.{Subject}
 use Rattle.tl_explain.specs.code.Chosen.{held_by}
-use Rattle.tl_explain.specs.statement.Evidence.{last_saying, mention_of}
+use Rattle.tl_explain.specs.statement.Evidence.{burst_opening, last_saying, mention_of}
 use Rattle.tl_explain.specs.statement.Since.{IsHeldSince}
 use Rattle.tl_explain.proofs.follows.Links.{record_kept}
 use Rattle.tl_explain.proofs.sound.Messages.{held_told}
@@ -28,7 +32,8 @@ use Rattle.tl_rules.specs.statement.Windows.{needs}
 use Rattle.tl_together.specs.code.Windows.{asked_at}
 use Rattle.tl_witness.specs.code.Witness.{IsFresh, KnowsWitness, Records}
 use Rattle.tl_witness.specs.declared.witness.Witness.{Witness}
-use Rattle.tl_witness.specs.statement.Grounds.{access_text, asked_line, holder_line, holder_text, holders_text}
+use Rattle.tl_witness.specs.statement.Grounds.{access_text, asked_line, conflict_by, conflicts_text, grantee_line}
+use Rattle.tl_witness.specs.statement.Grounds.{holder_line, holder_text, holders_text}
 
 -- ---- elements of lists
 
@@ -146,46 +151,78 @@ since-is r h link block t is rec =
     rw (is, ← rec.link_is, ← rec.block_is)
     (held_told r.subject.link.0 r.subject.block t r.turns.said rec.recorded.turns_are.said_is)
 
--- a link that leaves the block is told nothing of
-pub holder-left : {w : ℕ} (link block : ℕ) (spared : Option ℕ) (given p : Perm) (m : Option Mention) (left : Bool)
-    (t : Trace w) → IsHeldSince link block p m t → left ≡ (is_spared link spared || leaves given p) → left ≡ true
-    → [] ≡ holder_text link spared given block t
-holder-left link block spared given p m left t since is leaving =
-    let test : is_spared link spared || leaves given (held block (on_link link t)) ≡ true =
+-- a link that holds no more than may be held
+pub holder-left : {w : ℕ} (link block : ℕ) (given p : Perm) (m : Option Mention) (left : Bool) (t : Trace w)
+    → IsHeldSince link block p m t → left ≡ leaves given p → left ≡ true → [] ≡ holder_text link given block t
+holder-left link block given p m left t since is leaving =
+    let test : leaves given (held block (on_link link t)) ≡ true =
     rw (perm-held link block p m t since) at (sym is ∙ leaving) in
     rw test refl
 
--- another is told of
-pub holder-told : {w : ℕ} (link block : ℕ) (spared : Option ℕ) (given p : Perm) (m : Option Mention) (left : Bool)
-    (t : Trace w) → IsHeldSince link block p m t → m ≡ last_saying link block t
-    → left ≡ (is_spared link spared || leaves given p) → left ≡ false
-    → holder_line link block p m ≡ holder_text link spared given block t
-holder-told link block spared given p m left t since said is excluding =
-    let test : is_spared link spared || leaves given (held block (on_link link t)) ≡ false =
-    rw (perm-held link block p m t since) at (sym is ∙ excluding) in
+-- one that holds more
+pub holder-told : {w : ℕ} (link block : ℕ) (given p : Perm) (m : Option Mention) (left : Bool) (t : Trace w)
+    → IsHeldSince link block p m t → m ≡ last_saying link block t → left ≡ leaves given p → left ≡ false
+    → holder_line link block p m ≡ holder_text link given block t
+holder-told link block given p m left t since said is conflicting =
+    let test : leaves given (held block (on_link link t)) ≡ false =
+    rw (perm-held link block p m t since) at (sym is ∙ conflicting) in
     rw (test, perm-held link block p m t since, said) refl
 
 -- none of no links
-pub holders-none : {w : ℕ} (spared : Option ℕ) (given : Perm) (block : ℕ) (t : Trace w) (out : List ℕ)
-    → out ≡ out ++ holders_text 0 spared given block t
+pub holders-none : {w : ℕ} (given : Perm) (block : ℕ) (t : Trace w) (out : List ℕ)
+    → out ≡ out ++ holders_text 0 given block t
 unfolding holders_text
-holders-none spared given block t out = sym (append-nil out)
+holders-none given block t out = sym (append-nil out)
 
 -- and of one more
-pub holders-more : {w : ℕ} (n m : ℕ) (spared : Option ℕ) (given : Perm) (block : ℕ) (t : Trace w)
-    (first before after : List ℕ) → m ≡ suc n → before ≡ first ++ holders_text n spared given block t
-    → after ≡ before ++ holder_text n spared given block t
-    → after ≡ first ++ holders_text m spared given block t
+pub holders-more : {w : ℕ} (n m : ℕ) (given : Perm) (block : ℕ) (t : Trace w)
+    (first before after : List ℕ) → m ≡ suc n → before ≡ first ++ holders_text n given block t
+    → after ≡ before ++ holder_text n given block t → after ≡ first ++ holders_text m given block t
 unfolding holders_text
-holders-more n m spared given block t first before after next so_far more =
-    rw (more, so_far, next)
-    (append_assoc first (holders_text n spared given block t) (holder_text n spared given block t))
+holders-more n m given block t first before after next so_far more =
+    rw (more, so_far, next) (append_assoc first (holders_text n given block t) (holder_text n given block t))
+
+-- ---- what conflicts with a Grant
+
+-- where a Grant is on its way, its first beat is that of the burst
+pub opening-is : {w : ℕ} (o : Option Begun) (link block : ℕ) (given : Perm) (t : Trace w) → IsBegun o link channel.D t
+    → coming block (on_link link t) ≡ Some given
+    → mention_of (option_map (λ b. b.first) o) ≡ burst_opening link channel.D t
+opening-is None link block given t is e = absurd (let no : None ≡ Some given =
+    sym (ap (λ beats. given_by block beats (on_link link t)) is) ∙ e in cc)
+opening-is (Some b) link block given t (newest, earlier, is, control, came, opening) e = sym opening
+
+pub conflict-left : {w : ℕ} (link block : ℕ) (given perm : Perm) (coming' : Option Perm) (left : Bool) (t : Trace w)
+    → coming' ≡ Some perm → left ≡ leaves given perm → left ≡ true → [] ≡ conflict_by coming' link given block t
+conflict-left link block given perm coming' left t is left_is leaving =
+    rw (is, sym left_is ∙ leaving) refl
+
+pub conflict-told : {w : ℕ} (link block : ℕ) (given perm : Perm) (coming' : Option Perm) (m : Option Mention)
+    (left : Bool) (t : Trace w) → coming' ≡ Some perm → left ≡ leaves given perm → left ≡ false
+    → m ≡ burst_opening link channel.D t
+    → grantee_line link block perm m ≡ conflict_by coming' link given block t
+conflict-told link block given perm coming' m left t is left_is conflicting opening =
+    rw (is, sym left_is ∙ conflicting, opening) refl
+
+pub conflicts-none : {w : ℕ} (own : ℕ) (given : Perm) (block : ℕ) (t : Trace w) (out : List ℕ)
+    → out ≡ out ++ conflicts_text 0 own given block t
+unfolding conflicts_text
+conflicts-none own given block t out = sym (append-nil out)
+
+-- one link more: its line, or none of the Grant's own
+pub conflicts-more : {w : ℕ} (n m own : ℕ) (given : Perm) (block : ℕ) (t : Trace w) (line first before after : List ℕ)
+    → m ≡ suc n → before ≡ first ++ conflicts_text n own given block t
+    → (if own == n then [] else conflict_by (coming block (on_link n t)) n given block t) ≡ line
+    → after ≡ before ++ line → after ≡ first ++ conflicts_text m own given block t
+unfolding conflicts_text
+conflicts-more n m own given block t line first before after next so_far is more =
+    rw (more, so_far, next, is) (append_assoc first (conflicts_text n own given block t) line)
 
 -- and in which line the request was complete
 pub access-told : {w : ℕ} (n link source : ℕ) (asked other : Request) (block moment : ℕ) (given : Perm) (t : Trace w)
     (out mid new : List ℕ) → other ≡ asked → given ≡ needs other.opcode → moment ≡ asked_at link source t
-    → mid ≡ out ++ asked_line (moment + 1) → new ≡ mid ++ holders_text n None given block t
+    → mid ≡ out ++ asked_line (moment + 1) → new ≡ mid ++ holders_text n given block t
     → new ≡ out ++ access_text n link source asked block t
 access-told n link source asked other block moment given t out mid new same given_is at first more =
     rw (more, first, given_is, at, same)
-    (append_assoc out (asked_line (asked_at link source t + 1)) (holders_text n None (needs asked.opcode) block t))
+    (append_assoc out (asked_line (asked_at link source t + 1)) (holders_text n (needs asked.opcode) block t))

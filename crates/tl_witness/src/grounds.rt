@@ -10,7 +10,7 @@ ghost use Rattle.tl_rules.specs.statement.Conformance.{Trace, on_link};
 ghost use Rattle.tl_rules.specs.statement.History as history;
 ghost use Rattle.tl_together.specs.statement.Knows.{Knows};
 ghost use Rattle.tl_witness.specs.code.Witness.{KnowsWitness};
-ghost use Rattle.tl_witness.specs.statement.Grounds.{access_text, holders_text};
+ghost use Rattle.tl_witness.specs.statement.Grounds.{access_text, conflicts_text};
 
 use crate::strays::tell_strays;
 use crate::text::append_asked;
@@ -22,20 +22,7 @@ use tl_rules::kind::capped;
 use tl_together::breach::MemoryRule;
 use tl_together::judge::{Judge, needs};
 
-/// Appends, of a Grant, each other link that holds what its cap excludes.
-fn tell_grant<const W: usize>(
-    witness: &Witness,
-    link: Link,
-    x: &BeatD<W>,
-    out: &mut Vec<u8>,
-) -> Result<(), AllocError>
-    ensures { OnOk result ((n block : ℕ) (t : Trace W) → KnowsWitness witness.now n block t →
-        out.new.items ≡ out.old.items ++ holders_text n (Some link.0) (history.capped x.now.param) block t) }
-{
-    witness.tell_holders(Some(link.0), capped(x.param), out)
-}
-
-/// Appends, of the answer to an access, when that was complete, and each link that holds what excludes it.
+/// Appends, of the answer to an access, when that was complete, and each link that holds more than may be held beside it.
 fn tell_access<const W: usize>(
     witness: &Witness,
     judge: &Judge<W>,
@@ -55,7 +42,7 @@ fn tell_access<const W: usize>(
         return Ok(());
     };
     append_asked(u128::from(moment) + 1, out)?;
-    witness.tell_holders(None, needs(asked.opcode), out)
+    witness.tell_holders(needs(asked.opcode), out)
 }
 
 /// Appends, of a beat of a response, the bytes that it may not bring. What the judge knows stays so.
@@ -94,9 +81,10 @@ pub fn tell<const W: usize>(
     requires { IsWidth W }
     ensures knows { (levels : List Level) (p : Profile) (t : Trace W) (closed : Bool) →
         Knows judge.old levels p t closed → Knows judge.new levels p t closed }
-    ensures grant { rule ≡ MemoryRule.M1 → OnOk result ((n block : ℕ) (t : Trace W) →
-        KnowsWitness witness.now n block t →
-        out.new.items ≡ out.old.items ++ holders_text n (Some link.0) (history.capped x.now.param) block t) }
+    ensures grant { rule ≡ MemoryRule.M1 → OnOk result ((levels : List Level) (p : Profile) (block : ℕ) (t : Trace W) →
+        Knows judge.old levels p t false → KnowsWitness witness.now (length levels) block t →
+        out.new.items ≡ out.old.items
+        ++ conflicts_text (length levels) link.0 (history.capped x.now.param) block t) }
     ensures access { rule ≡ MemoryRule.M4 → OnOk result ((levels : List Level) (p : Profile) (asked : Request)
         (block : ℕ) (t : Trace W) → Knows judge.old levels p t false →
         KnowsWitness witness.now (length levels) block t → link.0 < length levels →
@@ -105,7 +93,7 @@ pub fn tell<const W: usize>(
 {
     match rule {
         MemoryRule::M1 => {
-            tell_grant(witness, link, x, out)?;
+            witness.tell_conflicts(judge, link.0, capped(x.param), out)?;
             Ok(())
         }
         MemoryRule::M4 => {

@@ -1,21 +1,31 @@
 //! What each link of a manager holds of a block, and since which line.
 
-ghost use Rattle.std.specs.Prelude.{ℕ, [], ◌∷◌, ◌^◌, ◌<◌, ◌≡◌, ◌++◌, IfOk, OnOk, option_copied, slice_get};
+ghost use Rattle.std.specs.Prelude.{ℕ, List, [], ◌∷◌, ◌^◌, ◌<◌, ◌≡◌, ◌++◌, IfOk, OnOk, Some, false, length};
+ghost use Rattle.std.specs.Prelude.{option_copied, slice_get};
+ghost use Rattle.tl_beat.specs.declared.channel.Channel.TheVariants as channel;
 ghost use Rattle.tl_beat.specs.statement.Width.{IsWidth};
-ghost use Rattle.tl_explain.specs.statement.Evidence.{last_saying, mention_of, next_line};
+ghost use Rattle.tl_explain.specs.statement.Evidence.{burst_opening, last_saying, mention_of, next_line};
 ghost use Rattle.tl_explain.specs.statement.Since.{IsHeldSince};
-ghost use Rattle.tl_rules.specs.statement.Conformance.{Trace};
-ghost use Rattle.tl_witness.specs.statement.Grounds.{holder_text, holders_text};
+ghost use Rattle.tl_monitor.specs.statement.Granting;
+ghost use Rattle.tl_monitor.specs.statement.Granting.{coming};
+ghost use Rattle.tl_params.specs.declared.level.Level.{Level};
+ghost use Rattle.tl_params.specs.declared.profile.Profile.{Profile};
+ghost use Rattle.tl_rules.specs.statement.Conformance.{Trace, on_link};
+ghost use Rattle.tl_together.specs.statement.Knows.{Knows};
+ghost use Rattle.tl_witness.specs.statement.Grounds.{conflict_by, conflicts_text, holder_text, holders_text};
 ghost use Rattle.tl_witness.specs.code.Witness.{IsFresh};
 
-use crate::text::append_holder;
+use crate::text::{append_grantee, append_holder};
 use std::alloc::{AllocError, Global};
 use tl_beat::beat::{Beat, Link};
+use tl_beat::channel::Channel;
 use tl_explain::reason::{Held, held_of};
 use tl_explain::recorder::{Recorder, Unrecorded};
+use tl_explain::told::Told;
 use tl_explain::turns::Subject;
 use tl_params::perm::Perm;
-use tl_together::free::is_left;
+use tl_together::free::leaves;
+use tl_together::judge::Judge;
 
 /// What each of the links of a manager holds of a block, by the messages that left it so.
 #[derive(Drop)]
@@ -96,37 +106,79 @@ impl Witness {
         }
     }
 
-    /// Appends what a link holds of the block, where it excludes one who has so much of it.
-    fn tell_holder(
-        &self,
-        link: u8,
-        spared: Option<u8>,
-        given: Perm,
-        out: &mut Vec<u8>,
-    ) -> Result<(), AllocError>
+    /// The first beat of the response that has begun on a link and isn't complete.
+    fn begun(&self, link: u8) -> Option<Told>
+        ensures { (w n block : ℕ) (given : Perm) (t : Trace w) → KnowsWitness self.now n block t → link < n →
+            coming block (on_link link t) ≡ Some given → mention_of result ≡ burst_opening link channel.D t }
+    {
+        match self.recorder(link)?.bursts.on(Channel::D) {
+            None => None,
+            Some(begun) => Some(begun.first),
+        }
+    }
+
+    /// Appends what a link holds of the block, if it is more than may be held beside so much of it.
+    fn tell_holder(&self, link: u8, given: Perm, out: &mut Vec<u8>) -> Result<(), AllocError>
         ensures { OnOk result ((w n block : ℕ) (t : Trace w) → KnowsWitness self.now n block t → link < n →
-            out.new.items ≡ out.old.items ++ holder_text link spared given block t) }
+            out.new.items ≡ out.old.items ++ holder_text link given block t) }
     {
         let held = self.held(link);
-        if is_left(link, spared, given, held.perm) {
+        if leaves(given, held.perm) {
             return Ok(());
         }
         append_holder(link, self.block, &held, out)
     }
 
-    /// Appends a line for each link that holds what excludes one who has so much of the block, but for the one that
-    /// is spared.
-    pub fn tell_holders(
+    /// Appends a line for each link that holds more of the block than may be held beside so much of it.
+    pub fn tell_holders(&self, given: Perm, out: &mut Vec<u8>) -> Result<(), AllocError>
+        ensures { OnOk result ((w n block : ℕ) (t : Trace w) → KnowsWitness self.now n block t →
+            out.new.items ≡ out.old.items ++ holders_text n given block t) }
+    {
+        for link in 0..self.links {
+            self.tell_holder(link, given, out)?;
+        }
+        Ok(())
+    }
+
+    /// Appends what a link holds of the block, or is being granted, if it is more than may be held beside so much of it.
+    fn tell_conflict(
         &self,
-        spared: Option<u8>,
+        coming: Option<Perm>,
+        link: u8,
         given: Perm,
         out: &mut Vec<u8>,
     ) -> Result<(), AllocError>
-        ensures { OnOk result ((w n block : ℕ) (t : Trace w) → KnowsWitness self.now n block t →
-            out.new.items ≡ out.old.items ++ holders_text n spared given block t) }
+        ensures { OnOk result ((w n block : ℕ) (t : Trace w) → KnowsWitness self.now n block t → link < n →
+            coming ≡ Granting.coming block (on_link link t) →
+            out.new.items ≡ out.old.items ++ conflict_by coming link given block t) }
+    {
+        let Some(perm) = coming else {
+            return self.tell_holder(link, given, out);
+        };
+        if leaves(given, perm) {
+            return Ok(());
+        }
+        append_grantee(link, self.block, perm, &self.begun(link), out)
+    }
+
+    /// Appends a line for each link but this one that holds, or is being granted, more of the block than may be held
+    /// beside so much of it.
+    pub fn tell_conflicts<const W: usize>(
+        &self,
+        judge: &Judge<W>,
+        own: u8,
+        given: Perm,
+        out: &mut Vec<u8>,
+    ) -> Result<(), AllocError>
+        ensures { OnOk result ((levels : List Level) (p : Profile) (block : ℕ) (t : Trace W) →
+            Knows judge.now levels p t false → KnowsWitness self.now (length levels) block t →
+            out.new.items ≡ out.old.items ++ conflicts_text (length levels) own given block t) }
     {
         for link in 0..self.links {
-            self.tell_holder(link, spared, given, out)?;
+            if link != own {
+                let coming = judge.coming(Link(link), self.block);
+                self.tell_conflict(coming, link, given, out)?;
+            }
         }
         Ok(())
     }

@@ -51,8 +51,8 @@ macro_rules! outcomes {
 /// Behind the commands of the program.
 pub const TOOL: &str =
     "Codes: at the first line at fault each command writes `line N X`: N is its number, X what is
-wrong with it. `tltool explain FILE` says why, `tltool explain X` what X says, and `tltool COMMAND
---help` which codes the command can write.
+wrong with it. `tltool explain X` says what X is, `tltool COMMAND --help` which codes the command can
+write, and `tltool explain FILE` why the line of a trace is at fault.
   F1 to F6      the line spells no beat
   F7            the first line is no header
   F8            the line says no event (`run`)
@@ -80,7 +80,7 @@ Examples, in the folder of examples (crates/tl_examples/data):
 
 /// Behind the options of `decode`.
 pub const DECODE: &str = outcomes!(
-    "`tltool explain FILE` says why.\n",
+    "`tltool explain X` says what X is.\n",
     ;
     "  F1   more than 256 bytes, or the last byte isn't LF, or fewer than two fields; or the number\n",
     "       of fields isn't the channel's\n",
@@ -149,8 +149,8 @@ macro_rules! outcomes_of_all_links {
         outcomes_of_a_trace!(
             $($said,)*
             ;
-            "  M1   the cap is toT and another link holds something of the block, or toB and another link\n",
-            "       holds Trunk of it\n",
+            "  M1   the cap is toT and another link holds or is being granted something of the block, or toB\n",
+            "       and another link holds or is being granted Trunk of it\n",
             "  M2   a byte isn't one that it may be at the first beat, by what was told of it and by the Puts\n",
             "       and atomics that are pending\n",
             "  M3   a byte that was asked for isn't one that it may have been from the request's last beat to\n",
@@ -210,10 +210,9 @@ pub const CHART: &str = outcomes_of_a_trace!(
 
 /// Behind the options of `run`.
 pub const RUN: &str = outcomes!(
-    "`tltool explain FILE` says why.\n",
+    "`tltool explain X` says what X is.\n",
     ;
-    "  F1   more than 256 bytes, or the last byte isn't LF, or fewer than two fields; or the number\n",
-    "       of fields isn't the channel's\n",
+    "  F1   more than 256 bytes, or the last byte isn't LF\n",
     "  F7   the first line is no header\n",
     "  F8   the line of a schedule says no event\n",
     ;

@@ -23,8 +23,8 @@ use Rattle.tl_coherence.specs.statement.Step.{stepped}
 use Rattle.tl_coherence.specs.statement.System.{System}
 use Rattle.tl_world.specs.statement.World.{deepest, IsReached, AreReady}
 use Rattle.std.proofs.Math.Nat.{max-le}
-use Rattle.tl_coherence.proofs.links.FromInvariant.{channels, carries}
-use Rattle.tl_coherence.proofs.theorem.Soundness.{headline}
+use Rattle.tl_coherence.proofs.links.FromInvariant.{channels}
+use Rattle.tl_coherence.proofs.theorem.Whole.{whole}
 use Rattle.tl_world.proofs.Loads.{requests-next, releases-next}
 use Rattle.tl_world.proofs.Made.{made-room, made-empty, made-flat}
 
@@ -75,9 +75,8 @@ reached-step {w} knows terms perm_of config old new log event o r typed happens 
         depths = λ k ch d lt.
             is.deepen k ch d lt ∙ ap₂ (λ m n. max m n) (r.depths k ch d lt)
             (ap (λ (xs : List (Beat w)). length xs) (is.holds.channels.beats k ch d lt));
-        sound = headline config ((event, o) ∷ log) given;
-        carried = λ link ch. carries config ((event, o) ∷ log) given link ch;
-        shallow = λ link ch. max-le (r.shallow link ch) (channels config ((event, o) ∷ log) given link ch);
+        theorem = r.theorem;
+        shallow = λ link ch. max-le (r.shallow link ch) (r.theorem.channels config ((event, o) ∷ log) given link ch);
       },
       is.outcome_is,
     )
@@ -117,8 +116,7 @@ reached-new {w} knows terms perm_of config state width ready known are clear no_
   requests_are = no_request;
   releases_are = no_release;
   depths = made-flat config state.network.rings are;
-  sound = headline config [] new;
-  carried = λ link ch. carries config [] new link ch;
+  theorem = whole w;
   shallow = λ link ch. omega arith;
 }
   where

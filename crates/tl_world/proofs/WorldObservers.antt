@@ -77,7 +77,7 @@ module _ {w : ℕ} {A M : Type 0} (knows : A → Endpoint w → Type 0) (terms :
     where
       go : (b : Bool) → is_some (if b then ((system_after config log).clients client).copies block else None) ≡ holds
           (if b then held_at ((system_after config log).clients client) block else perm.None)
-      go true = r.sound.coherent.kept client block
+      go true = (r.theorem.headline config log r.given).coherent.kept client block
       go false = refl
 
   -- and no more beats than a channel is made for

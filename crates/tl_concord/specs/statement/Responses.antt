@@ -1,5 +1,5 @@
--- That responses go on as they began, that no request comes with the source of one that is on its way, and that no link
--- may write a block while its Grant is.
+-- That responses go on as they began, that no request comes with the source of one that is on its way, and that while a
+-- Grant is on its way no link may write its block, and no other link is granted it.
 use Rattle.std.specs.Prelude.{ℕ, true, false, List, ◌∷◌, ◌≡◌, None, ⊤}
 use Rattle.tl_beat.specs.declared.beat.Beat.{Beat}
 use Rattle.tl_beat.specs.declared.beat.Beat.TheVariants as beat
@@ -23,6 +23,10 @@ pub record IsResponse {w : ℕ} (link : ℕ) (x : BeatD w) (t : Trace w) : Type 
       → (x.opcode ≡ y.opcode) × (x.source ≡ y.source)
   -- if it is of a Grant, no link holds Trunk of the block
   pub free : (n block : ℕ) → grants block x (on_link link t) ≡ true → is_free n None perm.Branch block t ≡ true
+  -- nor is a Grant of the block on its way on another link
+  pub alone : (block : ℕ) → grants block x (on_link link t) ≡ true → (other : ℕ) (y : BeatD w) (older : List (Beat w))
+      → unfinished channel.D (on_link other t) ≡ beat.D y ∷ older → grants block y (on_link other t) ≡ true
+      → other ≡ link
 
 -- a beat of a request after t has the source of no response that is on its way, but of a ReleaseAck
 abbrev pub IsFreshRequest : {w : ℕ} → ℕ → BeatA w → Trace w → Type 0

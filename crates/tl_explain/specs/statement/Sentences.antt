@@ -73,7 +73,7 @@ messages_judged_together M4 = codes "AccessAck, AccessAckData"
 -- where a rule of memory is broken
 abbrev pub memory_sentence : MemoryRule → List ℕ
 memory_sentence M1 = codes
-    "the cap is toT and another link holds something of the block, or toB and another link holds Trunk of it"
+    "the cap is toT and another link holds or is being granted something of the block, or toB and another link holds or is being granted Trunk of it"
 memory_sentence M2 = codes
     "a byte isn't one that it may be at the first beat, by what was told of it and by the Puts and atomics that are pending"
 memory_sentence M3 = codes

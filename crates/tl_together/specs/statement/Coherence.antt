@@ -1,5 +1,6 @@
 -- What the links of a manager owe each other: the rules of memory, over the one trace of all their beats.
-use Rattle.std.specs.Prelude.{ℕ, Bool, true, false, not, [], ◌∷◌, ◌&&◌, if◌then◌else◌, List, length, Option, Some, None}
+use Rattle.std.specs.Prelude.{ℕ, zero, suc, Bool, true, false, not, [], ◌∷◌, ◌==◌, ◌&&◌, ◌||◌, if◌then◌else◌, List, length}
+use Rattle.std.specs.Prelude.{Option, Some, None}
 use Rattle.tl_beat.specs.declared.beat.Beat.{Beat}
 use Rattle.tl_beat.specs.declared.beat.Beat.TheVariants as beat
 use Rattle.tl_beat.specs.declared.beat.BeatD.{BeatD}
@@ -7,13 +8,15 @@ use Rattle.tl_beat.specs.declared.beat.Link.{Link}
 use Rattle.tl_beat.specs.declared.opcode.OpD.{OpD}
 use Rattle.tl_beat.specs.declared.opcode.OpD.TheVariants as d
 use Rattle.tl_params.specs.declared.level.Level.{Level}
+use Rattle.tl_params.specs.declared.perm.Perm.{Perm}
 use Rattle.tl_params.specs.declared.profile.Profile.{Profile}
 use Rattle.tl_params.specs.declared.rule.Rule.{Rule}
 use Rattle.tl_rules.specs.code.Open.{open_request}
 use Rattle.tl_rules.specs.declared.past.Request.{Request}
 use Rattle.tl_rules.specs.statement.Conformance.{Trace, on_link, broken_on_link}
 use Rattle.tl_rules.specs.statement.History.{begins, is_grant, capped}
-use Rattle.tl_rules.specs.statement.Windows.{is_free, needs, has_window}
+use Rattle.tl_rules.specs.statement.Windows.{leaves, needs, has_window}
+use Rattle.tl_monitor.specs.statement.Granting.{granted}
 use Rattle.tl_bytes.specs.statement.Bytes.{is_true}
 use Rattle.tl_together.specs.declared.breach.MemoryRule.{MemoryRule}
 use Rattle.tl_together.specs.declared.breach.MemoryRule.TheVariants.{M1, M2, M3, M4}
@@ -32,10 +35,19 @@ is_performed x = is_access_ack x.opcode && not x.denied
 
 -- ---- the rules of memory
 
--- M1, at the first beat of a Grant that answers this request: the other links hold what excludes its cap
+-- Each of the first n links but this one holds no more of the block than may be held beside so much of it. A Grant counts
+-- as held from its first beat on.
+unfoldable pub is_grantable : {w : ℕ} → ℕ → ℕ → Perm → ℕ → Trace w → Bool
+is_grantable zero link given block t = true
+is_grantable (suc n) link given block t =
+    is_grantable n link given block t && ((link == n) || leaves given (granted block (on_link n t)))
+
+-- M1, at the first beat of a Grant that answers this request: another link holds, or is being granted, what conflicts
+-- with its cap
 abbrev pub broken_grant : {w : ℕ} → ℕ → ℕ → BeatD w → Option Request → Trace w → Option MemoryRule
 broken_grant n link x None t = None
-broken_grant n link x (Some asked) t = if is_free n (Some link) (capped x.param) asked.block t then None else Some M1
+broken_grant n link x (Some asked) t = if is_grantable n link (capped x.param) asked.block t
+    then None else Some M1
 
 -- M4, at the first beat of the answer to an access: it has had no window
 abbrev pub broken_access : {w : ℕ} → ℕ → ℕ → BeatD w → Option Request → Trace w → Option MemoryRule

@@ -14,6 +14,9 @@ use tl_monitor::trace::check_trace;
 use tl_params::level::Level;
 use tl_params::profile::Profile;
 use tl_params::rule::Rule;
+use tl_together::breach::{Breach, MemoryRule};
+use tl_together::fault as together;
+use tl_together::trace::check_together;
 
 /// AcquireBlock of block 0 to write, GrantData, GrantAck, a Probe that takes the copy, and its answer.
 const LENT: [&str; 12] = [
@@ -51,6 +54,28 @@ const SHARED: [&str; 12] = [
 const ANSWERED: [&str; 2] = [
     "00 A 4 0 3 00 00000040 ff - 0\n",
     "00 D 1 0 3 00 00 0 0000000000000000 0\n",
+];
+
+/// A block to write for each of two links, and what gives it up again.
+const GRANTED_IN_TURN: [&str; 10] = [
+    "00 A 7 1 6 00 00000000 ff - 0\n",
+    "01 A 7 1 6 00 00000040 ff - 0\n",
+    "00 D 4 0 6 00 00 0 - 0\n",
+    "01 D 4 0 6 00 01 0 - 0\n",
+    "00 E 00\n",
+    "01 E 01\n",
+    "00 C 6 1 6 00 00000000 - 0\n",
+    "01 C 6 1 6 00 00000040 - 0\n",
+    "00 D 6 0 6 00 00 0 - 0\n",
+    "01 D 6 0 6 00 00 0 - 0\n",
+];
+
+/// One block to write for both: the first beat of each GrantData.
+const GRANTED_TO_BOTH: [&str; 4] = [
+    "00 A 6 1 6 00 00000000 ff - 0\n",
+    "01 A 6 1 6 00 00000000 ff - 0\n",
+    "00 D 5 0 6 00 00 0 0000000000000000 0\n",
+    "01 D 5 0 6 00 01 0 0000000000000000 0\n",
 ];
 
 /// The answer of a monitor to the beat that a line spells.
@@ -200,6 +225,34 @@ fn many_beats_and_a_fault_at_the_end(rt: HostRuntime) -> Result<(), Fail> {
     assert_eq!(rt;
         check_trace(rt.alloc(), &levels, Profile::One, trace.as_slice()),
         Err(TraceFault::At(8000, Rule::H2))
+    );
+    Ok(())
+}
+
+/// Thousands of beats of two links, each with a block of its own, and then one block for both.
+#[test]
+fn many_beats_of_all_links_and_a_fault_at_the_end(rt: HostRuntime) -> Result<(), Fail> {
+    let levels = [Level::C, Level::C];
+    let mut trace: Vec<(Link, Beat<8>)> = Vec::new(rt.alloc());
+    for _ in 0..500u16 {
+        for line in GRANTED_IN_TURN {
+            trace.push(read_line(line.as_bytes())?)?;
+        }
+    }
+    assert_eq!(rt;
+        check_together(rt.alloc(), &levels, Profile::One, trace.as_slice()),
+        Ok(())
+    );
+    for line in GRANTED_TO_BOTH {
+        trace.push(read_line(line.as_bytes())?)?;
+    }
+    assert_eq!(rt;
+        check_together(rt.alloc(), &levels, Profile::One, trace.as_slice()),
+        Err(together::TraceFault::At(5003, Breach::OfMemory(MemoryRule::M1)))
+    );
+    assert_eq!(rt;
+        check_together(rt.alloc(), &[], Profile::One, trace.as_slice()),
+        Err(together::TraceFault::Levels)
     );
     Ok(())
 }

@@ -1,14 +1,16 @@
--- What is told of a beat that breaks a rule of memory.
-use Rattle.std.specs.Prelude.{ℕ, zero, suc, [], ◌++◌, ◌+◌, ◌*◌, ◌||◌, if◌then◌else◌, codes, List, Option, Some, None}
+-- The lines that a breach of M1 or M4 rests on.
+use Rattle.std.specs.Prelude.{ℕ, zero, suc, [], ◌++◌, ◌+◌, ◌*◌, ◌==◌, if◌then◌else◌, codes, List, Option, Some, None}
 use Rattle.std.specs.Fmt.{decimal}
+use Rattle.tl_beat.specs.declared.channel.Channel.TheVariants as channel
 use Rattle.tl_beat.specs.statement.Digits.{digits}
 use Rattle.tl_params.specs.declared.perm.Perm.{Perm}
 use Rattle.tl_rules.specs.declared.past.Request.{Request}
 use Rattle.tl_rules.specs.statement.Conformance.{Trace, on_link}
 use Rattle.tl_rules.specs.statement.History.{held}
-use Rattle.tl_rules.specs.statement.Windows.{is_spared, leaves, needs}
+use Rattle.tl_rules.specs.statement.Windows.{leaves, needs}
+use Rattle.tl_monitor.specs.statement.Granting.{coming}
 use Rattle.tl_explain.specs.declared.told.Mention.{Mention}
-use Rattle.tl_explain.specs.statement.Evidence.{last_saying}
+use Rattle.tl_explain.specs.statement.Evidence.{burst_opening, last_saying}
 use Rattle.tl_explain.specs.statement.Sentences.{perm_name}
 use Rattle.tl_together.specs.code.Windows.{asked_at}
 
@@ -23,24 +25,42 @@ holder_line link block perm since =
     codes "  link " ++ digits 2 link ++ codes " holds " ++ perm_name perm ++ codes " of block " ++ digits 8 (64 * block)
     ++ since_text since ++ codes "\n"
 
--- the line of a link that holds what excludes one who has so much of the block; none of the one that is spared
-abbrev pub holder_text : {w : ℕ} → ℕ → Option ℕ → Perm → ℕ → Trace w → List ℕ
-holder_text link spared given block t =
-    if is_spared link spared || leaves given (held block (on_link link t)) then [] else
+-- the line of a link that holds more of the block than may be held beside so much of it
+abbrev pub holder_text : {w : ℕ} → ℕ → Perm → ℕ → Trace w → List ℕ
+holder_text link given block t =
+    if leaves given (held block (on_link link t)) then [] else
     holder_line link block (held block (on_link link t)) (last_saying link block t)
 
--- a line for each of the first n links that hold what excludes one who has so much of the block, but for the one that
--- is spared: what the last message on that link left of it, and the line of that message
-unfoldable pub holders_text : {w : ℕ} → ℕ → Option ℕ → Perm → ℕ → Trace w → List ℕ
-holders_text zero spared given block t = []
-holders_text (suc n) spared given block t =
-    holders_text n spared given block t ++ holder_text n spared given block t
+-- a line for each of the first n links that hold more of the block than may be held beside so much of it: what the last
+-- message on that link left of it, and the line of that message
+unfoldable pub holders_text : {w : ℕ} → ℕ → Perm → ℕ → Trace w → List ℕ
+holders_text zero given block t = []
+holders_text (suc n) given block t = holders_text n given block t ++ holder_text n given block t
+
+-- a link is being granted so much of the block, by a Grant that began with this beat
+unfoldable pub grantee_line : ℕ → ℕ → Perm → Option Mention → List ℕ
+grantee_line link block perm since =
+    codes "  link " ++ digits 2 link ++ codes " is being granted " ++ perm_name perm ++ codes " of block "
+    ++ digits 8 (64 * block) ++ since_text since ++ codes "\n"
+
+-- the line of a link that holds, or is being granted, more of the block than may be held beside so much of it
+abbrev pub conflict_by : {w : ℕ} → Option Perm → ℕ → Perm → ℕ → Trace w → List ℕ
+conflict_by None link given block t = holder_text link given block t
+conflict_by (Some perm) link given block t =
+    if leaves given perm then [] else grantee_line link block perm (burst_opening link channel.D t)
+
+-- M1: a line for each of the first n links but its own that does
+unfoldable pub conflicts_text : {w : ℕ} → ℕ → ℕ → Perm → ℕ → Trace w → List ℕ
+conflicts_text zero own given block t = []
+conflicts_text (suc n) own given block t =
+    conflicts_text n own given block t
+    ++ (if own == n then [] else conflict_by (coming block (on_link n t)) n given block t)
 
 -- the request of the beat was complete in this line
 unfoldable pub asked_line : ℕ → List ℕ
 asked_line n = codes "  its request was complete in line " ++ decimal n ++ codes "\n"
 
--- M4: the line with which the access was complete whose request this is, and who holds what excludes it
+-- M4: the line with which the access was complete whose request this is, and who holds more than may be held beside it
 abbrev pub access_text : {w : ℕ} → ℕ → ℕ → ℕ → Request → ℕ → Trace w → List ℕ
 access_text n link source asked block t =
-    asked_line (asked_at link source t + 1) ++ holders_text n None (needs asked.opcode) block t
+    asked_line (asked_at link source t + 1) ++ holders_text n (needs asked.opcode) block t

@@ -15,12 +15,13 @@ use Rattle.tl_coherence.specs.declared.event.Outcome.{Outcome}
 use Rattle.tl_world.specs.declared.state.WorldState.{WorldState}
 use Rattle.tl_world.specs.declared.ring.Ring.{Ring}
 use Rattle.tl_world.specs.code.Carrying.{place}
-use Rattle.tl_coherence.specs.statement.Delivery.{IsFifo, capacity, sources_of}
-use Rattle.tl_coherence.specs.statement.Headline.{IsGiven, IsSound}
+use Rattle.tl_coherence.specs.statement.Delivery.{capacity, sources_of}
+use Rattle.tl_coherence.specs.statement.Headline.{IsGiven}
 use Rattle.tl_world.specs.code.Holds.{clients_of, Holds}
 use Rattle.tl_coherence.specs.statement.Load.{requests, releases}
 use Rattle.tl_coherence.specs.statement.Log.{Log, system_after, logged}
 use Rattle.tl_coherence.specs.statement.System.{System, terms_at}
+use Rattle.tl_coherence.specs.statement.Theorem.{Theorem}
 
 -- the greatest number of beats that ever stood in a channel
 unfoldable pub deepest : {w : ℕ} → Config → Log w → ℕ → Channel → ℕ
@@ -37,11 +38,9 @@ pub record IsReached {w : ℕ} {A M : Type 0} (knows : A → Endpoint w → Type
   pub releases_are : state.outstanding.releases ≡ releases log
   pub depths : (k : ℕ) (ch : Channel) (d : Ring w) → k < clients_of config
       → (slice_index_or state.network.rings.all.items (place k ch) d).deepest ≡ deepest config log k ch
-  -- the outcomes are a run of the one-memory machine, copies are coherent, no beat was refused, and nothing is stuck
-  pub sound : IsSound config log
-  -- channels lose nothing and keep order
-  pub carried : (link : ℕ) (ch : Channel) → IsFifo (system_after config log) log link ch
-  -- and none ever held more than it is made for
+  -- all that is proved of each log of each configuration
+  pub theorem : Theorem w
+  -- no channel ever held more than it is made for
   pub shallow : (link : ℕ) (ch : Channel)
       → deepest config log link ch ≤ capacity (64 / w) (sources_of (terms_at config link)) config.trackers ch
 

@@ -1,25 +1,5 @@
-use Rattle.tl_coherence.proofs.theorem.LoneAcquireEnds.{alone, alone_whole}
-use Rattle.tl_coherence.proofs.flow.Flows.{flows}
-use Rattle.tl_coherence.proofs.flow.FlowTraces.{faultless}
-use Rattle.tl_coherence.proofs.links.FromInvariant.{at_most_recorded, carries, channels, grants, stalls}
-use Rattle.tl_coherence.proofs.bound.Settling.{bound, drain}
-use Rattle.tl_coherence.proofs.theorem.Soundness.{headline}
+use Rattle.tl_coherence.proofs.theorem.Whole.{whole}
 use Rattle.tl_coherence.proofs.law.holds.Goals as goal
 
 pub returns : goal.returns
-returns g c = record {
-  headline = λ config log given. headline config log given;
-  carries = λ config log given link ch. carries config log given link ch;
-  flows = λ config log given link l level. flows config log given link l level;
-  faultless = λ config log given. faultless config log given;
-  channels = λ config log given link ch. channels config log given link ch;
-  recorded = λ config log given link block. at_most_recorded config log given link block;
-  stalls = λ config log given link ch client. stalls config log given link ch client;
-  bound = λ config more log given deliveries. bound config more log given deliveries;
-  drain = λ config log given. drain config log given;
-  grants = λ config log link ch x source p op given asked. grants config log link ch x source p op given asked;
-  alone = λ config log client block source n grow none given drains. alone config log client block source n grow none
-      given drains;
-  alone_whole = λ config log client block source n bytes none given drains. alone_whole config log client block source n
-      bytes none given drains;
-}
+returns g c = whole _

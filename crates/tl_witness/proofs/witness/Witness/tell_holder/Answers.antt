@@ -5,13 +5,13 @@ use Rattle.tl_explain.specs.statement.Evidence.{mention_of}
 use Rattle.tl_witness.proofs.Witnesses.{holder-left, holder-told}
 use Rattle.tl_witness.proofs.witness.Witness.tell_holder.Goals as goal
 
-pub returns-then-is_left : goal.returns-then-is_left
-returns-then-is_left c = λ w n block t k lt.
+pub returns-then-leaves : goal.returns-then-leaves
+returns-then-leaves c = λ w n block t k lt.
     let h = c.held-held.result in
     sym (append-nil c.args.out.now.items)
-    ∙ ap (λ text. c.args.out.now.items ++ text) (holder-left c.args.link block c.args.spared c.args.given h.perm
-    (mention_of h.since) c.is_left.result t (c.held-held.ensures.since w n block t k lt) c.is_left.ensures
-    c.if-is_left.true)
+    ∙ ap (λ text. c.args.out.now.items ++ text) (holder-left c.args.link block c.args.given h.perm
+    (mention_of h.since) c.leaves.result t (c.held-held.ensures.since w n block t k lt) c.leaves.ensures
+    c.if-leaves.true)
 
 pub returns : goal.returns
 returns c = on_ok_weaker c.append_holder.result
@@ -19,7 +19,7 @@ returns c = on_ok_weaker c.append_holder.result
     let h = c.held-held.result in
     let small : c.args.self.now.block ≡ block = k.block_is in
     rw small at (text (rw small k.addressed))
-    ∙ ap (λ line. c.args.out.now.items ++ line) (holder-told c.args.link block c.args.spared c.args.given h.perm
-    (mention_of h.since) c.is_left.result t (c.held-held.ensures.since w n block t k lt)
-    (c.held-held.ensures.said w n block t k lt) c.is_left.ensures c.if-is_left.false))
+    ∙ ap (λ line. c.args.out.now.items ++ line) (holder-told c.args.link block c.args.given h.perm
+    (mention_of h.since) c.leaves.result t (c.held-held.ensures.since w n block t k lt)
+    (c.held-held.ensures.said w n block t k lt) c.leaves.ensures c.if-leaves.false))
     c.append_holder.ensures

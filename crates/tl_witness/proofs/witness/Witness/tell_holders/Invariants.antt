@@ -6,4 +6,4 @@ use Rattle.tl_witness.proofs.witness.Witness.tell_holders.Given as goal
 
 abbrev pub invariant-loop-link : goal.invariant-loop-link
 invariant-loop-link l = (w n block : ℕ) (t : Trace w) → KnowsWitness l.self n block t
-    → l.out.items ≡ l.initial.out.items ++ holders_text l.link l.spared l.given block t
+    → l.out.items ≡ l.initial.out.items ++ holders_text l.link l.given block t

@@ -1,0 +1,31 @@
+"""What docs/BENCHES.md shows: each module that it instantiates, with its parameters, fits the ports of that module."""
+
+import os
+import re
+import subprocess
+
+from harness import ROOT, test, want, path
+
+INSTANCE = re.compile(r"^    ((tl_\w+) #\(.*\) \w+ \(.*\);)$", re.M)
+HEAD = re.compile(r"^module (\w+)( #\(.*?\n\) \(\n.*?\n\);)", re.M | re.S)
+
+
+@test
+def the_instances_of_the_page_fit_the_modules():
+    with open(os.path.join(ROOT, "docs/BENCHES.md")) as page:
+        instances = INSTANCE.findall(page.read())
+    want(len(instances) > 3, f"{len(instances)} instances found")
+    folder = os.path.join(ROOT, "benches/sv")
+    for number, (instance, module) in enumerate(instances):
+        with open(os.path.join(folder, f"{module}.sv")) as source:
+            head = dict(HEAD.findall(source.read()))[module]
+        around = path(f"around{number}.sv")
+        # A module with the same ports, whose signals so have the names that `.*` asks for.
+        with open(around, "w") as out:
+            out.write(f"module around{head}\n{instance}\nendmodule\n")
+        files = [os.path.join(folder, f"{it}.sv") for it in ("tl_pkg", "tl_manager_recorder", "tl_manager_checker")]
+        files += [it for it in [os.path.join(folder, f"{module}.sv")] if it not in files]
+        told = subprocess.run(
+            ["verilator", "--lint-only", "--timing", "-Wno-WIDTH", "-Wno-MULTITOP", "--top-module", "around", *files, around],
+            stdout=subprocess.PIPE, stderr=subprocess.STDOUT, text=True)
+        want(told.returncode == 0, f"{instance}: {told.stdout}")

@@ -1,0 +1,467 @@
+-- What a lawful history says of one source, sink or block is what the messages say that name it.
+use Rattle.std.proofs.Common.{◌≡◌, ℕ, Bool, true, false, not, ◌&&◌, ◌||◌, [], ◌∷◌, refl, sym, ap, ◌∙◌}
+use Rattle.std.specs.Prelude.{if◌then◌else◌, Option, Some, None, ◌==◌, unwrap_or}
+use Rattle.tl_beat.specs.declared.beat.Beat.{Beat}
+use Rattle.tl_beat.specs.declared.beat.Beat.TheVariants.{A, B, C, D, E}
+use Rattle.tl_beat.specs.declared.beat.BeatA.{BeatA}
+use Rattle.tl_beat.specs.declared.beat.BeatC.{BeatC}
+use Rattle.tl_beat.specs.declared.beat.BeatD.{BeatD}
+use Rattle.tl_beat.specs.declared.opcode.OpD.{OpD}
+use Rattle.tl_beat.specs.declared.opcode.OpD.TheVariants as d
+use Rattle.tl_burst.specs.statement.Messages.{History}
+use Rattle.tl_params.specs.declared.key.Key.{Key}
+use Rattle.tl_params.specs.declared.key.Key.TheVariants.{RequestSource, ReleaseSource, AcquireOf, ReleaseOf, GrantSink}
+use Rattle.tl_params.specs.declared.key.Key.TheVariants.{GrantAckOf, ProbeOf}
+use Rattle.tl_params.specs.declared.perm.Perm.{Perm}
+use Rattle.tl_params.specs.declared.profile.Profile.{Profile}
+use Rattle.tl_rules.specs.statement.History.{asks_for, begins, block_at, capped, closes, ends, grant_sink, grants, held}
+use Rattle.tl_rules.specs.statement.History.{is_acquire, is_grant, is_probe, is_probe_ack, is_release, is_release_ack}
+use Rattle.tl_rules.specs.statement.History.{is_sink, opens, pending, probe_of, release_of, releases}
+use Rattle.tl_rules.specs.statement.History.{request_of, says_held}
+use Rattle.tl_keys.specs.statement.Restricted.{Name, is_kept, names, restricted}
+use Rattle.tl_keys.specs.statement.Restricted.Name.{OfBlock, OfSink, OfSource}
+use Rattle.tl_rules.proofs.Tables.{neither}
+use Rattle.tl_keys.proofs.Kept.{same-begins, same-ends}
+use Rattle.tl_keys.proofs.Lawful.{AreInOrder}
+use Rattle.tl_keys.proofs.Named.{kept-is}
+
+and-none : (a b : Bool) → b ≡ false → (a && b) ≡ false
+and-none true b e = e
+and-none false b e = refl
+
+-- ---- what a response names
+
+-- one that doesn't name the block neither grants it nor ends a Release of it
+granted-off : {w : ℕ} (b : ℕ) (x : BeatD w) (t : History w) → names (OfBlock b) (D x) t ≡ false → grants b x t ≡ false
+granted-off b x t e = go x.opcode refl
+  where
+    go : (o : OpD) → x.opcode ≡ o → grants b x t ≡ false
+    go d.Grant f = rw f (rw f at e)
+    go d.GrantData f = rw f (rw f at e)
+    go d.ReleaseAck f = rw f refl
+    go d.AccessAck f = rw f refl
+    go d.AccessAckData f = rw f refl
+    go d.HintAck f = rw f refl
+
+released-off : {w : ℕ} (b : ℕ) (x : BeatD w) (t : History w) → names (OfBlock b) (D x) t ≡ false
+    → closes (ReleaseOf b) (D x) t ≡ false
+released-off b x t e = go (is_release_ack x.opcode) refl
+  where
+    go : (o : Bool) → is_release_ack x.opcode ≡ o
+        → (is_release_ack x.opcode && releases b (release_of x.source t)) ≡ false
+    go true f = rw f (rw f at e)
+    go false f = rw f refl
+
+-- ---- the message that another one names
+
+-- a beat that says nothing, kept or not
+pub passed : {w : ℕ} {X : Type 0} (f : History w → X) (k : Bool) (x : Beat w) (r : History w) (v : X) → f (x ∷ r) ≡ f r
+    → f r ≡ v → f (if k then x ∷ r else r) ≡ v
+passed f true x r v same e = same ∙ e
+passed f false x r v same e = e
+
+module _ {w : ℕ} (p : Profile) where
+  -- the kept beats of a history with one more
+  abbrev with : Name → Beat w → History w → History w
+  with n x t = if is_kept n x t (restricted n t) then x ∷ restricted n t else restricted n t
+
+  pub request-alike : (s : ℕ) (t : History w) → AreInOrder p t
+      → request_of s (restricted (OfSource s) t) ≡ request_of s t
+  unfolding restricted request_of AreInOrder
+  request-alike s [] lawful = refl
+  request-alike s (A x ∷ t) lawful =
+      go (request-alike s t lawful.1) (x.source == s) refl (kept-is p (OfSource s) (A x) t lawful)
+    where
+      go : request_of s (restricted (OfSource s) t) ≡ request_of s t → (b : Bool) → (x.source == s) ≡ b
+          → is_kept (OfSource s) (A x) t (restricted (OfSource s) t) ≡ (x.source == s)
+          → request_of s (with (OfSource s) (A x) t)
+          ≡ (if begins (A x) t && (x.source == s) then Some x else request_of s t)
+      go before true f kept = rw (kept ∙ f) (rw (same-begins (OfSource s) (A x) t (kept ∙ f), before) refl)
+      go before false f kept = rw (kept ∙ f, f, and-none (begins (A x) t) false refl) before
+  request-alike s (B x ∷ t) lawful = passed (request_of s) (is_kept (OfSource s) (B x) t (restricted (OfSource s) t))
+      (B x) (restricted (OfSource s) t) (request_of s t) refl (request-alike s t lawful.1)
+  request-alike s (C x ∷ t) lawful = passed (request_of s) (is_kept (OfSource s) (C x) t (restricted (OfSource s) t))
+      (C x) (restricted (OfSource s) t) (request_of s t) refl (request-alike s t lawful.1)
+  request-alike s (D x ∷ t) lawful = passed (request_of s) (is_kept (OfSource s) (D x) t (restricted (OfSource s) t))
+      (D x) (restricted (OfSource s) t) (request_of s t) refl (request-alike s t lawful.1)
+  request-alike s (E x ∷ t) lawful = passed (request_of s) (is_kept (OfSource s) (E x) t (restricted (OfSource s) t))
+      (E x) (restricted (OfSource s) t) (request_of s t) refl (request-alike s t lawful.1)
+
+  pub release-alike : (s : ℕ) (t : History w) → AreInOrder p t
+      → release_of s (restricted (OfSource s) t) ≡ release_of s t
+  unfolding restricted release_of AreInOrder
+  release-alike s [] lawful = refl
+  release-alike s (C x ∷ t) lawful =
+      go (release-alike s t lawful.1) (x.source == s) refl (kept-is p (OfSource s) (C x) t lawful)
+    where
+      go : release_of s (restricted (OfSource s) t) ≡ release_of s t → (b : Bool) → (x.source == s) ≡ b
+          → is_kept (OfSource s) (C x) t (restricted (OfSource s) t) ≡ (x.source == s)
+          → release_of s (with (OfSource s) (C x) t)
+          ≡ (if begins (C x) t && (is_release x.opcode && (x.source == s)) then Some x else release_of s t)
+      go before true f kept = rw (kept ∙ f) (rw (same-begins (OfSource s) (C x) t (kept ∙ f), before) refl)
+      go before false f kept =
+          rw (kept ∙ f, f, and-none (is_release x.opcode) false refl, and-none (begins (C x) t) false refl) before
+  release-alike s (A x ∷ t) lawful = passed (release_of s) (is_kept (OfSource s) (A x) t (restricted (OfSource s) t))
+      (A x) (restricted (OfSource s) t) (release_of s t) refl (release-alike s t lawful.1)
+  release-alike s (B x ∷ t) lawful = passed (release_of s) (is_kept (OfSource s) (B x) t (restricted (OfSource s) t))
+      (B x) (restricted (OfSource s) t) (release_of s t) refl (release-alike s t lawful.1)
+  release-alike s (D x ∷ t) lawful = passed (release_of s) (is_kept (OfSource s) (D x) t (restricted (OfSource s) t))
+      (D x) (restricted (OfSource s) t) (release_of s t) refl (release-alike s t lawful.1)
+  release-alike s (E x ∷ t) lawful = passed (release_of s) (is_kept (OfSource s) (E x) t (restricted (OfSource s) t))
+      (E x) (restricted (OfSource s) t) (release_of s t) refl (release-alike s t lawful.1)
+
+  -- the request of a block, by the block alone
+  pub request-of-block : (b s : ℕ) (t : History w) → AreInOrder p t → asks_for b (request_of s t) ≡ true
+      → request_of s (restricted (OfBlock b) t) ≡ request_of s t
+  unfolding restricted request_of AreInOrder
+  request-of-block b s [] lawful asked = refl
+  request-of-block b s (A x ∷ t) lawful asked =
+      go (request-of-block b s t lawful.1) (begins (A x) t) refl (x.source == s) refl
+      (kept-is p (OfBlock b) (A x) t lawful) (is_kept (OfBlock b) (A x) t (restricted (OfBlock b) t)) refl
+    where
+      go : (asks_for b (request_of s t) ≡ true → request_of s (restricted (OfBlock b) t) ≡ request_of s t)
+          → (first : Bool) → begins (A x) t ≡ first → (own : Bool) → (x.source == s) ≡ own
+          → is_kept (OfBlock b) (A x) t (restricted (OfBlock b) t) ≡ (block_at x.address == b) → (k : Bool)
+          → is_kept (OfBlock b) (A x) t (restricted (OfBlock b) t) ≡ k
+          → request_of s (with (OfBlock b) (A x) t)
+          ≡ (if begins (A x) t && (x.source == s) then Some x else request_of s t)
+      go before true f true g kept k is =
+          let here : block_at x.address == b ≡ true = rw (f, g) at asked in
+          rw (kept ∙ here) (rw (same-begins (OfBlock b) (A x) t (kept ∙ here), f, g) refl)
+      go before true f false g kept true is =
+          rw is (rw (same-begins (OfBlock b) (A x) t is, f, g) (before (rw (f, g) at asked)))
+      go before true f false g kept false is = rw (is, f, g) (before (rw (f, g) at asked))
+      go before false f own g kept true is =
+          rw is (rw (same-begins (OfBlock b) (A x) t is, f) (before (rw f at asked)))
+      go before false f own g kept false is = rw (is, f) (before (rw f at asked))
+  request-of-block b s (B x ∷ t) lawful asked =
+      passed (request_of s) (is_kept (OfBlock b) (B x) t (restricted (OfBlock b) t)) (B x) (restricted (OfBlock b) t)
+      (request_of s t) refl (request-of-block b s t lawful.1 asked)
+  request-of-block b s (C x ∷ t) lawful asked =
+      passed (request_of s) (is_kept (OfBlock b) (C x) t (restricted (OfBlock b) t)) (C x) (restricted (OfBlock b) t)
+      (request_of s t) refl (request-of-block b s t lawful.1 asked)
+  request-of-block b s (D x ∷ t) lawful asked =
+      passed (request_of s) (is_kept (OfBlock b) (D x) t (restricted (OfBlock b) t)) (D x) (restricted (OfBlock b) t)
+      (request_of s t) refl (request-of-block b s t lawful.1 asked)
+  request-of-block b s (E x ∷ t) lawful asked =
+      passed (request_of s) (is_kept (OfBlock b) (E x) t (restricted (OfBlock b) t)) (E x) (restricted (OfBlock b) t)
+      (request_of s t) refl (request-of-block b s t lawful.1 asked)
+
+  pub release-of-block : (b s : ℕ) (t : History w) → AreInOrder p t → releases b (release_of s t) ≡ true
+      → release_of s (restricted (OfBlock b) t) ≡ release_of s t
+  unfolding restricted release_of AreInOrder
+  release-of-block b s [] lawful asked = refl
+  release-of-block b s (C x ∷ t) lawful asked =
+      go (release-of-block b s t lawful.1) (begins (C x) t) refl (is_release x.opcode && (x.source == s)) refl
+      (kept-is p (OfBlock b) (C x) t lawful) (is_kept (OfBlock b) (C x) t (restricted (OfBlock b) t)) refl
+    where
+      go : (releases b (release_of s t) ≡ true → release_of s (restricted (OfBlock b) t) ≡ release_of s t)
+          → (first : Bool) → begins (C x) t ≡ first → (own : Bool) → (is_release x.opcode && (x.source == s)) ≡ own
+          → is_kept (OfBlock b) (C x) t (restricted (OfBlock b) t) ≡ (block_at x.address == b) → (k : Bool)
+          → is_kept (OfBlock b) (C x) t (restricted (OfBlock b) t) ≡ k
+          → release_of s (with (OfBlock b) (C x) t)
+          ≡ (if begins (C x) t && (is_release x.opcode && (x.source == s)) then Some x else release_of s t)
+      go before true f true g kept k is =
+          let here : block_at x.address == b ≡ true = rw (f, g) at asked in
+          rw (kept ∙ here) (rw (same-begins (OfBlock b) (C x) t (kept ∙ here), f, g) refl)
+      go before true f false g kept true is =
+          rw is (rw (same-begins (OfBlock b) (C x) t is, f, g) (before (rw (f, g) at asked)))
+      go before true f false g kept false is = rw (is, f, g) (before (rw (f, g) at asked))
+      go before false f own g kept true is =
+          rw is (rw (same-begins (OfBlock b) (C x) t is, f) (before (rw f at asked)))
+      go before false f own g kept false is = rw (is, f) (before (rw f at asked))
+  release-of-block b s (A x ∷ t) lawful asked =
+      passed (release_of s) (is_kept (OfBlock b) (A x) t (restricted (OfBlock b) t)) (A x) (restricted (OfBlock b) t)
+      (release_of s t) refl (release-of-block b s t lawful.1 asked)
+  release-of-block b s (B x ∷ t) lawful asked =
+      passed (release_of s) (is_kept (OfBlock b) (B x) t (restricted (OfBlock b) t)) (B x) (restricted (OfBlock b) t)
+      (release_of s t) refl (release-of-block b s t lawful.1 asked)
+  release-of-block b s (D x ∷ t) lawful asked =
+      passed (release_of s) (is_kept (OfBlock b) (D x) t (restricted (OfBlock b) t)) (D x) (restricted (OfBlock b) t)
+      (release_of s t) refl (release-of-block b s t lawful.1 asked)
+  release-of-block b s (E x ∷ t) lawful asked =
+      passed (release_of s) (is_kept (OfBlock b) (E x) t (restricted (OfBlock b) t)) (E x) (restricted (OfBlock b) t)
+      (release_of s t) refl (release-of-block b s t lawful.1 asked)
+
+  -- ---- what a message that names the block says of it
+
+  granted-on : (b : ℕ) (x : BeatD w) (t : History w) → AreInOrder p t → names (OfBlock b) (D x) t ≡ true
+      → grants b x (restricted (OfBlock b) t) ≡ grants b x t
+  granted-on b x t lawful e = go x.opcode refl
+    where
+      asked : (is_release_ack x.opcode ≡ false) → grants b x (restricted (OfBlock b) t) ≡ grants b x t
+      asked f = ap (λ (o : Option (BeatA w)). is_grant x.opcode && asks_for b o)
+          (request-of-block b x.source t lawful (rw f at e))
+
+      go : (o : OpD) → x.opcode ≡ o → grants b x (restricted (OfBlock b) t) ≡ grants b x t
+      go d.Grant f = asked (ap is_release_ack f)
+      go d.GrantData f = asked (ap is_release_ack f)
+      go d.ReleaseAck f = rw f refl
+      go d.AccessAck f = rw f refl
+      go d.AccessAckData f = rw f refl
+      go d.HintAck f = rw f refl
+
+  released-on : (b : ℕ) (x : BeatD w) (t : History w) → AreInOrder p t → names (OfBlock b) (D x) t ≡ true
+      → closes (ReleaseOf b) (D x) (restricted (OfBlock b) t) ≡ closes (ReleaseOf b) (D x) t
+  released-on b x t lawful e = go (is_release_ack x.opcode) refl
+    where
+      go : (o : Bool) → is_release_ack x.opcode ≡ o
+          → (is_release_ack x.opcode && releases b (release_of x.source (restricted (OfBlock b) t)))
+          ≡ (is_release_ack x.opcode && releases b (release_of x.source t))
+      go true f = ap (λ (o : Option (BeatC w)). is_release_ack x.opcode && releases b o)
+          (release-of-block b x.source t lawful (rw f at e))
+      go false f = rw f refl
+
+  pub sink-alike : (b : ℕ) (t : History w) → AreInOrder p t
+      → grant_sink b (restricted (OfBlock b) t) ≡ grant_sink b t
+  unfolding restricted grant_sink AreInOrder
+  sink-alike b [] lawful = refl
+  sink-alike b (D x ∷ t) lawful =
+      go (sink-alike b t lawful.1) (names (OfBlock b) (D x) t) refl (kept-is p (OfBlock b) (D x) t lawful)
+    where
+      go : grant_sink b (restricted (OfBlock b) t) ≡ grant_sink b t → (named : Bool) → names (OfBlock b) (D x) t ≡ named
+          → is_kept (OfBlock b) (D x) t (restricted (OfBlock b) t) ≡ names (OfBlock b) (D x) t
+          → grant_sink b (with (OfBlock b) (D x) t)
+          ≡ (if begins (D x) t && grants b x t then Some x.sink else grant_sink b t)
+      go before true f kept = rw (kept ∙ f)
+          (rw (same-begins (OfBlock b) (D x) t (kept ∙ f), granted-on b x t lawful.1 f, before) refl)
+      go before false f kept =
+          rw (kept ∙ f, granted-off b x t f, and-none (begins (D x) t) false refl) before
+  sink-alike b (A x ∷ t) lawful = passed (grant_sink b) (is_kept (OfBlock b) (A x) t (restricted (OfBlock b) t))
+      (A x) (restricted (OfBlock b) t) (grant_sink b t) refl (sink-alike b t lawful.1)
+  sink-alike b (B x ∷ t) lawful = passed (grant_sink b) (is_kept (OfBlock b) (B x) t (restricted (OfBlock b) t))
+      (B x) (restricted (OfBlock b) t) (grant_sink b t) refl (sink-alike b t lawful.1)
+  sink-alike b (C x ∷ t) lawful = passed (grant_sink b) (is_kept (OfBlock b) (C x) t (restricted (OfBlock b) t))
+      (C x) (restricted (OfBlock b) t) (grant_sink b t) refl (sink-alike b t lawful.1)
+  sink-alike b (E x ∷ t) lawful = passed (grant_sink b) (is_kept (OfBlock b) (E x) t (restricted (OfBlock b) t))
+      (E x) (restricted (OfBlock b) t) (grant_sink b t) refl (sink-alike b t lawful.1)
+
+  pub probe-alike : (b : ℕ) (t : History w) → AreInOrder p t
+      → probe_of b (restricted (OfBlock b) t) ≡ probe_of b t
+  unfolding restricted probe_of AreInOrder
+  probe-alike b [] lawful = refl
+  probe-alike b (B x ∷ t) lawful =
+      go (probe-alike b t lawful.1) (block_at x.address == b) refl (kept-is p (OfBlock b) (B x) t lawful)
+    where
+      go : probe_of b (restricted (OfBlock b) t) ≡ probe_of b t → (own : Bool) → (block_at x.address == b) ≡ own
+          → is_kept (OfBlock b) (B x) t (restricted (OfBlock b) t) ≡ (block_at x.address == b)
+          → probe_of b (with (OfBlock b) (B x) t)
+          ≡ (if begins (B x) t && (is_probe x.opcode && (block_at x.address == b)) then Some x else probe_of b t)
+      go before true f kept = rw (kept ∙ f) (rw (same-begins (OfBlock b) (B x) t (kept ∙ f), before) refl)
+      go before false f kept =
+          rw (kept ∙ f, f, and-none (is_probe x.opcode) false refl, and-none (begins (B x) t) false refl) before
+  probe-alike b (A x ∷ t) lawful = passed (probe_of b) (is_kept (OfBlock b) (A x) t (restricted (OfBlock b) t))
+      (A x) (restricted (OfBlock b) t) (probe_of b t) refl (probe-alike b t lawful.1)
+  probe-alike b (C x ∷ t) lawful = passed (probe_of b) (is_kept (OfBlock b) (C x) t (restricted (OfBlock b) t))
+      (C x) (restricted (OfBlock b) t) (probe_of b t) refl (probe-alike b t lawful.1)
+  probe-alike b (D x ∷ t) lawful = passed (probe_of b) (is_kept (OfBlock b) (D x) t (restricted (OfBlock b) t))
+      (D x) (restricted (OfBlock b) t) (probe_of b t) refl (probe-alike b t lawful.1)
+  probe-alike b (E x ∷ t) lawful = passed (probe_of b) (is_kept (OfBlock b) (E x) t (restricted (OfBlock b) t))
+      (E x) (restricted (OfBlock b) t) (probe_of b t) refl (probe-alike b t lawful.1)
+
+  -- ---- what is pending
+
+  -- A key is pending alike, if a message that doesn't name the source, sink or block neither opens nor closes it, and
+  -- one that does opens and closes it after the kept beats as after all.
+  alike : (n : Name) (k : Key)
+      → ((x : Beat w) (t : History w) → names n x t ≡ false → (opens k x t ≡ false) × (closes k x t ≡ false))
+      → ((x : Beat w) (t : History w) → AreInOrder p t → names n x t ≡ true
+      → (opens k x (restricted n t) ≡ opens k x t) × (closes k x (restricted n t) ≡ closes k x t))
+      → (t : History w) → AreInOrder p t → pending k (restricted n t) ≡ pending k t
+  unfolding restricted pending AreInOrder
+  alike n k off on [] lawful = refl
+  alike n k off on (x ∷ t) lawful =
+      go (alike n k off on t lawful.1) (names n x t) refl (kept-is p n x t lawful)
+    where
+      go : pending k (restricted n t) ≡ pending k t → (named : Bool) → names n x t ≡ named
+          → is_kept n x t (restricted n t) ≡ names n x t
+          → pending k (with n x t)
+          ≡ (if begins x t && opens k x t then true else if ends x t && closes k x t then false else pending k t)
+      go before true f kept =
+          let said = on x t lawful.1 f in
+          rw (kept ∙ f) (rw (same-begins n x t (kept ∙ f), same-ends n x t (kept ∙ f), said.0, said.1, before) refl)
+      go before false f kept =
+          let said = off x t f in
+          rw (kept ∙ f, said.0, said.1, neither (begins x t) (ends x t) (pending k t)) before
+
+  -- of one that names it, where that depends on nothing before
+  pub request-pending : (s : ℕ) (t : History w) → AreInOrder p t
+      → pending (RequestSource s) (restricted (OfSource s) t) ≡ pending (RequestSource s) t
+  request-pending s = alike (OfSource s) (RequestSource s) off on
+    where
+      off : (x : Beat w) (t : History w) → names (OfSource s) x t ≡ false
+          → (opens (RequestSource s) x t ≡ false) × (closes (RequestSource s) x t ≡ false)
+      off (A x) t e = (e, refl)
+      off (B x) t e = (refl, refl)
+      off (C x) t e = (refl, refl)
+      off (D x) t e = (refl, and-none (not (is_release_ack x.opcode)) (x.source == s) e)
+      off (E x) t e = (refl, refl)
+
+      on : (x : Beat w) (t : History w) → AreInOrder p t → names (OfSource s) x t ≡ true
+          → (opens (RequestSource s) x (restricted (OfSource s) t) ≡ opens (RequestSource s) x t)
+          × (closes (RequestSource s) x (restricted (OfSource s) t) ≡ closes (RequestSource s) x t)
+      on (A x) t lawful e = (refl, refl)
+      on (B x) t lawful e = (refl, refl)
+      on (C x) t lawful e = (refl, refl)
+      on (D x) t lawful e = (refl, refl)
+      on (E x) t lawful e = (refl, refl)
+
+  pub release-pending : (s : ℕ) (t : History w) → AreInOrder p t
+      → pending (ReleaseSource s) (restricted (OfSource s) t) ≡ pending (ReleaseSource s) t
+  release-pending s = alike (OfSource s) (ReleaseSource s) off on
+    where
+      off : (x : Beat w) (t : History w) → names (OfSource s) x t ≡ false
+          → (opens (ReleaseSource s) x t ≡ false) × (closes (ReleaseSource s) x t ≡ false)
+      off (A x) t e = (refl, refl)
+      off (B x) t e = (refl, refl)
+      off (C x) t e = (and-none (is_release x.opcode) (x.source == s) e, refl)
+      off (D x) t e = (refl, and-none (is_release_ack x.opcode) (x.source == s) e)
+      off (E x) t e = (refl, refl)
+
+      on : (x : Beat w) (t : History w) → AreInOrder p t → names (OfSource s) x t ≡ true
+          → (opens (ReleaseSource s) x (restricted (OfSource s) t) ≡ opens (ReleaseSource s) x t)
+          × (closes (ReleaseSource s) x (restricted (OfSource s) t) ≡ closes (ReleaseSource s) x t)
+      on (A x) t lawful e = (refl, refl)
+      on (B x) t lawful e = (refl, refl)
+      on (C x) t lawful e = (refl, refl)
+      on (D x) t lawful e = (refl, refl)
+      on (E x) t lawful e = (refl, refl)
+
+  pub sink-pending : (k : ℕ) (t : History w) → AreInOrder p t
+      → pending (GrantSink k) (restricted (OfSink k) t) ≡ pending (GrantSink k) t
+  sink-pending k = alike (OfSink k) (GrantSink k) off on
+    where
+      off : (x : Beat w) (t : History w) → names (OfSink k) x t ≡ false
+          → (opens (GrantSink k) x t ≡ false) × (closes (GrantSink k) x t ≡ false)
+      off (A x) t e = (refl, refl)
+      off (B x) t e = (refl, refl)
+      off (C x) t e = (refl, refl)
+      off (D x) t e = (and-none (is_grant x.opcode) (x.sink == k) e, refl)
+      off (E x) t e = (refl, e)
+
+      on : (x : Beat w) (t : History w) → AreInOrder p t → names (OfSink k) x t ≡ true
+          → (opens (GrantSink k) x (restricted (OfSink k) t) ≡ opens (GrantSink k) x t)
+          × (closes (GrantSink k) x (restricted (OfSink k) t) ≡ closes (GrantSink k) x t)
+      on (A x) t lawful e = (refl, refl)
+      on (B x) t lawful e = (refl, refl)
+      on (C x) t lawful e = (refl, refl)
+      on (D x) t lawful e = (refl, refl)
+      on (E x) t lawful e = (refl, refl)
+
+  pub acquire-pending : (b : ℕ) (t : History w) → AreInOrder p t
+      → pending (AcquireOf b) (restricted (OfBlock b) t) ≡ pending (AcquireOf b) t
+  acquire-pending b = alike (OfBlock b) (AcquireOf b) off on
+    where
+      off : (x : Beat w) (t : History w) → names (OfBlock b) x t ≡ false
+          → (opens (AcquireOf b) x t ≡ false) × (closes (AcquireOf b) x t ≡ false)
+      off (A x) t e = (and-none (is_acquire x.opcode) (block_at x.address == b) e, refl)
+      off (B x) t e = (refl, refl)
+      off (C x) t e = (refl, refl)
+      off (D x) t e = (refl, granted-off b x t e)
+      off (E x) t e = (refl, refl)
+
+      on : (x : Beat w) (t : History w) → AreInOrder p t → names (OfBlock b) x t ≡ true
+          → (opens (AcquireOf b) x (restricted (OfBlock b) t) ≡ opens (AcquireOf b) x t)
+          × (closes (AcquireOf b) x (restricted (OfBlock b) t) ≡ closes (AcquireOf b) x t)
+      on (A x) t lawful e = (refl, refl)
+      on (B x) t lawful e = (refl, refl)
+      on (C x) t lawful e = (refl, refl)
+      on (D x) t lawful e = (refl, granted-on b x t lawful e)
+      on (E x) t lawful e = (refl, refl)
+
+  pub release-of-pending : (b : ℕ) (t : History w) → AreInOrder p t
+      → pending (ReleaseOf b) (restricted (OfBlock b) t) ≡ pending (ReleaseOf b) t
+  release-of-pending b = alike (OfBlock b) (ReleaseOf b) off on
+    where
+      off : (x : Beat w) (t : History w) → names (OfBlock b) x t ≡ false
+          → (opens (ReleaseOf b) x t ≡ false) × (closes (ReleaseOf b) x t ≡ false)
+      off (A x) t e = (refl, refl)
+      off (B x) t e = (refl, refl)
+      off (C x) t e = (and-none (is_release x.opcode) (block_at x.address == b) e, refl)
+      off (D x) t e = (refl, released-off b x t e)
+      off (E x) t e = (refl, refl)
+
+      on : (x : Beat w) (t : History w) → AreInOrder p t → names (OfBlock b) x t ≡ true
+          → (opens (ReleaseOf b) x (restricted (OfBlock b) t) ≡ opens (ReleaseOf b) x t)
+          × (closes (ReleaseOf b) x (restricted (OfBlock b) t) ≡ closes (ReleaseOf b) x t)
+      on (A x) t lawful e = (refl, refl)
+      on (B x) t lawful e = (refl, refl)
+      on (C x) t lawful e = (refl, refl)
+      on (D x) t lawful e = (refl, released-on b x t lawful e)
+      on (E x) t lawful e = (refl, refl)
+
+  pub grant-ack-pending : (b : ℕ) (t : History w) → AreInOrder p t
+      → pending (GrantAckOf b) (restricted (OfBlock b) t) ≡ pending (GrantAckOf b) t
+  grant-ack-pending b = alike (OfBlock b) (GrantAckOf b) off on
+    where
+      off : (x : Beat w) (t : History w) → names (OfBlock b) x t ≡ false
+          → (opens (GrantAckOf b) x t ≡ false) × (closes (GrantAckOf b) x t ≡ false)
+      off (A x) t e = (refl, refl)
+      off (B x) t e = (refl, refl)
+      off (C x) t e = (refl, refl)
+      off (D x) t e = (granted-off b x t e, refl)
+      off (E x) t e = (refl, e)
+
+      on : (x : Beat w) (t : History w) → AreInOrder p t → names (OfBlock b) x t ≡ true
+          → (opens (GrantAckOf b) x (restricted (OfBlock b) t) ≡ opens (GrantAckOf b) x t)
+          × (closes (GrantAckOf b) x (restricted (OfBlock b) t) ≡ closes (GrantAckOf b) x t)
+      on (A x) t lawful e = (refl, refl)
+      on (B x) t lawful e = (refl, refl)
+      on (C x) t lawful e = (refl, refl)
+      on (D x) t lawful e = (granted-on b x t lawful e, refl)
+      on (E x) t lawful e = (refl, ap (is_sink x.sink) (sink-alike b t lawful))
+
+  pub probe-pending : (b : ℕ) (t : History w) → AreInOrder p t
+      → pending (ProbeOf b) (restricted (OfBlock b) t) ≡ pending (ProbeOf b) t
+  probe-pending b = alike (OfBlock b) (ProbeOf b) off on
+    where
+      off : (x : Beat w) (t : History w) → names (OfBlock b) x t ≡ false
+          → (opens (ProbeOf b) x t ≡ false) × (closes (ProbeOf b) x t ≡ false)
+      off (A x) t e = (refl, refl)
+      off (B x) t e = (and-none (is_probe x.opcode) (block_at x.address == b) e, refl)
+      off (C x) t e = (refl, and-none (is_probe_ack x.opcode) (block_at x.address == b) e)
+      off (D x) t e = (refl, refl)
+      off (E x) t e = (refl, refl)
+
+      on : (x : Beat w) (t : History w) → AreInOrder p t → names (OfBlock b) x t ≡ true
+          → (opens (ProbeOf b) x (restricted (OfBlock b) t) ≡ opens (ProbeOf b) x t)
+          × (closes (ProbeOf b) x (restricted (OfBlock b) t) ≡ closes (ProbeOf b) x t)
+      on (A x) t lawful e = (refl, refl)
+      on (B x) t lawful e = (refl, refl)
+      on (C x) t lawful e = (refl, refl)
+      on (D x) t lawful e = (refl, refl)
+      on (E x) t lawful e = (refl, refl)
+
+  -- ---- what is held
+
+  pub held-alike : (b : ℕ) (t : History w) → AreInOrder p t → held b (restricted (OfBlock b) t) ≡ held b t
+  unfolding restricted held AreInOrder
+  held-alike b [] lawful = refl
+  held-alike b (x ∷ t) lawful =
+      go (held-alike b t lawful.1) (names (OfBlock b) x t) refl (kept-is p (OfBlock b) x t lawful)
+    where
+      off : (y : Beat w) → names (OfBlock b) y t ≡ false → says_held b y t ≡ None
+      off (A y) e = refl
+      off (B y) e = refl
+      off (C y) e = rw (and-none (is_probe_ack y.opcode || is_release y.opcode) (block_at y.address == b) e) refl
+      off (D y) e = rw (granted-off b y t e) refl
+      off (E y) e = refl
+
+      on : (y : Beat w) → names (OfBlock b) y t ≡ true
+          → says_held b y (restricted (OfBlock b) t) ≡ says_held b y t
+      on (A y) e = refl
+      on (B y) e = refl
+      on (C y) e = refl
+      on (D y) e = ap (λ (g : Bool). if g then Some (capped y.param) else None) (granted-on b y t lawful.1 e)
+      on (E y) e = refl
+
+      unmoved : (last : Bool) (before : Perm) → (if last then before else before) ≡ before
+      unmoved true before = refl
+      unmoved false before = refl
+
+      go : held b (restricted (OfBlock b) t) ≡ held b t → (named : Bool) → names (OfBlock b) x t ≡ named
+          → is_kept (OfBlock b) x t (restricted (OfBlock b) t) ≡ names (OfBlock b) x t
+          → held b (with (OfBlock b) x t) ≡ (if ends x t then unwrap_or (says_held b x t) (held b t) else held b t)
+      go before true f kept = rw (kept ∙ f)
+          (rw (same-ends (OfBlock b) x t (kept ∙ f), on x f, before) refl)
+      go before false f kept = rw (kept ∙ f, off x f) (before ∙ sym (unmoved (ends x t) (held b t)))

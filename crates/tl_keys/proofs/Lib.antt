@@ -1,0 +1,5 @@
+pub mod Kept
+pub mod Keys
+pub mod Lawful
+pub mod Local
+pub mod Named

@@ -1,0 +1,32 @@
+-- What a link holds of a block where a Grant counts as held from its first beat on.
+use Rattle.std.specs.Prelude.{ℕ, not, ◌&&◌, if◌then◌else◌, List, [], ◌∷◌, Option, Some, None, unwrap_or, nat_lt, length}
+use Rattle.tl_beat.specs.declared.beat.Beat.{Beat}
+use Rattle.tl_beat.specs.declared.beat.Beat.TheVariants as beat
+use Rattle.tl_beat.specs.declared.beat.Link.{Link}
+use Rattle.tl_beat.specs.declared.channel.Channel.TheVariants as channel
+use Rattle.tl_burst.specs.statement.Messages.{History, unfinished}
+use Rattle.tl_params.specs.declared.level.Level.{Level}
+use Rattle.tl_params.specs.declared.perm.Perm.{Perm}
+use Rattle.tl_params.specs.declared.perm.Perm.TheVariants as perm
+use Rattle.tl_rules.specs.statement.Conformance.{Trace, on_link}
+use Rattle.tl_rules.specs.statement.History.{grants, capped, held}
+
+-- what the Grant gives of the block whose beats these are, the newest first; a denied one gives nothing
+abbrev pub given_by : {w : ℕ} → ℕ → List (Beat w) → History w → Option Perm
+given_by k (beat.D x ∷ burst) t = if grants k x t && not x.denied then Some (capped x.param) else None
+given_by k _ t = None
+
+-- what the Grant of the block gives that has begun and isn't complete
+abbrev pub coming : {w : ℕ} → ℕ → History w → Option Perm
+coming k t = given_by k (unfinished channel.D t) t
+
+-- what is held of the block, a Grant counted from its first beat on
+abbrev pub granted : {w : ℕ} → ℕ → History w → Perm
+granted k t = unwrap_or (coming k t) (held k t)
+
+-- the same on one of the links; nothing on a link without a level
+abbrev pub coming_on : {w : ℕ} → List Level → Link → ℕ → Trace w → Option Perm
+coming_on levels link block t = if nat_lt link.0 (length levels) then coming block (on_link link.0 t) else None
+
+abbrev pub granted_on : {w : ℕ} → List Level → Link → ℕ → Trace w → Perm
+granted_on levels link block t = if nat_lt link.0 (length levels) then granted block (on_link link.0 t) else perm.None

@@ -1,0 +1,47 @@
+"""Bounded search and proof for all time, by berkeley-abc."""
+
+import re
+import subprocess
+import time
+
+READ = "read_aiger model.aig; fold; strash; scorr"
+
+
+def abc(folder, seconds, commands):
+    """What abc writes, and the seconds that it took. It gets some more time than its own limit."""
+    start = time.time()
+    try:
+        done = subprocess.run(["berkeley-abc", "-c", f"{READ}; {commands}"], cwd=folder, stdout=subprocess.PIPE, stderr=subprocess.STDOUT,
+                              text=True, errors="replace", timeout=seconds + 60)
+        told = done.stdout
+    except subprocess.TimeoutExpired as late:
+        told = (late.stdout or b"").decode(errors="replace")
+    return told, time.time() - start
+
+
+def failed(told, rules):
+    """The rule and the edge of the counterexample that abc tells."""
+    output = re.search(r"Output (\d+) of miter", told)
+    at = re.search(r"asserted in frame (\d+)", told)
+    return (rules[int(output[1])], int(at[1])) if output and at else None
+
+
+def bounded(folder, rules, seconds, edges):
+    """The shortest counterexample of all (rule, edge), or the last edge up to which there is none; and the seconds."""
+    told, took = abc(folder, seconds, f"bmc3 -g -v -T {seconds} -F {edges}; print_status; write_cex -a model.cex")
+    fault = failed(told, rules)
+    frames = re.findall(r"^ *(\d+) [+:]", told, re.M)
+    return fault, int(frames[-1]) if frames else 0, took
+
+
+def for_all_time(folder, rules, seconds):
+    """Whether all is proved; a counterexample, if there is one; and the seconds."""
+    told, took = abc(folder, seconds, f"pdr -T {seconds}; print_status; write_cex -a model.cex")
+    return "Property proved" in told, failed(told, rules), took
+
+
+def reached(folder, covers, seconds):
+    """The edges at which covers are reached first, by name, and the seconds."""
+    told, took = abc(folder, seconds, f"bmc3 -a -g -T {seconds}; print_status")
+    found = {covers[int(output)]: int(at) for output, at in re.findall(r"Output +(\d+) .*?asserted in frame +(\d+)", told)}
+    return found, took

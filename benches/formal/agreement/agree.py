@@ -22,7 +22,7 @@ sys.path += [str(HERE), str(ROOT / "bench")]
 from reference import LIBERTIES, ORDER, RULES, History
 from spoil import spoil
 from traces import LEVELS, drawn, line_of, read_beat, read_header
-from wrong import WRONG
+from wrong import DIRECTED, WRONG
 
 KEYS = 4  # of each kind, tracked at a time
 MODULES = sorted((HERE.parent).glob("tl_*.sv"))
@@ -96,9 +96,9 @@ SETS = [([it], (4, 8, 16)[place % 3]) for place, it in enumerate(LIBERTIES) if i
 
 
 def link(tool, seed, level, width, liberties, wanted):
-    """A link drawn at random. Under liberties that no profile has it is judged by the reference."""
+    """A link drawn at random. Under liberties that no profile has, or without the command, it is judged by the reference."""
     beats, rule = drawn(seed, level, width, liberties, random.Random(seed).choice([0, 5, 20, 60, 120]), wanted)
-    if set(liberties) <= {"writer"}:
+    if tool and set(liberties) <= {"writer"}:
         header = f"tltrace 3 {width} {2 if liberties else 1} {level}"
         return case_of(tool, f"link {seed}", "\n".join([header, *(line_of(it, width) for it in beats)]) + "\n")
     numbered = [(line, 0, it) for line, it in enumerate(beats, 2)]
@@ -206,9 +206,10 @@ def planted(folder, file, old, new):
 def told_apart(tool, jobs):
     """How many of the wrong modules differ from what is said of some link; each is printed."""
     count = 0
+    directed = [case_of(tool, f"directed {place}", text) for place, text in enumerate(DIRECTED)]
     for name, rule, liberties, file, old, new in WRONG:
         wanted = collections.Counter({it: 1000 for it in ORDER if it != rule})
-        cases = [link(tool, seed, "C", 8, liberties, wanted) for seed in range(1, 161)]
+        cases = [link(None, seed, "C", 8, liberties, wanted) for seed in range(1, 81)] + directed
         with tempfile.TemporaryDirectory() as temp:
             differ = sum(1 for _ in differing(cases, grouped(cases), planted(Path(temp), file, old, new), jobs))
         count += differ > 0
@@ -224,10 +225,11 @@ def main():
     words.add_argument("--worlds", type=int)
     words.add_argument("--links", type=int)
     asked = words.parse_args()
-    count_worlds, count_links = (4000, 12500) if asked.long else (100, 1200)
+    count_worlds, count_links = (4000, 12500) if asked.long else (60, 900)
     count_worlds = count_worlds if asked.worlds is None else asked.worlds
     count_links = count_links if asked.links is None else asked.links
     cases = [it for it in [*examples(asked.tool), *worlds(asked.tool, count_worlds), *links(asked.tool, count_links)] if it]
+    cases += [case_of(asked.tool, f"directed {place}", text) for place, text in enumerate(DIRECTED)]
     faults = [f"{it.name}: said {it.said}, reference.py {referred(it)}" for it in cases if referred(it) != it.said]
     print(f"{len(cases)} traces, {sum(len(it.beats) for it in cases)} beats; reference.py differs in {len(faults)}", flush=True)
     groups = grouped(cases)

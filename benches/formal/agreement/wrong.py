@@ -28,3 +28,40 @@ WRONG = [
      "e.sink == grant_sink_n) begin\n      if (granting_n)", "e.sink == grant_sink_n) begin\n      if (1'b0)"),
     ("a denied Grant leaves its cap held", "H5", ("denied",), BLOCK, "{1'b1, !d.denied, d.sink, capped(d.param)}", "{2'b11, d.sink, capped(d.param)}"),
 ]
+
+# Traces for what links drawn at random rarely come to.
+DIRECTED = [
+    """tltrace 2 8 C
+00 A 7 1 6 00 00000000 ff - 0
+00 D 4 0 6 00 00 0 - 0
+00 E 00
+00 B 6 2 6 00 00000000 ff - 0
+00 C 5 1 6 00 00000000 0000000000000000 0
+00 A 6 0 6 00 00000000 ff - 0
+""",
+    """tltrace 2 8 C
+00 A 7 1 6 00 00000000 ff - 0
+00 A 7 1 6 01 00000040 ff - 0
+00 D 4 0 6 00 00 0 - 0
+00 D 4 0 6 01 01 0 - 0
+00 E 01
+00 B 6 2 6 00 00000000 ff - 0
+""",
+    """tltrace 2 8 C
+00 A 6 1 6 00 00000000 ff - 0
+00 D 5 0 6 00 00 0 0000000000000000 0
+00 D 5 0 6 00 01 0 0000000000000000 0
+""",
+    """tltrace 2 8 C
+00 A 7 1 6 00 00000000 ff - 0
+00 A 7 1 6 01 00000040 ff - 0
+00 D 4 0 6 00 00 0 - 0
+00 D 4 0 6 01 01 0 - 0
+00 E 00
+00 E 01
+00 C 6 1 6 00 00000000 - 0
+00 C 6 1 6 01 00000040 - 0
+00 D 6 0 6 01 00 0 - 0
+00 A 6 0 6 00 00000000 ff - 0
+""",
+]

@@ -1,6 +1,5 @@
 """A design under test: its map file, and its ports as Yosys reads them."""
 
-import json
 import re
 import subprocess
 import tomllib
@@ -66,7 +65,7 @@ class Design:
         if missing:
             raise Unreadable(f"{map_file}: no file {', '.join(missing)}")
         self.sources = readable(self.files, folder)
-        self.inputs, self.outputs = self.ports()
+        self.inputs, self.outputs = self.ports(folder)
 
     @staticmethod
     def needed(table, name, map_file):
@@ -86,13 +85,14 @@ class Design:
     def chparam(self):
         return " ".join(f"-chparam {name} {value}" for name, value in self.parameters.items())
 
-    def ports(self):
+    def ports(self, folder):
         """The ports of the module under test with their bits, read by Yosys."""
-        found = yosys(f"{self.read_script()}; hierarchy -top {self.top} {self.chparam}; proc; write_json /dev/stdout")
-        modules = json.loads(found[found.index("{") :])["modules"]
-        module = next(it for it in modules.values() if it["attributes"].get("top"))
-        bits = lambda way: {name: len(it["bits"]) for name, it in module["ports"].items() if it["direction"] == way}
-        return bits("input"), bits("output")
+        yosys(f"{self.read_script()}; hierarchy -top {self.top} {self.chparam}; tee -q -o {folder}/ports.txt portlist")
+        listed = (folder / "ports.txt").read_text()
+        found = {"input": {}, "output": {}}
+        for way, high, low, name in re.findall(r"^(input|output) \[(\d+):(\d+)\] (\w+)", listed, re.M):
+            found[way][name] = int(high) - int(low) + 1
+        return found["input"], found["output"]
 
     def port(self, channel, field):
         """The design's port of a field of a link, or the constant that stands for it, or None where it is free: the other

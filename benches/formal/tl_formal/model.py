@@ -49,29 +49,30 @@ class Top:
                     mine, its = bits // design.links, real // design.links
                     self.lines.append(f"  assign {name}[{link * mine} +: {mine}] = {name}_port[{link * its} +: {its}];")
                 if port in design.inputs:
-                    self.inputs[f"{name}_in"] = real
-                    self.lines.append(f"  assign {name}_port = {self.narrowed(name, real)};")
+                    self.driven(name, bits // design.links, real // design.links)
 
-    def narrowed(self, name, bits):
-        """An input of addresses within the map's 2^block_bits blocks."""
-        if not name.endswith("_address"):
-            return f"{name}_in"
-        per_link = bits // self.design.links
-        mask = (1 << min(per_link, self.block_bits + 6)) - 1
-        return f"{name}_in & {{{self.design.links}{{{per_link}'h{mask:x}}}}}"
+    def driven(self, name, mine, its):
+        """An input of the design, from an input of this module; bits that the map doesn't count are 0."""
+        links = self.design.links
+        self.inputs[f"{name}_in"] = min(mine, its) * links
+        for link in range(links):
+            value = f"{name}_in[{link * min(mine, its)} +: {min(mine, its)}]"
+            if name.endswith("_address"):
+                value = f"({value} & {mine}'h{(1 << min(mine, self.block_bits + 6)) - 1:x})"
+            self.lines.append(f"  assign {name}_port[{link * its} +: {its}] = {value};")
 
     def keys(self):
-        sizes = self.design.sizes
-        source_bits, sink_bits, bits = sizes["source_bits"], sizes["sink_bits"], sizes["address_bits"] - 6
-        many = source_bits <= 3
-        yield f"  (* anyconst *) logic [{sink_bits - 1}:0] sink_key;"
-        if many:
-            count = 1 << source_bits
-            keys = ", ".join(f"{source_bits}'d{it}" for it in reversed(range(count)))
-            yield f"  wire [{count * source_bits - 1}:0] source_keys = {{{keys}}};"
-        else:
-            yield f"  (* anyconst *) logic [{source_bits - 1}:0] source_keys;"
-        self.sources = 1 << source_bits if many else 1
+        """All sources and sinks where they are few, else any one that doesn't change; and so many blocks of that kind."""
+        sizes, bits = self.design.sizes, self.design.sizes["address_bits"] - 6
+        self.counts = {}
+        for kind in ("source", "sink"):
+            width = sizes[f"{kind}_bits"]
+            self.counts[kind] = 1 << width if width <= 3 else 1
+            if width <= 3:
+                keys = ", ".join(f"{width}'d{it}" for it in reversed(range(1 << width)))
+                yield f"  wire [{(1 << width) * width - 1}:0] {kind}_keys = {{{keys}}};"
+            else:
+                yield f"  (* anyconst *) logic [{width - 1}:0] {kind}_keys;"
         yield f"  wire [{self.blocks * bits - 1}:0] block_keys;"
         for block in range(self.blocks):
             yield f"  (* anyconst *) logic [{self.block_bits - 1}:0] block_{block};"
@@ -140,8 +141,8 @@ class Top:
                     yield f"  wire [{design.links * 79 - 1}:0] on_{channel};"
             yield (f"  tl_link_properties #(.DUT({sides[design.side]}), .LEVEL({design.level}), .LIBERTIES({design.liberties}), "
                    f".W({sizes['width']}), .SOURCE_BITS({sizes['source_bits']}), .SINK_BITS({sizes['sink_bits']}), "
-                   f".ADDRESS_BITS({sizes['address_bits']}), .SOURCES({self.sources}), .BLOCKS({self.blocks}), "
-                   f".STEADY({int(design.steady)})) link_{link} (.clk, .rst_n, .source_keys, .sink_keys(sink_key), .block_keys, "
+                   f".ADDRESS_BITS({sizes['address_bits']}), .SOURCES({self.counts['source']}), .SINKS({self.counts['sink']}), .BLOCKS({self.blocks}), "
+                   f".STEADY({int(design.steady)})) link_{link} (.clk, .rst_n, .source_keys, .sink_keys, .block_keys, "
                    f"{outs}, {beats}, {', '.join(joined)});")
         if design.side == "manager" and design.links > 1:
             yield "  (* anyconst *) logic [7:0] access_source;"
@@ -179,7 +180,7 @@ def circuit(top, folder, modules, reached):
     yosys(f"""{design.read_script()}
         read_verilog -sv -formal -DFORMAL {'-DTL_REACHED' if reached else ''} -I{modules} {properties} {folder}/tl_formal_top.sv
         hierarchy -check -top tl_formal_top
-        proc; flatten; delete t:$cover; opt -full; memory -nomap; memory_map; opt -full; wreduce; opt -full; opt_clean -purge
+        proc; flatten; delete t:$cover; opt_clean -purge; opt -full; memory -nomap; memory_map; opt -full; wreduce; opt -full; opt_clean -purge
         setundef -undriven -anyseq
         opt -full; check -assert; dffunmap
         setattr -unset keep; delete -output; opt -full

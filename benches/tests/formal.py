@@ -4,7 +4,7 @@ and the example proved."""
 import os
 import re
 
-from harness import HERE, TLTOOL, test, want, run
+from harness import HERE, HOME_BUGS, TLTOOL, test, want, run
 
 FORMAL = os.path.join(HERE, "formal")
 
@@ -38,9 +38,29 @@ def bounded_search_finds_the_bugs_of_the_cache():
 
 
 @test
-def the_cache_is_proved():
-    told = formal("tl_cache_small.toml", "--search", "0", "--prove", "400", "--block-bits", "2")
+def bounded_search_finds_the_bugs_of_the_manager_between_its_links():
+    for bug, rule in HOME_BUGS.items():
+        if rule in ("M1", "M4"):
+            told = formal("tl_home_wide.toml", "--set", f"bug={bug}", "--search", "100", "--block-bits", "1", status=1)
+            want(fault(told) == (rule, rule), f"bug {bug}: {told}")
+
+
+@test
+def the_device_is_proved():
+    told = formal("tl_device.toml", "--search", "5", "--prove", "60")
     want(len(re.findall(r"^\w+ +proved ", told, re.M)) == 16, told)
+
+
+@test
+def the_cache_is_proved():
+    told = formal("tl_cache_small.toml", "--search", "0", "--prove", "500", "--block-bits", "2")
+    want(len(re.findall(r"^\w+ +proved ", told, re.M)) == 16, told)
+
+
+@test
+def the_manager_with_one_link_is_proved():
+    told = formal("tl_home_one.toml", "--search", "0", "--prove", "300", "--block-bits", "1")
+    want(len(re.findall(r"^\w+ +proved ", told, re.M)) == 13, told)
 
 
 @test

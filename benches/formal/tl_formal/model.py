@@ -12,7 +12,7 @@ class Top:
     """A module around the design: its environment is inputs of the module, its link goes to tl_link_properties."""
 
     def __init__(self, design, blocks, block_bits, closed):
-        self.design, self.blocks, self.block_bits, self.closed = design, blocks, block_bits, closed
+        self.design, self.blocks, self.block_bits, self.closed = design, min(blocks, 1 << block_bits), block_bits, closed
         self.inputs, self.lines = {}, []
 
     def text(self):
@@ -62,7 +62,8 @@ class Top:
             self.lines.append(f"  assign {name}_port[{link * its} +: {its}] = {value};")
 
     def keys(self):
-        """All sources and sinks where they are few, else any one that doesn't change; and so many blocks of that kind."""
+        """All sources and sinks where they are few, else any one that doesn't change; and all blocks where that many are
+        tracked, else so many that don't change."""
         sizes, bits = self.design.sizes, self.design.sizes["address_bits"] - 6
         self.counts = {}
         for kind in ("source", "sink"):
@@ -75,6 +76,9 @@ class Top:
                 yield f"  (* anyconst *) logic [{width - 1}:0] {kind}_keys;"
         yield f"  wire [{self.blocks * bits - 1}:0] block_keys;"
         for block in range(self.blocks):
+            if self.blocks >= 1 << self.block_bits:
+                yield f"  assign block_keys[{block * bits} +: {bits}] = {bits}'d{block};"
+                continue
             yield f"  (* anyconst *) logic [{self.block_bits - 1}:0] block_{block};"
             yield f"  assign block_keys[{block * bits} +: {bits}] = {bits}'(block_{block});"
 
@@ -146,9 +150,15 @@ class Top:
                    f"{outs}, {beats}, {', '.join(joined)});")
         if design.side == "manager" and design.links > 1:
             yield "  (* anyconst *) logic [7:0] access_source;"
+            yield f"  (* anyconst *) logic [{self.block_bits - 1}:0] memory_block;"
+            if self.closed:
+                yield f"  wire [{sizes['address_bits'] - 1}:0] memory_block_at = {{memory_block, 6'd0}};"
+                yield "`ifdef FORMAL"
+                yield f"  always @* assume ({self.is_tracked('memory_block_at', sizes['address_bits'] - 1)});"
+                yield "`endif"
             yield f"  (* anyconst *) logic [{max(1, (design.links - 1).bit_length()) - 1}:0] access_link;"
             yield (f"  tl_manager_properties #(.N({design.links}), .LIBERTIES({design.liberties}), .ASSERTED(1)) between (.clk, .rst_n, "
-                   f".block(26'(block_keys[{sizes['address_bits'] - 7}:0])), .access_source, .access_link(4'(access_link)), "
+                   f".block(26'(memory_block)), .access_source, .access_link(4'(access_link)), "
                    ".on_a, .on_b, .on_c, .on_d, .on_e, .m1_broken(), .m4_broken());")
 
     def recorder(self):

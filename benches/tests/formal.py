@@ -27,7 +27,7 @@ def fault(told):
 @test
 def the_rules_for_formal_tools_agree_with_the_monitor():
     told = run(["python3", os.path.join(FORMAL, "agreement/agree.py"), "--tool", TLTOOL])
-    want("20 of 20 wrong modules told apart" in told, told)
+    want("25 of 25 wrong modules told apart" in told, told)
 
 
 @test

@@ -20,9 +20,10 @@ HERE = Path(__file__).resolve().parent
 ROOT = HERE.parent.parent.parent
 sys.path += [str(HERE), str(ROOT / "bench")]
 from reference import LIBERTIES, ORDER, RULES, History
+import between
 from spoil import spoil
 from traces import LEVELS, drawn, line_of, read_beat, read_header
-from wrong import DIRECTED, WRONG
+from wrong import DIRECTED, WRONG, WRONG_BETWEEN
 
 KEYS = 4  # of each kind, tracked at a time
 MODULES = sorted((HERE.parent).glob("tl_*.sv"))
@@ -217,6 +218,22 @@ def told_apart(tool, jobs):
     return count
 
 
+def between_links(tool, count):
+    """Where M1 and M4 differ from what `tltool coherent` says, and how many wrong modules are told apart."""
+    said, text = between.prepared(tool, count)
+    print(f"between links: {len(said)} traces: {between.by_rule(said)}", flush=True)
+    apart = 0
+    with tempfile.TemporaryDirectory() as temp:
+        faults = between.differing(said, text, MODULES, HERE.parent, Path(temp))
+        for name, file, old, new in WRONG_BETWEEN:
+            (Path(temp) / "wrong").mkdir(exist_ok=True)
+            modules = planted(Path(temp) / "wrong", file, old, new)
+            differ = len(between.differing(said, text, modules, HERE.parent, Path(temp)))
+            apart += differ > 0
+            print(f"wrong module: {name}: {differ} of {len(said)} traces differ", flush=True)
+    return faults, apart
+
+
 def main():
     words = argparse.ArgumentParser(description=__doc__.split(":")[0])
     words.add_argument("--long", action="store_true")
@@ -225,7 +242,7 @@ def main():
     words.add_argument("--worlds", type=int)
     words.add_argument("--links", type=int)
     asked = words.parse_args()
-    count_worlds, count_links = (4000, 12500) if asked.long else (60, 900)
+    count_worlds, count_links = (4000, 12500) if asked.long else (40, 600)
     count_worlds = count_worlds if asked.worlds is None else asked.worlds
     count_links = count_links if asked.links is None else asked.links
     cases = [it for it in [*examples(asked.tool), *worlds(asked.tool, count_worlds), *links(asked.tool, count_links)] if it]
@@ -237,14 +254,17 @@ def main():
     print(f"the module differs in {len(faults)}", flush=True)
     by_rule = collections.Counter(it.said[1] or "clean" for it in cases)
     print("first faults:", " ".join(f"{rule} {by_rule[rule]}" for rule in [*ORDER, "clean"]), flush=True)
-    few = [rule for rule in ORDER if by_rule[rule] < (50 if asked.long else 10)]
+    few = [rule for rule in ORDER if by_rule[rule] < (50 if asked.long else 5)]
     if few:
         faults.append(f"too few first faults of {', '.join(few)}")
-    apart = told_apart(asked.tool, asked.jobs)
-    if apart < len(WRONG):
-        faults.append(f"{len(WRONG) - apart} wrong modules aren't told apart")
+    more, apart = between_links(asked.tool, 1000 if asked.long else 30)
+    faults += more
+    apart += told_apart(asked.tool, asked.jobs)
+    count_wrong = len(WRONG) + len(WRONG_BETWEEN)
+    if apart < count_wrong:
+        faults.append(f"{count_wrong - apart} wrong modules aren't told apart")
     print(*faults[:20], sep="\n", end="\n" if faults else "")
-    print(f"agreement: {len(cases)} traces, {len(faults)} faults, {apart} of {len(WRONG)} wrong modules told apart")
+    print(f"agreement: {len(cases)} traces, {len(faults)} faults, {apart} of {count_wrong} wrong modules told apart")
     sys.exit(1 if faults else 0)
 
 

@@ -29,6 +29,18 @@ WRONG = [
     ("a denied Grant leaves its cap held", "H5", ("denied",), BLOCK, "{1'b1, !d.denied, d.sink, capped(d.param)}", "{2'b11, d.sink, capped(d.param)}"),
 ]
 
+BETWEEN = "tl_manager_properties.sv"
+
+# The same of the rules between links: name, file, old text, new text.
+WRONG_BETWEEN = [
+    ("M1 forgets readers", BETWEEN, "cap == CAP_toT ? held != NONE :", "cap == CAP_toT ? held == TRUNK :"),
+    ("M1 forgets a Grant toB", BETWEEN, ": held == TRUNK;\n  endfunction\n\n  wire [N-1:0] beside", ": 1'b0;\n  endfunction\n\n  wire [N-1:0] beside"),
+    ("a Get is excluded by readers", BETWEEN, "reads ? held == TRUNK : held != NONE", "held != NONE"),
+    ("an access is excluded by writers alone", BETWEEN, "reads ? held == TRUNK : held != NONE", "held == TRUNK"),
+    ("M4 looks at the moment of the answer alone", BETWEEN, "    m4_broken = access_n",
+     "    window_n = is_free(held_after_c, reads_n);\n    m4_broken = access_n"),
+]
+
 # Traces for what links drawn at random rarely come to.
 DIRECTED = [
     """tltrace 2 8 C

@@ -16,17 +16,19 @@ def spoiled(fields, kind):
     return fields
 
 
-def main():
-    path, kind, channel, first = sys.argv[1], sys.argv[2], sys.argv[3], int(sys.argv[4])
+def spoil(lines, kind, channel, first):
+    """The lines of a trace with that one beat spoiled."""
     done = False
-    for number, line in enumerate(open(path), 1):
+    for number, line in enumerate(lines, 1):
         fields = line.split()
         if not done and number >= first and number > 1 and fields[1] == channel:
             done = True
             if kind == "drop":
                 continue
             line = " ".join(spoiled(fields, kind)) + "\n"
-        sys.stdout.write(line)
+        yield line
 
 
-main()
+if __name__ == "__main__":
+    path, kind, channel, first = sys.argv[1], sys.argv[2], sys.argv[3], int(sys.argv[4])
+    sys.stdout.writelines(spoil(open(path), kind, channel, first))

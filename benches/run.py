@@ -17,7 +17,7 @@ import traceback
 sys.path.insert(0, os.path.join(os.path.dirname(os.path.abspath(__file__)), "tests"))
 
 from harness import LIBRARY, TESTS, TLTOOL, Failed
-for subject in ("names", "pages", "recorder", "library", "python_library", "checker", "agents"):
+for subject in ("names", "pages", "recorder", "library", "python_library", "checker", "agents", "formal"):
     __import__(subject)  # adds its tests
 
 
@@ -26,7 +26,7 @@ def main():
     arguments.add_argument("--long", action="store_true", help="ten million cycles without a fault")
     arguments.add_argument("--only", default="", help="the tests whose names hold this")
     chosen = arguments.parse_args()
-    for tool in ("verilator", "iverilog", "vvp", "g++"):
+    for tool in ("verilator", "iverilog", "vvp", "g++", "yosys", "berkeley-abc"):
         if shutil.which(tool) is None:
             sys.exit(f"benches/run.py: {tool} is missing: run benches/setup.sh")
     for built in (TLTOOL, LIBRARY):

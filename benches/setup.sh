@@ -3,7 +3,7 @@
 # afterwards.
 set -euo pipefail
 
-tools=(verilator iverilog vvp g++ make python3)
+tools=(verilator iverilog vvp g++ make python3 yosys berkeley-abc)
 
 missing() {
   for tool in "${tools[@]}"; do
@@ -16,7 +16,7 @@ if [ -n "$(missing)" ]; then
   [ "$(id -u)" -eq 0 ] || root=(sudo)
   "${root[@]}" apt-get update
   "${root[@]}" env DEBIAN_FRONTEND=noninteractive apt-get install -y --no-install-recommends \
-    verilator iverilog g++ make python3
+    verilator iverilog g++ make python3 yosys berkeley-abc
 fi
 
 if [ -n "$(missing)" ]; then
@@ -26,4 +26,5 @@ fi
 verilator --version
 iverilog -V 2>/dev/null | sed -n 1p
 g++ --version | sed -n 1p
+yosys -V
 python3 --version

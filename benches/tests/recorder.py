@@ -89,3 +89,13 @@ def each_bug_breaks_the_rule_of_the_table():
         verdict = judged(path("bug"))
         want(own in told, f"bug {bug}: the bench says {told}")
         want(verdict.endswith(rule) if rule else verdict.startswith("clean"), f"bug {bug}: {verdict}")
+
+
+@test
+def a_cache_waits_with_its_acquire_until_its_answer_to_a_probe_is_taken():
+    top = "test_early_acquire"
+    sources = SV + ["example/tl_cache.sv", f"tests/{top}.sv"]
+    for command in ([verilator(top, top, sources)], ["vvp", "-n", icarus(top + ".vvp", top, sources)]):
+        for bug, verdict in ((0, "clean 29"), (9, "line 13 H5")):
+            run(command + [f"+bug={bug}", f"+trace={path('early')}"])
+            want(judged(path('early')) == verdict, f"bug {bug}: {judged(path('early'))}")

@@ -1,0 +1,79 @@
+"""Modules with one edit each, which the traces have to tell apart from the right one: name, the rule
+that most of the traces break, their liberties, file, old text, new text."""
+
+SOURCE, SINK, BLOCK, LEGALITY, BURST = "tl_source_rules.sv", "tl_sink_rules.sv", "tl_block_rules.sv", "tl_legality.sv", "tl_bursts.sv"
+
+WRONG = [
+    ("H4 forgets the Release", "H4", (), BLOCK, "H4 = acquire || release_;", "H4 = acquire;"),
+    ("H5 forgets BtoT", "H5", (), BLOCK, "grow == GROW_BtoT ? held == TRUNK :", "grow == GROW_BtoT ? 1'b0 :"),
+    ("H6 forgets the Probe", "H6", (), BLOCK, "held != BRANCH) || probe;", "held != BRANCH);"),
+    ("H6 takes any cap", "H6", (), SOURCE, "!denied && (!right_cap(cap, request, grow)\n", "!denied && (1'b0\n"),
+    ("H9 forgets the GrantAck", "H9", (), BLOCK, "H9 = probe || grant_ack;", "H9 = probe;"),
+    ("H11 is left out", "H11", (), BLOCK, "H11 = release_;", "H11 = 1'b0;"),
+    ("H13 forgets the Acquire", "H13", (), BLOCK, "H13 = acquire || release_\n", "H13 = release_\n"),
+    ("H3 comes before H2", "H2", (), SOURCE, "d_h3 = !d_h2 && H3(d.size, size_n);", "d_h3 = H3(d.size, size_n); d_h2 = d_h2 && !d_h3;"),
+    ("a Release leaves nothing held", "H13", (), BLOCK, "{2'b11, c.source, right_end(c.param)}", "{2'b11, c.source, NONE}"),
+    ("what a ProbeAck leaves is held from its first beat on", "H5", (), BLOCK, "if (answers && c.last) {probe_n, held_n}",
+     "if (answers && c.first) held_n = right_end(c.param);\n    if (answers && c.last) {probe_n, held_n}"),
+    ("any GrantAck acknowledges the Grant of a block", "H9", (), BLOCK, "grant_ack_n && e.sink == grant_sink_n", "grant_ack_n"),
+    ("any ReleaseAck ends the Release of a block", "H4", (), BLOCK, "release_n && d.source == release_source_n", "release_n"),
+    ("a request may be answered before it is complete", "H2", (), SOURCE, "!(complete || |(LIBERTIES & LIBERTY_EARLY))", "1'b0"),
+    ("a Grant may be acknowledged before it is complete", "H8", (), SINK, "!(complete || |(LIBERTIES & LIBERTY_EARLY))", "1'b0"),
+    ("a sink is free after its Grant's last beat", "H7", (), SINK, "if (d_here && d.last) granted_n = 1;",
+     "if (d_here && d.last) {granted_n, pending_n} = 2'b10;"),
+    ("S1 forgets the sink", "S1", (), BURST, "it.source, it.sink, it.address", "it.source, 8'd0, it.address"),
+    ("the mask of a PutPartialData is that of a PutFullData", "L5", (), LEGALITY, "CHANNEL == CHANNEL_A && opcode == A_PutPartialData ?", "1'b0 ?"),
+    ("a ProbeAck may have another source than its Probe", "H10", ("ids",), BLOCK, "answer_source != probe_source", "1'b0"),
+    ("a Grant that was acknowledged is held from its last beat on", "H12", ("early",), BLOCK,
+     "e.sink == grant_sink_n) begin\n      if (granting_n)", "e.sink == grant_sink_n) begin\n      if (1'b0)"),
+    ("a denied Grant leaves its cap held", "H5", ("denied",), BLOCK, "{1'b1, !d.denied, d.sink, capped(d.param)}", "{2'b11, d.sink, capped(d.param)}"),
+]
+
+BETWEEN = "tl_manager_properties.sv"
+
+# The same of the rules between links: name, file, old text, new text.
+WRONG_BETWEEN = [
+    ("M1 forgets readers", BETWEEN, "cap == CAP_toT ? held != NONE :", "cap == CAP_toT ? held == TRUNK :"),
+    ("M1 forgets a Grant toB", BETWEEN, ": held == TRUNK;\n  endfunction\n\n  wire [N-1:0] beside", ": 1'b0;\n  endfunction\n\n  wire [N-1:0] beside"),
+    ("a Get is excluded by readers", BETWEEN, "reads ? held == TRUNK : held != NONE", "held != NONE"),
+    ("an access is excluded by writers alone", BETWEEN, "reads ? held == TRUNK : held != NONE", "held == TRUNK"),
+    ("M4 looks at the moment of the answer alone", BETWEEN, "    m4_broken = access_n",
+     "    window_n = is_free(held_after_c, reads_n);\n    m4_broken = access_n"),
+]
+
+# Traces for what links drawn at random rarely come to.
+DIRECTED = [
+    """tltrace 2 8 C
+00 A 7 1 6 00 00000000 ff - 0
+00 D 4 0 6 00 00 0 - 0
+00 E 00
+00 B 6 2 6 00 00000000 ff - 0
+00 C 5 1 6 00 00000000 0000000000000000 0
+00 A 6 0 6 00 00000000 ff - 0
+""",
+    """tltrace 2 8 C
+00 A 7 1 6 00 00000000 ff - 0
+00 A 7 1 6 01 00000040 ff - 0
+00 D 4 0 6 00 00 0 - 0
+00 D 4 0 6 01 01 0 - 0
+00 E 01
+00 B 6 2 6 00 00000000 ff - 0
+""",
+    """tltrace 2 8 C
+00 A 6 1 6 00 00000000 ff - 0
+00 D 5 0 6 00 00 0 0000000000000000 0
+00 D 5 0 6 00 01 0 0000000000000000 0
+""",
+    """tltrace 2 8 C
+00 A 7 1 6 00 00000000 ff - 0
+00 A 7 1 6 01 00000040 ff - 0
+00 D 4 0 6 00 00 0 - 0
+00 D 4 0 6 01 01 0 - 0
+00 E 00
+00 E 01
+00 C 6 1 6 00 00000000 - 0
+00 C 6 1 6 01 00000040 - 0
+00 D 6 0 6 01 00 0 - 0
+00 A 6 0 6 00 00000000 ff - 0
+""",
+]

@@ -1,0 +1,1 @@
+"""What tl-formal is made of."""

@@ -1,0 +1,69 @@
+"""The rules of a link for formal tools: their agreement with the monitor, the bugs of the example found by bounded search,
+and the example proved."""
+
+import os
+import re
+
+from harness import HERE, HOME_BUGS, TLTOOL, test, want, run
+
+FORMAL = os.path.join(HERE, "formal")
+
+# Each bug of the example's cache that a link shows, and the rule that it breaks. One needs beats of 8 bytes.
+CACHE_BUGS = {1: "H11", 3: "H8", 4: "S1", 5: "H12", 6: "H5", 7: "H13", 8: "H10", 9: "H5"}
+WIDE = {4: "tl_cache.toml"}
+
+
+def formal(map_file, *words, status=0):
+    return run([os.path.join(FORMAL, "tl-formal"), os.path.join(FORMAL, map_file), "--tool", TLTOOL, *words], status=status)
+
+
+def fault(told):
+    """The rule that fails by the table, and the one that the command names on the trace of the design's own source."""
+    failing = re.search(r"^(\w+) +fails at edge", told, re.M)
+    judged = re.search(r"\.trace: line \d+ (\w+)$", told, re.M)
+    return failing and failing[1], judged and judged[1]
+
+
+@test
+def the_rules_for_formal_tools_agree_with_the_monitor():
+    told = run(["python3", os.path.join(FORMAL, "agreement/agree.py"), "--tool", TLTOOL])
+    want("25 of 25 wrong modules told apart" in told, told)
+
+
+@test
+def bounded_search_finds_the_bugs_of_the_cache():
+    for bug, rule in CACHE_BUGS.items():
+        told = formal(WIDE.get(bug, "tl_cache_small.toml"), "--set", f"bug={bug}", "--search", "60", "--block-bits", "2", status=1)
+        want(fault(told) == (rule, rule), f"bug {bug}: {told}")
+
+
+@test
+def bounded_search_finds_the_bugs_of_the_manager_between_its_links():
+    for bug, rule in HOME_BUGS.items():
+        if rule in ("M1", "M4"):
+            told = formal("tl_home_wide.toml", "--set", f"bug={bug}", "--search", "100", "--block-bits", "1", status=1)
+            want(fault(told) == (rule, rule), f"bug {bug}: {told}")
+
+
+@test
+def the_device_is_proved():
+    told = formal("tl_device.toml", "--search", "5", "--prove", "60")
+    want(len(re.findall(r"^\w+ +proved ", told, re.M)) == 16, told)
+
+
+@test
+def the_cache_is_proved():
+    told = formal("tl_cache_small.toml", "--search", "0", "--prove", "500", "--block-bits", "2")
+    want(len(re.findall(r"^\w+ +proved ", told, re.M)) == 16, told)
+
+
+@test
+def the_manager_with_one_link_is_proved():
+    told = formal("tl_home_one.toml", "--search", "0", "--prove", "300", "--block-bits", "1")
+    want(len(re.findall(r"^\w+ +proved ", told, re.M)) == 13, told)
+
+
+@test
+def a_design_that_yosys_cannot_read_has_status_2():
+    told = formal("unreadable.toml", status=2)
+    want("ERROR" in told and "docs/FORMAL.md" in told, told)

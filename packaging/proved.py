@@ -7,7 +7,9 @@ import pathlib
 import subprocess
 import sys
 
-from verdicts import BUILT, NOTES, ROOT, crates, sources, sum_of
+ROOT = pathlib.Path(__file__).resolve().parent.parent
+sys.path.insert(0, str(ROOT / "tools"))
+from verdicts import BUILT, NOTES, below, sources, sum_of
 
 # The crates of the command and of the library.
 PROGRAMS = ("tltool", "hefrudyl")
@@ -19,21 +21,13 @@ docs/TRUST.md says what has to be believed, docs/PROOFS.md what the contracts sa
 come the command tltool, and the library but for its memory, which is C over malloc. Not proved are
 the headers, C++, SystemVerilog and Python, the compiler and the C library.
 
-The sum beside a crate is the SHA-256 of its sources, which packaging/verdicts.py computes.
+The sum beside a crate is the SHA-256 of its sources, which tools/verdicts.py computes.
 
 """
 FILES = """
 The files, each with its SHA-256: grep -E '^[0-9a-f]{64}  ' PROVED | sha256sum -c
 
 """
-
-
-def below(crate, lines):
-    """A crate of the repository and those that it stands on."""
-    known = {crate}
-    for name in lines[crate][1]:
-        known |= below(name, lines) if name in lines else set()
-    return known
 
 
 def faults(notes, wanted):
@@ -50,9 +44,14 @@ def faults(notes, wanted):
             yield f"not all crates were proved by the same {word}"
 
 
+def list_files(folder):
+    print(FILES, end="")
+    for file in sorted(it for it in folder.rglob("*") if it.is_file() and not it.is_symlink() and it != folder / "PROVED"):
+        print(f"{sum_of(file)}  {file.relative_to(folder)}")
+
+
 def main():
-    lines = crates()
-    wanted = set().union(*(below(crate, lines) for crate in PROGRAMS))
+    wanted = set().union(*map(below, PROGRAMS))
     notes = json.loads(NOTES.read_text()) if NOTES.exists() else {}
     wrong = list(faults(notes, wanted))
     if wrong:
@@ -67,12 +66,6 @@ def main():
     print(f"{len(wanted)} crates  {sum(notes[crate]['functions'] for crate in wanted)} functions")
     for folder in map(pathlib.Path, sys.argv[1:]):
         list_files(folder)
-
-
-def list_files(folder):
-    print(FILES, end="")
-    for file in sorted(it for it in folder.rglob("*") if it.is_file() and not it.is_symlink() and it != folder / "PROVED"):
-        print(f"{sum_of(file)}  {file.relative_to(folder)}")
 
 
 main()

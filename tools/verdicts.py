@@ -26,6 +26,17 @@ def crates():
     return {found[1]: (found[0], found[2].split()) for found in named}
 
 
+def below(crate):
+    """A crate of the repository and those that it stands on."""
+    known, left = set(), [crate]
+    while left:
+        name = left.pop()
+        if name in crates() and name not in known:
+            known.add(name)
+            left += crates()[name][1]
+    return known
+
+
 def sources(crate):
     """The SHA-256 of a crate's sources: of a line for each file, its sum and its name, and the crate's line of crates.txt."""
     folder = ROOT / "crates" / crate

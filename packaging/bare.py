@@ -73,16 +73,15 @@ def writes(what, command, pattern, path=""):
 
 def pages(prefix, path):
     """That the pages' commands write what the installed pages show, and that what these link to is there."""
-    documents = pathlib.Path(f"{prefix}/share/doc/hefrudyl")
+    documents = ROOM / f"{prefix}/share/doc/hefrudyl"[1:]
+    there = lambda command: re.sub(r"status \d+\n\Z", "", run(f"cd walk; {command}", path, quiet=True))
     for page in PAGES:
-        text = (ROOM / str(documents / page)[1:]).read_text()
         run(f"rm -rf walk; cp -R {prefix}/{EXAMPLES} walk", quiet=True)
-        there = lambda command: re.sub(r"status \d+\n\Z", "", run(f"cd walk; {command}", path, quiet=True))
-        passed, failed = walk(page, text, there)
+        passed, failed = walk(page, (documents / page).read_text(), there)
         want(f"{page}: {passed} commands write what it shows, {failed} don't", not failed)
-        links = [it for it in re.findall(r"\]\(([^)#]+)", text) if "://" not in it]
-        lost = [it for it in links if not (ROOM / str((documents / page).parent)[1:] / it).exists()]
-        want(f"{page}: its {len(links)} links lead somewhere {lost or ''}", not lost)
+    links = [(page, it) for page in documents.rglob("*.md") for it in re.findall(r"\]\(([^)#]+)", page.read_text()) if "://" not in it]
+    lost = [f"{page.name}: {it}" for page, it in links if not (page.parent / it).exists()]
+    want(f"the {len(links)} links of the pages lead somewhere {lost or ''}", links and not lost)
 
 
 def programs(flags, path=""):

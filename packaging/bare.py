@@ -108,6 +108,8 @@ def tarball():
     writes("the tarball is unpacked", f"tar -xf {TARBALL.name} -C /opt && ls {prefix}", "PROVED")
     writes("its files are those of PROVED", f"cd {prefix}; head -n 9 PROVED; grep -E '^[0-9a-f]{{64}}  ' PROVED | sha256sum -c --quiet && echo all", "^all$")
     writes("the command needs no library", "ldd $(command -v tltool) || tltool --version", rf"^tltool {re.escape(VERSION)}$", path)
+    alone = f"mkdir alone && cp {prefix}/bin/tltool {prefix}/{EXAMPLES}/two_caches.trace alone && chroot alone /tltool monitor two_caches.trace"
+    writes("the command runs in a root that has nothing else", alone, "^clean 29$")
     pages(prefix, path)
     programs(f"PKG_CONFIG_PATH={prefix}/lib/pkgconfig pkg-config")
     writes("the Python module", f"PYTHONPATH={prefix}/share/hefrudyl/python python3 test_clocked.py", "^0 failures$")

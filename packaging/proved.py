@@ -37,6 +37,8 @@ def faults(notes, wanted):
             yield f"{crate}: no verdict is noted: run `make proof` and `make library`, or `make test`"
         elif notes[crate]["sources"] != sources(crate):
             yield f"{crate}: its sources aren't those that were proved"
+        elif crate in BUILT and not (ROOT / BUILT[crate]).exists():
+            yield f"{BUILT[crate]}: isn't there"
         elif crate in BUILT and notes[crate].get("built") != sum_of(ROOT / BUILT[crate]):
             yield f"{BUILT[crate]}: isn't what was built of the proved sources"
     for word in ("kit", "logic"):

@@ -43,18 +43,15 @@ def agrees(shown, written):
     return re.fullmatch(pattern, written) is not None
 
 
-def walk(page, tool, room):
-    """Runs a page's commands, and returns how many wrote what is shown and how many did not."""
-    place = room / page.replace("/", "-")
-    shutil.copytree(ROOT / "crates/tl_examples/data", place)
-    environment = {**os.environ, "PATH": f"{tool.parent}:{os.environ['PATH']}"}
+def walk(page, text, run):
+    """Runs a page's commands by `run`, which returns what one wrote, and returns how many wrote what is shown and how many
+    did not."""
     passed = failed = 0
-    for commands in sessions((ROOT / page).read_text()):
+    for commands in sessions(text):
         for command, shown in commands:
             if LEFT_OUT.match(command):
                 continue
-            ran = subprocess.run(["bash", "-c", command], cwd=place, env=environment, capture_output=True, text=True, timeout=120)
-            written = ran.stdout + ran.stderr
+            written = run(command)
             if agrees(shown, written):
                 passed += 1
             else:
@@ -63,13 +60,27 @@ def walk(page, tool, room):
     return passed, failed
 
 
+def walk_here(page, tool, room):
+    """The same in a copy of the folder of examples, with TOOL on the path."""
+    place = room / page.replace("/", "-")
+    shutil.copytree(ROOT / "crates/tl_examples/data", place)
+    how = {"cwd": place, "env": {**os.environ, "PATH": f"{tool.parent}:{os.environ['PATH']}"}, "timeout": 120}
+
+    def run(command):
+        ran = subprocess.run(["bash", "-c", command], capture_output=True, text=True, **how)
+        return ran.stdout + ran.stderr
+
+    return walk(page, (ROOT / page).read_text(), run)
+
+
 def main():
     tool = pathlib.Path(sys.argv[1]).resolve()
     with tempfile.TemporaryDirectory() as room:
-        counts = [walk(page, tool, pathlib.Path(room)) for page in PAGES]
+        counts = [walk_here(page, tool, pathlib.Path(room)) for page in PAGES]
     passed, failed = map(sum, zip(*counts))
     print(f"walk: {passed} passed, {failed} failed")
     return 1 if failed else 0
 
 
-sys.exit(main())
+if __name__ == "__main__":
+    sys.exit(main())

@@ -6,8 +6,8 @@
         verdict = monitor.push(0, Beat(Channel.E, sink=3))
         print(verdict.rule)     # H8
 
-The library is libhefrudyl.so: beside this file, where HEFRUDYL_LIBRARY says, or where the loader
-finds it. docs/BENCHES.md says what is proved.
+The library is where HEFRUDYL_LIBRARY says, beside this file as libhefrudyl.so, in the lib/ of the installation
+that this file is part of, or where the loader finds libhefrudyl.so.1. docs/BENCHES.md says what is proved.
 """
 
 import ctypes
@@ -219,10 +219,15 @@ class _Manager(_Handle):
     """A handle of `tl_manager`."""
 
 
+def _found():
+    """The name of the library for the loader."""
+    here = os.path.dirname(os.path.abspath(__file__))
+    near = [os.path.join(here, "libhefrudyl.so"), os.path.join(here, "../../../lib/libhefrudyl.so.1")]
+    return os.environ.get("HEFRUDYL_LIBRARY") or next(filter(os.path.exists, near), "libhefrudyl.so.1")
+
+
 def _load():
-    here = os.path.join(os.path.dirname(os.path.abspath(__file__)), "libhefrudyl.so")
-    name = os.environ.get("HEFRUDYL_LIBRARY") or (here if os.path.exists(here) else "libhefrudyl.so")
-    library = ctypes.CDLL(name)
+    library = ctypes.CDLL(_found())
     for name, handle in (("monitor", ctypes.POINTER(_Monitor)), ("judge", ctypes.POINTER(_Judge))):
         for ending, arguments in (
             ("new", [ctypes.c_char_p, ctypes.c_size_t, ctypes.c_uint8, ctypes.c_uint8]),

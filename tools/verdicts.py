@@ -1,0 +1,89 @@
+#!/usr/bin/env python3
+"""verdicts.py COMMAND..: runs a command, as `rt ci` or `rt run`, passes on what it writes, and notes in packaging/out/verdicts.json
+each crate that it proved: by which toolchain, how many functions, of which sources, and what was built of them. A crate whose
+sources changed meanwhile isn't noted. The exit status is the command's."""
+import hashlib
+import json
+import pathlib
+import re
+import subprocess
+import sys
+
+ROOT = pathlib.Path(__file__).resolve().parent.parent
+NOTES = ROOT / "packaging/out/verdicts.json"
+# What is built of a crate, and packed.
+BUILT = {"tltool": "crates/tltool/out/tltool.o", "hefrudyl": "crates/hefrudyl/out/libhefrudyl.a"}
+
+
+def sum_of(file):
+    return hashlib.sha256(file.read_bytes()).hexdigest()
+
+
+def crates():
+    """Each crate of crates.txt, with its line there and the libraries that it stands on."""
+    lines = (ROOT / "crates.txt").read_text().splitlines()
+    named = (re.fullmatch(r"(\w+)[^:]*:(.*)", line) for line in lines if line and not line.startswith("#"))
+    return {found[1]: (found[0], found[2].split()) for found in named}
+
+
+def below(crate):
+    """A crate of the repository and those that it stands on."""
+    known, left = set(), [crate]
+    while left:
+        name = left.pop()
+        if name in crates() and name not in known:
+            known.add(name)
+            left += crates()[name][1]
+    return known
+
+
+def sources(crate):
+    """The SHA-256 of a crate's sources: of a line for each file, its sum and its name, and the crate's line of crates.txt."""
+    folder = ROOT / "crates" / crate
+    files = sorted(it for part in ("src", "specs", "proofs") for it in (folder / part).rglob("*") if it.suffix in (".rt", ".antt"))
+    lines = [f"{sum_of(it)}  {it.relative_to(folder)}" for it in files if it.is_file()]
+    return hashlib.sha256("\n".join([*lines, crates()[crate][0], ""]).encode()).hexdigest()
+
+
+def verdicts(lines):
+    """The functions of each crate that lines of `rt` say is proved, with the sum of its logic."""
+    crate = None
+    for line in lines:
+        named = re.match(r"(?:fn|struct|enum|trait|impl) (\w+)::", line)
+        if named or line.startswith("== "):
+            crate = named[1] if named else line.split()[-1]
+        found = re.match(r"logic=proved functions=(\d+).* sum=(\w+)", line)
+        if found and crate and " tests=" not in line:
+            yield crate, int(found[1]), found[2]
+
+
+def run(command):
+    """Runs it, and returns its lines and its exit status."""
+    lines = []
+    child = subprocess.Popen(command, stdout=subprocess.PIPE, stderr=subprocess.STDOUT, errors="replace", text=True)
+    for line in child.stdout:
+        print(line, end="", flush=True)
+        lines.append(line)
+    return lines, child.wait()
+
+
+def main():
+    before = {crate: sources(crate) for crate in crates()}
+    stamps = {crate: (ROOT / file).stat().st_mtime_ns if (ROOT / file).exists() else 0 for crate, file in BUILT.items()}
+    kit = subprocess.run(["rt", "version"], capture_output=True, text=True, check=True).stdout.split()[0]
+    lines, status = run(sys.argv[1:])
+    notes = json.loads(NOTES.read_text()) if NOTES.exists() else {}
+    for crate, functions, logic in verdicts(lines):
+        if crate in before and sources(crate) == before[crate]:
+            notes[crate] = {"kit": kit, "logic": logic, "functions": functions, "sources": before[crate]}
+    for crate, name in BUILT.items():
+        file = ROOT / name
+        if crate in notes and notes[crate]["sources"] == before[crate] and file.exists() and file.stat().st_mtime_ns > stamps[crate]:
+            notes[crate]["built"] = sum_of(file)
+    NOTES.parent.mkdir(parents=True, exist_ok=True)
+    NOTES.write_text(json.dumps(notes, indent=1, sort_keys=True) + "\n")
+    return status
+
+
+if __name__ == "__main__":
+    sys.exit(main())

@@ -1,10 +1,4 @@
 -- Worked schedules of accesses, against the machine.
-use Rattle.tl_coherence.proofs.examples.Imports.{unfinished, bytes_carried, on_link, broken_order, bytes_from}
-use Rattle.tl_coherence.proofs.examples.Imports.{number_from, effect, request_of, release_of, probe_of, grant_sink}
-use Rattle.tl_coherence.proofs.examples.Imports.{pending, held, illegal, first_illegal, beats_from, each_below}
-use Rattle.tl_coherence.proofs.examples.Imports.{with_handed, clients_from, masks_carried, corrupt_carried}
-use Rattle.tl_coherence.proofs.examples.Imports.{request_carried, is_movable, first_movable, next_delivery, stepped}
-use Rattle.tl_coherence.proofs.examples.Imports.{with_messages}
 use Rattle.std.proofs.Common.{refl, lit≤}
 use Rattle.std.specs.Prelude.{[], ◌∷◌, ◌++◌, replicate, Some, None}
 use Rattle.tl_beat.specs.declared.channel.Channel.TheVariants as channel
@@ -18,14 +12,9 @@ use Rattle.tl_params.specs.declared.perm.Perm.TheVariants as perm
 use Rattle.tl_params.specs.declared.profile.Profile.TheVariants as profile
 use Rattle.tl_client.specs.declared.reply.Reply.TheVariants as reply
 use Rattle.tl_client.specs.declared.verdict.Finish.TheVariants as finish
-use Rattle.tl_client.specs.statement.Ask as ask
-use Rattle.tl_client.specs.statement.Offer as offer
-use Rattle.tl_manager.specs.statement.Service as service
-use Rattle.tl_manager.specs.statement.Reaction as manager_reaction
-use Rattle.tl_manager.specs.statement.Offer as manager_offer
 use Rattle.tl_coherence.specs.declared.event.Outcome.TheVariants.{Replied, Moved, Done}
-use Rattle.tl_coherence.proofs.examples.Play.{Drains, draining, outcomes, Gives, world, deliver, load, store, acquire}
-use Rattle.tl_coherence.proofs.examples.Play.{access, a_beat, b_beat, c_beat, d_beat, e_beat}
+use Rattle.tl_coherence.proofs.examples.Play.{evaluated, Drains, draining, outcomes, Gives, world, deliver, load, store}
+use Rattle.tl_coherence.proofs.examples.Play.{acquire, access, a_beat, b_beat, c_beat, d_beat, e_beat}
 
 bytes_of_a_word : Gives {w = 8} (world profile.One 1 1 ((level.UL, 1) ∷ []))
     ((access 0 a.PutPartialData 0 2 (lit≤ tt) 4 80 (replicate 4 0 ++ (17 ∷ 34 ∷ 51 ∷ 68 ∷ []) ++ replicate 56 0)
@@ -36,13 +25,7 @@ bytes_of_a_word : Gives {w = 8} (world profile.One 1 1 ((level.UL, 1) ∷ []))
     (a_beat a.Get 0 3 0 0 255 None refl) ∷ Done
     (d_beat d.AccessAckData 0 3 0 0 (Some (replicate 4 0 ++ (17 ∷ 0 ∷ 51 ∷ 0 ∷ []))) refl) 0
     (finish.Data 3 (replicate 4 0 ++ (17 ∷ 0 ∷ 51 ∷ []) ++ replicate 57 0)) ∷ []))
-unfolding draining outcomes stepped with_messages is_movable first_movable next_delivery ask.asked ask.busy
-    ask.least_free ask.low_bytes offer.offered
-    offer.stalls bytes_carried number_from unfinished request_of release_of probe_of grant_sink pending held illegal
-    first_illegal beats_from each_below
-    broken_order on_link bytes_from effect with_handed clients_from masks_carried corrupt_carried request_carried
-    service.least_untaken service.services
-    manager_offer.judged_at manager_reaction.reaction manager_offer.offered manager_offer.stalls
+unfolding draining outcomes evaluated
 bytes_of_a_word = refl
 
 a_put_counts_from_its_last_beat : Gives {w = 8} (world profile.One 1 1 ((level.UH, 1) ∷ (level.UH, 1) ∷ []))
@@ -53,13 +36,7 @@ a_put_counts_from_its_last_beat : Gives {w = 8} (world profile.One 1 1 ((level.U
     ++ replicate 7 (Moved (a_beat a.PutFullData 0 6 0 0 255 (Some (replicate 8 255)) refl))
     ++ (Replied (reply.Started 0) ∷ Moved (a_beat a.Get 0 3 0 0 255 None refl) ∷ Done
     (d_beat d.AccessAckData 0 3 0 0 (Some (replicate 8 0)) refl) 0 (finish.Data 3 (replicate 64 0)) ∷ []))
-unfolding draining outcomes stepped with_messages is_movable first_movable next_delivery ask.asked ask.busy
-    ask.least_free ask.low_bytes offer.offered
-    offer.stalls bytes_carried number_from unfinished request_of release_of probe_of grant_sink pending held illegal
-    first_illegal beats_from each_below
-    broken_order on_link bytes_from effect with_handed clients_from masks_carried corrupt_carried request_carried
-    service.least_untaken service.services
-    manager_offer.judged_at manager_reaction.reaction manager_offer.offered manager_offer.stalls
+unfolding draining outcomes evaluated
 a_put_counts_from_its_last_beat = refl
 
 min_by_sign_and_without : Gives {w = 8} (world profile.One 1 1 ((level.UH, 1) ∷ []))
@@ -79,13 +56,7 @@ min_by_sign_and_without : Gives {w = 8} (world profile.One 1 1 ((level.UH, 1) �
     (reply.Started 0) ∷ Moved (a_beat a.Get 0 2 0 0 15 None refl) ∷ Done
     (d_beat d.AccessAckData 0 2 0 0 (Some ((1 ∷ []) ++ replicate 7 0)) refl) 0
     (finish.Data 2 ((1 ∷ []) ++ replicate 63 0)) ∷ []))
-unfolding draining outcomes stepped with_messages is_movable first_movable next_delivery ask.asked ask.busy
-    ask.least_free ask.low_bytes offer.offered
-    offer.stalls bytes_carried number_from unfinished request_of release_of probe_of grant_sink pending held illegal
-    first_illegal beats_from each_below
-    broken_order on_link bytes_from effect with_handed clients_from masks_carried corrupt_carried request_carried
-    service.least_untaken service.services
-    manager_offer.judged_at manager_reaction.reaction manager_offer.offered manager_offer.stalls
+unfolding draining outcomes evaluated
 min_by_sign_and_without = refl
 
 add_wraps : Gives {w = 8} (world profile.One 1 1 ((level.UH, 1) ∷ []))
@@ -100,13 +71,7 @@ add_wraps : Gives {w = 8} (world profile.One 1 1 ((level.UH, 1) ∷ []))
     (reply.Started 0) ∷ Moved (a_beat a.Get 0 3 0 0 255 None refl) ∷ Done
     (d_beat d.AccessAckData 0 3 0 0 (Some (replicate 8 0)) refl) 0
     (finish.Data 3 (replicate 64 0)) ∷ []))
-unfolding draining outcomes stepped with_messages is_movable first_movable next_delivery ask.asked ask.busy
-    ask.least_free ask.low_bytes offer.offered
-    offer.stalls bytes_carried number_from unfinished request_of release_of probe_of grant_sink pending held illegal
-    first_illegal beats_from each_below
-    broken_order on_link bytes_from effect with_handed clients_from masks_carried corrupt_carried request_carried
-    service.least_untaken service.services
-    manager_offer.judged_at manager_reaction.reaction manager_offer.offered manager_offer.stalls
+unfolding draining outcomes evaluated
 add_wraps = refl
 
 a_reader_gets_what_the_writer_stored : Gives {w = 8} (world profile.One 1 1 ((level.C, 1) ∷ (level.C, 1) ∷ []))
@@ -124,11 +89,5 @@ a_reader_gets_what_the_writer_stored : Gives {w = 8} (world profile.One 1 1 ((le
     ++ replicate 6 (Moved (d_beat d.GrantData 1 6 0 0 (Some (replicate 8 0)) refl))
     ++ (Done (d_beat d.GrantData 1 6 0 0 (Some (replicate 8 0)) refl) 0 (finish.Granted perm.Branch) ∷ Moved
     (e_beat 0) ∷ Replied (reply.Value 90) ∷ Replied (reply.Value 90) ∷ []))
-unfolding draining outcomes stepped with_messages is_movable first_movable next_delivery ask.asked ask.busy
-    ask.least_free ask.low_bytes offer.offered
-    offer.stalls bytes_carried number_from unfinished request_of release_of probe_of grant_sink pending held illegal
-    first_illegal beats_from each_below
-    broken_order on_link bytes_from effect with_handed clients_from masks_carried corrupt_carried request_carried
-    service.least_untaken service.services
-    manager_offer.judged_at manager_reaction.reaction manager_offer.offered manager_offer.stalls
+unfolding draining outcomes evaluated
 a_reader_gets_what_the_writer_stored = refl

@@ -2,7 +2,7 @@
 -- number, of which those that fail are listed.
 use Rattle.tl_coherence.proofs.examples.Imports.{Beat, Link, Channel, Config, bytes_from, number_from, Event, Ask}
 use Rattle.tl_coherence.proofs.examples.Imports.{Deliver, started, flow, is_movable, next_delivery, accesses_answered}
-use Rattle.tl_coherence.proofs.examples.Imports.{performing, Step, stepped, System}
+use Rattle.tl_coherence.proofs.examples.Imports.{performing, Step, stepped, System, requests, releases}
 use Rattle.std.proofs.Common.{◌≡◌}
 use Rattle.std.specs.Prelude.{min, ◌-◌, ℕ, zero, suc, Bool, true, false, not, List, [], ◌∷◌, ◌++◌, ◌==◌, ◌&&◌, ◌||◌}
 use Rattle.std.specs.Prelude.{◌*◌, ◌/◌, ◌^◌, nat_le, length, reverse, Option, Some, None, is_none}
@@ -15,7 +15,7 @@ use Rattle.tl_params.specs.declared.perm.Perm.{Perm}
 use Rattle.tl_params.specs.declared.perm.Perm.TheVariants as perm
 use Rattle.tl_params.specs.declared.profile.Profile.{Profile}
 use Rattle.tl_rules.specs.statement.Admission.{lanes_of}
-use Rattle.tl_rules.specs.statement.Conformance.{is_legal, same_perm}
+use Rattle.tl_rules.specs.statement.Conformance.{broken_after, is_legal, same_perm}
 use Rattle.tl_rules.specs.statement.Effect as memory
 use Rattle.tl_rules.specs.statement.Effect.{Memory}
 use Rattle.tl_rules.specs.statement.History.{block_at}
@@ -276,3 +276,9 @@ faults clients config (Drains n ∷ lines) p = faults_draining clients config (l
 -- nothing that the headline says fails at these lines
 abbrev pub Holds : {w : ℕ} → Config → List (Line w) → Type 0
 Holds {w} config lines = faults {w = w} (length config.clients.items) config lines begun ≡ []
+
+-- what unfolds besides where these tests are evaluated
+unfoldable pub evaluated_tests : ℕ
+unfolding performs all_below carried_on started flow requests releases accesses_answered performing broken_after
+    is_legal
+evaluated_tests = 0

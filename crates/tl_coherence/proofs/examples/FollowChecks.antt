@@ -1,12 +1,11 @@
 -- Tests of the simulation relation, event by event, for the worked schedules.
-use Rattle.tl_coherence.proofs.examples.Imports.{Beat, Link, Channel, unfinished, Config, on_link}
-use Rattle.tl_coherence.proofs.examples.Imports.{bytes_from, held, pending}
-use Rattle.tl_coherence.proofs.examples.Imports.{request_of, release_of, probe_of, grant_sink}
-use Rattle.tl_coherence.proofs.examples.Imports.{Event, Deliver, flow}
-use Rattle.tl_coherence.proofs.examples.Imports.{next_delivery, Step, stepped, System}
+use Rattle.tl_coherence.proofs.examples.Imports.{Beat, Link, Channel, unfinished, Config, on_link, bytes_from, held}
+use Rattle.tl_coherence.proofs.examples.Imports.{pending, request_of, release_of, probe_of, grant_sink, Event, Deliver}
+use Rattle.tl_coherence.proofs.examples.Imports.{flow, next_delivery, Step, stepped, System, started, requests}
+use Rattle.tl_coherence.proofs.examples.Imports.{releases, accesses_answered, performing}
 use Rattle.std.proofs.Common.{◌≡◌}
-use Rattle.std.specs.Prelude.{ℕ, zero, suc, Bool, true, false, not, List, [], ◌∷◌, ◌++◌, ◌==◌, ◌&&◌, ◌||◌, ◌*◌}
-use Rattle.std.specs.Prelude.{reverse, Option, Some, None, is_some, option_map, length, if◌then◌else◌}
+use Rattle.std.specs.Prelude.{ℕ, zero, suc, Bool, true, false, not, List, [], ◌∷◌, ◌++◌, ◌==◌, ◌&&◌, ◌||◌, ◌*◌, reverse}
+use Rattle.std.specs.Prelude.{Option, Some, None, is_some, option_map, length, if◌then◌else◌}
 use Rattle.std.specs.Bool.{beq}
 use Rattle.tl_beat.specs.declared.beat.Beat.TheVariants as beat
 use Rattle.tl_beat.specs.declared.beat.BeatA.{BeatA}
@@ -29,19 +28,19 @@ use Rattle.tl_manager.specs.statement.Service as service
 use Rattle.tl_manager.specs.statement.Service.{services, service_of_block}
 use Rattle.tl_coherence.specs.refinement.Carried.{spelled}
 use Rattle.tl_coherence.specs.refinement.MonitorRelation.{is_requested, is_release_pending, is_let_by, is_sunk}
-use Rattle.tl_coherence.specs.refinement.AbstractStep.{AbstractState, first_abstract_state, abstract_step}
+use Rattle.tl_coherence.specs.refinement.AbstractStep.{AbstractState, first_abstract_state, abstract_step, some_below}
 use Rattle.tl_coherence.specs.protocol.Invariant.{is_of, acquires_of, serves_of, acquires_with, serves_with}
 use Rattle.tl_coherence.specs.protocol.Invariant.{releases_with, tracks_with}
 use Rattle.tl_coherence.specs.refinement.ClientRelation.{comes_granting}
 use Rattle.tl_coherence.specs.refinement.ManagerRelation.{is_own, client_in}
 use Rattle.tl_coherence.specs.statement.Delivery.{receiver}
 use Rattle.tl_coherence.specs.protocol.Phase.{ok, same_cap, is_unprobed, is_unreleased, is_whole}
-use Rattle.tl_coherence.specs.protocol.Protocol.{Service, Free, Waits, GrantSent, GrantTaken, State, view}
+use Rattle.tl_coherence.specs.protocol.Protocol.{Service, Free, Waits, State, view}
 use Rattle.tl_coherence.specs.protocol.Tokens.{is_wanting, is_granting, is_acknowledging, is_unserved, is_answered}
-use Rattle.tl_coherence.specs.refinement.PacketMessages.{AccessMessages, messages_on, probe_beat}
+use Rattle.tl_coherence.specs.refinement.PacketMessages.{AccessMessages, messages_on, probe_beat, block_message}
 use Rattle.tl_coherence.specs.refinement.SourceRelation.{is_served, is_granted, cap_waited}
 use Rattle.tl_coherence.specs.refinement.SimulationRelation.{asked_by}
-use Rattle.tl_coherence.proofs.examples.Checks.{Past, begun, next, all_below, failed, same_beats}
+use Rattle.tl_coherence.proofs.examples.Checks.{Past, begun, next, all_below, failed, same_beats, performs}
 use Rattle.tl_coherence.proofs.examples.Play.{Line, Does, Drains}
 use Rattle.tl_coherence.proofs.queues.Phases.{implies}
 
@@ -126,8 +125,7 @@ is_for (Waits r own source k) n m t =
     beq (is_acquire m.opcode) own
     && ((m.source == source) && ((block_at m.address == n) && (same_option_cap (cap_probed m.opcode m.param) k && same_a
     (request_of source (on_link r t)) (Some (a_beat_of m 0)))))
-is_for (GrantSent q d k) n m t = is_acquire m.opcode && (block_at m.address == n)
-is_for (GrantTaken q) n m t = is_acquire m.opcode && (block_at m.address == n)
+is_for _ n m t = is_acquire m.opcode && (block_at m.address == n)
 
 abbrev pub in_service : {w : ℕ} → ℕ → AbstractState w → Trace w → Bool
 in_service blocks h t =
@@ -262,3 +260,9 @@ faults clients sources config (Drains n ∷ lines) f =
 -- the protocol follows the world at these lines; sources are tried up to this number
 abbrev pub Follows : {w : ℕ} → ℕ → Config → List (Line w) → Type 0
 Follows {w} sources config lines = faults {w = w} (length config.clients.items) sources config lines beginning ≡ []
+
+-- what unfolds besides where these tests are evaluated
+unfoldable pub evaluated_tests : ℕ
+unfolding block_message some_below spelled ok performs all_below flow started requests releases accesses_answered
+    performing
+evaluated_tests = 0

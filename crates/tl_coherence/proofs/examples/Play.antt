@@ -1,6 +1,11 @@
 -- What comes of lists of events and drains, evaluated, with words for events and beats.
 use Rattle.tl_coherence.proofs.examples.Imports.{Beat, Link, Channel, Config, Event, Ask, Deliver, next_delivery, Step}
-use Rattle.tl_coherence.proofs.examples.Imports.{stepped, System}
+use Rattle.tl_coherence.proofs.examples.Imports.{stepped, System, with_messages, is_movable, first_movable}
+use Rattle.tl_coherence.proofs.examples.Imports.{bytes_carried, number_from, unfinished, request_of, release_of}
+use Rattle.tl_coherence.proofs.examples.Imports.{probe_of, grant_sink, pending, held, illegal, first_illegal}
+use Rattle.tl_coherence.proofs.examples.Imports.{beats_from, each_below, broken_order, on_link, bytes_from, effect}
+use Rattle.tl_coherence.proofs.examples.Imports.{with_handed, clients_from, masks_carried, corrupt_carried}
+use Rattle.tl_coherence.proofs.examples.Imports.{request_carried}
 use Rattle.std.proofs.Common.{◌≡◌, ◌≤◌}
 use Rattle.std.specs.Prelude.{ℕ, zero, suc, Bool, false, List, [], ◌∷◌, map, if◌then◌else◌, Option, Some, None, is_some}
 use Rattle.tl_beat.specs.declared.beat.Beat.TheVariants.{A, B, C, D, E}
@@ -21,6 +26,11 @@ use Rattle.tl_client.specs.declared.reply.Reply.{Reply}
 use Rattle.tl_client.specs.declared.verdict.Finish.{Finish}
 use Rattle.tl_coherence.specs.declared.event.Outcome.{Outcome}
 use Rattle.tl_coherence.specs.declared.event.Outcome.TheVariants as outcome
+use Rattle.tl_client.specs.statement.Ask as ask
+use Rattle.tl_client.specs.statement.Offer as offer
+use Rattle.tl_manager.specs.statement.Service as service
+use Rattle.tl_manager.specs.statement.Reaction as manager_reaction
+use Rattle.tl_manager.specs.statement.Offer as manager_offer
 use Rattle.tl_coherence.specs.statement.System.{fresh}
 
 -- ---- playing
@@ -84,6 +94,15 @@ seen outcome.NoSuchClient = Nobody
 -- the lines, played from the beginning, have these outcomes
 abbrev pub Gives : {w : ℕ} → Config → List (Line w) → List (Outcome w) → Type 0
 Gives config lines expected = map seen (outcomes config lines fresh) ≡ map seen expected
+
+-- what unfolds where a world is evaluated: an example names this in place of all that it names
+unfoldable pub evaluated : ℕ
+unfolding stepped with_messages is_movable first_movable next_delivery ask.asked ask.busy ask.least_free ask.low_bytes
+    offer.offered offer.stalls bytes_carried number_from unfinished request_of release_of probe_of grant_sink pending
+    held illegal first_illegal beats_from each_below broken_order on_link bytes_from effect with_handed clients_from
+    masks_carried corrupt_carried request_carried service.least_untaken service.services manager_offer.judged_at
+    manager_reaction.reaction manager_offer.offered manager_offer.stalls
+evaluated = 0
 
 -- ---- configurations and lines
 

@@ -1,10 +1,4 @@
 -- What worlds do at lists of events that are known from elsewhere, evaluated.
-use Rattle.tl_coherence.proofs.examples.Imports.{unfinished, bytes_carried, on_link, broken_order, bytes_from}
-use Rattle.tl_coherence.proofs.examples.Imports.{number_from, effect, request_of, release_of, probe_of, grant_sink}
-use Rattle.tl_coherence.proofs.examples.Imports.{pending, held, illegal, first_illegal, beats_from, each_below}
-use Rattle.tl_coherence.proofs.examples.Imports.{with_handed, clients_from, masks_carried, corrupt_carried}
-use Rattle.tl_coherence.proofs.examples.Imports.{request_carried, is_movable, first_movable, next_delivery, stepped}
-use Rattle.tl_coherence.proofs.examples.Imports.{with_messages}
 use Rattle.std.proofs.Common.{refl, lit≤}
 use Rattle.std.specs.Prelude.{[], ◌∷◌, ◌++◌, replicate, Some, None}
 use Rattle.tl_beat.specs.declared.channel.Channel.TheVariants as channel
@@ -20,14 +14,9 @@ use Rattle.tl_params.specs.declared.profile.Profile.TheVariants as profile
 use Rattle.tl_client.specs.declared.busy.Busy.TheVariants as busy
 use Rattle.tl_client.specs.declared.reply.Reply.TheVariants as reply
 use Rattle.tl_client.specs.declared.verdict.Finish.TheVariants as finish
-use Rattle.tl_client.specs.statement.Ask as ask
-use Rattle.tl_client.specs.statement.Offer as offer
-use Rattle.tl_manager.specs.statement.Service as service
-use Rattle.tl_manager.specs.statement.Reaction as manager_reaction
-use Rattle.tl_manager.specs.statement.Offer as manager_offer
 use Rattle.tl_coherence.specs.declared.event.Outcome.TheVariants.{Replied, Empty, Stalled, Moved, Done}
-use Rattle.tl_coherence.proofs.examples.Play.{Drains, draining, outcomes, Gives, world, deliver, load, store, acquire}
-use Rattle.tl_coherence.proofs.examples.Play.{whole, release, access, a_beat, b_beat, c_beat, d_beat, e_beat}
+use Rattle.tl_coherence.proofs.examples.Play.{evaluated, Drains, draining, outcomes, Gives, world, deliver, load, store}
+use Rattle.tl_coherence.proofs.examples.Play.{acquire, whole, release, access, a_beat, b_beat, c_beat, d_beat, e_beat}
 
 a_release_while_a_probe_waits : Gives {w = 8} (world profile.One 1 1 ((level.C, 1) ∷ (level.C, 1) ∷ []))
     ((acquire 0 0 grow.NtoT ∷ Drains 220 ∷ store 0 0 0 90 ∷ acquire 1 0 grow.NtoT ∷ deliver 1 channel.A ∷ release 0 0
@@ -47,13 +36,7 @@ a_release_while_a_probe_waits : Gives {w = 8} (world profile.One 1 1 ((level.C, 
     ++ replicate 6 (Moved (d_beat d.GrantData 0 6 0 0 (Some (replicate 8 0)) refl))
     ++ (Done (d_beat d.GrantData 0 6 0 0 (Some (replicate 8 0)) refl) 0 (finish.Granted perm.Trunk) ∷ Moved
     (e_beat 0) ∷ Replied (reply.Value 90) ∷ []))
-unfolding draining outcomes stepped with_messages is_movable first_movable next_delivery ask.asked ask.busy
-    ask.least_free ask.low_bytes offer.offered
-    offer.stalls bytes_carried number_from unfinished request_of release_of probe_of grant_sink pending held illegal
-    first_illegal beats_from each_below
-    broken_order on_link bytes_from effect with_handed clients_from masks_carried corrupt_carried request_carried
-    service.least_untaken service.services
-    manager_offer.judged_at manager_reaction.reaction manager_offer.offered manager_offer.stalls
+unfolding draining outcomes evaluated
 a_release_while_a_probe_waits = refl
 
 the_second_writer_gets_data : Gives {w = 8} (world profile.One 1 2 ((level.C, 1) ∷ (level.C, 1) ∷ []))
@@ -76,13 +59,7 @@ the_second_writer_gets_data : Gives {w = 8} (world profile.One 1 2 ((level.C, 1)
     ++ replicate 7 (Moved (d_beat d.GrantData 0 6 0 0 (Some (replicate 8 0)) refl))
     ++ (Done (d_beat d.GrantData 0 6 0 0 (Some (replicate 8 0)) refl) 0 (finish.Granted perm.Trunk) ∷ Moved
     (e_beat 0) ∷ []))
-unfolding draining outcomes stepped with_messages is_movable first_movable next_delivery ask.asked ask.busy
-    ask.least_free ask.low_bytes offer.offered
-    offer.stalls bytes_carried number_from unfinished request_of release_of probe_of grant_sink pending held illegal
-    first_illegal beats_from each_below
-    broken_order on_link bytes_from effect with_handed clients_from masks_carried corrupt_carried request_carried
-    service.least_untaken service.services
-    manager_offer.judged_at manager_reaction.reaction manager_offer.offered manager_offer.stalls
+unfolding draining outcomes evaluated
 the_second_writer_gets_data = refl
 
 a_whole_block_store_takes_no_data : Gives {w = 8} (world profile.One 1 2 ((level.C, 1) ∷ (level.C, 1) ∷ []))
@@ -104,13 +81,7 @@ a_whole_block_store_takes_no_data : Gives {w = 8} (world profile.One 1 2 ((level
     ++ replicate 8 (Moved (c_beat c.ProbeAckData 1 6 0 0 (Some (replicate 8 0)) refl))
     ++ (Done (d_beat d.Grant 0 6 0 0 None refl) 0 (finish.Granted perm.Trunk) ∷ Moved (e_beat 0) ∷ Replied
     (reply.Value 17) ∷ Replied reply.Miss ∷ []))
-unfolding draining outcomes stepped with_messages is_movable first_movable next_delivery ask.asked ask.busy
-    ask.least_free ask.low_bytes offer.offered
-    offer.stalls bytes_carried number_from unfinished request_of release_of probe_of grant_sink pending held illegal
-    first_illegal beats_from each_below
-    broken_order on_link bytes_from effect with_handed clients_from masks_carried corrupt_carried request_carried
-    service.least_untaken service.services
-    manager_offer.judged_at manager_reaction.reaction manager_offer.offered manager_offer.stalls
+unfolding draining outcomes evaluated
 a_whole_block_store_takes_no_data = refl
 
 a_release_before_its_grant_ack : Gives {w = 8} (world profile.One 1 1 ((level.C, 1) ∷ []))
@@ -125,13 +96,7 @@ a_release_before_its_grant_ack : Gives {w = 8} (world profile.One 1 1 ((level.C,
     (c_beat c.Release 2 6 0 0 None refl) ∷ Done (d_beat d.ReleaseAck 0 6 0 0 None refl) 0 finish.Released ∷ Replied
     (reply.Started 0) ∷ Stalled ∷ Moved
     (e_beat 0) ∷ Moved (a_beat a.AcquireBlock 0 6 0 0 255 None refl) ∷ []))
-unfolding draining outcomes stepped with_messages is_movable first_movable next_delivery ask.asked ask.busy
-    ask.least_free ask.low_bytes offer.offered
-    offer.stalls bytes_carried number_from unfinished request_of release_of probe_of grant_sink pending held illegal
-    first_illegal beats_from each_below
-    broken_order on_link bytes_from effect with_handed clients_from masks_carried corrupt_carried request_carried
-    service.least_untaken service.services
-    manager_offer.judged_at manager_reaction.reaction manager_offer.offered manager_offer.stalls
+unfolding draining outcomes evaluated
 a_release_before_its_grant_ack = refl
 
 busy_in_order : Gives {w = 8} (world profile.One 1 1 ((level.UL, 1) ∷ []))
@@ -141,13 +106,7 @@ busy_in_order : Gives {w = 8} (world profile.One 1 1 ((level.UL, 1) ∷ []))
     (replicate 7 0 ++ (17 ∷ []) ++ replicate 56 0) ∷ deliver 0 channel.D ∷ []))
     ((Replied (reply.Busy busy.B4) ∷ Replied (reply.Busy busy.B5) ∷ Replied (reply.Started 0) ∷ Replied
     (reply.Busy busy.B1) ∷ Replied (reply.Busy busy.B5) ∷ Empty ∷ []))
-unfolding draining outcomes stepped with_messages is_movable first_movable next_delivery ask.asked ask.busy
-    ask.least_free ask.low_bytes offer.offered
-    offer.stalls bytes_carried number_from unfinished request_of release_of probe_of grant_sink pending held illegal
-    first_illegal beats_from each_below
-    broken_order on_link bytes_from effect with_handed clients_from masks_carried corrupt_carried request_carried
-    service.least_untaken service.services
-    manager_offer.judged_at manager_reaction.reaction manager_offer.offered manager_offer.stalls
+unfolding draining outcomes evaluated
 busy_in_order = refl
 
 plain_accesses_of_what_a_cache_holds : Gives {w = 8} (world profile.One 2 1 ((level.C, 1) ∷ (level.UL, 1) ∷ []))
@@ -171,13 +130,7 @@ plain_accesses_of_what_a_cache_holds : Gives {w = 8} (world profile.One 2 1 ((le
     (a_beat a.PutFullData 0 0 0 0 1 (Some ((107 ∷ []) ++ replicate 7 0)) refl) ∷ Moved
     (b_beat b.ProbeBlock 2 6 0 0 255 None refl) ∷ Moved (c_beat c.ProbeAck 2 6 0 0 None refl) ∷ Done
     (d_beat d.AccessAck 0 0 0 0 None refl) 0 finish.Ack ∷ Replied reply.Miss ∷ []))
-unfolding draining outcomes stepped with_messages is_movable first_movable next_delivery ask.asked ask.busy
-    ask.least_free ask.low_bytes offer.offered
-    offer.stalls bytes_carried number_from unfinished request_of release_of probe_of grant_sink pending held illegal
-    first_illegal beats_from each_below
-    broken_order on_link bytes_from effect with_handed clients_from masks_carried corrupt_carried request_carried
-    service.least_untaken service.services
-    manager_offer.judged_at manager_reaction.reaction manager_offer.offered manager_offer.stalls
+unfolding draining outcomes evaluated
 plain_accesses_of_what_a_cache_holds = refl
 
 beats_of_4_bytes : Gives {w = 4} (world profile.One 1 1 ((level.C, 1) ∷ (level.C, 1) ∷ []))
@@ -195,13 +148,7 @@ beats_of_4_bytes : Gives {w = 4} (world profile.One 1 1 ((level.C, 1) ∷ (level
     ++ replicate 14 (Moved (d_beat d.GrantData 1 6 0 0 (Some (replicate 4 0)) refl))
     ++ (Done (d_beat d.GrantData 1 6 0 0 (Some (replicate 4 0)) refl) 0 (finish.Granted perm.Branch) ∷ Moved
     (e_beat 0) ∷ Replied (reply.Value 90) ∷ Replied (reply.Value 90) ∷ []))
-unfolding draining outcomes stepped with_messages is_movable first_movable next_delivery ask.asked ask.busy
-    ask.least_free ask.low_bytes offer.offered
-    offer.stalls bytes_carried number_from unfinished request_of release_of probe_of grant_sink pending held illegal
-    first_illegal beats_from each_below
-    broken_order on_link bytes_from effect with_handed clients_from masks_carried corrupt_carried request_carried
-    service.least_untaken service.services
-    manager_offer.judged_at manager_reaction.reaction manager_offer.offered manager_offer.stalls
+unfolding draining outcomes evaluated
 beats_of_4_bytes = refl
 
 beats_of_16_bytes : Gives {w = 16} (world profile.One 1 1 ((level.C, 1) ∷ (level.C, 1) ∷ []))
@@ -220,13 +167,7 @@ beats_of_16_bytes : Gives {w = 16} (world profile.One 1 1 ((level.C, 1) ∷ (lev
     (d_beat d.GrantData 1 6 0 0 (Some (replicate 16 0)) refl) ∷ Done (d_beat d.GrantData 1 6 0 0 (Some (replicate 16 0))
     refl) 0
     (finish.Granted perm.Branch) ∷ Moved (e_beat 0) ∷ Replied (reply.Value 90) ∷ Replied (reply.Value 90) ∷ []))
-unfolding draining outcomes stepped with_messages is_movable first_movable next_delivery ask.asked ask.busy
-    ask.least_free ask.low_bytes offer.offered
-    offer.stalls bytes_carried number_from unfinished request_of release_of probe_of grant_sink pending held illegal
-    first_illegal beats_from each_below
-    broken_order on_link bytes_from effect with_handed clients_from masks_carried corrupt_carried request_carried
-    service.least_untaken service.services
-    manager_offer.judged_at manager_reaction.reaction manager_offer.offered manager_offer.stalls
+unfolding draining outcomes evaluated
 beats_of_16_bytes = refl
 
 an_atomic_of_two_beats : Gives {w = 4} (world profile.One 1 1 ((level.UH, 1) ∷ []))
@@ -240,13 +181,7 @@ an_atomic_of_two_beats : Gives {w = 4} (world profile.One 1 1 ((level.UH, 1) ∷
     (d_beat d.AccessAckData 0 3 0 0 (Some (replicate 4 255)) refl) ∷ Done
     (d_beat d.AccessAckData 0 3 0 0 (Some (replicate 4 255)) refl) 0 (finish.Data 3 (replicate 8 255 ++ replicate 56 0))
     ∷ []))
-unfolding draining outcomes stepped with_messages is_movable first_movable next_delivery ask.asked ask.busy
-    ask.least_free ask.low_bytes offer.offered
-    offer.stalls bytes_carried number_from unfinished request_of release_of probe_of grant_sink pending held illegal
-    first_illegal beats_from each_below
-    broken_order on_link bytes_from effect with_handed clients_from masks_carried corrupt_carried request_carried
-    service.least_untaken service.services
-    manager_offer.judged_at manager_reaction.reaction manager_offer.offered manager_offer.stalls
+unfolding draining outcomes evaluated
 an_atomic_of_two_beats = refl
 
 a_lone_reader_may_write : Gives {w = 8} (world profile.Two 1 1 ((level.C, 1) ∷ (level.C, 1) ∷ []))
@@ -263,13 +198,7 @@ a_lone_reader_may_write : Gives {w = 8} (world profile.Two 1 1 ((level.C, 1) ∷
     ++ replicate 6 (Moved (d_beat d.GrantData 1 6 0 0 (Some (replicate 8 0)) refl))
     ++ (Done (d_beat d.GrantData 1 6 0 0 (Some (replicate 8 0)) refl) 0 (finish.Granted perm.Branch) ∷ Moved
     (e_beat 0) ∷ []))
-unfolding draining outcomes stepped with_messages is_movable first_movable next_delivery ask.asked ask.busy
-    ask.least_free ask.low_bytes offer.offered
-    offer.stalls bytes_carried number_from unfinished request_of release_of probe_of grant_sink pending held illegal
-    first_illegal beats_from each_below
-    broken_order on_link bytes_from effect with_handed clients_from masks_carried corrupt_carried request_carried
-    service.least_untaken service.services
-    manager_offer.judged_at manager_reaction.reaction manager_offer.offered manager_offer.stalls
+unfolding draining outcomes evaluated
 a_lone_reader_may_write = refl
 
 nobody_has_it_any_longer_at_the_grant : Gives {w = 8} (world profile.Two 1 1 ((level.C, 1) ∷ (level.C, 1) ∷ []))
@@ -289,11 +218,5 @@ nobody_has_it_any_longer_at_the_grant : Gives {w = 8} (world profile.Two 1 1 ((l
     ++ replicate 6 (Moved (d_beat d.GrantData 0 6 0 0 (Some (replicate 8 0)) refl))
     ++ (Done (d_beat d.GrantData 0 6 0 0 (Some (replicate 8 0)) refl) 0 (finish.Granted perm.Trunk) ∷ Moved
     (e_beat 0) ∷ []))
-unfolding draining outcomes stepped with_messages is_movable first_movable next_delivery ask.asked ask.busy
-    ask.least_free ask.low_bytes offer.offered
-    offer.stalls bytes_carried number_from unfinished request_of release_of probe_of grant_sink pending held illegal
-    first_illegal beats_from each_below
-    broken_order on_link bytes_from effect with_handed clients_from masks_carried corrupt_carried request_carried
-    service.least_untaken service.services
-    manager_offer.judged_at manager_reaction.reaction manager_offer.offered manager_offer.stalls
+unfolding draining outcomes evaluated
 nobody_has_it_any_longer_at_the_grant = refl

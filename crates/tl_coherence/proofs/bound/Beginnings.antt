@@ -1,17 +1,17 @@
 -- What is owed falls as a beat is taken that isn't the last of its message.
 use Rattle.tl_coherence.proofs.bound.Imports.{Beat, Channel, beats_of, Config, IsInvariant, channel_for, ClientBlock}
-use Rattle.tl_coherence.proofs.bound.Imports.{Own, Granting, ProbePhase, NoProbe, ProbeSent, ProbeAnswered, NoRelease}
-use Rattle.tl_coherence.proofs.bound.Imports.{ReleaseSent, ReleaseAcked, is_unprobed, Left, probing_weight, pair_weight}
+use Rattle.tl_coherence.proofs.bound.Imports.{Own, Granting, ProbePhase, ProbeAnswered}
+use Rattle.tl_coherence.proofs.bound.Imports.{ReleaseSent, is_unprobed, Left, probing_weight, pair_weight}
 use Rattle.tl_coherence.proofs.bound.Imports.{probes_weight, acquire_weight, letting_weight, rank, Waits, State}
 use Rattle.tl_coherence.proofs.bound.Imports.{SourceFree, Asked, InService, Replied, Acquires, packet, view}
 use Rattle.tl_coherence.proofs.bound.Imports.{is_unserved, is_wanting, is_answered, packets_on, AccessMessages}
-use Rattle.tl_coherence.proofs.bound.Imports.{message_of_kind, System, Kind, Request, Acquire, Probe, ProbeAck, Release}
-use Rattle.tl_coherence.proofs.bound.Imports.{Answer, Grant, ReleaseAck, GrantAck}
+use Rattle.tl_coherence.proofs.bound.Imports.{message_of_kind, System, Kind, Request, Acquire, ProbeAck, Release}
+use Rattle.tl_coherence.proofs.bound.Imports.{Answer, Grant}
 use Rattle.std.proofs.Common.{◌≡◌, ℕ, ◌+◌, ◌<◌, ◌≤◌, Bool, true, false, List, ◌∷◌, refl, sym, ◌∙◌, arith, ◌⊎◌, inl, inr}
 use Rattle.std.specs.Prelude.{if◌then◌else◌, Option, Some, None, length}
 use Rattle.std.proofs.lemmas.Bool.{cases_eq}
 use Rattle.tl_coherence.specs.protocol.Invariant.{is_asked, is_replied}
-use Rattle.tl_coherence.specs.protocol.Phase.{View, Idle, Other, Acknowledging, GrantedOther, ReleasePhase}
+use Rattle.tl_coherence.specs.protocol.Phase.{View, ReleasePhase}
 use Rattle.tl_coherence.specs.bound.Rank.{let_weight}
 use Rattle.tl_coherence.specs.protocol.Tokens.{is_granting, is_releasing, shown}
 use Rattle.tl_coherence.proofs.protocol.Capacities.{request_named, answer_named, acquire_named}
@@ -48,9 +48,8 @@ module _ {X : Type 0} (config : Config) (size : ℕ) (left left' : Left) (answer
   probing_less l l' p less = go p.probing
     where
       go : (x : ProbePhase) → probing_weight size l' p.recorded x ≤ probing_weight size l p.recorded x
-      go NoProbe = omega arith
-      go (ProbeSent k) = omega arith
       go (ProbeAnswered r) = less
+      go x = omega arith
 
   pair_less : (m d : ℕ) → pair_weight size left' m d ((s.block m).pair d) ≤ pair_weight size left m d
       ((s.block m).pair d)
@@ -60,9 +59,8 @@ module _ {X : Type 0} (config : Config) (size : ℕ) (left left' : Left) (answer
   probes_less m = probes-no-more config size left left' answer answer s s m (λ d lt. pair_less m d)
 
   letting_less : (l l' : ℕ) (x : ReleasePhase) → l' ≤ l → letting_weight l' x ≤ letting_weight l x
-  letting_less l l' NoRelease less = omega arith
   letting_less l l' (ReleaseSent r) less = omega (arith, less)
-  letting_less l l' ReleaseAcked less = omega arith
+  letting_less l l' x less = omega arith
 
   pub none-more : IsNoMore config size left left' answer answer s s
   none-more = record {
@@ -136,11 +134,7 @@ module _ {X : Type 0} (config : Config) (size : ℕ) (left left' : Left) (answer
               v + 1 ≤ acquire_weight size
               (left c Acquire m) (left c Grant m) (probes_weight number size left m (s.block m)) v
           go (Granting d k) f = omega (arith, less)
-          go Idle f = absurd cc
-          go Own f = absurd cc
-          go (Other k) f = absurd cc
-          go Acknowledging f = absurd cc
-          go GrantedOther f = absurd cc
+          go v f = absurd cc
 
       release_less : (m : ℕ) → left' c Release m + 1 ≤ left c Release m → shown Release c (s.block m) ≡ true → Falls
       release_less m less e =
@@ -152,8 +146,7 @@ module _ {X : Type 0} (config : Config) (size : ℕ) (left left' : Left) (answer
           go : (x : ReleasePhase) → is_releasing x ≡ true → letting_weight (left' c Release m) x + 1 ≤ letting_weight
               (left c Release m) x
           go (ReleaseSent r) f = omega (arith, less)
-          go NoRelease f = absurd cc
-          go ReleaseAcked f = absurd cc
+          go x f = absurd cc
 
       report_less : (m : ℕ) → left' c ProbeAck m + 1 ≤ left c ProbeAck m → shown ProbeAck c (s.block m) ≡ true → Falls
       report_less m less e = falls who.own who.is asker.used
@@ -174,8 +167,7 @@ module _ {X : Type 0} (config : Config) (size : ℕ) (left left' : Left) (answer
                   → probing_weight size (left' c ProbeAck m) ((s.block m).pair c).recorded x + 1 ≤ probing_weight size
                   (left c ProbeAck m) ((s.block m).pair c).recorded x
               go (ProbeAnswered r) f = less
-              go (ProbeSent k) f = absurd cc
-              go NoProbe f = absurd cc
+              go x f = absurd cc
 
           probes : probes_weight number size left' m (s.block m) + 1 ≤ probes_weight number size left m (s.block m)
           probes = total-falls number c 1 (λ d. pair_weight size left m d ((s.block m).pair d))
@@ -199,9 +191,7 @@ module _ {X : Type 0} (config : Config) (size : ℕ) (left left' : Left) (answer
       message-less Grant m e less heavy = grant_less m less e
       message-less Release m e less heavy = release_less m less e
       message-less ProbeAck m e less heavy = report_less m less e
-      message-less Probe m e less heavy = absurd cc
-      message-less ReleaseAck m e less heavy = absurd cc
-      message-less GrantAck m e less heavy = absurd cc
+      message-less k m e less heavy = absurd cc
 
 -- ---- a beat that isn't the last of its message
 

@@ -1,7 +1,7 @@
 -- What is owed falls with each event at which the last beat of a message is taken.
 use Rattle.tl_coherence.proofs.bound.Imports.{Channel, Message, Config, Cap, Prune, Report, IsInvariant, channel_for}
-use Rattle.tl_coherence.proofs.bound.Imports.{ProbePhase, NoProbe, ProbeSent, ProbeAnswered, NoRelease, ReleaseSent}
-use Rattle.tl_coherence.proofs.bound.Imports.{ReleaseAcked, rank, Free, Waits, GrantSent, GrantTaken, Block, State}
+use Rattle.tl_coherence.proofs.bound.Imports.{ProbePhase, ProbeSent, ProbeAnswered, ReleaseSent}
+use Rattle.tl_coherence.proofs.bound.Imports.{rank, Free, Waits, GrantSent, GrantTaken, Block, State}
 use Rattle.tl_coherence.proofs.bound.Imports.{SourceFree, Asked, InService, Replied, Acquires, packet, packets_on}
 use Rattle.tl_coherence.proofs.bound.Imports.{is_answered, is_probed, probed_block, report_taken, ended_block}
 use Rattle.tl_coherence.proofs.bound.Imports.{granted_block, granted_at_once, acquire_granted, acquire_served}
@@ -126,13 +126,11 @@ acks_served r own n k rest b link d = acks_as (served_link r own n k rest b link
 
 answered_with : (x : ProbePhase) → is_answered x ≡ true → (r : Report) × (x ≡ ProbeAnswered r)
 answered_with (ProbeAnswered r) e = (r, refl)
-answered_with NoProbe e = absurd cc
-answered_with (ProbeSent k) e = absurd cc
+answered_with x e = absurd cc
 
 releasing_with : (x : ReleasePhase) → is_releasing x ≡ true → (r : Prune) × (x ≡ ReleaseSent r)
 releasing_with (ReleaseSent r) e = (r, refl)
-releasing_with NoRelease e = absurd cc
-releasing_with ReleaseAcked e = absurd cc
+releasing_with x e = absurd cc
 
 module _ {w : ℕ} (config : Config) (caching : ℕ → Bool) (size : ℕ) (answer : ℕ → ℕ → ℕ) (mail : AccessMessages w)
     (s : State (List ℕ)) (sys sys' : System w) (pushes : ℕ → Channel → Option (Message w))

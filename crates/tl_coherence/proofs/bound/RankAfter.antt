@@ -50,8 +50,7 @@ use Rattle.tl_coherence.proofs.queues.Tokens.{set_at-same}
 report_on_c : (w : ℕ) (p : Perm) (r : Report) (n : ℕ) (bytes : List ℕ)
     → channel_of_message (probe_ack {w = w} opb.ProbeBlock p r n bytes) ≡ channel.C
 report_on_c w perm.None r n bytes = refl
-report_on_c w perm.Branch r n bytes = refl
-report_on_c w perm.Trunk r n bytes = refl
+report_on_c w p r n bytes = refl
 
 probed_on_c : (w c n : ℕ) (k : Cap) (b : Block (List ℕ))
     → channel_of_message (block_message {w = w} ProbeAck c n (probed_block c k b)) ≡ channel.C

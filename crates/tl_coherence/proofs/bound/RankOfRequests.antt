@@ -69,7 +69,6 @@ request-owed {w} config log h sys' tracker c source rest m width matched lt sixt
         → cap_probed m.opcode m.param ≡ o
         → Kept (access_taken c source m tracker p o rest h) → Falls (access_taken c source m tracker p o rest h)
     go true None f g is = absurd (let no : false ≡ true = rw g at f in cc)
-    go false None f g is = answered f is
-    go false (Some j) f g is = answered f is
     go true (Some j) f g is = access_served-owed config log h.mail h.request h.state sys' width matched c n rest lt
         source tracker j sixteen first free received is
+    go false o f g is = answered f is

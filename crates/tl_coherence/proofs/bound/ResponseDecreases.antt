@@ -32,8 +32,7 @@ use Rattle.tl_coherence.proofs.queues.Tokens.{same_number, set-same, set-other, 
 -- who has released is no longer recorded as the writer
 pruned : (r : Prune) → same_perm (prune_right r) perm.Trunk ≡ false
 pruned prune.TtoB = refl
-pruned prune.TtoN = refl
-pruned prune.BtoN = refl
+pruned r = refl
 
 pruned-weight : (size l l' : ℕ) (recorded : Perm) (r : Prune) (x : ProbePhase) → 1 ≤ size → ((a : ℕ) → l' ≤ l)
     → probing_weight size l' (prune_right r) x ≤ probing_weight size l recorded x

@@ -135,11 +135,8 @@ is_unanswered _ = true
 
 unanswered : {w : ℕ} (source : ℕ) (request answer : Message w) (u : SourceState) → is_unanswered u ≡ true
     → IsAnswered source request answer u
-unanswered source request answer SourceFree e = tt
-unanswered source request answer Asked e = tt
-unanswered source request answer (InService n) e = tt
-unanswered source request answer (Acquires n) e = tt
 unanswered source request answer Replied e = absurd cc
+unanswered source request answer u e = tt
 
 -- a source whose use is now another that is no answer's, whatever its request
 answered-used : {w : ℕ} (c source : ℕ) (u : SourceState) (mail : AccessMessages w) (s s' : State (List ℕ))
@@ -247,9 +244,7 @@ answered_request {w} clients c source tracker m rest h is access from all =
     go : (b : Bool) (o : Option Cap) → AreAnsweredIn (access_taken c source m tracker b o rest h)
     go true (Some k) = answered-used c source (InService n) h.mail h.state
         (access_taken c source m tracker true (Some k) rest h).state refl refl all
-    go true None = now
-    go false None = now
-    go false (Some k) = now
+    go b o = now
 
 answered_acquire : {w : ℕ} (clients : ℕ) (p : Profile) (c n tracker : ℕ) (x : AcquirePhase) (rest : List Packet)
     (h : AbstractState w) → AreAnsweredIn h
@@ -304,11 +299,9 @@ answered_ack {w} clients p c n r rest h with for all =
 
 answered_grant : {w : ℕ} (c n : ℕ) (service : Service) (rest : List Packet) (h : AbstractState w) → AreAnsweredIn h
     → AreAnsweredIn (taken_by_client c n service rest h)
-answered_grant c n Free rest h all = all
-answered_grant c n (Waits q own source k) rest h all = all
-answered_grant c n (GrantTaken q) rest h all = all
 answered_grant c n (GrantSent q d k) rest h all = answered-used c ((h.state.block n).source c) SourceFree h.mail h.state
     (taken_by_client c n (GrantSent q d k) rest h).state refl refl all
+answered_grant c n service rest h all = all
 
 pub answered-kind_taken : {w : ℕ} (config : Config) (log : Log w) (tracker c : ℕ) (k : Kind) (i : ℕ)
     (rest : List Packet) (h : AbstractState w) (sys : System w)

@@ -6,12 +6,12 @@ use Rattle.tl_coherence.proofs.client.Imports.{probes_some, some_below, access_t
 use Rattle.tl_coherence.proofs.client.Imports.{acquire_taken, granted_after, last_taken, ack_taken, is_whole}
 use Rattle.tl_coherence.proofs.client.Imports.{taken_by_client, kind_taken, cap_asked, IsInvariant, AcquirePhase}
 use Rattle.tl_coherence.proofs.client.Imports.{NoAcquire, AcquireOpen, is_unprobed, is_granted_data, after_report}
-use Rattle.tl_coherence.proofs.client.Imports.{Service, Free, Waits, GrantSent, GrantTaken, Block, SourceState}
-use Rattle.tl_coherence.proofs.client.Imports.{SourceFree, Asked, InService, Replied, Acquires, packet, on, is_probed}
+use Rattle.tl_coherence.proofs.client.Imports.{Service, Waits, GrantSent, Block, SourceState}
+use Rattle.tl_coherence.proofs.client.Imports.{Asked, InService, packet, on, is_probed}
 use Rattle.tl_coherence.proofs.client.Imports.{acquire_served, acquire_granted, report_taken, cap_sent, report_told}
 use Rattle.tl_coherence.proofs.client.Imports.{prune_told, Kind, Request, Acquire, Probe, ProbeAck, Release, Answer}
 use Rattle.tl_coherence.proofs.client.Imports.{Grant, ReleaseAck, GrantAck, Packet, set, set_at}
-use Rattle.std.proofs.Common.{◌≡◌, ℕ, Bool, true, false, not, List, ◌∷◌, Option, Some, None, length, refl, ◌∙◌, ap, inl}
+use Rattle.std.proofs.Common.{◌≡◌, ℕ, Bool, true, false, not, List, ◌∷◌, Option, Some, length, refl, ◌∙◌, ap, inl}
 use Rattle.std.proofs.lemmas.Bool.{and_from}
 use Rattle.std.specs.Prelude.{◌==◌, ◌&&◌, if◌then◌else◌}
 use Rattle.tl_burst.specs.declared.message.Message.TheVariants as message
@@ -53,10 +53,7 @@ leaves-none d h = record {
 
 asked_access : (u : SourceState) → is_asked u ≡ true → is_access u ≡ true
 asked_access Asked e = refl
-asked_access SourceFree e = absurd cc
-asked_access (InService n) e = absurd cc
-asked_access Replied e = absurd cc
-asked_access (Acquires n) e = absurd cc
+asked_access u e = absurd cc
 
 leaves-request : {w : ℕ} (clients c source tracker : ℕ) (m : Message w) (rest : List Packet) (h : AbstractState w)
     (d : ℕ) → is_access (h.state.uses c source) ≡ true
@@ -73,9 +70,7 @@ leaves-request {w} clients c source tracker (message.A m) rest h d access =
 
     go : (p : Bool) (o : Option Cap) → Leaves d h (access_taken c source m tracker p o rest h)
     go true (Some k) = aside-access_served c n source tracker d k rest h.mail h.state access
-    go true None = aside-access_answered c n source d (performs m) rest h.mail answered h.state access
-    go false None = aside-access_answered c n source d (performs m) rest h.mail answered h.state access
-    go false (Some k) = aside-access_answered c n source d (performs m) rest h.mail answered h.state access
+    go p o = aside-access_answered c n source d (performs m) rest h.mail answered h.state access
 leaves-request clients c source tracker (message.B m) rest h d access = leaves-none d h
 leaves-request clients c source tracker (message.C m) rest h d access = leaves-none d h
 leaves-request clients c source tracker (message.D m) rest h d access = leaves-none d h
@@ -103,10 +98,7 @@ leaves-acquire {w} clients p c n tracker (AcquireOpen whole g) rest h d =
 
 served_access : (n : ℕ) (u : SourceState) → serves_of n u ≡ true → is_access u ≡ true
 served_access n (InService m) e = refl
-served_access n SourceFree e = absurd cc
-served_access n Asked e = absurd cc
-served_access n Replied e = absurd cc
-served_access n (Acquires m) e = absurd cc
+served_access n u e = absurd cc
 
 leaves-granted : {w : ℕ} (clients : ℕ) (p : Profile) (c q n : ℕ) (r : Report) (a : AcquirePhase) (rest : List Packet)
     (h : AbstractState w) (d : ℕ) → Leaves d h (granted_after clients p c q n r a rest h)
@@ -120,15 +112,13 @@ leaves-last : {w : ℕ} (clients : ℕ) (p : Profile) (c n : ℕ) (r : Report) (
     (h : AbstractState w) (d : ℕ)
     → ((q source : ℕ) (k : Cap) → service ≡ Waits q false source k → is_access (h.state.uses q source) ≡ true)
     → Leaves d h (last_taken clients p c n r service rest h)
-leaves-last clients p c n r Free rest h d access = leaves-none d h
-leaves-last clients p c n r (GrantSent q x k) rest h d access = leaves-none d h
-leaves-last clients p c n r (GrantTaken q) rest h d access = leaves-none d h
 leaves-last clients p c n r (Waits q true source k) rest h d access =
     leaves-granted clients p c q n r ((h.state.block n).pair q).acquiring rest h d
 leaves-last clients p c n r (Waits q false source k) rest h d access =
     aside-report_answers c q n source d r (performs (h.request n)) rest h.mail
     (set_at q source (answers (h.request n) (written r (h.state.block n).truth (h.state.block n).memory)) h.mail.answer)
     h.state (access q source k refl)
+leaves-last clients p c n r service rest h d access = leaves-none d h
 
 leaves-ack : {w : ℕ} (caching : ℕ → Bool) (clients : ℕ) (p : Profile) (c n : ℕ) (r : Report) (rest : List Packet)
     (h : AbstractState w) (d : ℕ)
@@ -179,20 +169,15 @@ leaves-at_manager caching config tracker c Release n rest h d for inv first =
     (inv.transfers c Release refl)))
 leaves-at_manager caching config tracker c GrantAck n rest h d for inv first =
     aside-grant_ack_taken c n d rest h.mail h.state
-leaves-at_manager caching config tracker c Probe n rest h d for inv first = absurd cc
-leaves-at_manager caching config tracker c Answer n rest h d for inv first = absurd cc
-leaves-at_manager caching config tracker c Grant n rest h d for inv first = absurd cc
-leaves-at_manager caching config tracker c ReleaseAck n rest h d for inv first = absurd cc
+leaves-at_manager caching config tracker c k n rest h d for inv first = absurd cc
 
 -- ---- messages that a client takes, as another sees it
 
 leaves-grant : {w : ℕ} (c n : ℕ) (service : Service) (rest : List Packet) (h : AbstractState w) (d : ℕ) → (d ≡ c → ⊥)
     → Leaves d h (taken_by_client c n service rest h)
-leaves-grant c n Free rest h d ne = leaves-none d h
-leaves-grant c n (Waits q own source k) rest h d ne = leaves-none d h
-leaves-grant c n (GrantTaken q) rest h d ne = leaves-none d h
 leaves-grant c n (GrantSent q x k) rest h d ne = aside-grant_taken c n d (is_whole ((h.state.block n).pair c).acquiring)
     x k rest h.mail h.state ne
+leaves-grant c n service rest h d ne = leaves-none d h
 
 pub leaves-at_client : {w : ℕ} (config : Config) (tracker c : ℕ) (k : Kind) (i : ℕ) (rest : List Packet)
     (h : AbstractState w) (d : ℕ) → is_for_manager k ≡ false
@@ -202,48 +187,20 @@ leaves-at_client config tracker c Probe n rest h d for ne =
 leaves-at_client config tracker c Answer i rest h d for ne = aside-answer_taken c i d rest h.mail h.state ne
 leaves-at_client config tracker c Grant n rest h d for ne = leaves-grant c n (h.state.block n).service rest h d ne
 leaves-at_client config tracker c ReleaseAck n rest h d for ne = aside-release_ack_taken c n d rest h.mail h.state ne
-leaves-at_client config tracker c Request n rest h d for ne = absurd cc
-leaves-at_client config tracker c Acquire n rest h d for ne = absurd cc
-leaves-at_client config tracker c ProbeAck n rest h d for ne = absurd cc
-leaves-at_client config tracker c Release n rest h d for ne = absurd cc
-leaves-at_client config tracker c GrantAck n rest h d for ne = absurd cc
+leaves-at_client config tracker c k n rest h d for ne = absurd cc
 
 -- ---- operations that a client is asked for, as another sees it
 
 pub leaves-asked : {w : ℕ} (c : ℕ) (o : Op w) (r : Reply) (h : AbstractState w) (d : ℕ) → (d ≡ c → ⊥)
     → Leaves d h (asked c o r h)
-leaves-asked c (op.Load address size) r h d ne = leaves-none d h
 leaves-asked c (op.Store address size value) reply.Stored h d ne =
     aside-block_stored c (block_at address) d
     (copy_stored address size value ((h.state.block (block_at address)).copy c)) h.mail h.state ne
-leaves-asked c (op.Store address size value) (reply.Value v) h d ne = leaves-none d h
-leaves-asked c (op.Store address size value) reply.Miss h d ne = leaves-none d h
-leaves-asked c (op.Store address size value) (reply.Started source) h d ne = leaves-none d h
-leaves-asked c (op.Store address size value) (reply.Busy why) h d ne = leaves-none d h
 leaves-asked c (op.Acquire n g) (reply.Started source) h d ne =
     aside-acquire_asked c n source d false g ((h.state.block n).waiting c) h.mail h.state ne
-leaves-asked c (op.Acquire n g) (reply.Value v) h d ne = leaves-none d h
-leaves-asked c (op.Acquire n g) reply.Stored h d ne = leaves-none d h
-leaves-asked c (op.Acquire n g) reply.Miss h d ne = leaves-none d h
-leaves-asked c (op.Acquire n g) (reply.Busy why) h d ne = leaves-none d h
 leaves-asked c (op.AcquireWhole n bytes) (reply.Started source) h d ne =
     aside-acquire_asked c n source d true (whole_grow ((h.state.block n).pair c).held) bytes h.mail h.state ne
-leaves-asked c (op.AcquireWhole n bytes) (reply.Value v) h d ne = leaves-none d h
-leaves-asked c (op.AcquireWhole n bytes) reply.Stored h d ne = leaves-none d h
-leaves-asked c (op.AcquireWhole n bytes) reply.Miss h d ne = leaves-none d h
-leaves-asked c (op.AcquireWhole n bytes) (reply.Busy why) h d ne = leaves-none d h
 leaves-asked c (op.Release n p) (reply.Started source) h d ne = aside-release_asked c n source d p h.mail h.state ne
-leaves-asked c (op.Release n p) (reply.Value v) h d ne = leaves-none d h
-leaves-asked c (op.Release n p) reply.Stored h d ne = leaves-none d h
-leaves-asked c (op.Release n p) reply.Miss h d ne = leaves-none d h
-leaves-asked c (op.Release n p) (reply.Busy why) h d ne = leaves-none d h
 leaves-asked c (op.Access (message.A m)) (reply.Started source) h d ne =
     aside-access_asked c source d (access source m) h.mail h.state ne
-leaves-asked c (op.Access (message.A m)) (reply.Value v) h d ne = leaves-none d h
-leaves-asked c (op.Access (message.A m)) reply.Stored h d ne = leaves-none d h
-leaves-asked c (op.Access (message.A m)) reply.Miss h d ne = leaves-none d h
-leaves-asked c (op.Access (message.A m)) (reply.Busy why) h d ne = leaves-none d h
-leaves-asked c (op.Access (message.B m)) r h d ne = leaves-none d h
-leaves-asked c (op.Access (message.C m)) r h d ne = leaves-none d h
-leaves-asked c (op.Access (message.D m)) r h d ne = leaves-none d h
-leaves-asked c (op.Access (message.E m)) r h d ne = leaves-none d h
+leaves-asked c o r h d ne = leaves-none d h

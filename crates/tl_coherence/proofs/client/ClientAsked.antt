@@ -166,8 +166,7 @@ end-release_asked {w} c n source r copy mail s e width begins kept end =
 
     kept_some : (q : Perm) (x y : Option (List ℕ)) → same_perm q perm.None ≡ false → cond (not (holds q)) x y ≡ y
     kept_some perm.None x y some = absurd cc
-    kept_some perm.Branch x y some = refl
-    kept_some perm.Trunk x y some = refl
+    kept_some q x y some = refl
 
     copy_of : (i : ℕ) (b : Bool) → (i == n) ≡ b → same_perm (cond b (prune_right r) ((s.block i).pair c).held)
         perm.None ≡ false
@@ -247,8 +246,7 @@ end_busy c (op.Access (message.E m)) b h e end = end
 end_load : {w : ℕ} (c address size : ℕ) (p : Perm) (h : AbstractState w) (e : Endpoint w) → IsEndOf c h e
     → IsAfter c (op.Load address size) h (load address size p e)
 end_load c address size perm.None h e end kept = end
-end_load c address size perm.Branch h e end kept = end
-end_load c address size perm.Trunk h e end kept = end
+end_load c address size p h e end kept = end
 
 end_store : {w : ℕ} (c address size value : ℕ) (p : Perm) (h : AbstractState w) (e : Endpoint w)
     → ((h.state.block (block_at address)).pair c).held ≡ p → IsEndOf c h e

@@ -5,8 +5,8 @@ use Rattle.tl_coherence.proofs.client.Imports.{request_of, same_perm, Finish, En
 use Rattle.tl_coherence.proofs.client.Imports.{offered, taken, ended, responded, silent, AbstractState, is_whole}
 use Rattle.tl_coherence.proofs.client.Imports.{taken_by_client, kind_taken, packet_taken, Log, AcquirePhase}
 use Rattle.tl_coherence.proofs.client.Imports.{AcquireOpen, Service, GrantSent, State, packet, is_on, grant_taken}
-use Rattle.tl_coherence.proofs.client.Imports.{AccessMessages, block_message, System, terms_at, Kind, Request, Acquire}
-use Rattle.tl_coherence.proofs.client.Imports.{Probe, ProbeAck, Release, Answer, Grant, ReleaseAck, GrantAck, Packet}
+use Rattle.tl_coherence.proofs.client.Imports.{AccessMessages, block_message, System, terms_at, Kind}
+use Rattle.tl_coherence.proofs.client.Imports.{Answer, Grant, ReleaseAck, Packet}
 use Rattle.tl_coherence.proofs.client.Imports.{SimulationRelation, gives_asked, asked_by, is_caching}
 use Rattle.std.proofs.Common.{◌≡◌, subst, ℕ, ◌+◌, ◌*◌, Bool, true, false, ◌||◌, cond, List, ◌∷◌, Option, Some, length}
 use Rattle.std.proofs.Common.{refl, sym, ◌∙◌, ap, arith, lit<}
@@ -58,12 +58,9 @@ last_end {w} y e last = ap
 
 ended_plain : {w : ℕ} (o : OpD) (y : BeatD w) (f : Finish) (r : Option (BeatA w)) (payload : List ℕ) (e : Endpoint w)
     → is_grant o ≡ false → (ended o y f (granted o r payload e)).after ≡ e
-ended_plain opd.AccessAck y f r payload e plain = refl
-ended_plain opd.AccessAckData y f r payload e plain = refl
-ended_plain opd.HintAck y f r payload e plain = refl
-ended_plain opd.ReleaseAck y f r payload e plain = refl
 ended_plain opd.Grant y f r payload e plain = absurd cc
 ended_plain opd.GrantData y f r payload e plain = absurd cc
+ended_plain o y f r payload e plain = refl
 
 plain_end : {w : ℕ} (y : BeatD w) (e : Endpoint w) → ends (beat.D y) e.past ≡ true → is_grant y.opcode ≡ false
     → (taken (beat.D y) e).after ≡ with_past (beat.D y ∷ e.past) e
@@ -271,10 +268,7 @@ grant-delivered {w} config log mail request s sys terms tracker c n rest ms x qu
     holds_copy : (whole data_too : Bool) (q : Perm) → whole ≡ false → data_too ≡ false
         → (whole || (data_too || same_perm q perm.Branch)) ≡ true → same_perm q perm.None ≡ false
     holds_copy false false perm.Branch a b f = refl
-    holds_copy false false perm.None a b f = absurd cc
-    holds_copy false false perm.Trunk a b f = absurd cc
-    holds_copy true data_too q a b f = absurd cc
-    holds_copy false true q a b f = absurd cc
+    holds_copy whole data_too q a b f = absurd cc
 
     served : (y : BeatD w) → IsEnd (asked_by mail (grant_taken c n due.whole due.data_too due.k rest s) c) c
         (grant_taken c n due.whole due.data_too due.k rest s) (taken (beat.D y) e).after
@@ -316,9 +310,4 @@ delivered-d {w} config log mail request s sys terms tracker c x queue width h at
     go ReleaseAck i tokens own next = ack-delivered config log mail request s sys terms tracker c i first.rest
         (map (message_of mail s c) first.rest) x queue width h at beats tokens
         (ack_next c i s x (unfinished channel.D (sys.clients c).past) (map (message_of mail s c) first.rest) queue next)
-    go Request i tokens own next = absurd cc
-    go Acquire i tokens own next = absurd cc
-    go Probe i tokens own next = absurd cc
-    go ProbeAck i tokens own next = absurd cc
-    go Release i tokens own next = absurd cc
-    go GrantAck i tokens own next = absurd cc
+    go k i tokens own next = absurd cc

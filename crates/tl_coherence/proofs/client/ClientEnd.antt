@@ -110,12 +110,8 @@ pub record IsSame {w : ℕ} (c : ℕ) (asked asked' : ℕ → Option (BeatA w)) 
 pub comes-same : {w : ℕ} (asked asked' : ℕ → Option (BeatA w)) (n : ℕ) (rest : List (Beat w))
     → ((source : ℕ) → asked' source ≡ asked source)
     → comes_granting n asked' rest ≡ comes_granting n asked rest
-comes-same asked asked' n [] same = refl
-comes-same asked asked' n (beat.A x ∷ rest) same = refl
-comes-same asked asked' n (beat.B x ∷ rest) same = refl
-comes-same asked asked' n (beat.C x ∷ rest) same = refl
 comes-same asked asked' n (beat.D x ∷ rest) same = rw (same x.source) refl
-comes-same asked asked' n (beat.E x ∷ rest) same = refl
+comes-same asked asked' n rest same = refl
 
 pub known-same : {w : ℕ} (c : ℕ) (asked asked' : ℕ → Option (BeatA w)) (rest : List (Beat w)) (s s' : State (List ℕ))
     (t : History w)
@@ -173,11 +169,9 @@ IsSameUse u v = (v ≡ u) ⊎ ((is_access u ≡ true) × (is_access v ≡ true))
 
 access_asks : {w : ℕ} (u : SourceState) (request : Message w) → is_access u ≡ true → (acquire : Message w)
     → asked_for u request acquire ≡ first_of request
-access_asks Asked request e acquire = refl
-access_asks (InService n) request e acquire = refl
-access_asks Replied request e acquire = refl
 access_asks SourceFree request e acquire = absurd cc
 access_asks (Acquires n) request e acquire = absurd cc
+access_asks u request e acquire = refl
 
 -- what a use asks for
 abbrev asked_with : {w : ℕ} → SourceState → Message w → (ℕ → Block (List ℕ)) → ℕ → Option (BeatA w)
@@ -188,11 +182,8 @@ acquires_same : {w : ℕ} (u : SourceState) (request : Message w) (block block' 
     → ((n : ℕ) → u ≡ Acquires n → (block' n).source c ≡ (block n).source c)
     → asked_with u request block' c ≡ asked_with u request block c
 unfolding block_message
-acquires_same SourceFree request block block' c a b = refl
-acquires_same Asked request block block' c a b = refl
-acquires_same (InService n) request block block' c a b = refl
-acquires_same Replied request block block' c a b = refl
 acquires_same (Acquires n) request block block' c a b = rw (a n refl, b n refl) refl
+acquires_same u request block block' c a b = refl
 
 -- one source asks for the same where its use, its access and its Acquire are as before
 pub asks-same : {w : ℕ} (c source : ℕ) (mail mail' : AccessMessages w) (s s' : State (List ℕ))

@@ -91,8 +91,7 @@ end-probe_taken {w} c n k rest mail s e width well end =
 
     some_held : (q : Perm) → same_perm q perm.None ≡ false → holds q ≡ true
     some_held perm.None e = absurd cc
-    some_held perm.Branch e = refl
-    some_held perm.Trunk e = refl
+    some_held q e = refl
 
     copy_of : (i : ℕ) (b : Bool) → (i == n) ≡ b
         → cond b (same_perm (new.pair c).held perm.None) (same_perm ((s.block i).pair c).held perm.None) ≡ false

@@ -7,7 +7,7 @@ use Rattle.tl_coherence.proofs.client.Imports.{terms_at}
 use Rattle.tl_coherence.proofs.client.Imports.{Packet, SimulationRelation, is_caching}
 use Rattle.std.proofs.Common.{◌≡◌, subst, ℕ, Bool, true, false, ◌&&◌, List, [], ◌∷◌, Option, Some, None, refl}
 use Rattle.std.proofs.Common.{sym, ◌∙◌, ap, ◌⊎◌, inl, inr}
-use Rattle.std.specs.Prelude.{if◌then◌else◌, Result, Ok, Err}
+use Rattle.std.specs.Prelude.{if◌then◌else◌, Result, Ok}
 use Rattle.std.proofs.lemmas.Bool.{cases_eq}
 use Rattle.tl_beat.specs.declared.beat.Link.{Link}
 use Rattle.tl_beat.specs.declared.channel.Channel.{Channel}
@@ -47,23 +47,18 @@ use Rattle.tl_coherence.proofs.client.ManagerStep.{client_kind, manager_ends}
 ended_unrefused : {w : ℕ} (opcode : OpD) (x : BeatD w) (f : Finish) (e : Endpoint w)
     → is_refused (ended opcode x f e).answer ≡ false
 ended_unrefused opd.AccessAck x f e = refl
-ended_unrefused opd.AccessAckData x f e = refl
-ended_unrefused opd.HintAck x f e = refl
-ended_unrefused opd.Grant x f e = refl
-ended_unrefused opd.GrantData x f e = refl
-ended_unrefused opd.ReleaseAck x f e = refl
+ended_unrefused opcode x f e = refl
 
 -- a beat that is taken is moved, and the client's end is that of the answer
 moved : {w : ℕ} (a : Result (Verdict × Option (Message w)) Rule) (c : ℕ) (ch : Channel) (x : Beat w)
     (queue : List (Beat w)) (e : Endpoint w) (s : System w) → is_refused a ≡ false → is_stalled a ≡ false
     → (is_moving (judged a c ch x queue e s).outcome ≡ true)
     × ((judged a c ch x queue e s).after.clients ≡ (with_client c e (with_channel c ch queue s)).clients)
-moved (Err rule) c ch x queue e s unrefused moves = absurd cc
-moved (Ok (verdict.Stalled, m)) c ch x queue e s unrefused moves = absurd cc
 moved (Ok (verdict.Taken, m)) c ch x queue e s unrefused moves =
     (refl, clients-with_messages (handed_by c m) (with_client c e (with_channel c ch queue s)))
 moved (Ok (verdict.Done source f, m)) c ch x queue e s unrefused moves =
     (refl, clients-with_messages (handed_by c m) (with_client c e (with_channel c ch queue s)))
+moved a c ch x queue e s unrefused moves = absurd cc
 
 -- a message that one client takes leaves the others' ends alone
 client_leaves : {w : ℕ} (config : Config) (tracker c : ℕ) (ch : Channel) (h : AbstractState w) (d : ℕ) (sys : System w)

@@ -182,19 +182,7 @@ fits_asked profile.One true grow.NtoT cap.ToT e f = refl
 fits_asked profile.Two true grow.NtoT cap.ToT e f = refl
 fits_asked profile.One true grow.BtoT cap.ToT e f = refl
 fits_asked profile.Two true grow.BtoT cap.ToT e f = refl
-fits_asked profile.One false grow.NtoB cap.ToT e f = absurd cc
-fits_asked p false grow.NtoB cap.ToN e f = absurd cc
-fits_asked p false grow.NtoT cap.ToB e f = absurd cc
-fits_asked p false grow.NtoT cap.ToN e f = absurd cc
-fits_asked p false grow.BtoT cap.ToB e f = absurd cc
-fits_asked p false grow.BtoT cap.ToN e f = absurd cc
-fits_asked p true grow.NtoB cap.ToT e f = absurd cc
-fits_asked p true grow.NtoB cap.ToB e f = absurd cc
-fits_asked p true grow.NtoB cap.ToN e f = absurd cc
-fits_asked p true grow.NtoT cap.ToB e f = absurd cc
-fits_asked p true grow.NtoT cap.ToN e f = absurd cc
-fits_asked p true grow.BtoT cap.ToB e f = absurd cc
-fits_asked p true grow.BtoT cap.ToN e f = absurd cc
+fits_asked p whole g k e f = absurd cc
 
 -- the parts of a Grant that fits
 pub record IsFitting (held : Perm) (data_too : Bool) (k : Cap) (whole : Bool) (g : Grow) : Type 0 where

@@ -24,11 +24,7 @@ acked opcode sink = if is_grant opcode then Some (grant_ack sink) else None
 ended_answer : {w : ℕ} (o : OpD) (y : BeatD w) (f : Finish) (e : Endpoint w)
     → (ended o y f e).answer ≡ Ok (verdict.Done y.source f, acked o y.sink)
 ended_answer d.AccessAck y f e = refl
-ended_answer d.AccessAckData y f e = refl
-ended_answer d.HintAck y f e = refl
-ended_answer d.Grant y f e = refl
-ended_answer d.GrantData y f e = refl
-ended_answer d.ReleaseAck y f e = refl
+ended_answer o y f e = refl
 
 pub answer-last : {w : ℕ} (y : BeatD w) (e : Endpoint w) → ends (beat.D y) e.past ≡ true
     → (taken (beat.D y) e).answer ≡ Ok (verdict.Done y.source (finish_at y e), acked y.opcode y.sink)
@@ -60,8 +56,4 @@ same_answers {w} v u m n a e f = let same = made_same (v, m) (u, n) (sym e ∙ f
 pub finish-pool : (w : ℕ) (o : OpD) (param size address : ℕ) (payload : List ℕ)
     → pool_of (finish_of w o param size address payload) ≡ (if is_release_ack o then Releases else Requests)
 finish-pool w d.AccessAck param size address payload = refl
-finish-pool w d.AccessAckData param size address payload = refl
-finish-pool w d.HintAck param size address payload = refl
-finish-pool w d.Grant param size address payload = refl
-finish-pool w d.GrantData param size address payload = refl
-finish-pool w d.ReleaseAck param size address payload = refl
+finish-pool w o param size address payload = refl

@@ -6,8 +6,8 @@ use Rattle.tl_coherence.proofs.client.Imports.{is_unheld, gift, acquire_taken, g
 use Rattle.tl_coherence.proofs.client.Imports.{is_whole, taken_by_client, kind_taken, cap_asked, IsInvariant}
 use Rattle.tl_coherence.proofs.client.Imports.{ClientBlock, AcquirePhase, NoAcquire, AcquireOpen, is_unprobed}
 use Rattle.tl_coherence.proofs.client.Imports.{after_acquire, after_release, after_probe, after_report}
-use Rattle.tl_coherence.proofs.client.Imports.{after_release_taken, after_release_ack, is_granted_data, Service, Free}
-use Rattle.tl_coherence.proofs.client.Imports.{Waits, GrantSent, GrantTaken, Block, State, view, is_probed}
+use Rattle.tl_coherence.proofs.client.Imports.{after_release_taken, after_release_ack, is_granted_data, Service}
+use Rattle.tl_coherence.proofs.client.Imports.{Waits, GrantSent, Block, State, view, is_probed}
 use Rattle.tl_coherence.proofs.client.Imports.{acquiring_block, releasing_block, stored_block, performed_block}
 use Rattle.tl_coherence.proofs.client.Imports.{granted_at_once, served_block, probed_block, reported_block, ended_block}
 use Rattle.tl_coherence.proofs.client.Imports.{granted_block, let_block, taken_block, let_go_block, freed_block}
@@ -37,10 +37,8 @@ AreGiven p s = (n : ℕ) → IsGivenAsked p (s.block n).service (s.block n).pair
 
 given-pairs : (p : Profile) (service : Service) (pair pair' : ℕ → ClientBlock)
     → ((q : ℕ) → (pair' q).acquiring ≡ (pair q).acquiring) → IsGivenAsked p service pair → IsGivenAsked p service pair'
-given-pairs p Free pair pair' same h = tt
-given-pairs p (Waits r own source k) pair pair' same h = tt
-given-pairs p (GrantTaken q) pair pair' same h = tt
 given-pairs p (GrantSent q d k) pair pair' same h = ap (λ (a : AcquirePhase). gives_asked p a k) (same q) ∙ h
+given-pairs p service pair pair' same h = tt
 
 -- one client's pair is another, with the same Acquire
 given-pair : (p : Profile) (service : Service) (c : ℕ) (x : ClientBlock) (pair : ℕ → ClientBlock)
@@ -58,12 +56,10 @@ given-set p n b s h new = set-each (λ i (x : Block (List ℕ)). IsGivenAsked p 
 given-acquiring : (p : Profile) (c : ℕ) (whole : Bool) (g : Grow) (service : Service) (pair : ℕ → ClientBlock)
     → ((d : Bool) (k : Cap) → service ≡ GrantSent c d k → ⊥) → IsGivenAsked p service pair
     → IsGivenAsked p service (set c (after_acquire whole g (pair c)) pair)
-given-acquiring p c whole g Free pair none h = tt
-given-acquiring p c whole g (Waits r own source k) pair none h = tt
-given-acquiring p c whole g (GrantTaken q) pair none h = tt
 given-acquiring p c whole g (GrantSent q d k) pair none h =
     ap (λ (x : ClientBlock). gives_asked p x.acquiring k) (set-other c q (after_acquire whole g (pair c)) pair
     (λ same. none d k (ap (λ (i : ℕ). GrantSent i d k) same))) ∙ h
+given-acquiring p c whole g service pair none h = tt
 
 -- what the manager gives
 gift_given : (p : Profile) (whole : Bool) (g : Grow) (unheld : Bool)
@@ -150,9 +146,7 @@ given_request {w} p clients c source tracker (message.A m) rest h given =
 
     go : (x : Bool) (o : Option Cap) → AreGiven p (access_taken c source m tracker x o rest h).state
     go true (Some k) = given-set p n (served_block c false source tracker k (h.state.block n)) h.state given tt
-    go true None = answered
-    go false None = answered
-    go false (Some k) = answered
+    go x o = answered
 given_request p clients c source tracker (message.B m) rest h given = given
 given_request p clients c source tracker (message.C m) rest h given = given
 given_request p clients c source tracker (message.D m) rest h given = given
@@ -206,13 +200,11 @@ given_granted {w} p clients c q n r (AcquireOpen whole g) rest h is given =
 given_last : {w : ℕ} (p : Profile) (clients c n : ℕ) (r : Report) (service : Service) (rest : List Packet)
     (h : AbstractState w) → AreGiven p h.state
     → AreGiven p (last_taken clients p c n r service rest h).state
-given_last p clients c n r Free rest h given = given
-given_last p clients c n r (GrantSent q d k) rest h given = given
-given_last p clients c n r (GrantTaken q) rest h given = given
 given_last p clients c n r (Waits q true source k) rest h given =
     given_granted p clients c q n r ((h.state.block n).pair q).acquiring rest h refl given
 given_last p clients c n r (Waits q false source k) rest h given =
     given-set p n (ended_block c r (performs (h.request n)) (h.state.block n)) h.state given tt
+given_last p clients c n r service rest h given = given
 
 given_ack : {w : ℕ} (p : Profile) (clients c n : ℕ) (r : Report) (rest : List Packet) (h : AbstractState w)
     → AreGiven p h.state → AreGiven p (ack_taken clients p c n r rest h).state
@@ -228,11 +220,9 @@ given_ack {w} p clients c n r rest h given =
 
 given_grant : {w : ℕ} (p : Profile) (c n : ℕ) (service : Service) (rest : List Packet) (h : AbstractState w)
     → AreGiven p h.state → AreGiven p (taken_by_client c n service rest h).state
-given_grant p c n Free rest h given = given
-given_grant p c n (Waits q own source k) rest h given = given
-given_grant p c n (GrantTaken q) rest h given = given
 given_grant p c n (GrantSent q d k) rest h given =
     given-set p n (taken_block c (is_whole ((h.state.block n).pair c).acquiring) d k (h.state.block n)) h.state given tt
+given_grant p c n service rest h given = given
 
 pub given-kind_taken : {w : ℕ} (config : Config) (tracker c : ℕ) (k : Kind) (i : ℕ) (rest : List Packet)
     (h : AbstractState w) → AreGiven config.profile h.state

@@ -110,17 +110,7 @@ ack_of perm.Trunk r n copy = (
         same_block n;
   },
 )
-ack_of perm.Branch r n copy = (
-  about c.ProbeAck (report_code r) 0 n zeros,
-  refl,
-  record {
-    acks = refl;
-    releases_none = refl;
-    of_block =
-        same_block n;
-  },
-)
-ack_of perm.None r n copy = (
+ack_of p r n copy = (
   about c.ProbeAck (report_code r) 0 n zeros,
   refl,
   record {
@@ -138,23 +128,15 @@ IsProbeKey _ = false
 
 probe_opens : {w : ℕ} (j : Key) (x : BeatB w) (t : History w) → IsProbeKey j ≡ false → (opens j (beat.B x) t ≡ false)
     × (closes j (beat.B x) t ≡ false)
-probe_opens (key.RequestSource s) x t e = (refl, refl)
-probe_opens (key.ReleaseSource s) x t e = (refl, refl)
-probe_opens (key.AcquireOf n) x t e = (refl, refl)
-probe_opens (key.ReleaseOf n) x t e = (refl, refl)
-probe_opens (key.GrantSink s) x t e = (refl, refl)
-probe_opens (key.GrantAckOf n) x t e = (refl, refl)
 probe_opens (key.ProbeOf n) x t e = absurd cc
+probe_opens j x t e = (refl, refl)
 
 ack_opens : {w : ℕ} (j : Key) (n : ℕ) (m : MessageC w) (t : History w) → IsProbeAck n m → IsProbeKey j ≡ false
     → (opens j (beat_of (message.C m) 0) t ≡ false) × (closes j (beat_of (message.C m) 0) t ≡ false)
-ack_opens (key.RequestSource s) n m t is e = (refl, refl)
 ack_opens (key.ReleaseSource s) n m t is e = (rw is.releases_none refl, refl)
-ack_opens (key.AcquireOf i) n m t is e = (refl, refl)
 ack_opens (key.ReleaseOf i) n m t is e = (rw is.releases_none refl, refl)
-ack_opens (key.GrantSink s) n m t is e = (refl, refl)
-ack_opens (key.GrantAckOf i) n m t is e = (refl, refl)
 ack_opens (key.ProbeOf i) n m t is e = absurd cc
+ack_opens j n m t is e = (refl, refl)
 
 -- the history after a Probe and its answer
 abbrev after : {w : ℕ} → BeatB w → MessageC w → History w → History w

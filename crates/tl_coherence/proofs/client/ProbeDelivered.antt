@@ -6,8 +6,8 @@ use Rattle.tl_coherence.proofs.client.Imports.{is_grant, pending, illegal, EndCo
 use Rattle.tl_coherence.proofs.client.Imports.{offered, taken, probed, silent, waits, same_block, grant_opcode}
 use Rattle.tl_coherence.proofs.client.Imports.{level_of, AbstractState, packet_taken, kind_taken, IsInvariant, Log}
 use Rattle.tl_coherence.proofs.client.Imports.{is_unprobed, is_unreleased, State, packet, is_on, view, AccessMessages}
-use Rattle.tl_coherence.proofs.client.Imports.{cap_sent, block_message, probe_beat, System, terms_at, Kind, Request}
-use Rattle.tl_coherence.proofs.client.Imports.{Acquire, Probe, ProbeAck, Release, Answer, Grant, ReleaseAck, GrantAck}
+use Rattle.tl_coherence.proofs.client.Imports.{cap_sent, block_message, probe_beat, System, terms_at, Kind}
+use Rattle.tl_coherence.proofs.client.Imports.{Probe, Answer, Grant, ReleaseAck}
 use Rattle.tl_coherence.proofs.client.Imports.{Packet, SimulationRelation, asked_by, is_caching}
 use Rattle.std.proofs.Common.{◌≡◌, subst, ℕ, zero, suc, ◌<◌, Bool, true, false, not, ◌&&◌, cond, List, [], ◌∷◌, Option}
 use Rattle.std.proofs.Common.{Some, None, refl, sym, ◌∙◌, ap, arith}
@@ -133,12 +133,7 @@ not_coming {w} config log mail request s sys c n h sent = go (s.link c).d refl (
     elses Answer i rest first own = else_answer config log mail request s sys c n i rest h first
     elses Grant i rest first own = else_grant config log mail request s sys c n i rest h first sent
     elses ReleaseAck i rest first own = else_ack mail s c n i
-    elses Request i rest first own = absurd cc
-    elses Acquire i rest first own = absurd cc
-    elses Probe i rest first own = absurd cc
-    elses ProbeAck i rest first own = absurd cc
-    elses Release i rest first own = absurd cc
-    elses GrantAck i rest first own = absurd cc
+    elses k i rest first own = absurd cc
 
     go : (xs : List Packet) → (s.link c).d ≡ xs → IsCarried rest_now (map (message_of mail s c) (s.link c).d)
         (sys.channels c channel.D) → comes_granting n (asked_by mail s c) rest_now ≡ false
@@ -325,11 +320,4 @@ delivered-b {w} config log mail request s sys terms tracker c x queue width h at
       probe-delivered config log mail request s sys terms tracker c i first.rest
           (map (message_of mail s c) first.rest) x queue width h at beats tokens next,
     )
-    go Request i tokens own next = absurd cc
-    go Acquire i tokens own next = absurd cc
-    go ProbeAck i tokens own next = absurd cc
-    go Release i tokens own next = absurd cc
-    go Answer i tokens own next = absurd cc
-    go Grant i tokens own next = absurd cc
-    go ReleaseAck i tokens own next = absurd cc
-    go GrantAck i tokens own next = absurd cc
+    go k i tokens own next = absurd cc

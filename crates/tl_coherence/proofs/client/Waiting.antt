@@ -7,7 +7,7 @@ use Rattle.tl_coherence.proofs.client.Imports.{probes_some, request_taken, some_
 use Rattle.tl_coherence.proofs.client.Imports.{IsInvariant, cap_asked, ClientBlock, AcquirePhase, NoAcquire}
 use Rattle.tl_coherence.proofs.client.Imports.{AcquireOpen, is_unprobed, after_acquire, after_probe, after_release}
 use Rattle.tl_coherence.proofs.client.Imports.{after_release_ack, after_release_taken, after_report, is_granted_data}
-use Rattle.tl_coherence.proofs.client.Imports.{Service, Free, Waits, GrantSent, GrantTaken, Block, acquiring_block}
+use Rattle.tl_coherence.proofs.client.Imports.{Service, Waits, GrantSent, Block, acquiring_block}
 use Rattle.tl_coherence.proofs.client.Imports.{freed_block, granted_at_once, granted_block, ended_block}
 use Rattle.tl_coherence.proofs.client.Imports.{acquire_granted, acquire_served, is_probed, let_block, report_taken}
 use Rattle.tl_coherence.proofs.client.Imports.{let_go_block, performed_block, probed_block, releasing_block}
@@ -15,7 +15,7 @@ use Rattle.tl_coherence.proofs.client.Imports.{reported_block, served_block, sto
 use Rattle.tl_coherence.proofs.client.Imports.{acquire_of, cap_sent, prune_told, block_message, report_told, Kind}
 use Rattle.tl_coherence.proofs.client.Imports.{Request, Acquire, Probe, ProbeAck, Release, Answer, Grant, ReleaseAck}
 use Rattle.tl_coherence.proofs.client.Imports.{GrantAck, Packet, set}
-use Rattle.std.proofs.Common.{◌≡◌, ℕ, Bool, true, false, not, ◌&&◌, List, Option, Some, None, length, refl, sym, ◌∙◌}
+use Rattle.std.proofs.Common.{◌≡◌, ℕ, Bool, true, false, not, ◌&&◌, List, Option, Some, length, refl, sym, ◌∙◌}
 use Rattle.std.proofs.Common.{ap, subst, inl, inr}
 use Rattle.std.specs.Prelude.{◌==◌, if◌then◌else◌}
 use Rattle.std.proofs.lemmas.Bool.{cases_eq}
@@ -46,11 +46,8 @@ unfolding block_message
 still {w} n b new m same keeps is = subst (λ (v : Service). IsAcquireOf n new v m) (sym same) (go b.service refl is)
   where
     go : (v : Service) → b.service ≡ v → IsAcquireOf n b v m → IsAcquireOf n new v m
-    go Free e f = tt
-    go (Waits r false source k) e f = tt
     go (Waits r true source k) e f = let p = keeps r source k e in rw (p.0, p.1) f
-    go (GrantSent q d k) e f = tt
-    go (GrantTaken q) e f = tt
+    go v e f = tt
 
 -- in the place of one block
 replaced : {w : ℕ} (n : ℕ) (new : Block (List ℕ)) (block : ℕ → Block (List ℕ)) (m : MessageA w) (request : ℕ
@@ -111,11 +108,7 @@ access_taken-acquired : {w : ℕ} (c source tracker : ℕ) (m : MessageA w) (p :
 access_taken-acquired c source tracker m true (Some k) rest h is =
     replaced (block_at m.address) (served_block c false source tracker k (h.state.block (block_at m.address)))
     h.state.block m h.request tt is
-access_taken-acquired c source tracker m true None rest h is =
-    unmoved (block_at m.address) (performed_block (performs m) (h.state.block (block_at m.address))) h.state.block
-    h.request refl
-    (λ r from k e. (refl, refl)) is
-access_taken-acquired c source tracker m false o rest h is =
+access_taken-acquired c source tracker m p o rest h is =
     unmoved (block_at m.address) (performed_block (performs m) (h.state.block (block_at m.address))) h.state.block
     h.request refl
     (λ r from k e. (refl, refl)) is
@@ -127,10 +120,7 @@ request_taken-acquired : {w : ℕ} (clients c source tracker : ℕ) (v : Message
 request_taken-acquired clients c source tracker (message.A m) rest h is =
     access_taken-acquired c source tracker m (probes_some clients c false (cap_probed m.opcode m.param)
     (h.state.block (block_at m.address)).pair) (cap_probed m.opcode m.param) rest h is
-request_taken-acquired clients c source tracker (message.B m) rest h is = is
-request_taken-acquired clients c source tracker (message.C m) rest h is = is
-request_taken-acquired clients c source tracker (message.D m) rest h is = is
-request_taken-acquired clients c source tracker (message.E m) rest h is = is
+request_taken-acquired clients c source tracker v rest h is = is
 
 acquire_taken-acquired : {w : ℕ} (clients : ℕ) (p : Profile) (c n tracker : ℕ) (x : AcquirePhase) (rest : List Packet)
     (h : AbstractState w)
@@ -175,13 +165,11 @@ granted_after-acquired clients p c q n r (AcquireOpen whole g) rest h is =
 last_taken-acquired : {w : ℕ} (clients : ℕ) (p : Profile) (c n : ℕ) (r : Report) (v : Service) (rest : List Packet)
     (h : AbstractState w) → AreAcquired h.request h.state.block
     → AreAcquired (last_taken clients p c n r v rest h).request (last_taken clients p c n r v rest h).state.block
-last_taken-acquired clients p c n r Free rest h is = is
 last_taken-acquired clients p c n r (Waits q true source k) rest h is =
     granted_after-acquired clients p c q n r ((h.state.block n).pair q).acquiring rest h is
 last_taken-acquired clients p c n r (Waits q false source k) rest h is =
     kept n (ended_block c r (performs (h.request n)) (h.state.block n)) h.state.block h.request tt is
-last_taken-acquired clients p c n r (GrantSent q d k) rest h is = is
-last_taken-acquired clients p c n r (GrantTaken q) rest h is = is
+last_taken-acquired clients p c n r v rest h is = is
 
 ack_taken-acquired : {w : ℕ} (clients : ℕ) (p : Profile) (c n : ℕ) (r : Report) (rest : List Packet)
     (h : AbstractState w) → AreAcquired h.request h.state.block
@@ -204,12 +192,10 @@ ack_taken-acquired {w} clients p c n r rest h is =
 taken_by_client-acquired : {w : ℕ} (c n : ℕ) (v : Service) (rest : List Packet) (h : AbstractState w)
     → AreAcquired h.request h.state.block
     → AreAcquired (taken_by_client c n v rest h).request (taken_by_client c n v rest h).state.block
-taken_by_client-acquired c n Free rest h is = is
-taken_by_client-acquired c n (Waits q own source k) rest h is = is
 taken_by_client-acquired c n (GrantSent q d k) rest h is =
     kept n (taken_block c (is_whole ((h.state.block n).pair c).acquiring) d k (h.state.block n)) h.state.block h.request
     tt is
-taken_by_client-acquired c n (GrantTaken q) rest h is = is
+taken_by_client-acquired c n v rest h is = is
 
 -- ---- all messages that are taken
 

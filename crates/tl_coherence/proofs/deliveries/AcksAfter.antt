@@ -4,8 +4,8 @@ use Rattle.tl_coherence.proofs.deliveries.Imports.{on_link, reaction, Deliver, i
 use Rattle.tl_coherence.proofs.deliveries.Imports.{Log, system_after, ChannelRelation, MemoryRelation, GrantTaken}
 use Rattle.tl_coherence.proofs.deliveries.Imports.{packet, is_on, shown, one_memory_after, performing}
 use Rattle.tl_coherence.proofs.deliveries.Imports.{accesses_answered, block_message, message_of_kind, stepped, System}
-use Rattle.tl_coherence.proofs.deliveries.Imports.{terms_at, with_channel, with_messages, Kind, Request, Acquire, Probe}
-use Rattle.tl_coherence.proofs.deliveries.Imports.{ProbeAck, Release, Answer, Grant, ReleaseAck, GrantAck}
+use Rattle.tl_coherence.proofs.deliveries.Imports.{terms_at, with_channel, with_messages, Kind}
+use Rattle.tl_coherence.proofs.deliveries.Imports.{GrantAck}
 use Rattle.tl_coherence.proofs.deliveries.Imports.{SimulationRelation, is_caching}
 use Rattle.std.proofs.Common.{◌≡◌, ℕ, Bool, true, false, List, [], ◌∷◌, Some, None, refl, sym, ◌∙◌, ap, subst}
 use Rattle.tl_beat.specs.declared.beat.BeatE.{BeatE}
@@ -25,14 +25,7 @@ use Rattle.tl_coherence.proofs.protocol.BothParts.{acknowledging-is}
 
 ack_kind : (k : Kind) → is_on channel.E k ≡ true → k ≡ GrantAck
 ack_kind GrantAck e = refl
-ack_kind Request e = absurd cc
-ack_kind Acquire e = absurd cc
-ack_kind Probe e = absurd cc
-ack_kind ProbeAck e = absurd cc
-ack_kind Release e = absurd cc
-ack_kind Answer e = absurd cc
-ack_kind Grant e = absurd cc
-ack_kind ReleaseAck e = absurd cc
+ack_kind k e = absurd cc
 
 pub delivered-e : {w : ℕ} (config : Config) (log : Log w) (link : Link) (h : AbstractState w) (terms : client.EndConfig)
     (x : Beat w) (queue : List (Beat w)) → IsWidth w

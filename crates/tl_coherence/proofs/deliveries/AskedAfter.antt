@@ -64,8 +64,6 @@ reply-cases P (op.Load address size) reply.Stored is stored acquires stores rele
     others (op.Load address size) reply.Stored (λ c h. (refl, λ m e. e))
 reply-cases P (op.Load address size) reply.Miss is stored acquires stores releases accesses others =
     others (op.Load address size) reply.Miss (λ c h. (refl, λ m e. e))
-reply-cases P (op.Load address size) (reply.Started source) is stored acquires stores releases accesses others =
-    absurd is
 reply-cases P (op.Load address size) (reply.Busy why) is stored acquires stores releases accesses others =
     others (op.Load address size) (reply.Busy why) (λ c h. (refl, λ m e. e))
 reply-cases P (op.Store address size value) (reply.Value v) is stored acquires stores releases accesses others =
@@ -74,8 +72,6 @@ reply-cases P (op.Store address size value) reply.Stored is stored acquires stor
     stored address size value
 reply-cases P (op.Store address size value) reply.Miss is stored acquires stores releases accesses others =
     others (op.Store address size value) reply.Miss (λ c h. (refl, λ m e. e))
-reply-cases P (op.Store address size value) (reply.Started source) is stored acquires stores releases accesses others =
-    absurd is
 reply-cases P (op.Store address size value) (reply.Busy why) is stored acquires stores releases accesses others =
     others (op.Store address size value) (reply.Busy why) (λ c h. (refl, λ m e. e))
 reply-cases P (op.Acquire n g) (reply.Value v) is stored acquires stores releases accesses others =
@@ -124,8 +120,6 @@ reply-cases P (op.Access (message.B x)) reply.Stored is stored acquires stores r
     others (op.Access (message.B x)) reply.Stored (λ c h. (refl, λ m e. e))
 reply-cases P (op.Access (message.B x)) reply.Miss is stored acquires stores releases accesses others =
     others (op.Access (message.B x)) reply.Miss (λ c h. (refl, λ m e. e))
-reply-cases P (op.Access (message.B x)) (reply.Started source) is stored acquires stores releases accesses others =
-    absurd is
 reply-cases P (op.Access (message.B x)) (reply.Busy why) is stored acquires stores releases accesses others =
     others (op.Access (message.B x)) (reply.Busy why) (λ c h. (refl, λ m e. e))
 reply-cases P (op.Access (message.C x)) (reply.Value v) is stored acquires stores releases accesses others =
@@ -134,8 +128,6 @@ reply-cases P (op.Access (message.C x)) reply.Stored is stored acquires stores r
     others (op.Access (message.C x)) reply.Stored (λ c h. (refl, λ m e. e))
 reply-cases P (op.Access (message.C x)) reply.Miss is stored acquires stores releases accesses others =
     others (op.Access (message.C x)) reply.Miss (λ c h. (refl, λ m e. e))
-reply-cases P (op.Access (message.C x)) (reply.Started source) is stored acquires stores releases accesses others =
-    absurd is
 reply-cases P (op.Access (message.C x)) (reply.Busy why) is stored acquires stores releases accesses others =
     others (op.Access (message.C x)) (reply.Busy why) (λ c h. (refl, λ m e. e))
 reply-cases P (op.Access (message.D x)) (reply.Value v) is stored acquires stores releases accesses others =
@@ -144,8 +136,6 @@ reply-cases P (op.Access (message.D x)) reply.Stored is stored acquires stores r
     others (op.Access (message.D x)) reply.Stored (λ c h. (refl, λ m e. e))
 reply-cases P (op.Access (message.D x)) reply.Miss is stored acquires stores releases accesses others =
     others (op.Access (message.D x)) reply.Miss (λ c h. (refl, λ m e. e))
-reply-cases P (op.Access (message.D x)) (reply.Started source) is stored acquires stores releases accesses others =
-    absurd is
 reply-cases P (op.Access (message.D x)) (reply.Busy why) is stored acquires stores releases accesses others =
     others (op.Access (message.D x)) (reply.Busy why) (λ c h. (refl, λ m e. e))
 reply-cases P (op.Access (message.E x)) (reply.Value v) is stored acquires stores releases accesses others =
@@ -154,10 +144,10 @@ reply-cases P (op.Access (message.E x)) reply.Stored is stored acquires stores r
     others (op.Access (message.E x)) reply.Stored (λ c h. (refl, λ m e. e))
 reply-cases P (op.Access (message.E x)) reply.Miss is stored acquires stores releases accesses others =
     others (op.Access (message.E x)) reply.Miss (λ c h. (refl, λ m e. e))
-reply-cases P (op.Access (message.E x)) (reply.Started source) is stored acquires stores releases accesses others =
-    absurd is
 reply-cases P (op.Access (message.E x)) (reply.Busy why) is stored acquires stores releases accesses others =
     others (op.Access (message.E x)) (reply.Busy why) (λ c h. (refl, λ m e. e))
+reply-cases P o (reply.Started source) is stored acquires stores releases accesses others =
+    absurd is
 
 -- ---- channels
 
@@ -301,8 +291,7 @@ none_answered {w} c o r h m may_be = reply-cases (λ i j. IsHandedOut c i j h m 
     released : (p : Prune) (source n : ℕ) (bytes : List ℕ) → m ≡ Some (release p source n bytes)
         → accesses_answered (handed_by c m) ≡ []
     released prune.TtoB source n bytes e = rw e refl
-    released prune.TtoN source n bytes e = rw e refl
-    released prune.BtoN source n bytes e = rw e refl
+    released p source n bytes e = rw e refl
 
 pub beside-ask : {w : ℕ} (config : Config) (log : Log w) (h : AbstractState w) (c : ℕ) (terms : client.EndConfig)
     (o : Op w) → IsWidth w

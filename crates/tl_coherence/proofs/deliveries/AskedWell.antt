@@ -139,27 +139,18 @@ asked-well {w} config log h sys c terms o width is known = asked-cases terms o e
     store_well : (address size value : ℕ) (p : Perm) → ((s.block (block_at address)).pair c).held ≡ p
         → is_word address size ≡ true
         → IsAskedWell config c (op.Store address size value) h m (store address size value p e)
-    store_well address size value perm.None f word = record {
-      may = tt;
-      word = tt;
-      source = tt;
-      reply = tt;
-      replies =
-          refl;
-      message = refl;
-    }
-    store_well address size value perm.Branch f word = record {
-      may = tt;
-      word = tt;
-      source = tt;
-      reply = tt;
-      replies =
-          refl;
-      message = refl;
-    }
     store_well address size value perm.Trunk f word =
         let trunk = ap (λ p. same_perm p perm.Trunk) f in
         record { may = trunk; word = (word, trunk); source = tt; reply = tt; replies = tt; message = refl }
+    store_well address size value p f word = record {
+      may = tt;
+      word = tt;
+      source = tt;
+      reply = tt;
+      replies =
+          refl;
+      message = refl;
+    }
 
     -- an access that starts breaks no rule
     access_sent : (x : MessageA w) → NotBusy terms (op.Access (message.A x)) e

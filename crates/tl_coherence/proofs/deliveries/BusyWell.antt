@@ -29,7 +29,7 @@ use Rattle.tl_client.specs.statement.Ask.{whole_grow}
 use Rattle.tl_client.specs.statement.Endpoint.{Endpoint}
 use Rattle.tl_client.specs.statement.Send.{access, acquisition}
 use Rattle.tl_coherence.specs.statement.Machine.{Replies}
-use Rattle.tl_coherence.specs.protocol.Protocol.{SourceFree, Asked as AskedUse, InService, Replied, Acquires}
+use Rattle.tl_coherence.specs.protocol.Protocol.{SourceFree, Replied, Acquires}
 use Rattle.tl_coherence.specs.refinement.PacketMessages.{acquire_of}
 use Rattle.tl_coherence.specs.refinement.SimulationRelation.{first_of, asked_for, block_used, IsSourced, IsAnswered}
 use Rattle.tl_coherence.proofs.memory.BesideAsked.{IsReply}
@@ -53,17 +53,11 @@ acquire_some w c n b = go (b.pair c).acquiring
 request_some : {w : ℕ} (config : Config) (c source : ℕ) (m : Message w) → IsRequest config c source m
     → is_some (first_of m) ≡ true
 request_some config c source (message.A m) h = refl
-request_some config c source (message.B m) h = absurd (let e = h.0 in cc)
-request_some config c source (message.C m) h = absurd (let e = h.0 in cc)
-request_some config c source (message.D m) h = absurd (let e = h.0 in cc)
-request_some config c source (message.E m) h = absurd (let e = h.0 in cc)
+request_some config c source m h = absurd (let e = h.0 in cc)
 
 answer_some : {w : ℕ} (source : ℕ) (m x : Message w) → IsAnswered source m x Replied → is_some (first_of m) ≡ true
 answer_some source (message.A m) x h = refl
-answer_some source (message.B m) x h = absurd h
-answer_some source (message.C m) x h = absurd h
-answer_some source (message.D m) x h = absurd h
-answer_some source (message.E m) x h = absurd h
+answer_some source m x h = absurd h
 
 pub unused : {w : ℕ} (config : Config) (log : Log w) (mail : AccessMessages w) (request : ℕ → MessageA w)
     (s : State (List ℕ)) (sys : System w) (c source : ℕ)
@@ -80,13 +74,11 @@ unused {w} config log mail request s sys c source h free =
         → is_some (asked_for u (mail.request c source)
         (block_message Acquire c (block_used u) (s.block (block_used u)))) ≡ false → u ≡ SourceFree
     go SourceFree e sourced answered none = refl
-    go AskedUse e sourced answered none =
-        absurd (differ _ (request_some config c source (mail.request c source) sourced) none)
-    go (InService n) e sourced answered none =
-        absurd (differ _ (request_some config c source (mail.request c source) sourced) none)
     go Replied e sourced answered none =
         absurd (differ _ (answer_some source (mail.request c source) (mail.answer c source) answered) none)
     go (Acquires n) e sourced answered none = absurd (differ _ (acquire_some w c n (s.block n)) none)
+    go u e sourced answered none =
+        absurd (differ _ (request_some config c source (mail.request c source) sourced) none)
 
 -- ---- what is answered
 
@@ -110,51 +102,6 @@ pub record IsAskedWell {w : ℕ} (config : Config) (c : ℕ) (o : Op w) (h : Abs
 
 pub busy_well : {w : ℕ} (config : Config) (c : ℕ) (o : Op w) (why : Busy) (h : AbstractState w) (m : Machine w)
     (e : Endpoint w) → IsAskedWell config c o h m (only (reply.Busy why) e)
-busy_well config c (op.Load address size) why h m e = record {
-  may = tt;
-  word = tt;
-  source = tt;
-  reply = tt;
-  replies =
-      tt;
-  message = refl;
-}
-busy_well config c (op.Store address size value) why h m e = record {
-  may = tt;
-  word = tt;
-  source = tt;
-  reply =
-      tt;
-  replies = tt;
-  message = refl;
-}
-busy_well config c (op.Acquire n g) why h m e = record {
-  may = tt;
-  word = tt;
-  source = tt;
-  reply = tt;
-  replies =
-      tt;
-  message = refl;
-}
-busy_well config c (op.AcquireWhole n bytes) why h m e = record {
-  may = tt;
-  word = tt;
-  source = tt;
-  reply =
-      tt;
-  replies = tt;
-  message = refl;
-}
-busy_well config c (op.Release n p) why h m e = record {
-  may = tt;
-  word = tt;
-  source = tt;
-  reply = tt;
-  replies =
-      tt;
-  message = refl;
-}
 busy_well config c (op.Access (message.A x)) why h m e = record {
   may = tt;
   word = tt;
@@ -200,6 +147,15 @@ busy_well config c (op.Access (message.E x)) why h m e = record {
   replies = tt;
   message = refl;
 }
+busy_well config c o why h m e = record {
+  may = tt;
+  word = tt;
+  source = tt;
+  reply = tt;
+  replies =
+      tt;
+  message = refl;
+}
 
 -- the number that a Load reads is the one memory's
 pub loaded_number : (f : Memory) (address size : ℕ) (bytes : List ℕ) → address % 64 + 2 ^ size ≤ 64
@@ -214,12 +170,7 @@ pub some_held : (p : Prune) (q : Perm) → same_perm (prune_left p) q ≡ true �
 some_held prune.TtoB perm.Trunk e = refl
 some_held prune.TtoN perm.Trunk e = refl
 some_held prune.BtoN perm.Branch e = refl
-some_held prune.TtoB perm.None e = absurd cc
-some_held prune.TtoB perm.Branch e = absurd cc
-some_held prune.TtoN perm.None e = absurd cc
-some_held prune.TtoN perm.Branch e = absurd cc
-some_held prune.BtoN perm.None e = absurd cc
-some_held prune.BtoN perm.Trunk e = absurd cc
+some_held p q e = absurd cc
 
 pub none_rule : (o : Option Rule) → is_none o ≡ true → o ≡ None
 none_rule None e = refl

@@ -71,10 +71,7 @@ system_after config c k m queue sys =
 
 on_a : {w : ℕ} (x : BeatA w) → IsOn channel.A (beat.A x)
 on_a x channel.A = refl
-on_a x channel.B = refl
-on_a x channel.C = refl
-on_a x channel.D = refl
-on_a x channel.E = refl
+on_a x _ = refl
 
 heard-coming : {w : ℕ} (config : Config) (c k : ℕ) (m : MessageA w) (queue : List (Beat w)) (sys : System w)
     → IsComing config c k m sys.manager
@@ -278,8 +275,7 @@ carried-acquire_taken {w} config log h sys c n k rest queue is first asked comes
 
 pub answer_on_d : {w : ℕ} (m : MessageA w) (r : Answer) → channel_of_message (access_answer m r) ≡ channel.D
 answer_on_d m answer.Ack = refl
-answer_on_d m answer.Hint = refl
-answer_on_d m (answer.Data payload) = refl
+answer_on_d m r = refl
 
 -- an access that is answered at once changes the bytes only where no message carries them
 pub unread-bytes : {w : ℕ} (config : Config) (log : Log w) (mail : AccessMessages w) (request : ℕ → MessageA w)
@@ -367,8 +363,6 @@ carried-request_taken {w} config log h sys c source k rest queue is first asked 
         → IsInvariant (is_caching config) (access_taken c source m tracker p o rest h).state
         → Carries (access_taken c source m tracker p o rest h)
     go true None f g kept = absurd (let no : false ≡ true = rw g at f in cc)
-    go false None f g kept = answered f kept
-    go false (Some j) f g kept = answered f kept
     go true (Some j) f g kept =
         let some : some_below clients (λ d. is_probed c false j (b.pair d).recorded d) ≡ true = rw g at f in
         carried-shown comes.width (access_served-shown (is_caching config) c n source tracker j rest h.mail h.state
@@ -378,3 +372,4 @@ carried-request_taken {w} config log h sys c source k rest queue is first asked 
         (ap (λ (d : Reaction w). d.handed) (reaction-probing config c k n j m sys.manager comes last refl g
         (probed-some config log h.mail h.request h.state sys c k n false j m is asked.access refl ∙ ap not some))))
         is.carried
+    go false o f g kept = answered f kept

@@ -64,10 +64,7 @@ followed-still {w} config link ch sys h still = ap
 
 pub on_d : {w : ℕ} (y : BeatD w) → IsOn channel.D (beat.D y)
 on_d y channel.A = refl
-on_d y channel.B = refl
-on_d y channel.C = refl
-on_d y channel.D = refl
-on_d y channel.E = refl
+on_d y _ = refl
 
 -- ---- the last beat of a response
 

@@ -134,11 +134,9 @@ refused_unmoved {w} c e sys same = record {
 
     rests : (d : ℕ) (at : Channel) → unfinished at (receiver at d (with_client c e sys)) ≡ unfinished at
         (receiver at d sys)
-    rests d channel.A = refl
     rests d channel.B = ap (unfinished channel.B) (past_of d)
-    rests d channel.C = refl
     rests d channel.D = ap (unfinished channel.D) (past_of d)
-    rests d channel.E = refl
+    rests d at = refl
 
 closed_unmoved : {w : ℕ} (e : manager_end.End w) (sys : System w) → e.trace ≡ sys.manager.trace
     → IsUnmoved sys (only outcome.Stalled (with_manager e sys))
@@ -155,10 +153,9 @@ closed_unmoved {w} e sys same = record {
     rests : (d : ℕ) (at : Channel) → unfinished at (receiver at d (with_manager e sys)) ≡ unfinished at
         (receiver at d sys)
     rests d channel.A = ap (λ t. unfinished channel.A (on_link d t)) same
-    rests d channel.B = refl
     rests d channel.C = ap (λ t. unfinished channel.C (on_link d t)) same
-    rests d channel.D = refl
     rests d channel.E = ap (λ t. unfinished channel.E (on_link d t)) same
+    rests d at = refl
 
 pub unmoved : {w : ℕ} (config : Config) (link : Link) (ch : Channel) (sys : System w)
     → is_moving (stepped config (Deliver link ch) sys).outcome ≡ false
@@ -176,8 +173,7 @@ unmoved {w} config link ch sys still = at (terms_at config link.0) still
     by_client terms x queue (Err rule) e s = refused_unmoved c (offer.offered terms ch x (sys.clients c)).after sys
         (ap (λ (i : client.Endpoint w). i.past) (refusal-offered terms ch x (sys.clients c) rule e))
     by_client terms x queue (Ok (verdict.Stalled, m)) e s = only_unmoved outcome.Stalled sys (λ l i m. refl)
-    by_client terms x queue (Ok (verdict.Taken, m)) e s = absurd cc
-    by_client terms x queue (Ok (verdict.Done source f, m)) e s = absurd cc
+    by_client terms x queue a e s = absurd cc
 
     by_manager : (x : Beat w) (queue : List (Beat w)) (j : manager_offer.Judgement)
         → is_moving (manager_took c ch x queue (manager_offer.offered_as j config (record { 0 = c }) x sys.manager)

@@ -8,8 +8,8 @@ use Rattle.tl_coherence.proofs.deliveries.Imports.{is_on, shown, one_memory_afte
 use Rattle.tl_coherence.proofs.deliveries.Imports.{block_message, message_of, message_of_kind, Step}
 use Rattle.tl_coherence.proofs.deliveries.Imports.{stepped, handing, handed_by}
 use Rattle.tl_coherence.proofs.deliveries.Imports.{System, terms_at, with_client, with_channel, Kind}
-use Rattle.tl_coherence.proofs.deliveries.Imports.{Request, Acquire, Probe, ProbeAck, Release, Answer, Grant}
-use Rattle.tl_coherence.proofs.deliveries.Imports.{ReleaseAck, GrantAck, Packet, SimulationRelation, is_caching}
+use Rattle.tl_coherence.proofs.deliveries.Imports.{Answer, Grant}
+use Rattle.tl_coherence.proofs.deliveries.Imports.{ReleaseAck, Packet, SimulationRelation, is_caching}
 use Rattle.std.proofs.Common.{◌≡◌, ℕ, Bool, true, false, List, ◌∷◌, Option, Some, None, refl, sym, ◌∙◌, ap, subst}
 use Rattle.std.specs.Prelude.{◌==◌, if◌then◌else◌, map}
 use Rattle.tl_beat.specs.declared.beat.Beat.TheVariants as beat
@@ -245,9 +245,4 @@ delivered-d {w} config log link h terms x queue width is known beats moving =
         (rendered_release_ack c n (h.state.block n)) next
         (λ last. responded-release_ack config log h sys c n first.rest x queue width is tokens
         (acked-open ((h.state.block n).pair c).letting acked_there) last)
-    kinds Request i tokens own next = absurd cc
-    kinds Acquire i tokens own next = absurd cc
-    kinds Probe i tokens own next = absurd cc
-    kinds ProbeAck i tokens own next = absurd cc
-    kinds Release i tokens own next = absurd cc
-    kinds GrantAck i tokens own next = absurd cc
+    kinds k i tokens own next = absurd cc

@@ -3,8 +3,8 @@ use Rattle.tl_coherence.proofs.deliveries.Imports.{IsWidth, Beat, Link, Channel,
 use Rattle.tl_coherence.proofs.deliveries.Imports.{EndConfig, must_wait, Event, Deliver, is_moving, AbstractState}
 use Rattle.tl_coherence.proofs.deliveries.Imports.{abstract_step, IsInvariant, Log, State, packet, is_on}
 use Rattle.tl_coherence.proofs.deliveries.Imports.{AccessMessages, Step, stepped, manager_took, System, terms_at, Kind}
-use Rattle.tl_coherence.proofs.deliveries.Imports.{Request, Acquire, Probe, ProbeAck, Release, Answer, Grant}
-use Rattle.tl_coherence.proofs.deliveries.Imports.{ReleaseAck, GrantAck, Packet, SimulationRelation, is_caching}
+use Rattle.tl_coherence.proofs.deliveries.Imports.{ProbeAck, Release}
+use Rattle.tl_coherence.proofs.deliveries.Imports.{GrantAck, Packet, SimulationRelation, is_caching}
 use Rattle.std.proofs.Common.{◌≡◌, subst, ℕ, suc, ◌+◌, Bool, true, false, List, ◌∷◌, Option, Some, None, refl, sym, ◌∙◌}
 use Rattle.std.proofs.Common.{ap, arith}
 use Rattle.std.proofs.lemmas.Bool.{eqb-true}
@@ -93,24 +93,7 @@ ready_up : {w : ℕ} (tracker c : ℕ) (ch : Channel) (k : Kind) (i : ℕ) (h : 
 ready_up tracker c channel.C ProbeAck i h up own = tt
 ready_up tracker c channel.C Release i h up own = tt
 ready_up tracker c channel.E GrantAck i h up own = tt
-ready_up tracker c channel.C Request i h up own = absurd cc
-ready_up tracker c channel.C Acquire i h up own = absurd cc
-ready_up tracker c channel.C Probe i h up own = absurd cc
-ready_up tracker c channel.C Answer i h up own = absurd cc
-ready_up tracker c channel.C Grant i h up own = absurd cc
-ready_up tracker c channel.C ReleaseAck i h up own = absurd cc
-ready_up tracker c channel.C GrantAck i h up own = absurd cc
-ready_up tracker c channel.E Request i h up own = absurd cc
-ready_up tracker c channel.E Acquire i h up own = absurd cc
-ready_up tracker c channel.E Probe i h up own = absurd cc
-ready_up tracker c channel.E ProbeAck i h up own = absurd cc
-ready_up tracker c channel.E Release i h up own = absurd cc
-ready_up tracker c channel.E Answer i h up own = absurd cc
-ready_up tracker c channel.E Grant i h up own = absurd cc
-ready_up tracker c channel.E ReleaseAck i h up own = absurd cc
-ready_up tracker c channel.A k i h up own = absurd cc
-ready_up tracker c channel.B k i h up own = absurd cc
-ready_up tracker c channel.D k i h up own = absurd cc
+ready_up tracker c ch k i h up own = absurd cc
 
 -- ---- every event
 

@@ -11,8 +11,8 @@ use Rattle.tl_coherence.proofs.deliveries.Imports.{IsWell, ClientBlock, ProbeAns
 use Rattle.tl_coherence.proofs.deliveries.Imports.{Waits, Block}
 use Rattle.tl_coherence.proofs.deliveries.Imports.{shown, view, GrantSent}
 use Rattle.tl_coherence.proofs.deliveries.Imports.{prune_told, block_message}
-use Rattle.tl_coherence.proofs.deliveries.Imports.{Kind, Request, Acquire, Probe, ProbeAck, Release}
-use Rattle.tl_coherence.proofs.deliveries.Imports.{Answer, Grant, ReleaseAck, GrantAck}
+use Rattle.tl_coherence.proofs.deliveries.Imports.{Kind, ProbeAck, Release}
+use Rattle.tl_coherence.proofs.deliveries.Imports.{Answer, Grant, ReleaseAck}
 use Rattle.tl_burst.specs.declared.message.Message.TheVariants as message
 use Rattle.tl_burst.specs.declared.message.MessageC.{MessageC}
 use Rattle.tl_manager.specs.statement.Handing.{access_answer}
@@ -53,8 +53,7 @@ use Rattle.tl_coherence.proofs.manager.Admitted.{head_all}
 
 least : (p : Perm) → perm_le p perm.None ≡ true → same_perm p perm.None ≡ true
 least perm.None e = refl
-least perm.Branch e = absurd cc
-least perm.Trunk e = absurd cc
+least p e = absurd cc
 
 -- a service that probes toN, with its last ProbeAck: nobody is recorded then
 unrecorded : (caching : ℕ → Bool) (c q source : ℕ) (r : Report) (f : List ℕ → List ℕ) (b : Block (List ℕ))
@@ -102,12 +101,7 @@ ended-bytes {w} caching c q source r k m b before after waits answered settled a
     kept Release e = sym (set-part (λ (p : ClientBlock). same_perm (prune_left (prune_told p.letting)) perm.Trunk) c
         (after_report r (b.pair c)) b.pair refl i)
     kept Grant e = rw waits refl
-    kept Request e = refl
-    kept Acquire e = refl
-    kept Probe e = refl
-    kept Answer e = refl
-    kept ReleaseAck e = refl
-    kept GrantAck e = refl
+    kept x e = refl
 
 -- ---- the whole after a beat was taken
 
@@ -151,10 +145,7 @@ landed-taken {w} config c ch x queue sys t handed pushes width kept typed down o
 -- a beat of channel C, or of channel E, is of that channel
 pub on_c : {w : ℕ} (m : MessageC w) (k : ℕ) → IsOn channel.C (beat_of (message.C m) k)
 on_c m k channel.A = refl
-on_c m k channel.B = refl
-on_c m k channel.C = refl
-on_c m k channel.D = refl
-on_c m k channel.E = refl
+on_c m k _ = refl
 
 -- what holds before a delivery to the manager
 pub record IsReceived {w : ℕ} (config : Config) (log : Log w) (h : AbstractState w) (sys : System w) (c : ℕ) (ch : Channel)
@@ -223,8 +214,7 @@ last-handing config log h sys c q ch x queue m at one last =
 pub answer_on_d : {w : ℕ} (v : MessageA w) (kind : answers_of.Answer)
     → channel_of_message (access_answer v kind) ≡ channel.D
 answer_on_d v answer.Ack = refl
-answer_on_d v answer.Hint = refl
-answer_on_d v (answer.Data payload) = refl
+answer_on_d v kind = refl
 
 pub grant_on_d : (w : ℕ) (q n : ℕ) (b : Block (List ℕ)) (d : Bool) (k : Cap) → b.service ≡ GrantSent q d k
     → channel_of_message {w = w} (block_message Grant q n b) ≡ channel.D

@@ -70,10 +70,7 @@ on_message (message.E m) i channel.E = refl
 
 channel_of_beat : {w : ℕ} (m : Message w) (i : ℕ) → channel_of (beat_of m i) ≡ channel_of_message m
 channel_of_beat (message.A m) i = refl
-channel_of_beat (message.B m) i = refl
-channel_of_beat (message.C m) i = refl
-channel_of_beat (message.D m) i = refl
-channel_of_beat (message.E m) i = refl
+channel_of_beat m i = refl
 
 acquire_channel : (w : ℕ) (x : AcquirePhase) (source n : ℕ)
     → channel_of_message {w = w} (acquire_of x source n) ≡ channel.A
@@ -84,22 +81,17 @@ acquire_channel w (AcquireOpen false g) source n = refl
 pub ack_channel : (w : ℕ) (p : Perm) (r : Report) (n : ℕ) (x : List ℕ)
     → channel_of_message {w = w} (probe_ack opb.ProbeBlock p r n x) ≡ channel.C
 ack_channel w perm.None r n x = refl
-ack_channel w perm.Branch r n x = refl
-ack_channel w perm.Trunk r n x = refl
+ack_channel w p r n x = refl
 
 pub release_channel : (w : ℕ) (p : Prune) (source n : ℕ) (x : List ℕ)
     → channel_of_message {w = w} (release p source n x) ≡ channel.C
 release_channel w prune.TtoB source n x = refl
-release_channel w prune.TtoN source n x = refl
-release_channel w prune.BtoN source n x = refl
+release_channel w p source n x = refl
 
 request_channel : {w : ℕ} (config : Config) (c source : ℕ) (m : Message w) → IsRequest config c source m
     → channel_of_message m ≡ channel.A
 request_channel config c source (message.A m) h = refl
-request_channel config c source (message.B m) h = absurd (let e = h.0 in cc)
-request_channel config c source (message.C m) h = absurd (let e = h.0 in cc)
-request_channel config c source (message.D m) h = absurd (let e = h.0 in cc)
-request_channel config c source (message.E m) h = absurd (let e = h.0 in cc)
+request_channel config c source m h = absurd (let e = h.0 in cc)
 
 rendered_channel : (w : ℕ) (ch : Channel) (k : Kind) (c n : ℕ) (b : Block (List ℕ)) → is_to_client ch ≡ false
     → is_on ch k ≡ true → (k ≡ Request → ⊥)
@@ -112,30 +104,7 @@ rendered_channel w channel.C ProbeAck c n b down own other =
 rendered_channel w channel.C Release c n b down own other =
     release_channel w (prune_told (b.pair c).letting) (b.release_source c) n b.truth
 rendered_channel w channel.E GrantAck c n b down own other = refl
-rendered_channel w channel.B k c n b down own other = absurd cc
-rendered_channel w channel.D k c n b down own other = absurd cc
-rendered_channel w channel.A Probe c n b down own other = absurd cc
-rendered_channel w channel.A ProbeAck c n b down own other = absurd cc
-rendered_channel w channel.A Release c n b down own other = absurd cc
-rendered_channel w channel.A Answer c n b down own other = absurd cc
-rendered_channel w channel.A Grant c n b down own other = absurd cc
-rendered_channel w channel.A ReleaseAck c n b down own other = absurd cc
-rendered_channel w channel.A GrantAck c n b down own other = absurd cc
-rendered_channel w channel.C Request c n b down own other = absurd cc
-rendered_channel w channel.C Acquire c n b down own other = absurd cc
-rendered_channel w channel.C Probe c n b down own other = absurd cc
-rendered_channel w channel.C Answer c n b down own other = absurd cc
-rendered_channel w channel.C Grant c n b down own other = absurd cc
-rendered_channel w channel.C ReleaseAck c n b down own other = absurd cc
-rendered_channel w channel.C GrantAck c n b down own other = absurd cc
-rendered_channel w channel.E Request c n b down own other = absurd cc
-rendered_channel w channel.E Acquire c n b down own other = absurd cc
-rendered_channel w channel.E Probe c n b down own other = absurd cc
-rendered_channel w channel.E ProbeAck c n b down own other = absurd cc
-rendered_channel w channel.E Release c n b down own other = absurd cc
-rendered_channel w channel.E Answer c n b down own other = absurd cc
-rendered_channel w channel.E Grant c n b down own other = absurd cc
-rendered_channel w channel.E ReleaseAck c n b down own other = absurd cc
+rendered_channel w ch k c n b down own other = absurd cc
 
 -- ---- the beat, and the step
 
@@ -208,19 +177,13 @@ at-manager {w} config log link ch h terms x queue width is known down beats movi
             request_channel config link.0 i (h.mail.request link.0 i)
             (subst (λ (u : SourceState). IsSourced config link.0 i (h.mail.request link.0 i) u) used
             (is.sourced link.0 i))
-        asked channel.B e f = absurd cc
-        asked channel.C e f = absurd cc
-        asked channel.D e f = absurd cc
-        asked channel.E e f = absurd cc
+        asked at e f = absurd cc
     message_channel Answer i tokens own = never ch down own
       where
         never : (at : Channel) → is_to_client at ≡ false → is_on at Answer ≡ true
             → channel_of_message (h.mail.answer link.0 i) ≡ at
         never channel.D e f = absurd cc
-        never channel.A e f = absurd cc
-        never channel.B e f = absurd cc
-        never channel.C e f = absurd cc
-        never channel.E e f = absurd cc
+        never at e f = absurd cc
     message_channel Acquire i tokens own = rendered_channel w ch Acquire link.0 i (h.state.block i) down own
         (λ e. absurd cc)
     message_channel Probe i tokens own = rendered_channel w ch Probe link.0 i (h.state.block i) down own
@@ -293,11 +256,9 @@ delivered-last {w} config log link ch h x queue handed pushes down is last gives
 
 receiver_down : {w : ℕ} (ch : Channel) (c : ℕ) (sys : System w) → is_to_client ch ≡ false
     → receiver ch c sys ≡ on_link c sys.manager.trace
-receiver_down channel.A c sys e = refl
-receiver_down channel.C c sys e = refl
-receiver_down channel.E c sys e = refl
 receiver_down channel.B c sys e = absurd cc
 receiver_down channel.D c sys e = absurd cc
+receiver_down ch c sys e = refl
 
 pub delivered-part : {w : ℕ} (config : Config) (log : Log w) (link : Link) (ch : Channel) (h : AbstractState w)
     (x : Beat w) (queue : List (Beat w)) → IsWidth w

@@ -216,13 +216,11 @@ allowed : {w : ℕ} (config : Config) (log : Log w) (h : AbstractState w) (sys :
     → terms_at config (client_of event) ≡ Some terms
     → IsAllowed config event terms sys h
 allowed config log h sys (Ask c o) width is terms at = askable config log h.mail h.request h.state sys terms c o is at
-allowed config log h sys (Deliver link channel.A) width is terms at = tt
 allowed config log h sys (Deliver link channel.B) width is terms at =
     invariant-followed config log h.mail h.request h.state sys (Deliver link channel.B) width is
-allowed config log h sys (Deliver link channel.C) width is terms at = tt
 allowed config log h sys (Deliver link channel.D) width is terms at =
     invariant-followed config log h.mail h.request h.state sys (Deliver link channel.D) width is
-allowed config log h sys (Deliver link channel.E) width is terms at = tt
+allowed config log h sys event width is terms at = tt
 
 -- what is kept of the whole is kept by an event
 pub matched-event : {w : ℕ} (config : Config) (log : Log w) (h : AbstractState w) (event : Event w) → IsWidth w

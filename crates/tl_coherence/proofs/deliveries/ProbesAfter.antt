@@ -6,8 +6,8 @@ use Rattle.tl_coherence.proofs.deliveries.Imports.{packet_taken, kind_taken, Log
 use Rattle.tl_coherence.proofs.deliveries.Imports.{ChannelRelation, ClientBlock, Block, packet, is_on, shown}
 use Rattle.tl_coherence.proofs.deliveries.Imports.{one_memory_after, performing, accesses_answered, block_message}
 use Rattle.tl_coherence.proofs.deliveries.Imports.{message_of, message_of_kind, Step, stepped, handing, handed_by}
-use Rattle.tl_coherence.proofs.deliveries.Imports.{System, terms_at, with_client, with_channel, Kind, Request, Acquire}
-use Rattle.tl_coherence.proofs.deliveries.Imports.{Probe, ProbeAck, Release, Answer, Grant, ReleaseAck, GrantAck}
+use Rattle.tl_coherence.proofs.deliveries.Imports.{System, terms_at, with_client, with_channel, Kind}
+use Rattle.tl_coherence.proofs.deliveries.Imports.{Probe, ProbeAck}
 use Rattle.tl_coherence.proofs.deliveries.Imports.{Packet, SimulationRelation, is_caching}
 use Rattle.std.proofs.Common.{◌≡◌, ℕ, ◌*◌, Bool, true, false, List, [], ◌∷◌, Option, Some, None, refl, sym, ◌∙◌, ap}
 use Rattle.std.proofs.Common.{subst}
@@ -67,16 +67,14 @@ left_is cap.ToN perm.Trunk = refl
 
 ack_same : {w : ℕ} (p : Perm) (r : Report) (n : ℕ) (x y : List ℕ) → (same_perm p perm.None ≡ false → x ≡ y)
     → probe_ack {w = w} opb.ProbeBlock p r n x ≡ probe_ack opb.ProbeBlock p r n y
-ack_same perm.None r n x y e = refl
-ack_same perm.Branch r n x y e = refl
 ack_same perm.Trunk r n x y e = rw (e refl) refl
+ack_same p r n x y e = refl
 
 ack_quiet : (w c : ℕ) (p : Perm) (r : Report) (n : ℕ) (x : List ℕ)
     → accesses_answered {w = w} (handed_by c (Some (probe_ack opb.ProbeBlock p r n x))) ≡ []
 unfolding accesses_answered
 ack_quiet w c perm.None r n x = refl
-ack_quiet w c perm.Branch r n x = refl
-ack_quiet w c perm.Trunk r n x = refl
+ack_quiet w c p r n x = refl
 
 -- what is rendered after it
 rendered_probed : {w : ℕ} (c n : ℕ) (k : Cap) (b : Block (List ℕ))
@@ -96,10 +94,7 @@ answer_b x e = refl
 
 on_b : {w : ℕ} (y : BeatB w) → IsOn channel.B (beat.B y)
 on_b y channel.A = refl
-on_b y channel.B = refl
-on_b y channel.C = refl
-on_b y channel.D = refl
-on_b y channel.E = refl
+on_b y _ = refl
 
 taken_stalls : verdict.Taken ≡ verdict.Stalled → ⊥
 taken_stalls f = absurd cc
@@ -243,11 +238,4 @@ delivered-b {w} config log link h terms x queue width is known beats moving =
         → IsNext x (unfinished channel.B e.past) (message_of_kind k h.mail h.state c i)
         (map (message_of h.mail h.state c) first.rest) queue → IsDelivered config log link channel.B h
     kinds Probe n tokens own next = probe n tokens next
-    kinds Answer i tokens own next = absurd cc
-    kinds Grant n tokens own next = absurd cc
-    kinds ReleaseAck n tokens own next = absurd cc
-    kinds Request i tokens own next = absurd cc
-    kinds Acquire i tokens own next = absurd cc
-    kinds ProbeAck i tokens own next = absurd cc
-    kinds Release i tokens own next = absurd cc
-    kinds GrantAck i tokens own next = absurd cc
+    kinds k i tokens own next = absurd cc

@@ -27,23 +27,13 @@ same_caps : (j k : Cap) → same_cap j k ≡ true → k ≡ j
 same_caps cap.ToT cap.ToT e = refl
 same_caps cap.ToB cap.ToB e = refl
 same_caps cap.ToN cap.ToN e = refl
-same_caps cap.ToT cap.ToB e = absurd cc
-same_caps cap.ToT cap.ToN e = absurd cc
-same_caps cap.ToB cap.ToT e = absurd cc
-same_caps cap.ToB cap.ToN e = absurd cc
-same_caps cap.ToN cap.ToT e = absurd cc
-same_caps cap.ToN cap.ToB e = absurd cc
+same_caps j k e = absurd cc
 
 -- sees the service of another, which probes with this cap
 probed_sees : (k : Cap) (v : View) → fits_service (ProbeSent k) v ≡ true → v ≡ Other k
-probed_sees k (Other cap.ToT) e = absurd cc
 probed_sees k (Other cap.ToB) e = ap Other (same_caps k cap.ToB e)
 probed_sees k (Other cap.ToN) e = ap Other (same_caps k cap.ToN e)
-probed_sees k Idle e = absurd cc
-probed_sees k Own e = absurd cc
-probed_sees k (Granting d j) e = absurd cc
-probed_sees k Acknowledging e = absurd cc
-probed_sees k GrantedOther e = absurd cc
+probed_sees k v e = absurd cc
 
 sent_sees : (k : Cap) (p : ClientBlock) (v : View) → ok p v ≡ true → p.probing ≡ ProbeSent k → v ≡ Other k
 unfolding ok

@@ -2,9 +2,9 @@
 use Rattle.tl_coherence.proofs.flow.Imports.{IsWidth, Beat, BeatA, BeatE, Channel, Message, MessageC, History, is_empty}
 use Rattle.tl_coherence.proofs.flow.Imports.{completes, Config, Prune, Report, prune_code, prune_left, report_code}
 use Rattle.tl_coherence.proofs.flow.Imports.{report_left, comes_in_release, same_perm, is_release, reported}
-use Rattle.tl_coherence.proofs.flow.Imports.{MonitorRelation, AbstractState, is_busy, Log, ClientBlock, View, Idle, Own}
-use Rattle.tl_coherence.proofs.flow.Imports.{Other, Granting, Acknowledging, GrantedOther, ReleaseSent, is_unprobed}
-use Rattle.tl_coherence.proofs.flow.Imports.{is_unreleased, ok, Service, Free, Waits, GrantSent, GrantTaken, Block}
+use Rattle.tl_coherence.proofs.flow.Imports.{MonitorRelation, AbstractState, is_busy, Log, ClientBlock, View, Idle}
+use Rattle.tl_coherence.proofs.flow.Imports.{Granting, Acknowledging, ReleaseSent, is_unprobed}
+use Rattle.tl_coherence.proofs.flow.Imports.{is_unreleased, ok, Service, Free, Block}
 use Rattle.tl_coherence.proofs.flow.Imports.{State, packet, shown, view, is_granting, is_acknowledging, let_block}
 use Rattle.tl_coherence.proofs.flow.Imports.{release_taken, report_taken, grant_ack_taken, block_message, prune_told}
 use Rattle.tl_coherence.proofs.flow.Imports.{report_told, System, ProbeAck, Release, GrantAck, Packet}
@@ -61,8 +61,7 @@ release_size : {w : ℕ} (r : Prune) (source n : ℕ) (truth : List ℕ) (m : Me
     → release r source n truth ≡ message.C m → m.size ≡ 6
 unfolding size_of
 release_size prune.TtoB source n truth m e = sym (ap size_of e)
-release_size prune.TtoN source n truth m e = sym (ap size_of e)
-release_size prune.BtoN source n truth m e = sym (ap size_of e)
+release_size r source n truth m e = sym (ap size_of e)
 
 pub release_rendered : {w : ℕ} (c n : ℕ) (b : Block (List ℕ)) → IsWidth w → IsLong b
     → (m : MessageC w) × (block_message Release c n b ≡ message.C m)
@@ -83,18 +82,12 @@ released_ungranted r p (Granting d k) well open_ =
     let held_back : is_unreleased p.letting ≡ true =
     and_left (is_unreleased p.letting) _ (and_right (is_unprobed p.probing) _ alone) in
     absurd (let no : false ≡ true = rw open_ at held_back in cc)
-released_ungranted r p Idle well open_ = refl
-released_ungranted r p Own well open_ = refl
-released_ungranted r p (Other k) well open_ = refl
-released_ungranted r p Acknowledging well open_ = refl
-released_ungranted r p GrantedOther well open_ = refl
+released_ungranted r p v well open_ = refl
 
 -- a service that is seen so isn't none
 busy_seen : (test : View → Bool) → test Idle ≡ false → (q : Service) (c : ℕ) → test (view q c) ≡ true → is_busy q ≡ true
 busy_seen test none Free c e = absurd (let no : false ≡ true = sym none ∙ e in cc)
-busy_seen test none (Waits r own source k) c e = refl
-busy_seen test none (GrantSent r d k) c e = refl
-busy_seen test none (GrantTaken r) c e = refl
+busy_seen test none q c e = refl
 
 pub ack_rendered : {w : ℕ} (c n : ℕ) (b : Block (List ℕ)) → block_message {w = w} GrantAck c n b ≡ message.E
     (record { sink = b.tracker })
@@ -372,8 +365,4 @@ module _ {w : ℕ} (config : Config) (log : Log w) (h : AbstractState w) (sys : 
         where
           is_seen : (v : View) → is_acknowledging v ≡ true → v ≡ Acknowledging
           is_seen Acknowledging e = refl
-          is_seen Idle e = absurd cc
-          is_seen Own e = absurd cc
-          is_seen (Other k) e = absurd cc
-          is_seen (Granting d k) e = absurd cc
-          is_seen GrantedOther e = absurd cc
+          is_seen v e = absurd cc

@@ -7,7 +7,7 @@ use Rattle.tl_coherence.proofs.flow.Imports.{Log}
 use Rattle.tl_coherence.proofs.flow.Imports.{State, SourceState, Asked, Acquires, view, packet, shown}
 use Rattle.tl_coherence.proofs.flow.Imports.{is_on, is_unserved, is_wanting, AccessMessages}
 use Rattle.tl_coherence.proofs.flow.Imports.{block_message, message_of, message_of_kind, System, Kind, Request, Acquire}
-use Rattle.tl_coherence.proofs.flow.Imports.{Probe, ProbeAck, Release, Answer, Grant, ReleaseAck, GrantAck, Packet}
+use Rattle.tl_coherence.proofs.flow.Imports.{Packet}
 use Rattle.tl_coherence.proofs.flow.Imports.{SimulationRelation, is_caching}
 use Rattle.std.proofs.Common.{◌≡◌, subst, ℕ, zero, suc, Bool, true, false, ◌&&◌, List, [], ◌∷◌}
 use Rattle.std.proofs.Common.{refl, sym, ◌∙◌, ap}
@@ -96,13 +96,7 @@ not-coming_a {w} config log mail request s sys c source h none = go (s.link c).a
         → IsWaiting c s (message_of_kind k mail s c i)
     each Request i rest first own = waiting_request config log mail request s sys c i rest h first
     each Acquire i rest first own = waiting_acquire config log mail request s sys c i rest h first
-    each Probe i rest first own = absurd cc
-    each ProbeAck i rest first own = absurd cc
-    each Release i rest first own = absurd cc
-    each Answer i rest first own = absurd cc
-    each Grant i rest first own = absurd cc
-    each ReleaseAck i rest first own = absurd cc
-    each GrantAck i rest first own = absurd cc
+    each k i rest first own = absurd cc
 
     go : (xs : List Packet) → (s.link c).a ≡ xs → IsCarried rest_now (map (message_of mail s c) (s.link c).a)
         (sys.channels c channel.A) → comes_in_request source rest_now ≡ false

@@ -30,14 +30,12 @@ above_le cap.ToN perm.Branch e = absurd cc
 above_le cap.ToN perm.Trunk e = absurd cc
 
 at_most_branch : (p : Perm) → perm_le p (cap_right cap.ToB) ≡ true → not (same_perm p perm.Trunk) ≡ true
-at_most_branch perm.None e = refl
-at_most_branch perm.Branch e = refl
 at_most_branch perm.Trunk e = absurd cc
+at_most_branch p e = refl
 
 at_most_none : (p : Perm) → perm_le p (cap_right cap.ToN) ≡ true → same_perm p perm.None ≡ true
 at_most_none perm.None e = refl
-at_most_none perm.Branch e = absurd cc
-at_most_none perm.Trunk e = absurd cc
+at_most_none p e = absurd cc
 
 within : (j k : Cap) (p : Perm) → Some j ≡ Some k → perm_le p (cap_right k) ≡ true → perm_le p (cap_right j) ≡ true
 within j k p e f = ap (λ (i : Cap). perm_le p (cap_right i)) (same_Some j k e) ∙ f
@@ -46,20 +44,14 @@ pub leaves_within : (o : OpA) (param : ℕ) (k : Cap) (p : Perm) → is_acquire 
     → perm_le p (cap_right k) ≡ true → leaves (needs o) p ≡ true
 leaves_within a.Get param k p e f g = at_most_branch p (within cap.ToB k p f g)
 leaves_within a.Intent param k p e f g = refl
-leaves_within a.PutFullData param k p e f g = at_most_none p (within cap.ToN k p f g)
-leaves_within a.PutPartialData param k p e f g = at_most_none p (within cap.ToN k p f g)
-leaves_within a.ArithmeticData param k p e f g = at_most_none p (within cap.ToN k p f g)
-leaves_within a.LogicalData param k p e f g = at_most_none p (within cap.ToN k p f g)
 leaves_within a.AcquireBlock param k p e f g = absurd cc
 leaves_within a.AcquirePerm param k p e f g = absurd cc
+leaves_within o param k p e f g = at_most_none p (within cap.ToN k p f g)
 
 pub leaves_all : (o : OpA) (param : ℕ) (p : Perm) → is_acquire o ≡ false → cap_probed o param ≡ None
     → leaves (needs o) p ≡ true
 leaves_all a.Intent param p e f = refl
 leaves_all a.Get param p e f = absurd (some_none cap.ToB f)
-leaves_all a.PutFullData param p e f = absurd (some_none cap.ToN f)
-leaves_all a.PutPartialData param p e f = absurd (some_none cap.ToN f)
-leaves_all a.ArithmeticData param p e f = absurd (some_none cap.ToN f)
-leaves_all a.LogicalData param p e f = absurd (some_none cap.ToN f)
 leaves_all a.AcquireBlock param p e f = absurd cc
 leaves_all a.AcquirePerm param p e f = absurd cc
+leaves_all o param p e f = absurd (some_none cap.ToN f)

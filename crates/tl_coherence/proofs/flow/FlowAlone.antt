@@ -3,7 +3,7 @@
 use Rattle.tl_coherence.proofs.flow.Imports.{Beat, BeatA, BeatE, Channel, History, on, grown, Cap, comes_in_grant}
 use Rattle.tl_coherence.proofs.flow.Imports.{begins, ends, block_at, release_of, probe_of, grant_sink, MonitorRelation}
 use Rattle.tl_coherence.proofs.flow.Imports.{is_requested, is_let_by, is_sunk, is_of, is_busy, comes_granting, View}
-use Rattle.tl_coherence.proofs.flow.Imports.{Own, Acknowledging, Other, Service, Free, Waits, GrantSent, GrantTaken}
+use Rattle.tl_coherence.proofs.flow.Imports.{Own, Acknowledging, Other, Service, Free, Waits}
 use Rattle.tl_coherence.proofs.flow.Imports.{Block, State, view, is_granting, is_acknowledging, is_answered, is_wanting}
 use Rattle.tl_coherence.proofs.flow.Imports.{is_unserved, grant_ack_taken, freed_block, probe_beat, cap_waited, Packet}
 use Rattle.tl_coherence.proofs.flow.Imports.{set}
@@ -112,14 +112,12 @@ flowed-grant_ack {w} {X} c n toks y asked asked' rest rest' s t first last rests
         (no_cap b.service seen) m))
       where
         no_cap : (q : Service) → view q c ≡ Acknowledging → cap_waited Free ≡ cap_waited q
-        no_cap Free f = refl
-        no_cap (GrantSent q d k) f = refl
-        no_cap (GrantTaken q) f = refl
         no_cap (Waits q own source k) f = absurd (waits (own && (c == q)) k f)
           where
             waits : (z : Bool) (j : Cap) → (if z then Own else Other j) ≡ Acknowledging → ⊥
             waits true j g = absurd cc
             waits false j g = absurd cc
+        no_cap q f = refl
 
     of_block : (m : ℕ) → granted_by c m asked (rest channel.D) (s.block m) ≡ true → is_busy (s.block m).service ≡ true
     of_block m e = go (is_acknowledging (view (s.block m).service c)) (comes_granting m asked (rest channel.D)) refl

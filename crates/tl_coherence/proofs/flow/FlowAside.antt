@@ -2,10 +2,10 @@
 use Rattle.tl_coherence.proofs.flow.Imports.{Beat, BeatA, Channel, History, is_grant, asks_for, MonitorRelation}
 use Rattle.tl_coherence.proofs.flow.Imports.{is_requested, is_release_pending, is_let_by}
 use Rattle.tl_coherence.proofs.flow.Imports.{is_sunk, comes_granting, ReleasePhase}
-use Rattle.tl_coherence.proofs.flow.Imports.{Block, State, SourceState, SourceFree, Asked, InService, Replied, Acquires}
+use Rattle.tl_coherence.proofs.flow.Imports.{Block, State, SourceState, InService, Replied, Acquires}
 use Rattle.tl_coherence.proofs.flow.Imports.{view, is_granting, is_acknowledging, is_answered, is_wanting, is_unserved}
 use Rattle.tl_coherence.proofs.flow.Imports.{cap_waited}
-use Rattle.std.proofs.Common.{◌≡◌, ℕ, Bool, true, false, not, ◌&&◌, ◌||◌, [], ◌∷◌, Option, Some, None, refl, sym, ◌∙◌}
+use Rattle.std.proofs.Common.{◌≡◌, ℕ, Bool, true, false, not, ◌&&◌, ◌||◌, ◌∷◌, Option, Some, None, refl, sym, ◌∙◌}
 use Rattle.std.proofs.Common.{ap, List, ◌⊎◌, inl, inr}
 use Rattle.tl_beat.specs.declared.beat.Beat.TheVariants as beat
 use Rattle.tl_beat.specs.declared.channel.Channel.TheVariants as channel
@@ -57,18 +57,13 @@ heard_requested : {w : ℕ} {X : Type 0} (c i : ℕ) (rest : List (Beat w)) (u :
     → is_heard u ≡ true → is_requested c i rest u s ≡ true
 heard_requested c i rest (InService n) s e = refl
 heard_requested c i rest Replied s e = refl
-heard_requested c i rest SourceFree s e = absurd cc
-heard_requested c i rest Asked s e = absurd cc
-heard_requested c i rest (Acquires n) s e = absurd cc
+heard_requested c i rest u s e = absurd cc
 
 pub requested-blocks : {w : ℕ} {X : Type 0} (c i : ℕ) (rest : List (Beat w)) (u : SourceState) (s s' : State X)
     → ((n : ℕ) → is_unserved (view (s'.block n).service c) ≡ is_unserved (view (s.block n).service c))
     → is_requested c i rest u s' ≡ is_requested c i rest u s
-requested-blocks c i rest SourceFree s s' h = refl
-requested-blocks c i rest Asked s s' h = refl
-requested-blocks c i rest (InService n) s s' h = refl
-requested-blocks c i rest Replied s s' h = refl
 requested-blocks c i rest (Acquires n) s s' h = ap not (h n)
+requested-blocks c i rest u s s' h = refl
 
 requested-same : {w : ℕ} {X : Type 0} (c i : ℕ) (rest : List (Beat w)) (s s' : State X)
     → ((n : ℕ) → is_unserved (view (s'.block n).service c) ≡ is_unserved (view (s.block n).service c))
@@ -91,13 +86,9 @@ IsComing asked rest c s = (n : ℕ) → comes_granting n asked rest ≡ true →
 
 pub comes-same : {w : ℕ} (n : ℕ) (asked asked' : ℕ → Option (BeatA w)) (rest : List (Beat w))
     → ((i : ℕ) → asked' i ≡ asked i) → comes_granting n asked' rest ≡ comes_granting n asked rest
-comes-same n asked asked' [] h = refl
-comes-same n asked asked' (beat.A x ∷ rest) h = refl
-comes-same n asked asked' (beat.B x ∷ rest) h = refl
-comes-same n asked asked' (beat.C x ∷ rest) h = refl
 comes-same n asked asked' (beat.D x ∷ rest) h = ap (λ (o : Option (BeatA _)). is_grant x.opcode && asks_for n o)
     (h x.source)
-comes-same n asked asked' (beat.E x ∷ rest) h = refl
+comes-same n asked asked' rest h = refl
 
 -- ---- all values
 
@@ -111,9 +102,8 @@ pub record IsAside {w : ℕ} {X : Type 0} (asked asked' : ℕ → Option (BeatA 
   pub coming : IsComing asked (rest channel.D) d s
 
 either_is : (a b g : Bool) → (a || b) ≡ true → (b ≡ true → g ≡ true) → (a || g) ≡ false → ⊥
-either_is true b g e f h = absurd cc
 either_is false true g e f h = let p : g ≡ true = f refl in let q : true ≡ false = sym p ∙ h in cc
-either_is false false g e f h = absurd cc
+either_is a b g e f h = absurd cc
 
 pub flowed-aside : {w : ℕ} {X : Type 0} (asked asked' : ℕ → Option (BeatA w)) (rest : Channel → List (Beat w)) (d : ℕ)
     (s s' : State X) (t : History w)

@@ -1,7 +1,7 @@
 -- What is delivered on each link stays as it is when a client is asked for something.
 use Rattle.tl_coherence.proofs.flow.Imports.{IsWidth, BeatA, MessageA, History, Config, Grow, Prune, block_at}
-use Rattle.tl_coherence.proofs.flow.Imports.{MonitorRelation, AbstractState, Log, View, Idle, Own, Other, Granting}
-use Rattle.tl_coherence.proofs.flow.Imports.{Acknowledging, GrantedOther, NoAcquire, ClientBlock, after_release, Block}
+use Rattle.tl_coherence.proofs.flow.Imports.{MonitorRelation, AbstractState, Log, View, Granting}
+use Rattle.tl_coherence.proofs.flow.Imports.{NoAcquire, ClientBlock, after_release, Block}
 use Rattle.tl_coherence.proofs.flow.Imports.{SourceState, SourceFree, Asked, Acquires, view, is_granting, is_unserved}
 use Rattle.tl_coherence.proofs.flow.Imports.{is_wanting, access_asked, acquire_asked, release_asked, releasing_block}
 use Rattle.tl_coherence.proofs.flow.Imports.{AccessMessages, System, set_at, SimulationRelation, is_caching, asked_by}
@@ -43,12 +43,8 @@ asks-left d h h' left i = asks-same d i h.mail h'.mail h.state h'.state (left.re
     (λ n used. left.acquiring n) (λ n used. left.source n)
 
 unserved_ungranted : (v : View) → is_unserved v ≡ true → is_granting v ≡ false
-unserved_ungranted Idle e = refl
-unserved_ungranted (Other k) e = refl
-unserved_ungranted Acknowledging e = refl
-unserved_ungranted GrantedOther e = refl
-unserved_ungranted Own e = refl
 unserved_ungranted (Granting d k) e = absurd cc
+unserved_ungranted v e = refl
 
 acquires_not : (u : SourceState) (n : ℕ) → u ≡ SourceFree → u ≡ Acquires n → ⊥
 acquires_not u n e f = let g : SourceFree ≡ Acquires n = sym e ∙ f in cc

@@ -63,12 +63,7 @@ pub same_perms : (p q : Perm) → same_perm p q ≡ true → q ≡ p
 same_perms perm.None perm.None e = refl
 same_perms perm.Branch perm.Branch e = refl
 same_perms perm.Trunk perm.Trunk e = refl
-same_perms perm.None perm.Branch e = absurd cc
-same_perms perm.None perm.Trunk e = absurd cc
-same_perms perm.Branch perm.None e = absurd cc
-same_perms perm.Branch perm.Trunk e = absurd cc
-same_perms perm.Trunk perm.None e = absurd cc
-same_perms perm.Trunk perm.Branch e = absurd cc
+same_perms p q e = absurd cc
 
 pub first_false : (p q : Bool) → p ≡ false → (p && q) ≡ false
 first_false p q e = rw e refl

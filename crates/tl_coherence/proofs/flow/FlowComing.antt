@@ -4,8 +4,8 @@ use Rattle.tl_coherence.proofs.flow.Imports.{begun, unfinished, Config, on_link,
 use Rattle.tl_coherence.proofs.flow.Imports.{block_at, is_grant, is_release, asks_for, same_block, IsCarried}
 use Rattle.tl_coherence.proofs.flow.Imports.{comes_granting, Log, State, Acquires, packet, shown, view, is_on}
 use Rattle.tl_coherence.proofs.flow.Imports.{is_granting, AccessMessages, message_of, message_of_kind, report_told}
-use Rattle.tl_coherence.proofs.flow.Imports.{prune_told, block_message, System, Kind, Request, Acquire, Probe, ProbeAck}
-use Rattle.tl_coherence.proofs.flow.Imports.{Release, Answer, Grant, ReleaseAck, GrantAck, Packet, SimulationRelation}
+use Rattle.tl_coherence.proofs.flow.Imports.{prune_told, block_message, System, Kind, ProbeAck}
+use Rattle.tl_coherence.proofs.flow.Imports.{Release, Answer, Grant, ReleaseAck, Packet, SimulationRelation}
 use Rattle.tl_coherence.proofs.flow.Imports.{is_caching, asked_by}
 use Rattle.std.proofs.Common.{◌≡◌, ℕ, zero, suc, ◌*◌, Bool, true, false, ◌&&◌, List, [], ◌∷◌, Option, Some, None, refl}
 use Rattle.std.proofs.Common.{sym, ◌∙◌, ap, subst}
@@ -104,12 +104,7 @@ half-granted {w} config log mail request s sys c x more h is grants = go (s.link
     each Answer i rest first own = alone_answer config log mail request s sys c i rest h first
     each Grant i rest first own = alone_grant config log mail request s sys c i rest h first
     each ReleaseAck i rest first own = alone_ack w s c i
-    each Request i rest first own = absurd cc
-    each Acquire i rest first own = absurd cc
-    each Probe i rest first own = absurd cc
-    each ProbeAck i rest first own = absurd cc
-    each Release i rest first own = absurd cc
-    each GrantAck i rest first own = absurd cc
+    each k i rest first own = absurd cc
 
     go : (xs : List Packet) → (s.link c).d ≡ xs → IsCarried rest_now (map (message_of mail s c) (s.link c).d)
         (sys.channels c channel.D) → IsOfGrant c s x
@@ -136,17 +131,13 @@ coming-sink {w} config log mail request s sys c i h = go (unfinished channel.D (
   where
     go : (beats : List (Beat w)) → unfinished channel.D (sys.clients c).past ≡ beats → comes_in_grant i beats ≡ true
         → (n : ℕ) × IsGrantDue c n s × (s.tracked i ≡ Some n)
-    go [] e f = absurd cc
-    go (beat.A x ∷ more) e f = absurd cc
-    go (beat.B x ∷ more) e f = absurd cc
-    go (beat.C x ∷ more) e f = absurd cc
-    go (beat.E x ∷ more) e f = absurd cc
     go (beat.D x ∷ more) e f =
         let of = half-granted config log mail request s sys c x more h e (and_left (is_grant x.opcode) (x.sink == i) f)
         in
         let same : i ≡ (s.block of.0).tracker = sym (eqb-true x.sink i (and_right (is_grant x.opcode) (x.sink == i) f))
         ∙ of.3 in
         (of.0, of.1, ap s.tracked same ∙ tracker-of of.0 s h.invariant.named (rw of.1.service refl))
+    go beats e f = absurd cc
 
 -- a Grant of a block that was delivered in part is due
 pub coming-granting : {w : ℕ} (config : Config) (log : Log w) (mail : AccessMessages w) (request : ℕ → MessageA w)
@@ -157,11 +148,6 @@ coming-granting {w} config log mail request s sys c h n = go (unfinished channel
   where
     go : (beats : List (Beat w)) → unfinished channel.D (sys.clients c).past ≡ beats
         → comes_granting n (asked_by mail s c) beats ≡ true → is_granting (view (s.block n).service c) ≡ true
-    go [] e f = absurd cc
-    go (beat.A x ∷ more) e f = absurd cc
-    go (beat.B x ∷ more) e f = absurd cc
-    go (beat.C x ∷ more) e f = absurd cc
-    go (beat.E x ∷ more) e f = absurd cc
     go (beat.D x ∷ more) e f =
         let of = half-granted config log mail request s sys c x more h e
         (and_left (is_grant x.opcode) (asks_for n (asked_by mail s c x.source)) f) in
@@ -173,6 +159,7 @@ coming-granting {w} config log mail request s sys c h n = go (unfinished channel
         let same : of.0 ≡ n = sym (same_block of.0) ∙ eqb-true (block_at (64 * of.0)) n here in
         ap (λ (i : ℕ). is_granting (view (s.block i).service c)) (sym same) ∙ ap is_granting
         (own_view c of.1.data_too of.1.k (s.block of.0).service of.1.service)
+    go beats e f = absurd cc
 
 -- requests that are asked with other first beats, but for sources that are open, change nothing of it
 pub coming-asked : {w : ℕ} (config : Config) (log : Log w) (mail : AccessMessages w) (request : ℕ → MessageA w)
@@ -186,11 +173,6 @@ coming-asked {w} config log mail request s sys c m asked asked' h same =
   where
     go : (beats : List (Beat w)) → unfinished channel.D (sys.clients c).past ≡ beats
         → comes_granting m asked' beats ≡ comes_granting m asked beats
-    go [] e = refl
-    go (beat.A x ∷ more) e = refl
-    go (beat.B x ∷ more) e = refl
-    go (beat.C x ∷ more) e = refl
-    go (beat.E x ∷ more) e = refl
     go (beat.D x ∷ more) e = by (is_grant x.opcode) refl
       where
         by : (b : Bool) → is_grant x.opcode ≡ b
@@ -199,6 +181,7 @@ coming-asked {w} config log mail request s sys c m asked asked' h same =
         by true f =
             let of = half-granted config log mail request s sys c x more h e f in
             ap (asks_for m) (same x.source of.0 (ap (s.uses c) of.2 ∙ of.1.used))
+    go beats e = refl
 
 -- ---- a Release
 
@@ -267,13 +250,7 @@ half-released {w} config log mail request s sys c x more width h is releases =
     each Release i rest first own = alone_release c i s width config log mail request sys h
         (holds-first Release (s.link c).c rest (packet Release i) (λ j. shown Release c (s.block j)) first refl
         (h.invariant.transfers c Release refl))
-    each Request i rest first own = absurd cc
-    each Acquire i rest first own = absurd cc
-    each Probe i rest first own = absurd cc
-    each Answer i rest first own = absurd cc
-    each Grant i rest first own = absurd cc
-    each ReleaseAck i rest first own = absurd cc
-    each GrantAck i rest first own = absurd cc
+    each k i rest first own = absurd cc
 
     go : (xs : List Packet) → (s.link c).c ≡ xs → IsCarried rest_now (map (message_of mail s c) (s.link c).c)
         (sys.channels c channel.C) → Here
@@ -301,11 +278,6 @@ coming-free {w} config log mail request s sys c source width h free =
   where
     go : (beats : List (Beat w)) → unfinished channel.C (on_link c sys.manager.trace) ≡ beats
         → comes_in_release source beats ≡ false
-    go [] e = refl
-    go (beat.A x ∷ more) e = refl
-    go (beat.B x ∷ more) e = refl
-    go (beat.D x ∷ more) e = refl
-    go (beat.E x ∷ more) e = refl
     go (beat.C x ∷ more) e = by (is_release x.opcode && (x.source == source)) refl
       where
         by : (b : Bool) → (is_release x.opcode && (x.source == source)) ≡ b → b ≡ false
@@ -321,3 +293,4 @@ coming-free {w} config log mail request s sys c source width h free =
             (h.invariant.named.releases c ((s.block of.0).release_source c) of.0 ∙ rw
             (letting, same_number ((s.block of.0).release_source c)) refl) in
             absurd (let no : None ≡ Some of.0 = sym free ∙ ap (s.lets c) same ∙ used in cc)
+    go beats e = refl

@@ -238,10 +238,6 @@ module _ {w : ℕ} (config : Config) (log : Log w) (h : AbstractState w) (sys : 
         → m ≡ h.mail.request c source
         → Leaves d h (request_taken (length config.clients.items) c source m tracker toks h) → FlowsAs h
         → FlowsAs (request_taken (length config.clients.items) c source m tracker toks h)
-    other_request source (message.B m) toks ready e l flowed = flowed
-    other_request source (message.C m) toks ready e l flowed = flowed
-    other_request source (message.D m) toks ready e l flowed = flowed
-    other_request source (message.E m) toks ready e l flowed = flowed
     other_request source (message.A m) toks ready e l flowed =
         settled-request d (unfinished_at sys d) refl t source m toks
         (ap (λ (i : MessageA w). (s.block (block_at i.address)).service) same ∙ ready.3) ready.4 l
@@ -250,6 +246,7 @@ module _ {w : ℕ} (config : Config) (log : Log w) (h : AbstractState w) (sys : 
       where
         same : m ≡ ready.0
         same = let both : message.A m ≡ message.A ready.0 = e ∙ ready.1 in cc
+    other_request source m toks ready e l flowed = flowed
 
     other_acquire : (n : ℕ) (a : AcquirePhase) (toks : List Packet) → (s.block n).service ≡ Free
         → s.tracked tracker ≡ None

@@ -4,13 +4,13 @@ use Rattle.tl_coherence.proofs.flow.Imports.{channel_of, unfinished, Config, Lev
 use Rattle.tl_coherence.proofs.flow.Imports.{prune_left, report_code, report_left, on_link, broken_in_order}
 use Rattle.tl_coherence.proofs.flow.Imports.{broken_after, same_perm, illegal, same_block, level_of, flow, Log}
 use Rattle.tl_coherence.proofs.flow.Imports.{receiver, View, Idle, Own, Other, Granting, Acknowledging, GrantedOther}
-use Rattle.tl_coherence.proofs.flow.Imports.{ProbeSent, ProbeAnswered, ReleasePhase, NoRelease, ReleaseSent}
+use Rattle.tl_coherence.proofs.flow.Imports.{ProbeSent, ProbeAnswered, ReleasePhase, ReleaseSent}
 use Rattle.tl_coherence.proofs.flow.Imports.{ReleaseAcked, AcquirePhase, NoAcquire, AcquireOpen, ok, is_unreleased}
 use Rattle.tl_coherence.proofs.flow.Imports.{is_unprobed, Block, State, packet, shown, view, is_granting}
 use Rattle.tl_coherence.proofs.flow.Imports.{is_acknowledging, is_answered, is_acked, is_on, AccessMessages, message_of}
 use Rattle.tl_coherence.proofs.flow.Imports.{message_of_kind, block_message, prune_told, report_told, cap_waited}
-use Rattle.tl_coherence.proofs.flow.Imports.{System, Kind, Request, Acquire, Probe, ProbeAck, Release, Answer, Grant}
-use Rattle.tl_coherence.proofs.flow.Imports.{ReleaseAck, GrantAck, Packet, SimulationRelation, MonitorRelations}
+use Rattle.tl_coherence.proofs.flow.Imports.{System, Kind, Probe, ProbeAck, Release}
+use Rattle.tl_coherence.proofs.flow.Imports.{Packet, SimulationRelation, MonitorRelations}
 use Rattle.tl_coherence.proofs.flow.Imports.{is_caching, asked_by}
 use Rattle.std.proofs.Common.{◌≡◌, ℕ, true, false, List, [], ◌∷◌, Option, Some, None, refl, sym, ◌∙◌, ap, subst}
 use Rattle.std.specs.Prelude.{map}
@@ -21,7 +21,7 @@ use Rattle.tl_burst.specs.statement.Messages.{channel_in}
 use Rattle.tl_params.specs.declared.perm.Perm.TheVariants as perm
 use Rattle.tl_params.specs.statement.Param.{report_at}
 use Rattle.tl_manager.specs.code.Kept.{illegal_at}
-use Rattle.tl_coherence.specs.protocol.Phase.{ProbePhase, NoProbe, same_report}
+use Rattle.tl_coherence.specs.protocol.Phase.{ProbePhase, same_report}
 use Rattle.tl_coherence.specs.protocol.Tokens.{is_sent}
 use Rattle.tl_coherence.proofs.queues.Carried.{IsNext}
 use Rattle.tl_coherence.proofs.client.ClientTakes.{sound-beat}
@@ -60,12 +60,8 @@ lawful-beat {w} config log mail request s sys c ch l x queue is beats level =
 
 -- who sees another's service isn't granted the block
 pub other_ungranted : (v : View) → is_other v ≡ true → is_granting v ≡ false
-other_ungranted (Other k) e = refl
-other_ungranted Idle e = refl
-other_ungranted Own e = refl
-other_ungranted Acknowledging e = refl
-other_ungranted GrantedOther e = refl
 other_ungranted (Granting d k) e = absurd cc
+other_ungranted v e = refl
 
 report-lawful : {w : ℕ} (config : Config) (log : Log w) (mail : AccessMessages w) (request : ℕ → MessageA w)
     (s : State (List ℕ)) (sys : System w) (c n : ℕ)
@@ -114,10 +110,9 @@ report-lawful {w} config log mail request s sys c n toks l x ms queue width is f
         (report_fits r (b.pair c) (view b.service c) ok_is answered))
 
     unacked : (y : ReleasePhase) → (b.pair c).letting ≡ y → is_acked y ≡ false
-    unacked NoRelease f = refl
-    unacked (ReleaseSent q) f = refl
     unacked ReleaseAcked f = absurd (let first = report_first r (b.pair c) (view b.service c) ok_is answered in
         let no : false ≡ true = rw f at first in cc)
+    unacked y f = refl
 
 release-lawful : {w : ℕ} (config : Config) (log : Log w) (mail : AccessMessages w) (request : ℕ → MessageA w)
     (s : State (List ℕ)) (sys : System w) (c n : ℕ)
@@ -173,11 +168,7 @@ release-lawful {w} config log mail request s sys c n toks l x ms queue width is 
         let held_back : is_unreleased (b.pair c).letting ≡ true =
         and_left (is_unreleased (b.pair c).letting) _ (and_right (is_unprobed (b.pair c).probing) _ alone) in
         absurd (let no : false ≡ true = rw releasing at held_back in cc)
-    ungranted Idle f = refl
-    ungranted Own f = refl
-    ungranted (Other k) f = refl
-    ungranted Acknowledging f = refl
-    ungranted GrantedOther f = refl
+    ungranted v f = refl
 
     fits : same_perm (prune_left r) (b.pair c).recorded ≡ true
     fits = release_begins r (b.pair c) (view b.service c) ok_is releasing
@@ -204,8 +195,7 @@ flows-c {w} config log mail request s sys c l x queue width is flowed beats leve
 
 unanswered_yet : (p : ProbePhase) → is_sent p ≡ true → is_answered p ≡ false
 unanswered_yet (ProbeSent k) e = refl
-unanswered_yet NoProbe e = absurd cc
-unanswered_yet (ProbeAnswered r) e = absurd cc
+unanswered_yet p e = absurd cc
 
 -- a Probe on its way hasn't been answered, and is of another's service
 probe-lawful : {w : ℕ} (config : Config) (log : Log w) (mail : AccessMessages w) (request : ℕ → MessageA w)
@@ -252,7 +242,6 @@ flows-b {w} config log mail request s sys c l x queue width is flowed beats leve
       where
         not_both : (p : ProbePhase) → is_sent p ≡ true → is_unprobed p ≡ true → ⊥
         not_both (ProbeSent k) g i = cc
-        not_both (ProbeAnswered r) g i = cc
         not_both p g i = cc
     unacknowledged n shows Idle f = refl
     unacknowledged n shows Own f = refl
@@ -271,11 +260,4 @@ flows-b {w} config log mail request s sys c l x queue width is flowed beats leve
         (unacknowledged i (holds-first Probe (s.link c).b first.rest (packet Probe i) (λ j. shown Probe c (s.block j))
         tokens refl
         (is.invariant.transfers c Probe refl)) (view (s.block i).service c) refl) next
-    go Request i tokens own next = absurd cc
-    go Acquire i tokens own next = absurd cc
-    go ProbeAck i tokens own next = absurd cc
-    go Release i tokens own next = absurd cc
-    go Answer i tokens own next = absurd cc
-    go Grant i tokens own next = absurd cc
-    go ReleaseAck i tokens own next = absurd cc
-    go GrantAck i tokens own next = absurd cc
+    go k i tokens own next = absurd cc

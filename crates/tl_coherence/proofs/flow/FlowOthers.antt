@@ -61,28 +61,22 @@ outside-same v v' e f = record {
 }
   where
     granting : (u : View) → is_outside u ≡ true → is_granting u ≡ false
-    granting Idle g = refl
-    granting (Other k) g = refl
-    granting GrantedOther g = refl
     granting Own g = absurd cc
     granting (Granting d k) g = absurd cc
     granting Acknowledging g = absurd cc
+    granting u g = refl
 
     unserved : (u : View) → is_outside u ≡ true → is_unserved u ≡ true
-    unserved Idle g = refl
-    unserved (Other k) g = refl
-    unserved GrantedOther g = refl
     unserved Own g = absurd cc
     unserved (Granting d k) g = absurd cc
     unserved Acknowledging g = absurd cc
+    unserved u g = refl
 
     acknowledging : (u : View) → is_outside u ≡ true → is_acknowledging u ≡ false
-    acknowledging Idle g = refl
-    acknowledging (Other k) g = refl
-    acknowledging GrantedOther g = refl
     acknowledging Own g = absurd cc
     acknowledging (Granting d k) g = absurd cc
     acknowledging Acknowledging g = absurd cc
+    acknowledging u g = refl
 
 -- only the one who asked sees a service from inside
 pub outside-waits : (d r source : ℕ) (own : Bool) (k : Cap) → (own && (d == r)) ≡ false
@@ -96,12 +90,10 @@ pub outside-taken : (d r : ℕ) → (d ≡ r → ⊥) → is_outside (view (Gran
 outside-taken d r ne = rw (ne_eqb d r ne) refl
 
 not_in : (v : View) → is_outside v ≡ true → (is_acknowledging v || is_granting v) ≡ false
-not_in Idle e = refl
-not_in (Other k) e = refl
-not_in GrantedOther e = refl
 not_in Own e = absurd cc
 not_in (Granting d k) e = absurd cc
 not_in Acknowledging e = absurd cc
+not_in v e = refl
 
 -- ---- each event
 

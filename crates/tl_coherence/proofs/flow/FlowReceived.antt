@@ -38,15 +38,11 @@ use Rattle.tl_coherence.proofs.simulation.Popped.{unfinished_at}
 -- messages that are handed out change no receiver
 receiver_handed : {w : ℕ} (handed : Handed w) (sys : System w) (d : ℕ) (at : Channel)
     → receiver at d (with_messages handed sys) ≡ receiver at d sys
-receiver_handed handed sys d channel.A =
-    ap (λ (m : manager_end.End _). on_link d m.trace) (manager-with_messages handed sys)
 receiver_handed handed sys d channel.B =
     ap (λ (f : ℕ → client.Endpoint _). (f d).past) (clients-with_messages handed sys)
-receiver_handed handed sys d channel.C =
-    ap (λ (m : manager_end.End _). on_link d m.trace) (manager-with_messages handed sys)
 receiver_handed handed sys d channel.D =
     ap (λ (f : ℕ → client.Endpoint _). (f d).past) (clients-with_messages handed sys)
-receiver_handed handed sys d channel.E =
+receiver_handed handed sys d at =
     ap (λ (m : manager_end.End _). on_link d m.trace) (manager-with_messages handed sys)
 
 -- what is left of a beat that is moved on channel ch of client c's link: what was delivered, what receivers have, and

@@ -4,7 +4,7 @@ use Rattle.tl_coherence.proofs.flow.Imports.{comes_in_release, comes_in_grant, b
 use Rattle.tl_coherence.proofs.flow.Imports.{is_probe_ack, is_release, release_of, reported, MonitorRelation}
 use Rattle.tl_coherence.proofs.flow.Imports.{is_requested, is_release_pending}
 use Rattle.tl_coherence.proofs.flow.Imports.{is_let_by, is_sunk, comes_granting, is_of}
-use Rattle.tl_coherence.proofs.flow.Imports.{ReleasePhase, NoRelease, ReleaseSent, ReleaseAcked, AcquirePhase}
+use Rattle.tl_coherence.proofs.flow.Imports.{ReleasePhase, ReleaseSent, ReleaseAcked, AcquirePhase}
 use Rattle.tl_coherence.proofs.flow.Imports.{is_unreleased, Service, Block, State, view, is_granting, is_acknowledging}
 use Rattle.tl_coherence.proofs.flow.Imports.{is_answered, is_wanting, is_unserved, probe_beat, cap_waited, grant_sink-c}
 use Rattle.tl_coherence.proofs.flow.Imports.{probe_of-c, request_of-c}
@@ -106,9 +106,8 @@ with_true false q e = refl
 let_other : {w : ℕ} (i : ℕ) (rest rest' : List (Beat w)) (l : ReleasePhase)
     → (is_unreleased l ≡ false → comes_in_release i rest' ≡ comes_in_release i rest)
     → is_release_pending i rest' l ≡ is_release_pending i rest l
-let_other i rest rest' NoRelease h = refl
 let_other i rest rest' (ReleaseSent r) h = h refl
-let_other i rest rest' ReleaseAcked h = refl
+let_other i rest rest' l h = refl
 
 -- the last Release with the source of the beat, and with another one
 of_source : {w : ℕ} {A : Type 0} (part : BeatC w → A) (v : A) (i : ℕ) (y : BeatC w) (t : History w) (first : Bool)
@@ -127,8 +126,7 @@ of_other {w} i y t e = go (begins (beat.C y) t) (is_release y.opcode) (y.source 
   where
     go : (p q r : Bool) → r ≡ false → (if p && (q && r) then Some y else release_of i t) ≡ release_of i t
     go true true r f = rw f refl
-    go true false r f = refl
-    go false q r f = refl
+    go p q r f = refl
 
 both_some : (n m : ℕ) (o : Option ℕ) → o ≡ Some n → o ≡ Some m → n ≡ m
 both_some n m None e f = absurd cc

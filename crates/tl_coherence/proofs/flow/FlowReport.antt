@@ -2,8 +2,8 @@
 use Rattle.tl_coherence.proofs.flow.Imports.{Beat, BeatA, BeatC, Channel, History, comes_in_release, begins, ends}
 use Rattle.tl_coherence.proofs.flow.Imports.{block_at, is_probe_ack, is_release, release_of, MonitorRelation}
 use Rattle.tl_coherence.proofs.flow.Imports.{is_requested, is_release_pending, is_let_by}
-use Rattle.tl_coherence.proofs.flow.Imports.{is_sunk, ReleasePhase, NoRelease}
-use Rattle.tl_coherence.proofs.flow.Imports.{ReleaseSent, ReleaseAcked, State, view, is_answered, is_wanting}
+use Rattle.tl_coherence.proofs.flow.Imports.{is_sunk, ReleasePhase}
+use Rattle.tl_coherence.proofs.flow.Imports.{ReleaseSent, State, view, is_answered, is_wanting}
 use Rattle.tl_coherence.proofs.flow.Imports.{is_unserved, probe_of-c, grant_sink-c, request_of-c}
 use Rattle.std.proofs.Common.{◌≡◌, ℕ, Bool, true, false, not, ◌&&◌, ◌∷◌, Option, Some, None, refl, sym, ◌∙◌, ap, List}
 use Rattle.std.specs.Prelude.{◌==◌, if◌then◌else◌, option_map}
@@ -23,9 +23,8 @@ released-of {w} i y t e = go (begins (beat.C y) t) (is_release y.opcode) e
 
 pub let_rest : {w : ℕ} (i : ℕ) (rest rest' : List (Beat w)) (l : ReleasePhase)
     → comes_in_release i rest' ≡ comes_in_release i rest → is_release_pending i rest' l ≡ is_release_pending i rest l
-let_rest i rest rest' NoRelease e = refl
 let_rest i rest rest' (ReleaseSent r) e = e
-let_rest i rest rest' ReleaseAcked e = refl
+let_rest i rest rest' l e = refl
 
 pub let_by_rest : {w : ℕ} {X : Type 0} (c i : ℕ) (rest rest' : List (Beat w)) (o : Option ℕ) (s : State X)
     → comes_in_release i rest' ≡ comes_in_release i rest

@@ -37,9 +37,8 @@ said ack let_go here q p e f = rw (e, f) refl
 
 pub unsaid : (ack let_go here : Bool) (q p : Perm) → here ≡ false
     → unwrap_or (if (ack || let_go) && here then Some q else None) p ≡ p
-unsaid true let_go here q p e = rw e refl
-unsaid false true here q p e = rw e refl
 unsaid false false here q p e = refl
+unsaid ack let_go here q p e = rw e refl
 
 -- the state in which nothing but the report is taken
 pub flowed-report : {w : ℕ} {X : Type 0} (c n : ℕ) (r : Report) (toks : List Packet) (y : BeatC w) (first : Bool)

@@ -4,7 +4,7 @@ use Rattle.tl_coherence.proofs.flow.Imports.{Config, Level, broken_after, on_lin
 use Rattle.tl_coherence.proofs.flow.Imports.{same_block, level_of, flow, Log, receiver, ClientBlock, Idle}
 use Rattle.tl_coherence.proofs.flow.Imports.{is_unreleased, is_unprobed, ok, Free, State, packet, view, is_on}
 use Rattle.tl_coherence.proofs.flow.Imports.{AccessMessages, message_of, message_of_kind, System, Kind, Request}
-use Rattle.tl_coherence.proofs.flow.Imports.{Acquire, Probe, ProbeAck, Release, Answer, Grant, ReleaseAck, GrantAck}
+use Rattle.tl_coherence.proofs.flow.Imports.{Acquire}
 use Rattle.tl_coherence.proofs.flow.Imports.{SimulationRelation, MonitorRelations, is_caching, asked_by}
 use Rattle.std.proofs.Common.{◌≡◌, ℕ, true, false, ◌&&◌, List, ◌∷◌, length, Some, None, refl, sym, ◌∙◌, ap, subst}
 use Rattle.std.proofs.Common.{arith}
@@ -129,10 +129,4 @@ flows-a {w} config log mail request s sys c l x queue width is flowed beats leve
         lawful wanted
         (subst (λ (j : Message w). IsNext x rest j (map (message_of mail s c) first.rest) queue) wanted.renders next)
         moves
-    go Probe i tokens own next = absurd cc
-    go ProbeAck i tokens own next = absurd cc
-    go Release i tokens own next = absurd cc
-    go Answer i tokens own next = absurd cc
-    go Grant i tokens own next = absurd cc
-    go ReleaseAck i tokens own next = absurd cc
-    go GrantAck i tokens own next = absurd cc
+    go k i tokens own next = absurd cc

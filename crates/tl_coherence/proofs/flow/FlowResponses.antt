@@ -7,12 +7,12 @@ use Rattle.tl_coherence.proofs.flow.Imports.{comes_in_release, broken_in_order, 
 use Rattle.tl_coherence.proofs.flow.Imports.{is_release, held, pending, request_of, same_block, IsCarried, flow}
 use Rattle.tl_coherence.proofs.flow.Imports.{is_requested, is_sunk, is_release_pending}
 use Rattle.tl_coherence.proofs.flow.Imports.{is_let_by, is_busy, Log, View, ReleasePhase}
-use Rattle.tl_coherence.proofs.flow.Imports.{NoRelease, ReleaseSent, ReleaseAcked, AcquirePhase, AcquireOpen}
+use Rattle.tl_coherence.proofs.flow.Imports.{ReleaseSent, ReleaseAcked, AcquirePhase, AcquireOpen}
 use Rattle.tl_coherence.proofs.flow.Imports.{is_unreleased, Service, GrantSent, is_answered, is_acked, is_granting}
 use Rattle.tl_coherence.proofs.flow.Imports.{is_acknowledging, State, SourceState, view, packet, shown}
 use Rattle.tl_coherence.proofs.flow.Imports.{is_on, is_unserved, AccessMessages, report_told, prune_told}
-use Rattle.tl_coherence.proofs.flow.Imports.{block_message, message_of, message_of_kind, System, Kind, Request, Acquire}
-use Rattle.tl_coherence.proofs.flow.Imports.{Probe, ProbeAck, Release, Answer, Grant, ReleaseAck, GrantAck, Packet}
+use Rattle.tl_coherence.proofs.flow.Imports.{block_message, message_of, message_of_kind, System, Kind}
+use Rattle.tl_coherence.proofs.flow.Imports.{ProbeAck, Release, Answer, Grant, ReleaseAck, Packet}
 use Rattle.tl_coherence.proofs.flow.Imports.{SimulationRelation, MonitorRelations, is_caching, asked_by}
 use Rattle.std.proofs.Common.{◌≡◌, subst, ℕ, zero, suc, Bool, true, false, not, ◌&&◌, ◌||◌, List, [], ◌∷◌, Option, Some}
 use Rattle.std.proofs.Common.{None, refl, sym, ◌∙◌, ap}
@@ -164,8 +164,7 @@ unreleased_report : (w : ℕ) (source : ℕ) (p : Perm) (r : Report) (n : ℕ) (
     → IsUnreleased {w = w} source (probe_ack opb.ProbeBlock p r n copy)
 unfolding IsUnreleased
 unreleased_report w source perm.Trunk r n copy = (about opc.ProbeAckData (report_code r) 0 n copy, refl, refl)
-unreleased_report w source perm.Branch r n copy = (about opc.ProbeAck (report_code r) 0 n zeros, refl, refl)
-unreleased_report w source perm.None r n copy = (about opc.ProbeAck (report_code r) 0 n zeros, refl, refl)
+unreleased_report w source p r n copy = (about opc.ProbeAck (report_code r) 0 n zeros, refl, refl)
 
 unreleased_prune : (w : ℕ) (source : ℕ) (p : Prune) (i n : ℕ) (copy : List ℕ) → (i == source) ≡ false
     → IsUnreleased {w = w} source (release p i n copy)
@@ -202,13 +201,11 @@ not-coming_c {w} config log mail request s sys c n h let_ acked = go (s.link c).
 
     apart : (x : ReleasePhase) → is_acked x ≡ true → is_releasing x ≡ true → ⊥
     apart ReleaseAcked e f = cc
-    apart NoRelease e f = cc
-    apart (ReleaseSent r) e f = cc
+    apart x e f = cc
 
     open_release : (x : ReleasePhase) → is_releasing x ≡ true → not (is_unreleased x) ≡ true
     open_release (ReleaseSent r) e = refl
-    open_release NoRelease e = absurd cc
-    open_release ReleaseAcked e = absurd cc
+    open_release x e = absurd cc
 
     differ : (i : ℕ) → is_releasing ((s.block i).pair c).letting ≡ true → (b : Bool)
         → ((s.block i).release_source c == source) ≡ b → b ≡ false
@@ -234,13 +231,7 @@ not-coming_c {w} config log mail request s sys c n h let_ acked = go (s.link c).
         (differ i (holds-first Release (s.link c).c rest (packet Release i) (λ j. shown Release c (s.block j)) first
         refl (h.invariant.transfers c Release refl))
         ((s.block i).release_source c == source) refl)
-    each Request i rest first own = absurd cc
-    each Acquire i rest first own = absurd cc
-    each Probe i rest first own = absurd cc
-    each Answer i rest first own = absurd cc
-    each Grant i rest first own = absurd cc
-    each ReleaseAck i rest first own = absurd cc
-    each GrantAck i rest first own = absurd cc
+    each k i rest first own = absurd cc
 
     go : (xs : List Packet) → (s.link c).c ≡ xs → IsCarried rest_now (map (message_of mail s c) (s.link c).c)
         (sys.channels c channel.C) → comes_in_release source rest_now ≡ false
@@ -280,8 +271,7 @@ flow-ack {w} config log mail request s sys c n h flowed let_ acked whole =
     let_acked : (x : ReleasePhase) (source : ℕ) (rest : List (Beat w)) → is_acked x ≡ true
         → is_release_pending source rest x ≡ true
     let_acked ReleaseAcked source rest e = refl
-    let_acked NoRelease source rest e = absurd cc
-    let_acked (ReleaseSent r) source rest e = absurd cc
+    let_acked x source rest e = absurd cc
 
 -- ---- all of channel D
 
@@ -356,12 +346,7 @@ legal_d {w} config log mail request s sys c x queue width h flowed beats =
     go Answer i tokens own next = answer i tokens next
     go Grant i tokens own next = grant i tokens next
     go ReleaseAck i tokens own next = ack i tokens next
-    go Request i tokens own next = absurd cc
-    go Acquire i tokens own next = absurd cc
-    go Probe i tokens own next = absurd cc
-    go ProbeAck i tokens own next = absurd cc
-    go Release i tokens own next = absurd cc
-    go GrantAck i tokens own next = absurd cc
+    go k i tokens own next = absurd cc
 
 in_order : {w : ℕ} (l : Level) (p : Profile) (x : Beat w) (t : History w) → illegal l (channel_of x) x ≡ None
     → broken_in_order p x t ≡ None → broken_after l p x t ≡ None

@@ -5,7 +5,7 @@ use Rattle.tl_coherence.proofs.flow.Imports.{channel_of, Config, Level, Cap, bro
 use Rattle.tl_coherence.proofs.flow.Imports.{is_grant, illegal, level_of, IsCarried, flow, Log, receiver, Service}
 use Rattle.tl_coherence.proofs.flow.Imports.{GrantSent, GrantTaken, State, packet, shown, view, is_on, is_acknowledging}
 use Rattle.tl_coherence.proofs.flow.Imports.{AccessMessages, message_of, message_of_kind, block_message, System, Kind}
-use Rattle.tl_coherence.proofs.flow.Imports.{Request, Acquire, Probe, ProbeAck, Release, Answer, Grant, ReleaseAck}
+use Rattle.tl_coherence.proofs.flow.Imports.{Answer, Grant, ReleaseAck}
 use Rattle.tl_coherence.proofs.flow.Imports.{GrantAck, Packet, SimulationRelation, MonitorRelations, is_caching}
 use Rattle.tl_coherence.proofs.flow.Imports.{asked_by}
 use Rattle.std.proofs.Common.{◌≡◌, ℕ, zero, suc, Bool, true, false, ◌&&◌, List, [], ◌∷◌, Some, None, refl, sym, ◌∙◌, ap}
@@ -99,12 +99,7 @@ no_grant_coming {w} config log mail request s sys c n h taken = go (s.link c).d 
     elses Answer i rest first own = else_answer config log mail request s sys c sink i rest h first
     elses Grant i rest first own = else_grant config log mail request s sys c n i rest h first taken
     elses ReleaseAck i rest first own = else_ack mail s c sink i
-    elses Request i rest first own = absurd cc
-    elses Acquire i rest first own = absurd cc
-    elses Probe i rest first own = absurd cc
-    elses ProbeAck i rest first own = absurd cc
-    elses Release i rest first own = absurd cc
-    elses GrantAck i rest first own = absurd cc
+    elses k i rest first own = absurd cc
 
     go : (xs : List Packet) → (s.link c).d ≡ xs → IsCarried rest_now (map (message_of mail s c) (s.link c).d)
         (sys.channels c channel.D) → comes_in_grant sink rest_now ≡ false

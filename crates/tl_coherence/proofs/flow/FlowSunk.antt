@@ -1,6 +1,6 @@
 -- Which sinks are those of Grants that were delivered, as an event changes one block and its tracker.
-use Rattle.tl_coherence.proofs.flow.Imports.{Beat, comes_in_grant, is_sunk, View, Idle, Own, Other, Granting}
-use Rattle.tl_coherence.proofs.flow.Imports.{Acknowledging, GrantedOther, Block, State, view, is_granting}
+use Rattle.tl_coherence.proofs.flow.Imports.{Beat, comes_in_grant, is_sunk, View, Own, Granting}
+use Rattle.tl_coherence.proofs.flow.Imports.{Acknowledging, Block, State, view, is_granting}
 use Rattle.tl_coherence.proofs.flow.Imports.{is_acknowledging, set}
 use Rattle.std.proofs.Common.{◌≡◌, ℕ, Bool, true, false, ◌&&◌, ◌||◌, Option, Some, None, refl, sym, ◌∙◌, ap, List, ◌⊎◌}
 use Rattle.std.proofs.Common.{inl, inr}
@@ -75,9 +75,7 @@ tracked-free n tracker tracked used i = elim (cases_eq i tracker) [
 ]
 
 pub outside-unsunk : (v : View) (b : Bool) → is_outside v ≡ true → (is_acknowledging v || (is_granting v && b)) ≡ false
-outside-unsunk Idle b e = refl
-outside-unsunk (Other k) b e = refl
-outside-unsunk GrantedOther b e = refl
 outside-unsunk Own b e = absurd cc
 outside-unsunk (Granting d k) b e = absurd cc
 outside-unsunk Acknowledging b e = absurd cc
+outside-unsunk v b e = refl

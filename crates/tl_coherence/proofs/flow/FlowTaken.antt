@@ -7,7 +7,7 @@ use Rattle.tl_beat.specs.declared.beat.Link.{Link}
 use Rattle.tl_client.specs.declared.verdict.Finish.{Finish}
 use Rattle.tl_client.specs.statement.Endpoint.{EndConfig}
 use Rattle.tl_coherence.specs.declared.event.Event.{Event}
-use Rattle.tl_coherence.specs.declared.event.Event.TheVariants.{Ask, Deliver}
+use Rattle.tl_coherence.specs.declared.event.Event.TheVariants.{Deliver}
 use Rattle.tl_coherence.specs.declared.event.Outcome.{Outcome}
 use Rattle.tl_coherence.specs.declared.event.Outcome.TheVariants as outcome
 use Rattle.tl_coherence.specs.statement.Draining.{is_moving}
@@ -114,11 +114,7 @@ module _ {w : ℕ} (config : Config) (P : Log w → ℕ → Beat w → Type 0)
         let first = done-beat config log (shadow config log) link ch x source f given.width
         (matched-given config log before) o_is in
         front log before link.0 x first.0 first.1
-    taken-event (Deliver link ch) (outcome.Replied r) log given o_is = tt
-    taken-event (Deliver link ch) outcome.Empty log given o_is = tt
-    taken-event (Deliver link ch) outcome.Stalled log given o_is = tt
-    taken-event (Deliver link ch) outcome.NoSuchClient log given o_is = tt
-    taken-event (Ask c i) o log given o_is = tt
+    taken-event event o log given o_is = tt
 
     pub each-taken : (log : Log w) → IsGiven config log → EachTaken P log
     unfolding EachTaken IsLog

@@ -42,11 +42,7 @@ taken-flows : {w : ℕ} (n : ℕ) (event : Event w) (o : Outcome w) (t : Trace w
     → on_link n (taken_at event o ++ t) ≡ taken_on n event o ++ on_link n t
 taken-flows n (Deliver link ch) (outcome.Moved x) t = on-link n link x t
 taken-flows n (Deliver link ch) (outcome.Done x source f) t = on-link n link x t
-taken-flows n (Deliver link ch) (outcome.Replied r) t = refl
-taken-flows n (Deliver link ch) outcome.Empty t = refl
-taken-flows n (Deliver link ch) outcome.Stalled t = refl
-taken-flows n (Deliver link ch) outcome.NoSuchClient t = refl
-taken-flows n (Ask client op) o t = refl
+taken-flows n event o t = refl
 
 pub trace-flows : {w : ℕ} (n : ℕ) (log : Log w) → on_link n (trace_of log) ≡ flow n log
 unfolding on_link flow trace_of

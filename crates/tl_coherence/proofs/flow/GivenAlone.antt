@@ -64,8 +64,7 @@ held_by_most c b v e = go (is_granting v) (b.pair c).recorded e
   where
     same : (p : Perm) → perm_le p p ≡ true
     same perm.None = refl
-    same perm.Branch = refl
-    same perm.Trunk = refl
+    same p = refl
 
     go : (x : Bool) (p : Perm) → perm_le (b.pair c).held p ≡ true → perm_le (if x then (b.pair c).held else p) p ≡ true
     go true p f = f
@@ -73,8 +72,7 @@ held_by_most c b v e = go (is_granting v) (b.pair c).recorded e
 
 trunk_below : (p q : Perm) → perm_le p q ≡ true → p ≡ perm.Trunk → same_perm q perm.Trunk ≡ true
 trunk_below p perm.Trunk e f = refl
-trunk_below p perm.Branch e f = absurd (let no : false ≡ true = rw f at e in cc)
-trunk_below p perm.None e f = absurd (let no : false ≡ true = rw f at e in cc)
+trunk_below p q e f = absurd (let no : false ≡ true = rw f at e in cc)
 
 none_above : (p q : Perm) → perm_le p q ≡ true → same_perm q perm.None ≡ true → p ≡ perm.None
 none_above perm.None q e f = refl
@@ -136,9 +134,7 @@ given-next {w} config log given c y queue beats n other granted ne =
     left perm.Branch perm.Trunk e f = absurd (let alone = (is.invariant.blocks n).one_owner other c
         (ap (λ (r : Perm). same_perm r perm.Trunk) f) (λ j. ne (sym j)) in
         let no : false ≡ true = rw e at alone in cc)
-    left perm.Branch perm.Branch e f = refl
-    left perm.Branch perm.None e f = refl
-    left perm.None q e f = refl
+    left p q e f = refl
 
 -- each other link leaves what is granted
 beside : (link other : ℕ) (given held : Perm) → ((other ≡ link → ⊥) → leaves given held ≡ true)

@@ -33,8 +33,7 @@ still_trunk : (granting : Bool) (held recorded : Perm) → perm_le held recorded
     → (if granting then held else recorded) ≡ perm.Trunk
 still_trunk true held recorded le trunk = trunk
 still_trunk false held perm.Trunk le trunk = refl
-still_trunk false held perm.Branch le trunk = absurd (let refuse : false ≡ true = rw trunk at le in cc)
-still_trunk false held perm.None le trunk = absurd (let refuse : false ≡ true = rw trunk at le in cc)
+still_trunk false held recorded le trunk = absurd (let refuse : false ≡ true = rw trunk at le in cc)
 
 same_reply : {w : ℕ} (r s : Reply) → ◌≡◌ {A = Outcome w} (outcome.Replied r) (outcome.Replied s) → r ≡ s
 same_reply r s e = cc

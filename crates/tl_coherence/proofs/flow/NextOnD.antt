@@ -3,8 +3,8 @@ use Rattle.tl_coherence.proofs.flow.Imports.{Beat, BeatD, IsWidth, unfinished, C
 use Rattle.tl_coherence.proofs.flow.Imports.{begun}
 use Rattle.tl_coherence.proofs.flow.Imports.{is_grant, asks_for, request_of, View, Block, State, SourceState}
 use Rattle.tl_coherence.proofs.flow.Imports.{packet, is_on, is_unserved, is_requested, AbstractState, receiver}
-use Rattle.tl_coherence.proofs.flow.Imports.{message_of, message_of_kind, block_message, Kind, Request, Acquire, Probe}
-use Rattle.tl_coherence.proofs.flow.Imports.{ProbeAck, Release, Answer, Grant, ReleaseAck, GrantAck, flow, same_block}
+use Rattle.tl_coherence.proofs.flow.Imports.{message_of, message_of_kind, block_message, Kind}
+use Rattle.tl_coherence.proofs.flow.Imports.{Answer, Grant, ReleaseAck, flow, same_block}
 use Rattle.tl_coherence.proofs.flow.Imports.{SimulationRelation, MonitorRelations, is_caching, asked_by, Log}
 use Rattle.std.proofs.Common.{◌≡◌, ℕ, true, false, not, List, ◌∷◌, refl, sym, ◌∙◌, ap, subst}
 use Rattle.std.specs.Prelude.{◌==◌, map, length}
@@ -81,12 +81,7 @@ module _ {w : ℕ} (config : Config) (log : Log w) (h : AbstractState w) (c : �
           })
       go ReleaseAck i tokens own next =
           ack i next.k (same_beat y (d_beat_of (ack_message ((s.block i).release_source c)) next.k) next.beat_is)
-      go Request i tokens own next = absurd cc
-      go Acquire i tokens own next = absurd cc
-      go Probe i tokens own next = absurd cc
-      go ProbeAck i tokens own next = absurd cc
-      go Release i tokens own next = absurd cc
-      go GrantAck i tokens own next = absurd cc
+      go k i tokens own next = absurd cc
 
   -- a Grant that is on its way is of the block that its request asks for
   granted_block : (i n : ℕ) → IsGrantBeat c i s y (length (unfinished channel.D (flow c log)))

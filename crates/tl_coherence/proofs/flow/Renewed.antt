@@ -36,7 +36,7 @@ use Rattle.tl_coherence.specs.protocol.Invariant.{cap_asked}
 use Rattle.tl_coherence.specs.protocol.Phase.{Other, ProbeAnswered, AcquirePhase, NoAcquire, AcquireOpen, ok}
 use Rattle.tl_coherence.specs.protocol.Phase.{is_unprobed}
 use Rattle.tl_coherence.specs.protocol.PhaseSteps.{is_granted_data, after_report}
-use Rattle.tl_coherence.specs.protocol.Protocol.{Block, Service, Free, Waits, GrantSent, GrantTaken, State, SourceState}
+use Rattle.tl_coherence.specs.protocol.Protocol.{Block, Service, Waits, GrantSent, State, SourceState}
 use Rattle.tl_coherence.specs.protocol.Protocol.{SourceFree, Asked, InService, Replied, Acquires, view, packet, on}
 use Rattle.tl_coherence.specs.protocol.Protocol.{is_probed, written}
 use Rattle.tl_coherence.specs.protocol.Tokens.{shown}
@@ -272,9 +272,6 @@ renewed-report {w} config log c n rest h sys is first =
 
     last : ((d : ℕ) → (d ≡ c → ⊥) → is_unprobed (b.pair d).probing ≡ true) → (service : Service) → b.service ≡ service
         → AreRenewed h (last_taken clients config.profile c n r service rest h)
-    last quiet Free e = renewed-same h h (λ d j. refl) (λ d j. (refl, refl))
-    last quiet (GrantSent q x k) e = renewed-same h h (λ d j. refl) (λ d j. (refl, refl))
-    last quiet (GrantTaken q) e = renewed-same h h (λ d j. refl) (λ d j. (refl, refl))
     last quiet (Waits q true source k) e = renewed-granted clients config.profile c q n r (b.pair q).acquiring rest h
     last quiet (Waits q false source k) e =
         renewed-reply q source m (written r b.truth b.memory) h
@@ -316,6 +313,7 @@ renewed-report {w} config log c n rest h sys is first =
         settled d = ap (λ (i : ℕ). leaves (needs m.opcode) ((set n new h.state.block i).pair d).recorded) for.2
             ∙ ap (λ (z : Block (List ℕ)). leaves (needs m.opcode) (z.pair d).recorded) (set-same n new h.state.block)
             ∙ leaves_within m.opcode m.param k (set c (after_report r (b.pair c)) b.pair d).recorded for.0 for.3 (low d)
+    last quiet service e = renewed-same h h (λ d j. refl) (λ d j. (refl, refl))
 
     others : (x : Bool) → some_below clients (λ d. not (d == c) && not (is_unprobed (b.pair d).probing)) ≡ x
         → AreRenewed h (if x then with_state (report_taken c n r rest h.state) h else last_taken clients config.profile
@@ -329,9 +327,7 @@ renewed-grant : {w : ℕ} (c n : ℕ) (service : Service) (rest : List Packet) (
 renewed-grant c n (GrantSent q x k) rest h =
     renewed-set c ((h.state.block n).source c) SourceFree h (taken_by_client c n (GrantSent q x k) rest h) (λ e. cc)
     (λ d j. refl) (λ d j other. (refl, refl))
-renewed-grant c n Free rest h = renewed-same h h (λ d j. refl) (λ d j. (refl, refl))
-renewed-grant c n (Waits q o s k) rest h = renewed-same h h (λ d j. refl) (λ d j. (refl, refl))
-renewed-grant c n (GrantTaken q) rest h = renewed-same h h (λ d j. refl) (λ d j. (refl, refl))
+renewed-grant c n service rest h = renewed-same h h (λ d j. refl) (λ d j. (refl, refl))
 
 pub renewed-kind_taken : {w : ℕ} (config : Config) (log : Log w) (tracker c : ℕ) (k : Kind) (i : ℕ) (rest : List Packet)
     (h : AbstractState w) (sys : System w)

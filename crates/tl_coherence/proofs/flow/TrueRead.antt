@@ -140,11 +140,7 @@ lanes_answered {w} m f z k is with_data = go m.opcode is
         lanes (as_payload (m.address % w) (bytes_from f m.address (2 ^ m.size))) _ (same z _ e) refl refl
     go a.LogicalData e =
         lanes (as_payload (m.address % w) (bytes_from f m.address (2 ^ m.size))) _ (same z _ e) refl refl
-    go a.PutFullData e = never _ (same z _ e) (λ i. cc)
-    go a.PutPartialData e = never _ (same z _ e) (λ i. cc)
-    go a.Intent e = never _ (same z _ e) (λ i. cc)
-    go a.AcquireBlock e = never _ (same z _ e) (λ i. cc)
-    go a.AcquirePerm e = never _ (same z _ e) (λ i. cc)
+    go o e = never _ (same z _ e) (λ i. cc)
 
 found-beat : {w : ℕ} (config : Config) (c source : ℕ) (m : MessageA w) (z : MessageD w) (k : ℕ) (log : Log w)
     → z.opcode ≡ d.AccessAckData → WasAnswered config c source m (message.D z) log

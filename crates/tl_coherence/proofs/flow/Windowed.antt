@@ -77,14 +77,8 @@ leaves_below a.Intent p q e f = refl
 leaves_below a.Get perm.None q e f = refl
 leaves_below a.Get perm.Branch q e f = refl
 leaves_below a.Get perm.Trunk perm.Trunk e f = f
-leaves_below a.Get perm.Trunk perm.Branch e f = absurd cc
-leaves_below a.Get perm.Trunk perm.None e f = absurd cc
-leaves_below a.PutFullData p q e f = nothing_below p q e f
-leaves_below a.PutPartialData p q e f = nothing_below p q e f
-leaves_below a.ArithmeticData p q e f = nothing_below p q e f
-leaves_below a.LogicalData p q e f = nothing_below p q e f
-leaves_below a.AcquireBlock p q e f = nothing_below p q e f
-leaves_below a.AcquirePerm p q e f = nothing_below p q e f
+leaves_below a.Get perm.Trunk q e f = absurd cc
+leaves_below o p q e f = nothing_below p q e f
 
 pub same_request : {w : ℕ} (m n : MessageA w) → message.A m ≡ message.A n → m ≡ n
 same_request m n e = cc
@@ -303,10 +297,7 @@ in_time-moved : {w : ℕ} (config : Config) (log : Log w) → IsGiven config log
     → IsAnsweredInTime c x (trace_of log)
 in_time-moved config log given c (beat.D y) queue beats = λ n x begun answers asks.
     answered-next config log given c y queue beats n x answers asks
-in_time-moved config log given c (beat.A y) queue beats = tt
-in_time-moved config log given c (beat.B y) queue beats = tt
-in_time-moved config log given c (beat.C y) queue beats = tt
-in_time-moved config log given c (beat.E y) queue beats = tt
+in_time-moved config log given c x queue beats = tt
 
 pub in_time : {w : ℕ} → AnsweredInTime w
 in_time config log given =

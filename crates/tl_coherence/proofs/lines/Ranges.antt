@@ -23,7 +23,7 @@ use Rattle.tl_params.specs.statement.Config.{all_sources_fit, blocks_fit, config
 use Rattle.tl_params.specs.statement.Range.{is_from_to}
 use Rattle.tl_rules.specs.statement.Admission.{is_outside}
 use Rattle.tl_rules.specs.statement.Effect as memory
-use Rattle.tl_rules.specs.statement.Effect.{IsBlock, answer_of, as_payload}
+use Rattle.tl_rules.specs.statement.Effect.{answer_of, as_payload}
 use Rattle.tl_rules.specs.statement.History.{block_at}
 use Rattle.tl_client.specs.declared.operation.Op.TheVariants as op
 use Rattle.tl_client.specs.statement.Endpoint.{EndConfig}
@@ -33,8 +33,8 @@ use Rattle.tl_coherence.specs.refinement.MemoryRelation.{Answers, IsOpened}
 use Rattle.tl_coherence.specs.statement.Delivery.{sources_of}
 use Rattle.tl_coherence.specs.statement.Log.{Log}
 use Rattle.tl_coherence.specs.statement.Machine.{Requests}
-use Rattle.tl_coherence.specs.protocol.Phase.{AcquirePhase, NoAcquire, AcquireOpen}
-use Rattle.tl_coherence.specs.protocol.Protocol.{Service, Free, Waits, GrantSent, GrantTaken, State, SourceState}
+use Rattle.tl_coherence.specs.protocol.Phase.{AcquirePhase, AcquireOpen}
+use Rattle.tl_coherence.specs.protocol.Protocol.{Service, GrantSent, State, SourceState}
 use Rattle.tl_coherence.specs.protocol.Protocol.{SourceFree, Asked, Replied, Acquires, packet, packets_on, is_on}
 use Rattle.tl_coherence.specs.statement.Ranged.{AreBytes}
 use Rattle.tl_coherence.specs.statement.OneMemory.{one_memory_after}
@@ -98,20 +98,17 @@ zeros-bytes n = All-replicate (λ byte. byte < 2 ^ 8) n 0 (lit< tt)
 acquire-ranged : (w : ℕ) (a : AcquirePhase) (source n : ℕ) → source < 2 ^ 8
     → IsRangedMessage (acquire_of {w = w} a source n)
 acquire-ranged w (AcquireOpen true g) source n small = (small, zeros-bytes 64)
-acquire-ranged w (AcquireOpen false g) source n small = (small, zeros-bytes 64)
-acquire-ranged w NoAcquire source n small = (small, zeros-bytes 64)
+acquire-ranged w a source n small = (small, zeros-bytes 64)
 
 report-ranged : (w : ℕ) (p : Perm) (r : Report) (n : ℕ) (truth : List ℕ) → AreBytes truth
     → IsRangedMessage (probe_ack {w = w} opb.ProbeBlock p r n truth)
 report-ranged w perm.Trunk r n truth bytes = (lit< tt, bytes)
-report-ranged w perm.Branch r n truth bytes = (lit< tt, zeros-bytes 64)
-report-ranged w perm.None r n truth bytes = (lit< tt, zeros-bytes 64)
+report-ranged w p r n truth bytes = (lit< tt, zeros-bytes 64)
 
 release-ranged : (w : ℕ) (p : Prune) (source n : ℕ) (truth : List ℕ) → source < 2 ^ 8 → AreBytes truth
     → IsRangedMessage (release {w = w} p source n truth)
-release-ranged w prune.TtoB source n truth small bytes = (small, bytes)
-release-ranged w prune.TtoN source n truth small bytes = (small, bytes)
 release-ranged w prune.BtoN source n truth small bytes = (small, zeros-bytes 64)
+release-ranged w p source n truth small bytes = (small, bytes)
 
 ack-ranged : (w : ℕ) (source : ℕ) → source < 2 ^ 8 → IsRangedMessage (release_ack {w = w} source)
 ack-ranged w source small = (small, lit< tt, zeros-bytes 64)
@@ -122,9 +119,7 @@ grant-ranged : (w : ℕ) (service : Service) (source tracker : ℕ) (truth : Lis
 grant-ranged w (GrantSent q true k) source tracker truth small sink bytes = (small, sink q true k refl, bytes)
 grant-ranged w (GrantSent q false k) source tracker truth small sink bytes =
     (small, sink q false k refl, zeros-bytes 64)
-grant-ranged w Free source tracker truth small sink bytes = ack-ranged w source small
-grant-ranged w (Waits r own s k) source tracker truth small sink bytes = ack-ranged w source small
-grant-ranged w (GrantTaken q) source tracker truth small sink bytes = ack-ranged w source small
+grant-ranged w service source tracker truth small sink bytes = ack-ranged w source small
 
 payload-bytes : (at : ℕ) (bytes : List ℕ) → AreBytes bytes → AreBytes (as_payload at bytes)
 payload-bytes at bytes are =

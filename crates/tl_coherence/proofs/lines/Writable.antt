@@ -35,8 +35,6 @@ cap-large : (n : ℕ) → 4 ≤ n → is_some (cap_of n) ≡ false
 cap-large n large = rw (apart n 0 (omega arith), apart n 1 (omega arith), apart n 2 (omega arith)) refl
 
 a-large : (opcode : OpA) (n : ℕ) → 8 ≤ n → a_has_param opcode n ≡ false
-a-large a.PutFullData n large = apart n 0 (omega arith)
-a-large a.PutPartialData n large = apart n 0 (omega arith)
 a-large a.ArithmeticData n large =
     rw (
       apart n 0 (omega arith),
@@ -48,15 +46,12 @@ a-large a.ArithmeticData n large =
     ) refl
 a-large a.LogicalData n large =
     rw (apart n 0 (omega arith), apart n 1 (omega arith), apart n 2 (omega arith), apart n 3 (omega arith)) refl
-a-large a.Get n large = apart n 0 (omega arith)
 a-large a.Intent n large = rw (apart n 0 (omega arith), apart n 1 (omega arith)) refl
 a-large a.AcquireBlock n large = rw (apart n 0 (omega arith), apart n 1 (omega arith), apart n 2 (omega arith)) refl
 a-large a.AcquirePerm n large = rw (apart n 0 (omega arith), apart n 1 (omega arith), apart n 2 (omega arith)) refl
+a-large opcode n large = apart n 0 (omega arith)
 
 c-large : (opcode : OpC) (n : ℕ) → 8 ≤ n → c_has_param opcode n ≡ false
-c-large c.AccessAck n large = apart n 0 (omega arith)
-c-large c.AccessAckData n large = apart n 0 (omega arith)
-c-large c.HintAck n large = apart n 0 (omega arith)
 c-large c.ProbeAck n large =
     rw (
       apart n 0 (omega arith),
@@ -70,14 +65,12 @@ c-large c.ProbeAck n large =
 c-large c.ProbeAckData n large = rw (apart n 0 (omega arith), apart n 1 (omega arith), apart n 3 (omega arith)) refl
 c-large c.Release n large = rw (apart n 0 (omega arith), apart n 1 (omega arith), apart n 2 (omega arith)) refl
 c-large c.ReleaseData n large = rw (apart n 0 (omega arith), apart n 1 (omega arith)) refl
+c-large opcode n large = apart n 0 (omega arith)
 
 d-large : (opcode : OpD) (n : ℕ) → 4 ≤ n → d_has_param opcode n ≡ false
-d-large d.AccessAck n large = apart n 0 (omega arith)
-d-large d.AccessAckData n large = apart n 0 (omega arith)
-d-large d.HintAck n large = apart n 0 (omega arith)
 d-large d.Grant n large = cap-large n large
 d-large d.GrantData n large = cap-large n large
-d-large d.ReleaseAck n large = apart n 0 (omega arith)
+d-large opcode n large = apart n 0 (omega arith)
 
 -- a number that passes a test which those from a limit on don't pass
 below : (n limit : ℕ) (b : Bool) → (limit ≤ n → b ≡ false) → b ≡ true → n < limit

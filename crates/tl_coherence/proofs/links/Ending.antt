@@ -2,8 +2,8 @@
 use Rattle.tl_coherence.proofs.links.Imports.{IsWidth, Beat, Link, Channel, Message, beat_of, unfinished, Config}
 use Rattle.tl_coherence.proofs.links.Imports.{Verdict, Endpoint, EndConfig, Deliver, is_moving, AbstractState, Log}
 use Rattle.tl_coherence.proofs.links.Imports.{system_after, packet, is_on, message_of_kind, block_message, Step}
-use Rattle.tl_coherence.proofs.links.Imports.{stepped, is_to_client, System, terms_at, Kind, Request, Acquire, Probe}
-use Rattle.tl_coherence.proofs.links.Imports.{ProbeAck, Release, Answer, Grant, ReleaseAck, GrantAck}
+use Rattle.tl_coherence.proofs.links.Imports.{stepped, is_to_client, System, terms_at, Kind}
+use Rattle.tl_coherence.proofs.links.Imports.{Answer, Grant, ReleaseAck}
 use Rattle.tl_coherence.proofs.links.Imports.{SimulationRelation, is_caching}
 use Rattle.std.proofs.Common.{◌≡◌, ℕ, Bool, true, false, List, [], ◌∷◌, Option, Some, None, refl, sym, ◌∙◌, ap, subst}
 use Rattle.std.specs.Prelude.{if◌then◌else◌, Ok}
@@ -72,12 +72,7 @@ response_of config log h sys c Grant n rest is tokens own = let due =
     grant-due (is_caching config) c n rest h.state is.invariant tokens in (_, grant-rendered c n h.state due)
 response_of config log h sys c ReleaseAck n rest is tokens own =
     (ack_message ((h.state.block n).release_source c), refl)
-response_of config log h sys c Request i rest is tokens own = absurd cc
-response_of config log h sys c Acquire i rest is tokens own = absurd cc
-response_of config log h sys c Probe i rest is tokens own = absurd cc
-response_of config log h sys c ProbeAck i rest is tokens own = absurd cc
-response_of config log h sys c Release i rest is tokens own = absurd cc
-response_of config log h sys c GrantAck i rest is tokens own = absurd cc
+response_of config log h sys c k i rest is tokens own = absurd cc
 
 ending_d : {w : ℕ} (config : Config) (log : Log w) (link : Link) (h : AbstractState w) (terms : EndConfig) (y : Beat w)
     (queue : List (Beat w)) (x : Beat w) (source : ℕ)

@@ -61,11 +61,9 @@ IsPassing sys f = ArePassing (λ d. (sys.clients d).past) (λ d. on_link d sys.m
 -- ---- a client hands out a message, or none
 
 ours_from : {w : ℕ} (m : Message w) → IsOfClient m → is_from_client (beat_of m 0) ≡ true
-ours_from (message.A m) is = refl
-ours_from (message.C m) is = refl
-ours_from (message.E m) is = refl
 ours_from (message.B m) is = absurd is
 ours_from (message.D m) is = absurd is
+ours_from m is = refl
 
 abbrev IsOurs : {w : ℕ} → Option (Message w) → Type 0
 IsOurs None = ⊤
@@ -156,20 +154,15 @@ flow_moved {w} link ch o x log d is = ap (λ xs. xs ++ flow d log) is ∙ go (li
 pub taken_at : {w : ℕ} (link : Link) (ch : Channel) (x : Beat w) (v : Verdict) (d : ℕ)
     → is_moving (outcome_of x v) ≡ true
     → taken_on d (Deliver link ch) (outcome_of x v) ≡ (if link.0 == d then x ∷ [] else [])
-taken_at link ch x verdict.Taken d e = refl
-taken_at link ch x (verdict.Done source f) d e = refl
 taken_at link ch x verdict.Stalled d e = absurd cc
+taken_at link ch x v d e = refl
 
 pub flow_still : {w : ℕ} (event : Event w) (o : Outcome w) (log : Log w) (d : ℕ) → is_moving o ≡ false
     → flow d ((event, o) ∷ log) ≡ flow d log
 unfolding flow
-flow_still (Ask c i) o log d e = refl
-flow_still (Deliver link ch) (outcome.Replied r) log d e = refl
-flow_still (Deliver link ch) outcome.Empty log d e = refl
-flow_still (Deliver link ch) outcome.Stalled log d e = refl
-flow_still (Deliver link ch) outcome.NoSuchClient log d e = refl
 flow_still (Deliver link ch) (outcome.Moved x) log d e = absurd cc
 flow_still (Deliver link ch) (outcome.Done x source f) log d e = absurd cc
+flow_still event o log d e = refl
 
 -- ---- events
 
@@ -280,9 +273,8 @@ moved-passing {w} config log link ch terms x queue width typed logged known beat
                 handed_is : (v : Verdict) (m : Option (Message w)) → is_moving (outcome_of x v) ≡ true
                     → sent_if_any (client_after.handed (Ok (v, m))) (x ∷ (sys.clients c).past) ≡ sent_if_any m
                     (x ∷ (sys.clients c).past)
-                handed_is verdict.Taken m e = refl
-                handed_is (verdict.Done source fin) m e = refl
                 handed_is verdict.Stalled m e = absurd cc
+                handed_is v m e = refl
 
                 ours : (v : Verdict) (m : Option (Message w)) → (offer.taken x (sys.clients c)).answer ≡ Ok (v, m)
                     → IsOurs m

@@ -60,8 +60,7 @@ carried-begun {w} m (suc k) at t = go (on at (beat_of m k)) (same_channel at (ch
         ≡ (if b then beat_of m k ∷ (begun m k ++ carried_on at t) else carried_on at t)
     go true true e f = ap (λ xs. beat_of m k ∷ xs) f
     go false false e f = f
-    go true false e f = absurd cc
-    go false true e f = absurd cc
+    go a b e f = absurd cc
 
 carried-beat : {w : ℕ} (x : Beat w) (ch at : Channel) (t : History w) → IsOn ch x
     → carried_on at (x ∷ t) ≡ (if same_channel at ch then x ∷ carried_on at t else carried_on at t)
@@ -82,8 +81,7 @@ apart at ch b e f = go (same_channel at ch) refl
         differs : (b : Bool) → false ≡ b → false ≡ not b → ⊥
         differs true f g = cc
         differs false f g = cc
-    differ true false e f g = cc
-    differ false true e f g = cc
+    differ x y e f g = cc
 
     go : (x : Bool) → same_channel at ch ≡ x → x ≡ false
     go false g = refl
@@ -91,16 +89,12 @@ apart at ch b e f = go (same_channel at ch) refl
 
 sends : {w : ℕ} (m : Message w) (b : Bool) → is_from_client (beat_of m 0) ≡ not b
     → is_to_client (channel_of_message m) ≡ b
-sends (message.A m) true e = absurd cc
 sends (message.A m) false e = refl
 sends (message.B m) true e = refl
-sends (message.B m) false e = absurd cc
-sends (message.C m) true e = absurd cc
 sends (message.C m) false e = refl
 sends (message.D m) true e = refl
-sends (message.D m) false e = absurd cc
-sends (message.E m) true e = absurd cc
 sends (message.E m) false e = refl
+sends m b e = absurd cc
 
 -- ---- the two ends of each link
 

@@ -2,8 +2,8 @@
 use Rattle.tl_coherence.proofs.links.Imports.{IsWidth, Beat, Link, Channel, unfinished, Config, Op, Endpoint, Deliver}
 use Rattle.tl_coherence.proofs.links.Imports.{started, AbstractState, Log, system_after, is_on, packet}
 use Rattle.tl_coherence.proofs.links.Imports.{one_memory_after, message_of_kind, block_message, stepped, System, Kind}
-use Rattle.tl_coherence.proofs.links.Imports.{Request, Acquire, Probe, ProbeAck, Release, Answer, Grant, ReleaseAck}
-use Rattle.tl_coherence.proofs.links.Imports.{GrantAck, SimulationRelation, is_caching}
+use Rattle.tl_coherence.proofs.links.Imports.{Answer, Grant, ReleaseAck}
+use Rattle.tl_coherence.proofs.links.Imports.{SimulationRelation, is_caching}
 use Rattle.std.proofs.Common.{◌≡◌, ℕ, Bool, true, false, List, ◌∷◌, Option, Some, None, refl, sym, ◌∙◌, ap}
 use Rattle.std.specs.Prelude.{option_map}
 use Rattle.tl_beat.specs.declared.beat.Beat.TheVariants as beat
@@ -29,7 +29,7 @@ use Rattle.tl_coherence.specs.declared.event.Outcome.TheVariants as outcome
 use Rattle.tl_coherence.specs.refinement.MemoryRelation.{IsOpened, op_of}
 use Rattle.tl_coherence.specs.refinement.AbstractStep.{abstract_step, kind_taken, taken_by_client}
 use Rattle.tl_coherence.specs.statement.Machine.{Open, Requests}
-use Rattle.tl_coherence.specs.protocol.Phase.{ClientBlock, AcquirePhase, NoAcquire, AcquireOpen, is_whole}
+use Rattle.tl_coherence.specs.protocol.Phase.{ClientBlock, AcquirePhase, AcquireOpen, is_whole}
 use Rattle.tl_coherence.specs.protocol.PhaseSteps.{after_grant}
 use Rattle.tl_coherence.specs.protocol.Protocol.{Service, Block, SourceState, Acquires, taken_block}
 use Rattle.tl_coherence.specs.protocol.Packet.{Packet}
@@ -55,11 +55,7 @@ granted-finish w false k size address payload = ap finish.Granted (cap-gives k)
 answer_grants : (w : ℕ) (o : OpD) (param size address : ℕ) (payload : List ℕ) (p : Perm) → is_access_answer o ≡ true
     → finish.Granted p ≡ finish_of w o param size address payload → ⊥
 answer_grants w opd.AccessAck param size address payload p e f = absurd cc
-answer_grants w opd.AccessAckData param size address payload p e f = absurd cc
-answer_grants w opd.HintAck param size address payload p e f = absurd cc
-answer_grants w opd.Grant param size address payload p e f = absurd cc
-answer_grants w opd.GrantData param size address payload p e f = absurd cc
-answer_grants w opd.ReleaseAck param size address payload p e f = absurd cc
+answer_grants w o param size address payload p e f = absurd cc
 
 ack_grants : (p : Perm) → finish.Granted p ≡ finish.Released → ⊥
 ack_grants p e = absurd cc
@@ -90,8 +86,7 @@ same_grant p q e = cc
 
 acquired_block : (w : ℕ) (x : AcquirePhase) (n : ℕ) (bytes : List ℕ) → op_block (op_of {w = w} x n bytes) ≡ n
 acquired_block w (AcquireOpen true g) n bytes = refl
-acquired_block w (AcquireOpen false g) n bytes = refl
-acquired_block w NoAcquire n bytes = refl
+acquired_block w x n bytes = refl
 
 pub opened-acquire : {w : ℕ} (config : Config) (log : Log w) (h : AbstractState w) (sys : System w) (c source n : ℕ)
     (u : SourceState)
@@ -203,9 +198,4 @@ granted-holds {w} config log link ch h x source p op width is done asked = go en
         let same : end.response ≡ m = same-response end.response m (sym (response_is ReleaseAck e)) in
         absurd (ack_grants p (end.finish_is ∙ released-at (d_beat_of end.response end.first.next.k) (sys.clients c)
         (ap (λ (i : MessageD w). i.opcode) same)))
-    go Request e own = absurd (let f : false ≡ true = rw e at own in cc)
-    go Acquire e own = absurd (let f : false ≡ true = rw e at own in cc)
-    go Probe e own = absurd (let f : false ≡ true = rw e at own in cc)
-    go ProbeAck e own = absurd (let f : false ≡ true = rw e at own in cc)
-    go Release e own = absurd (let f : false ≡ true = rw e at own in cc)
-    go GrantAck e own = absurd (let f : false ≡ true = rw e at own in cc)
+    go k e own = absurd (let f : false ≡ true = rw e at own in cc)

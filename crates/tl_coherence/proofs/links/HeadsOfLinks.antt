@@ -2,8 +2,8 @@
 -- on channel B it is a Probe.
 use Rattle.tl_coherence.proofs.links.Imports.{IsWidth, Beat, Channel, Message, beat_of, channel_of, unfinished, Config}
 use Rattle.tl_coherence.proofs.links.Imports.{Verdict, EndConfig, AbstractState, Log, system_after, packet, is_on}
-use Rattle.tl_coherence.proofs.links.Imports.{message_of_kind, block_message, System, terms_at, Kind, Request, Acquire}
-use Rattle.tl_coherence.proofs.links.Imports.{Probe, ProbeAck, Release, Answer, Grant, ReleaseAck, GrantAck}
+use Rattle.tl_coherence.proofs.links.Imports.{message_of_kind, block_message, System, terms_at, Kind}
+use Rattle.tl_coherence.proofs.links.Imports.{Answer, Grant, ReleaseAck}
 use Rattle.tl_coherence.proofs.links.Imports.{SimulationRelation, is_caching}
 use Rattle.std.proofs.Common.{◌≡◌, ℕ, Bool, true, false, List, ◌∷◌, Option, Some, refl, sym, ◌∙◌, ap, subst}
 use Rattle.std.specs.Prelude.{map, Result, Ok, Err}
@@ -95,12 +95,7 @@ on_d {w} config log h sys c x queue width is beats = go first.kind first.number 
         ap (λ (y : Beat w). channel_of y) (next.beat_is ∙ ap (λ (m : Message w). beat_of m next.k)
         (grant-rendered c n h.state due))
     go ReleaseAck n tokens own next = ap (λ (y : Beat w). channel_of y) next.beat_is
-    go Request i tokens own next = absurd cc
-    go Acquire i tokens own next = absurd cc
-    go Probe i tokens own next = absurd cc
-    go ProbeAck i tokens own next = absurd cc
-    go Release i tokens own next = absurd cc
-    go GrantAck i tokens own next = absurd cc
+    go k i tokens own next = absurd cc
 
 -- a beat of another channel is none of B
 not_probe : {w : ℕ} (x : Beat w) (y : BeatB w) (ch : Channel) → channel_of x ≡ ch → (ch ≡ channel.B → ⊥) → x ≡ beat.B y

@@ -25,7 +25,7 @@ use Rattle.tl_client.specs.statement.Offer as offer
 use Rattle.tl_client.specs.statement.Offer.{offered}
 use Rattle.tl_manager.specs.statement.End as manager_end
 use Rattle.tl_manager.specs.statement.Offer as manager
-use Rattle.tl_manager.specs.statement.Offer.{must_wait, Judgement, Breaks, Waits, Passes, breaks_or, waits_or}
+use Rattle.tl_manager.specs.statement.Offer.{must_wait, Judgement, Passes, breaks_or, waits_or}
 use Rattle.tl_manager.specs.statement.Offer.{is_waiting, offered_as, judged_on, judged_at, open_level}
 use Rattle.tl_manager.proofs.judging.Stalls.{never-stalled}
 use Rattle.tl_coherence.specs.refinement.MemoryRelation.{IsLet}
@@ -50,10 +50,9 @@ waits-as-it-must : {w : ℕ} (config : Config) (link : _) (x : Beat w) (e : mana
     (must : Bool) (rest : Judgement) → is_waiting rest ≡ false
     → IsTakenIn (offered_as (breaks_or a (breaks_or b (waits_or must rest))) config link x e)
     → is_waiting (breaks_or a (breaks_or b (waits_or must rest))) ≡ must
-waits-as-it-must config link x e (Some r) b must rest silent taken = absurd taken
-waits-as-it-must config link x e None (Some r) must rest silent taken = absurd taken
 waits-as-it-must config link x e None None true rest silent taken = refl
 waits-as-it-must config link x e None None false rest silent taken = silent
+waits-as-it-must config link x e a b must rest silent taken = absurd taken
 
 passes-or-breaks : (a b : Option Rule) → is_waiting (breaks_or a (breaks_or b Passes)) ≡ false
 passes-or-breaks (Some r) b = refl
@@ -159,8 +158,7 @@ emptiness {w} config terms link ch (x ∷ rest) s = go (is_to_client ch)
     of_manager : (a : manager.Reception w × manager_end.End w)
         → is_emptiness (manager_took link ch x rest a s).outcome ≡ false
     of_manager (manager.Refused rule, e) = refl
-    of_manager (manager.Stalled, e) = refl
-    of_manager (manager.Sent handed, e) = refl
+    of_manager a = refl
 
     go : (b : Bool) → is_emptiness (if b then judged (offered terms ch x (s.clients link)).answer link ch x rest
         (offered terms ch x (s.clients link)).after s else manager_took link ch x rest
@@ -180,17 +178,15 @@ moving-else {w} config terms link ch (x ∷ rest) s some unstalled = go (is_to_c
     of_client : (r : Result (Verdict × Option (Message w)) Rule) (e : client.Endpoint w)
         → is_stall (judged r link ch x rest e s).outcome ≡ false
         → is_moving (judged r link ch x rest e s).outcome ≡ true
-    of_client (Err rule) e f = absurd cc
-    of_client (Ok (verdict.Stalled, m)) e f = absurd cc
     of_client (Ok (verdict.Taken, m)) e f = refl
     of_client (Ok (verdict.Done source finish, m)) e f = refl
+    of_client r e f = absurd cc
 
     of_manager : (a : manager.Reception w × manager_end.End w)
         → is_stall (manager_took link ch x rest a s).outcome ≡ false
         → is_moving (manager_took link ch x rest a s).outcome ≡ true
-    of_manager (manager.Refused rule, e) f = absurd cc
-    of_manager (manager.Stalled, e) f = absurd cc
     of_manager (manager.Sent handed, e) f = refl
+    of_manager a f = absurd cc
 
     step : Bool → Step w
     step b = if b then judged (offered terms ch x (s.clients link)).answer link ch x rest
@@ -215,8 +211,6 @@ movable-moves {w} config log c ch exactly movable =
     go : (o : Option EndConfig) → terms_at config c ≡ o → (beats : List (Beat w)) → sys.channels c ch ≡ beats
         → moves config o c ch beats sys ≡ true
         → is_moving (outcome_of_delivery config log c ch) ≡ true
-    go None e beats f g = absurd cc
-    go (Some terms) e [] f g = absurd cc
     go (Some terms) e (x ∷ rest) f g =
         let is : IsExact config log c ch = exactly (ap is_some e) in
         let same : outcome_of_delivery config log c ch ≡ (delivered config terms c ch (sys.channels c ch) sys).outcome =
@@ -227,6 +221,7 @@ movable-moves {w} config log c ch exactly movable =
         (not (is_empty (sys.channels c ch))) in
         ap is_moving same ∙ moving-else config terms c ch (sys.channels c ch) sys (sym (ap is_emptiness same) ∙ some)
         (sym (ap is_stall same) ∙ unstalled)
+    go o e beats f g = absurd cc
 
 -- ---- exact stalls
 

@@ -86,14 +86,11 @@ served-waits {X} caching s c source (InService n) inv f e =
     go (s.block n).service refl (sym (inv.named.serves c source n) ∙ rw (f, same_number n) refl)
   where
     go : (service : Service) → (s.block n).service ≡ service → is_serving c source service ≡ true → IsServing c source s
-    go Free g h = absurd cc
-    go (Waits r true src k) g h = absurd cc
     go (Waits r false src k) g h =
         let client = eqb-true c r (and_left (c == r) (source == src) h) in
         let number = eqb-true source src (and_right (c == r) (source == src) h) in
         record { block = n; own = false; cap = k; waits_so = g ∙ rw (client, number) refl }
-    go (GrantSent q d k) g h = absurd cc
-    go (GrantTaken q) g h = absurd cc
+    go service g h = absurd cc
 served-waits {X} caching s c source (Acquires n) inv f e = go (s.block n).service refl e
   where
     only : (b : Bool) (k : Cap) → is_own (if b then Own else Other k) ≡ true → b ≡ true
@@ -209,19 +206,16 @@ granted-to c (GrantTaken q) e = let same = eqb-true c q (own (c == q) e) in (ref
 
 to-granted : (c : ℕ) (service : Service) → is_granted_in service ≡ true → client_in service ≡ Some c
     → is_grant_to c service ≡ true
-to-granted c Free e f = absurd cc
-to-granted c (Waits r own source k) e f = absurd cc
 to-granted c (GrantSent q d k) e f = let same : q ≡ c = same_Some q c f in rw (same, same_number c) refl
   where
     same_Some : (i j : ℕ) → Some i ≡ Some j → i ≡ j
     same_Some i j g = cc
 to-granted c (GrantTaken q) e f = let same : q ≡ c = same_Some q c f in rw (same, same_number c) refl
+to-granted c service e f = absurd cc
 
 busy-granted : (service : Service) → is_granted_in service ≡ true → is_busy service ≡ true
 busy-granted Free e = absurd cc
-busy-granted (Waits r own source k) e = refl
-busy-granted (GrantSent q d k) e = refl
-busy-granted (GrantTaken q) e = refl
+busy-granted service e = refl
 
 sinks-traced : {w : ℕ} {X : Type 0} (caching : ℕ → Bool) (config : Config) (request : ℕ → MessageA w) (s : State X)
     (e : End w) → IsInvariant caching s → IsKept config e → IsTraced request s e.trace
@@ -283,8 +277,7 @@ cap-of : {w : ℕ} (service : Service) (n : ℕ) (m : MessageA w) (k : Cap) → 
     → cap_probed m.opcode m.param ≡ Some k → k ≡ cap_waited service
 cap-of Free n m k for ungranted busy e = absurd (busy refl)
 cap-of (Waits r own source j) n m k for ungranted busy e = same_Some k j (sym e ∙ for.3)
-cap-of (GrantSent q d j) n m k for ungranted busy e = absurd cc
-cap-of (GrantTaken q) n m k for ungranted busy e = absurd cc
+cap-of service n m k for ungranted busy e = absurd cc
 
 request-with : {w : ℕ} (service : Service) (tracker : ℕ) (m : MessageA w) (v : manager.Service w)
     → service_with (client_in service) tracker m ≡ Some v → (v.request ≡ m) × (service ≡ Free → ⊥)

@@ -5,12 +5,12 @@ use Rattle.tl_coherence.proofs.manager.Imports.{broken_order, broken_in_order, s
 use Rattle.tl_coherence.proofs.manager.Imports.{held, same_block, Link, first_if, Level, reaction, End, Passes}
 use Rattle.tl_coherence.proofs.manager.Imports.{level_of, must_wait, judged, offered, taken, services, service_of_block}
 use Rattle.tl_coherence.proofs.manager.Imports.{least_untaken, trackers_of, acquire_opcode, Log, ClientBlock, View, Own}
-use Rattle.tl_coherence.proofs.manager.Imports.{Other, Granting, Acknowledging, GrantedOther, is_unprobed, ok}
+use Rattle.tl_coherence.proofs.manager.Imports.{is_unprobed, ok}
 use Rattle.tl_coherence.proofs.manager.Imports.{is_served, ManagerRelation, is_own, client_in, service_with}
 use Rattle.tl_coherence.proofs.manager.Imports.{IsInvariant, is_busy, Service, Free, Waits, GrantSent, GrantTaken}
 use Rattle.tl_coherence.proofs.manager.Imports.{Asked, State, packet, is_on, view, AccessMessages, block_message}
-use Rattle.tl_coherence.proofs.manager.Imports.{System, Kind, Request, Acquire, Probe, ProbeAck, Release, Answer, Grant}
-use Rattle.tl_coherence.proofs.manager.Imports.{ReleaseAck, GrantAck, Packet, SimulationRelation}
+use Rattle.tl_coherence.proofs.manager.Imports.{System, Kind, ProbeAck, Release}
+use Rattle.tl_coherence.proofs.manager.Imports.{Packet, SimulationRelation}
 use Rattle.std.proofs.Common.{◌≡◌, ℕ, zero, suc, ◌==◌, Bool, true, false, not, ◌&&◌, ◌||◌, List, [], ◌∷◌, Option, Some}
 use Rattle.std.proofs.Common.{None, refl, sym, ◌∙◌, ap, arith}
 use Rattle.std.specs.Prelude.{map, is_some, All}
@@ -39,7 +39,7 @@ use Rattle.tl_manager.specs.code.Releases.{comes_of}
 use Rattle.tl_manager.specs.statement.Service.{is_in_service}
 use Rattle.tl_manager.proofs.words_of_clients.Free.{least_free-is_free}
 use Rattle.tl_manager.proofs.services.Serving.{tracker_among}
-use Rattle.tl_coherence.specs.protocol.Phase.{Idle, AcquireOpen, ReleasePhase, NoRelease, ReleaseSent, ReleaseAcked}
+use Rattle.tl_coherence.specs.protocol.Phase.{Idle, AcquireOpen, ReleasePhase, NoRelease}
 use Rattle.tl_coherence.specs.protocol.Phase.{is_unreleased, grow_fits}
 use Rattle.tl_coherence.specs.protocol.Invariant.{tracks_with}
 use Rattle.tl_coherence.specs.protocol.Tokens.{is_releasing, is_unserved, shown}
@@ -113,13 +113,7 @@ release-comes {w} config log mail request s sys c n is kept = go (s.link c).c re
         (is.invariant.transfers c Release refl) in
         let no : true ≡ false = sym shows ∙ ap (λ j. is_releasing ((s.block j).pair c).letting) same ∙ kept in
         cc))
-    kinds Request x xs e f i = absurd (apart x xs e (rw f refl))
-    kinds Acquire x xs e f i = absurd (apart x xs e (rw f refl))
-    kinds Probe x xs e f i = absurd (apart x xs e (rw f refl))
-    kinds Answer x xs e f i = absurd (apart x xs e (rw f refl))
-    kinds Grant x xs e f i = absurd (apart x xs e (rw f refl))
-    kinds ReleaseAck x xs e f i = absurd (apart x xs e (rw f refl))
-    kinds GrantAck x xs e f i = absurd (apart x xs e (rw f refl))
+    kinds k x xs e f i = absurd (apart x xs e (rw f refl))
 
     go : (xs : List Packet) → (s.link c).c ≡ xs → comes_of n t ≡ false
     go [] e = rw (carried [] e).0 refl
@@ -179,14 +173,11 @@ grows g perm.Trunk perm.Branch whole e f = absurd cc
 
 kept-is : (x : ReleasePhase) → is_unreleased x ≡ true → is_releasing x ≡ false
 kept-is NoRelease e = refl
-kept-is (ReleaseSent r) e = absurd cc
-kept-is ReleaseAcked e = absurd cc
+kept-is x e = absurd cc
 
 pub first_three : (x y z more : Bool) → (x && (y && (z && more))) ≡ true → ((x && y) && z) ≡ true
 first_three true true true more e = refl
-first_three true true false more e = absurd cc
-first_three true false z more e = absurd cc
-first_three false y z more e = absurd cc
+first_three x y z more e = absurd cc
 
 -- a beat of an Acquire that is wanted, whose block isn't in service
 pub order-acquire : {w : ℕ} (config : Config) (log : Log w) (mail : AccessMessages w) (request : ℕ → MessageA w)
@@ -237,9 +228,7 @@ unserved-free {w} request s t n is none = go (s.block n).service (ap is_some (sy
     go : (service : Service) → is_some (service_with (client_in service) (s.block n).tracker (request n)) ≡ false
         → service ≡ Free
     go Free e = refl
-    go (Waits r own source k) e = absurd cc
-    go (GrantSent q d k) e = absurd cc
-    go (GrantTaken q) e = absurd cc
+    go service e = absurd cc
 
 -- the tracker of the next service is of no block
 pub free-untracked : {w : ℕ} {X : Type 0} (caching : ℕ → Bool) (request : ℕ → MessageA w) (s : State X) (t : Trace w)
@@ -369,12 +358,8 @@ early-acquire {w} config log mail request s sys c n zero is is_it burst =
     (rw is_it.used (unserved_own (view (s.block n).service c) is_it.unserved)) burst)
   where
     unserved_own : (v : View) → is_unserved v ≡ true → is_own v ≡ false
-    unserved_own Idle e = refl
     unserved_own Own e = absurd cc
-    unserved_own (Other k) e = refl
-    unserved_own (Granting d k) e = refl
-    unserved_own Acknowledging e = refl
-    unserved_own GrantedOther e = refl
+    unserved_own v e = refl
 early-acquire {w} config log mail request s sys c n (suc i) is is_it burst =
     ap before_stall (later-legal config.profile
     (message.A (acquisition (acquire_opcode is_it.whole) is_it.grow ((s.block n).source c) n)) i

@@ -44,12 +44,8 @@ IsOpened t _ = ⊤
 
 opened-other : {w : ℕ} (t u : History w) (o : Option (Beat w)) → ((s : ℕ) → request_of s u ≡ request_of s t)
     → IsOpened t o → IsOpened u o
-opened-other t u None same ok = tt
 opened-other t u (Some (beat.A x)) same ok = same x.source ∙ ok
-opened-other t u (Some (beat.B x)) same ok = tt
-opened-other t u (Some (beat.C x)) same ok = tt
-opened-other t u (Some (beat.D x)) same ok = tt
-opened-other t u (Some (beat.E x)) same ok = tt
+opened-other t u o same ok = tt
 
 -- a request that begins
 now_opened : {w : ℕ} (x : BeatA w) (t : History w) → begins (beat.A x) t ≡ true

@@ -87,10 +87,9 @@ quiet_unless p v well e = rw e at (of_phase settled_unless refl p v well)
 -- ---- what is known
 
 abbrev pub is_granted_in : Service → Bool
-is_granted_in Free = false
-is_granted_in (Waits r own source k) = false
 is_granted_in (GrantSent q d k) = true
 is_granted_in (GrantTaken q) = true
+is_granted_in _ = false
 
 -- the values of a trace that the others follow from
 pub record IsTraced {w : ℕ} {X : Type 0} (request : ℕ → MessageA w) (s : State X) (t : Trace w) : Type 0 where
@@ -109,10 +108,9 @@ abbrev pub at_service : {w : ℕ} → ℕ → ℕ → MessageA w → manager.Ser
 at_service r tracker m = record { tracker = tracker; link = record { 0 = r }; request = m }
 
 granted_views : (s : Service) (c : ℕ) → is_granted_in s ≡ true → is_other (view s c) ≡ false
-granted_views Free c e = absurd cc
-granted_views (Waits r own source k) c e = absurd cc
 granted_views (GrantSent q d k) c e = not-other (c == q) (Granting d k) GrantedOther refl refl
 granted_views (GrantTaken q) c e = not-other (c == q) Acknowledging GrantedOther refl refl
+granted_views s c e = absurd cc
 
 -- a request is granted exactly where the protocol says so
 pub granted-is : {w : ℕ} {X : Type 0} (caching : ℕ → Bool) (config : Config) (request : ℕ → MessageA w) (s : State X)
@@ -141,13 +139,12 @@ granted-is {w} {X} caching config request s e inv kept is n v found = go (s.bloc
     waiting : (service : Service) → (s.block n).service ≡ service → IsAwaited service (s.block n).pair
         → is_granted_in service ≡ false → (service ≡ Free → ⊥) → waits.is_granted t v ≡ false
     waiting Free f someone g busy = absurd (busy refl)
-    waiting (GrantSent q d k) f someone g busy = absurd cc
-    waiting (GrantTaken q) f someone g busy = absurd cc
     waiting (Waits r own source k) f someone g busy =
         let missing : pending (ProbeOf n) (on_link someone.0 t) ≡ true = is.probes someone.0 n ∙ ap not someone.1 in
         let probed : IsProbed someone.0 n t = (kept.steady.accounted.blocks n).probes someone.0 missing in
         let same : probed.service ≡ v = some_is probed.service v (sym probed.serves ∙ found) in
         rw same at probed.unanswered
+    waiting service f someone g busy = absurd cc
 
     go : (service : Service) → (s.block n).service ≡ service → waits.is_granted t v ≡ is_granted_in service
     go Free f = absurd (let none : service_of_block n (services t) ≡ None = is.serving_is n ∙ rw f refl in
@@ -155,8 +152,7 @@ granted-is {w} {X} caching config request s e inv kept is n v found = go (s.bloc
     go (Waits r own source k) f =
         let someone : IsAwaited (Waits r own source k) (s.block n).pair = rw f at (inv.blocks n).awaited in
         waiting (Waits r own source k) f someone refl (λ g. cc)
-    go (GrantSent q d k) f = granted (rw f refl)
-    go (GrantTaken q) f = granted (rw f refl)
+    go service f = granted (rw f refl)
 
 -- what a service says of the client whose request it is, and of another
 acquiring-is : {w : ℕ} (c n tracker : ℕ) (m : MessageA w) (t : Trace w) (service : Service) → IsFor service n m
@@ -169,8 +165,7 @@ acquiring-is c n tracker m t (Waits r own source k) for granted =
   where
     go : (b same : Bool) → (b && (same && true)) ≡ is_own (if b && same then Own else Other k)
     go true true = refl
-    go true false = refl
-    go false same = refl
+    go b same = refl
 acquiring-is c n tracker m t (GrantSent q d k) for granted =
     rw (granted (at_service q tracker m) refl, for.0, swapped q c) (go (c == q))
   where

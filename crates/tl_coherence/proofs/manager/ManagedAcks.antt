@@ -4,8 +4,8 @@ use Rattle.tl_coherence.proofs.manager.Imports.{held, pending, probe_of, request
 use Rattle.tl_coherence.proofs.manager.Imports.{IsAccounted, services, service_of_block, own_beat, other_beat}
 use Rattle.tl_coherence.proofs.manager.Imports.{beat-keeps, AreNamed, is_busy, ManagerRelation, is_own, client_in}
 use Rattle.tl_coherence.proofs.manager.Imports.{service_with, Acknowledging, GrantedOther, is_unprobed, Service, Free}
-use Rattle.tl_coherence.proofs.manager.Imports.{Waits, GrantSent, GrantTaken, Block, State, SourceState, SourceFree}
-use Rattle.tl_coherence.proofs.manager.Imports.{Asked, InService, Replied, Acquires, view, is_granting}
+use Rattle.tl_coherence.proofs.manager.Imports.{Waits, GrantTaken, Block, State, SourceState}
+use Rattle.tl_coherence.proofs.manager.Imports.{Acquires, view, is_granting}
 use Rattle.tl_coherence.proofs.manager.Imports.{is_acknowledging, probe_beat, ServedSourceRelation, is_served}
 use Rattle.tl_coherence.proofs.manager.Imports.{is_granted, cap_waited, Packet, set}
 use Rattle.std.proofs.Common.{◌≡◌, ℕ, ◌==◌, Bool, true, false, not, ◌&&◌, ◌||◌, List, ◌∷◌, Option, Some, None, refl}
@@ -70,9 +70,7 @@ awaits_if false = refl
 -- a block that is in service has a client
 client_busy : (s : Service) (r : ℕ) → client_in s ≡ Some r → is_busy s ≡ true
 client_busy Free r e = absurd cc
-client_busy (Waits q own source k) r e = refl
-client_busy (GrantSent q d k) r e = refl
-client_busy (GrantTaken q) r e = refl
+client_busy s r e = refl
 
 -- ---- services
 
@@ -105,8 +103,7 @@ serving-acked {w} c n x request s t is known i = passed ∙ elim (cases_eq i n) 
 
     never : (a b : Bool) → (a && (b && false)) ≡ false
     never true true = refl
-    never true false = refl
-    never false b = refl
+    never a b = refl
 
     stays : (a : Bool) (v : manager.Service w) → a ≡ false → (if not a then Some v else None) ≡ Some v
     stays a v e = rw e refl
@@ -215,12 +212,9 @@ are_served-acked {w} {X} request c n rest x s t is known = record {
     z = grant_ack_taken c n rest s
 
     served_now : (d : ℕ) (y : SourceState) → is_served d y z ≡ is_served d y s
-    served_now d SourceFree = refl
-    served_now d Asked = refl
-    served_now d (InService j) = refl
-    served_now d Replied = refl
     served_now d (Acquires j) = set-part (λ (b : Block X). is_own (view b.service d)) n new s.block
         (rw is.taken (sym (not_owned (d == c)))) j
+    served_now d y = refl
 
     here : (d : ℕ) → is_granted d (Some n) s ≡ (d == c)
     here d = rw is.taken (awaits_if (d == c))

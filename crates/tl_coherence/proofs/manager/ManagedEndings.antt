@@ -4,8 +4,8 @@ use Rattle.tl_coherence.proofs.manager.Imports.{report_right, Trace, on_link, co
 use Rattle.tl_coherence.proofs.manager.Imports.{is_probe_ack, pending, probe_of, request_of, IsAccounted, services}
 use Rattle.tl_coherence.proofs.manager.Imports.{service_of_block, after_sent, reply-quiet, burst-reply, request-reply}
 use Rattle.tl_coherence.proofs.manager.Imports.{probe-reply, AreNamed, is_busy, ManagerRelation, is_own, is_unprobed}
-use Rattle.tl_coherence.proofs.manager.Imports.{after_report, Free, Waits, Block, State, SourceState, SourceFree, Asked}
-use Rattle.tl_coherence.proofs.manager.Imports.{InService, Replied, Acquires, view, is_granting, is_acknowledging}
+use Rattle.tl_coherence.proofs.manager.Imports.{after_report, Free, Waits, Block, State, SourceState}
+use Rattle.tl_coherence.proofs.manager.Imports.{Replied, Acquires, view, is_granting, is_acknowledging}
 use Rattle.tl_coherence.proofs.manager.Imports.{ServedSourceRelation, is_served, is_granted, cap_waited, probe_beat}
 use Rattle.tl_coherence.proofs.manager.Imports.{Packet, set}
 use Rattle.std.proofs.Common.{◌≡◌, ℕ, ◌+◌, ◌==◌, Bool, true, false, ◌&&◌, ◌||◌, List, ◌∷◌, Option, Some, None, refl}
@@ -182,11 +182,8 @@ are_served-ended {w} {X} request c q n source k r f rest x m s t is known = reco
     other = answer_kind m.opcode is.answers
 
     served_now : (d : ℕ) (y : SourceState) → is_served d y z ≡ is_served d y s
-    served_now d SourceFree = refl
-    served_now d Asked = refl
-    served_now d (InService j) = refl
-    served_now d Replied = refl
     served_now d (Acquires j) = set-part (λ (b : Block X). is_own (view b.service d)) n new s.block (rw is.waits refl) j
+    served_now d y = refl
 
     source_now : (d i : ℕ) → pending (key.RequestSource i) (on_link d v) ≡ (if (q == d) && (source == i) then false else
         pending (key.RequestSource i) (on_link d u))

@@ -7,8 +7,8 @@ use Rattle.tl_coherence.proofs.manager.Imports.{IsAccounted, service_of_block, a
 use Rattle.tl_coherence.proofs.manager.Imports.{reply-quiet, burst-reply, request-reply, probe-reply, AreNamed}
 use Rattle.tl_coherence.proofs.manager.Imports.{ManagerRelation, is_own, ClientBlock, Own, Other, Granting}
 use Rattle.tl_coherence.proofs.manager.Imports.{GrantedOther, is_unprobed, after_report, after_grant_sent, Waits}
-use Rattle.tl_coherence.proofs.manager.Imports.{GrantSent, Block, State, SourceState, SourceFree, Asked, InService}
-use Rattle.tl_coherence.proofs.manager.Imports.{Replied, Acquires, view, is_granting, is_acknowledging, is_wanting}
+use Rattle.tl_coherence.proofs.manager.Imports.{GrantSent, Block, State, SourceState}
+use Rattle.tl_coherence.proofs.manager.Imports.{Acquires, view, is_granting, is_acknowledging, is_wanting}
 use Rattle.tl_coherence.proofs.manager.Imports.{report_grants, granted_block, reported_block, ServedSourceRelation}
 use Rattle.tl_coherence.proofs.manager.Imports.{is_served, is_granted, cap_waited, probe_beat, Packet, set}
 use Rattle.std.proofs.Common.{◌≡◌, ℕ, ◌==◌, Bool, true, false, not, ◌&&◌, ◌||◌, List, Option, Some, None, refl, sym}
@@ -273,14 +273,11 @@ are_served-conceded {w} {X} request c q n source k gift r dt rest x m s t is kno
 
     served_now : (d i : ℕ) → ((q == d) && (source == i)) ≡ false → (y : SourceState) → s.uses d i ≡ y
         → is_served d y z ≡ is_served d y s
-    served_now d i apart SourceFree e = refl
-    served_now d i apart Asked e = refl
-    served_now d i apart (InService j) e = refl
-    served_now d i apart Replied e = refl
     served_now d i apart (Acquires j) e = elim (cases_eq j n) [
       | inl same ↦ rw (same, set-same n new s.block, is.waits, unlike d i j apart e same) refl
       | inr other ↦ rw (set-other n j new s.block other) refl
     ]
+    served_now d i apart y e = refl
 
     source_now : (d i : ℕ) → pending (key.RequestSource i) (on_link d v) ≡ (if (q == d) && (source == i) then false else
         pending (key.RequestSource i) (on_link d u))

@@ -49,8 +49,7 @@ answer_is : {w : ℕ} (r : MessageA w) (kind : Answer) → (m : MessageD w) × (
     × (is_access_answer m.opcode ≡ true)
     × (is_release_ack m.opcode ≡ false) × (m.source ≡ r.source)
 answer_is r answer.Ack = (_, refl, refl, refl, refl)
-answer_is r answer.Hint = (_, refl, refl, refl, refl)
-answer_is r (answer.Data payload) = (_, refl, refl, refl, refl)
+answer_is r kind = (_, refl, refl, refl, refl)
 
 -- what is done: the access is performed on what the ProbeAcks left of the block, and its answer is handed out
 pub reaction-ended : {w : ℕ} (config : Config) (c q n source k : ℕ) (low : Cap) (r : Report) (m : MessageC w)
@@ -203,8 +202,7 @@ settling-records {w} config c q n source k own low r m h e at d =
 
 has_copy-is : (p : Perm) → has_copy p ≡ not (same_perm p perm.None)
 has_copy-is perm.None = refl
-has_copy-is perm.Branch = refl
-has_copy-is perm.Trunk = refl
+has_copy-is p = refl
 
 -- the Acquire that is granted is the one that client q has open
 pub record IsWanted {w : ℕ} (c q n source : ℕ) (whole : Bool) (g : Grow) (h : AbstractState w) : Type 0 where

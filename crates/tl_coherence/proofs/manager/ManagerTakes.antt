@@ -8,8 +8,8 @@ use Rattle.tl_coherence.proofs.manager.Imports.{ManagerRelation, is_own, View, O
 use Rattle.tl_coherence.proofs.manager.Imports.{GrantedOther, is_unprobed, Service, Free, Waits, GrantSent, GrantTaken}
 use Rattle.tl_coherence.proofs.manager.Imports.{Block, State, view, is_granting, is_acknowledging, is_on, packet}
 use Rattle.tl_coherence.proofs.manager.Imports.{AccessMessages, block_message, ServedSourceRelation, cap_waited}
-use Rattle.tl_coherence.proofs.manager.Imports.{is_granted, System, Kind, Request, Acquire, Probe, ProbeAck, Release}
-use Rattle.tl_coherence.proofs.manager.Imports.{Answer, Grant, ReleaseAck, GrantAck, Packet}
+use Rattle.tl_coherence.proofs.manager.Imports.{is_granted, System, Kind, ProbeAck, Release}
+use Rattle.tl_coherence.proofs.manager.Imports.{GrantAck, Packet}
 use Rattle.tl_coherence.proofs.queues.FirstToken.{IsFirst}
 use Rattle.std.proofs.Common.{sym, subst, ◌≡◌, ℕ, zero, suc, Bool, true, false, not, ◌&&◌, ◌||◌, List, [], ◌∷◌, Option}
 use Rattle.std.proofs.Common.{Some, None, refl, ◌∙◌, ap, arith}
@@ -69,13 +69,7 @@ by-first_c {w} P c mail s sys x queue at report release = subst P (sym at.tokens
         → P (packet k at.number ∷ at.rest)
     go ProbeAck e first next = report at.number at.rest first next
     go Release e first next = release at.number at.rest first next
-    go Request e first next = absurd cc
-    go Acquire e first next = absurd cc
-    go Probe e first next = absurd cc
-    go Answer e first next = absurd cc
-    go Grant e first next = absurd cc
-    go ReleaseAck e first next = absurd cc
-    go GrantAck e first next = absurd cc
+    go k e first next = absurd cc
 
 -- or a GrantAck
 pub by-first_e : {w : ℕ} (P : List Packet → Type 0) (c : ℕ) (mail : AccessMessages w) (s : State (List ℕ))
@@ -94,14 +88,7 @@ by-first_e {w} P c mail s sys x queue at ack = subst P (sym at.tokens) (go at.ki
     go : (k : Kind) → is_on channel.E k ≡ true → (s.link c).e ≡ packet k at.number ∷ at.rest → Next k
         → P (packet k at.number ∷ at.rest)
     go GrantAck e first next = ack at.number at.rest first next
-    go ProbeAck e first next = absurd cc
-    go Release e first next = absurd cc
-    go Request e first next = absurd cc
-    go Acquire e first next = absurd cc
-    go Probe e first next = absurd cc
-    go Answer e first next = absurd cc
-    go Grant e first next = absurd cc
-    go ReleaseAck e first next = absurd cc
+    go k e first next = absurd cc
 
 -- ---- a beat that breaks no rule of order is taken
 
@@ -217,8 +204,7 @@ release_rules used acquires releases fits e f g h = rw (e, f, g, h) refl
 
 pruned : (r : Prune) (p : Perm) → same_perm (prune_left r) p ≡ true → prunes_from (prune_of (prune_code r)) p ≡ true
 pruned prune.TtoB p e = e
-pruned prune.TtoN p e = e
-pruned prune.BtoN p e = e
+pruned r p e = e
 
 -- a Release that is first has no ProbeAck of its block behind it
 pub unanswered : (caching : ℕ → Bool) (c n : ℕ) (rest : List Packet) (s : State (List ℕ)) → IsInvariant caching s

@@ -50,13 +50,11 @@ at_manager-traced caching config mail request s e inv kept is with memory live =
 
 same_with : {w : ℕ} (mail : AccessMessages w) (service after : Service) (m : MessageA w) → SameService service after
     → IsServedWith mail service m → IsServedWith mail after m
-same_with mail (GrantSent q d k) (GrantTaken r) m e ok = tt
-same_with mail (GrantSent q d k) Free m e ok = tt
 same_with mail (GrantSent q d k) (Waits r own source j) m e ok = absurd cc
-same_with mail (GrantSent q d k) (GrantSent r b j) m e ok = tt
 same_with mail Free after m e ok = rw e ok
 same_with mail (Waits r own source k) after m e ok = rw e ok
 same_with mail (GrantTaken r) after m e ok = rw e ok
+same_with mail (GrantSent q d k) after m e ok = tt
 
 -- what the manager's end knows stays, where the blocks are the same to it
 pub at_manager-same : {w : ℕ} (caching : ℕ → Bool) (config : Config) (mail : AccessMessages w) (request : ℕ

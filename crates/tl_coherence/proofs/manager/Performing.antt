@@ -44,8 +44,7 @@ with_answer config c k m memory t = with_handed (performed config (service_for c
 answer_of_d : {w : ℕ} (r : MessageA w) (kind : Answer) → (m : MessageD w) × (access_answer r kind ≡ D m)
     × (is_grant m.opcode ≡ false)
 answer_of_d r answer.Ack = (_, refl, refl)
-answer_of_d r answer.Hint = (_, refl, refl)
-answer_of_d r (answer.Data payload) = (_, refl, refl)
+answer_of_d r kind = (_, refl, refl)
 
 one-handed : {w : ℕ} (c : ℕ) (m : Message w) (t : Trace w) → with_handed ((link_of c, m) ∷ []) t ≡ after_sent
     (link_of c) m t

@@ -7,7 +7,7 @@ use Rattle.tl_coherence.proofs.manager.Imports.{held-sent_d, pending-quiet, beat
 use Rattle.tl_coherence.proofs.manager.Imports.{service_of_block, after_sent, own_link, other_link, own_beat}
 use Rattle.tl_coherence.proofs.manager.Imports.{other_beat, beat-keeps, reply-quiet, burst-reply, request-reply}
 use Rattle.tl_coherence.proofs.manager.Imports.{probe-reply, ManagerRelation, is_own, ClientBlock, is_unprobed, Service}
-use Rattle.tl_coherence.proofs.manager.Imports.{Block, State, SourceState, SourceFree, Asked, InService, Replied}
+use Rattle.tl_coherence.proofs.manager.Imports.{Block, State, SourceState}
 use Rattle.tl_coherence.proofs.manager.Imports.{Acquires, view, is_granting, is_acknowledging, ServedSourceRelation}
 use Rattle.tl_coherence.proofs.manager.Imports.{is_served, is_granted, set}
 use Rattle.std.proofs.Common.{◌≡◌, ℕ, ◌==◌, Bool, true, false, not, ◌&&◌, ◌||◌, [], ◌∷◌, Option, Some, None, refl, sym}
@@ -134,8 +134,7 @@ missing-last c n right x t is report d i = missing-c c x t d i ∙ elim (cases_e
 
 none_or : (a b p : Bool) → (if a && (b && false) then false else p) ≡ p
 none_or true true p = refl
-none_or true false p = refl
-none_or false b p = refl
+none_or a b p = refl
 
 pub missing-release : {w : ℕ} (c : ℕ) (x : BeatC w) (t : Trace w) → is_probe_ack x.opcode ≡ false → (d i : ℕ)
     → pending (key.ProbeOf i) (on_link d ((record { 0 = c }, beat.C x) ∷ t)) ≡ pending (key.ProbeOf i) (on_link d t)
@@ -209,11 +208,8 @@ managed-still request s z t u quiet still records missing known = record {
 
 served-still : {X : Type 0} (s z : State X) → AreStill s z → (c : ℕ) (u : SourceState)
     → is_served c u z ≡ is_served c u s
-served-still s z still c SourceFree = refl
-served-still s z still c Asked = refl
-served-still s z still c (InService n) = refl
-served-still s z still c Replied = refl
 served-still s z still c (Acquires n) = ap (λ (v : Service). is_own (view v c)) (still.services n)
+served-still s z still c u = refl
 
 granted-still : {X : Type 0} (s z : State X) → AreStill s z → (c : ℕ) (o : Option ℕ)
     → is_granted c o z ≡ is_granted c o s
@@ -267,5 +263,4 @@ pair-still {X} {A} part c n p new block is same d i = pair-part part c n p new b
     go : (a b : Bool) → (c == d) ≡ a → (n == i) ≡ b → (if a && b then part p else part ((block i).pair d)) ≡ part
         ((block i).pair d)
     go true true e f = rw (← eqb-true c d e, ← eqb-true n i f) same
-    go true false e f = refl
-    go false b e f = refl
+    go a b e f = refl

@@ -90,5 +90,4 @@ release-about prune.BtoN source n truth width long =
 
 pub reported-prune : (r : Prune) → reported (prune_code r) ≡ prune_right r
 reported-prune prune.TtoB = refl
-reported-prune prune.TtoN = refl
-reported-prune prune.BtoN = refl
+reported-prune r = refl

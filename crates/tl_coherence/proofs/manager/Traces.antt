@@ -80,20 +80,14 @@ same_client : (service after : Service) → SameService service after → client
 same_client (GrantSent q d k) (GrantTaken r) e = ap Some e
 same_client (GrantSent q d k) Free e = absurd cc
 same_client (GrantSent q d k) (Waits r own source j) e = absurd cc
-same_client (GrantSent q d k) (GrantSent r b j) e = ap client_in e
-same_client Free after e = ap client_in e
-same_client (Waits r own source k) after e = ap client_in e
-same_client (GrantTaken r) after e = ap client_in e
+same_client service after e = ap client_in e
 
 same_for : {w : ℕ} (service after : Service) (n : ℕ) (m : MessageA w) → SameService service after → IsFor service n m
     → IsFor after n m
-same_for (GrantSent q d k) (GrantTaken r) n m e ok = ok
 same_for (GrantSent q d k) Free n m e ok = absurd cc
 same_for (GrantSent q d k) (Waits r own source j) n m e ok = absurd cc
-same_for (GrantSent q d k) (GrantSent r b j) n m e ok = ok
-same_for Free after n m e ok = rw e ok
-same_for (Waits r own source k) after n m e ok = rw e ok
-same_for (GrantTaken r) after n m e ok = rw e ok
+same_for (GrantSent q d k) after n m e ok = ok
+same_for service after n m e ok = rw e ok
 
 pub same_waits : (service after : Service) (r source : ℕ) (own : Bool) (k : Cap) → SameService service after
     → after ≡ Waits r own source k → service ≡ Waits r own source k

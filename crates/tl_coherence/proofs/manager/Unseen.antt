@@ -37,9 +37,7 @@ use Rattle.tl_coherence.proofs.manager.ManagerAfter.{IsManagerOf}
 
 same-again : (service : Service) → SameService service service
 same-again Free = refl
-same-again (Waits r own source k) = refl
-same-again (GrantSent q d k) = refl
-same-again (GrantTaken q) = refl
+same-again service = refl
 
 -- the block is the same to the manager
 pub record IsSameBlock {X : Type 0} (b new : Block X) : Type 0 where
@@ -193,7 +191,6 @@ at_manager-asked {w} caching config c o r h e inv may is = go o r may (asked-kep
   where
     go : (o : Op w) (r : Reply) → IsAskable caching c o r h → IsInvariant caching (asked c o r h).state
         → IsManagerOf config (asked c o r h) e
-    go (op.Load address size) r may after = is
     go (op.Store address size value) reply.Stored may after =
         let bytes = copy_stored address size value ((h.state.block (block_at address)).copy c) in
         at_manager-unseen caching config h.mail h.request (block_at address)
@@ -216,30 +213,7 @@ at_manager-asked {w} caching config c o r h e inv may is = go o r may (asked-kep
         (λ i. refl) (same-releasing c source p (h.state.block n)) is
     go (op.Access (message.A m)) (reply.Started source) may after = at_manager-access caching config c source m h e inv
         may after is
-    go (op.Store address size value) (reply.Value v) may after = is
-    go (op.Store address size value) reply.Miss may after = is
-    go (op.Store address size value) (reply.Started source) may after = is
-    go (op.Store address size value) (reply.Busy why) may after = is
-    go (op.Acquire n g) (reply.Value v) may after = is
-    go (op.Acquire n g) reply.Stored may after = is
-    go (op.Acquire n g) reply.Miss may after = is
-    go (op.Acquire n g) (reply.Busy why) may after = is
-    go (op.AcquireWhole n bytes) (reply.Value v) may after = is
-    go (op.AcquireWhole n bytes) reply.Stored may after = is
-    go (op.AcquireWhole n bytes) reply.Miss may after = is
-    go (op.AcquireWhole n bytes) (reply.Busy why) may after = is
-    go (op.Release n p) (reply.Value v) may after = is
-    go (op.Release n p) reply.Stored may after = is
-    go (op.Release n p) reply.Miss may after = is
-    go (op.Release n p) (reply.Busy why) may after = is
-    go (op.Access (message.A m)) (reply.Value v) may after = is
-    go (op.Access (message.A m)) reply.Stored may after = is
-    go (op.Access (message.A m)) reply.Miss may after = is
-    go (op.Access (message.A m)) (reply.Busy why) may after = is
-    go (op.Access (message.B m)) r may after = is
-    go (op.Access (message.C m)) r may after = is
-    go (op.Access (message.D m)) r may after = is
-    go (op.Access (message.E m)) r may after = is
+    go o r may after = is
 
 -- ---- a client takes a message
 
@@ -280,9 +254,6 @@ at_manager-client_taken {w} caching config tracker c Grant n rest h e kind inv f
     go : (service : Service) → (h.state.block n).service ≡ service
         → IsInvariant caching (taken_by_client c n service rest h).state
         → IsManagerOf config (taken_by_client c n service rest h) e
-    go Free f kept = is
-    go (Waits r own source k) f kept = is
-    go (GrantTaken q) f kept = is
     go (GrantSent q d k) f kept =
         let seen : is_granting (view (GrantSent q d k) c) ≡ true =
         rw f at (holds-first Grant (h.state.link c).d rest (packet Grant n) (λ i. shown Grant c (h.state.block i)) first
@@ -293,3 +264,4 @@ at_manager-client_taken {w} caching config tracker c Grant n rest h e kind inv f
         at_manager-unseen caching config h.mail h.request n (taken_block c whole d k (h.state.block n)) h.state
         (grant_taken c n whole d k rest h.state) e kept
         (λ i. refl) (same-taken c whole d k k (h.state.block n) (f ∙ rw same refl)) is
+    go service f kept = is

@@ -7,7 +7,7 @@ use Rattle.tl_coherence.proofs.manager.Imports.{Packet, SimulationRelation, is_c
 use Rattle.std.proofs.Common.{◌≡◌, subst, ℕ, Bool, true, false, ◌&&◌, List, [], ◌∷◌, Option, Some, None, refl, sym, ◌∙◌}
 use Rattle.std.proofs.Common.{ap}
 use Rattle.std.proofs.lemmas.Bool.{true_from_ne_false}
-use Rattle.std.specs.Prelude.{if◌then◌else◌, Result, Ok, Err}
+use Rattle.std.specs.Prelude.{if◌then◌else◌, Result, Ok}
 use Rattle.tl_beat.specs.declared.channel.Channel.TheVariants as channel
 use Rattle.tl_params.specs.declared.rule.Rule.{Rule}
 use Rattle.tl_client.specs.declared.operation.Op.{Op}
@@ -21,7 +21,7 @@ use Rattle.tl_coherence.specs.declared.event.Event.TheVariants.{Ask, Deliver}
 use Rattle.tl_coherence.specs.declared.event.Outcome.TheVariants as outcome
 use Rattle.tl_coherence.specs.statement.Draining.{is_moving}
 use Rattle.tl_coherence.specs.refinement.AbstractStep as follow
-use Rattle.tl_coherence.specs.refinement.AbstractStep.{abstract_step_by, is_last, packet_taken, abstract_delivery}
+use Rattle.tl_coherence.specs.refinement.AbstractStep.{abstract_step_by, is_last, packet_taken}
 use Rattle.tl_coherence.specs.refinement.AbstractStep.{abstract_step}
 use Rattle.tl_coherence.specs.statement.Delivery.{receiver}
 use Rattle.tl_coherence.specs.protocol.Protocol as protocol
@@ -69,12 +69,11 @@ at_manager-ask {w} config log h sys c o terms is there may =
 manager-judged : {w : ℕ} (r : Result (Verdict × Option (Message w)) Rule) (link : ℕ) (ch : Channel) (x : Beat w)
     (rest : List (Beat w)) (e : client.Endpoint w)
     (s : System w) → (judged r link ch x rest e s).after.manager ≡ s.manager
-manager-judged (Err rule) link ch x rest e s = refl
-manager-judged (Ok (verdict.Stalled, m)) link ch x rest e s = refl
 manager-judged (Ok (verdict.Taken, m)) link ch x rest e s =
     manager-with_messages (handed_by link m) (with_client link e (with_channel link ch rest s))
 manager-judged (Ok (verdict.Done source f, m)) link ch x rest e s =
     manager-with_messages (handed_by link m) (with_client link e (with_channel link ch rest s))
+manager-judged r link ch x rest e s = refl
 
 pub manager-to-client : {w : ℕ} (config : Config) (link : Link) (ch : Channel) (sys : System w)
     (terms : client.EndConfig) → terms_at config link.0 ≡ Some terms
@@ -95,23 +94,10 @@ to_clients channel.B Probe up on_it = refl
 to_clients channel.D Answer up on_it = refl
 to_clients channel.D Grant up on_it = refl
 to_clients channel.D ReleaseAck up on_it = refl
-to_clients channel.B Request up on_it = absurd (on_it refl)
-to_clients channel.B Acquire up on_it = absurd (on_it refl)
-to_clients channel.B ProbeAck up on_it = absurd (on_it refl)
-to_clients channel.B Release up on_it = absurd (on_it refl)
-to_clients channel.B Answer up on_it = absurd (on_it refl)
-to_clients channel.B Grant up on_it = absurd (on_it refl)
-to_clients channel.B ReleaseAck up on_it = absurd (on_it refl)
-to_clients channel.B GrantAck up on_it = absurd (on_it refl)
-to_clients channel.D Request up on_it = absurd (on_it refl)
-to_clients channel.D Acquire up on_it = absurd (on_it refl)
-to_clients channel.D Probe up on_it = absurd (on_it refl)
-to_clients channel.D ProbeAck up on_it = absurd (on_it refl)
-to_clients channel.D Release up on_it = absurd (on_it refl)
-to_clients channel.D GrantAck up on_it = absurd (on_it refl)
 to_clients channel.A k up on_it = absurd cc
 to_clients channel.C k up on_it = absurd cc
 to_clients channel.E k up on_it = absurd cc
+to_clients ch k up on_it = absurd (on_it refl)
 
 -- such a kind is on its channel
 on-channel : (ch : Channel) (k : Kind) (l : protocol.Link) → is_on ch k ≡ true → on k l ≡ packets_on ch l

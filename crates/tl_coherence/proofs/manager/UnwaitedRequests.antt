@@ -5,7 +5,7 @@ use Rattle.tl_coherence.proofs.manager.Imports.{swapped, performed, recorded, is
 use Rattle.tl_coherence.proofs.manager.Imports.{cap_probed, is_spared, services, least_untaken, trackers_of, reaction}
 use Rattle.tl_coherence.proofs.manager.Imports.{End, must_wait, AbstractState, some_below, is_unheld}
 use Rattle.tl_coherence.proofs.manager.Imports.{kind_taken, IsInvariant, Log, ClientBlock, is_unprobed, is_above}
-use Rattle.tl_coherence.proofs.manager.Imports.{Service, Free, Waits, GrantSent, GrantTaken}
+use Rattle.tl_coherence.proofs.manager.Imports.{Service, Free, Waits}
 use Rattle.tl_coherence.proofs.manager.Imports.{State, on, packet, view, AccessMessages}
 use Rattle.tl_coherence.proofs.manager.Imports.{IsFor, System, Kind, Packet, SimulationRelation}
 use Rattle.tl_coherence.proofs.manager.Imports.{is_caching}
@@ -57,11 +57,8 @@ untracked-next config log mail request s sys is = free-untracked (is_caching con
 
 -- the access that has a block in service
 serving-for : {w : ℕ} (service : Service) (n : ℕ) (m : MessageA w) → IsFor service n m → IsServing service m
-serving-for Free n m for = tt
-serving-for (Waits r true source k) n m for = tt
 serving-for (Waits r false source k) n m for = (for.0, for.3)
-serving-for (GrantSent q d k) n m for = tt
-serving-for (GrantTaken q) n m for = tt
+serving-for service n m for = tt
 
 pub serving-matched : {w : ℕ} (config : Config) (log : Log w) (mail : AccessMessages w) (request : ℕ → MessageA w)
     (s : State (List ℕ)) (sys : System w)
@@ -103,8 +100,7 @@ probed-some {w} config log mail request s sys c k n own j m is kind block =
 
 copies_so : (p : Perm) → holders.has_copy p ≡ not (same_perm p perm.None)
 copies_so perm.None = refl
-copies_so perm.Branch = refl
-copies_so perm.Trunk = refl
+copies_so p = refl
 
 -- nobody has a copy, as the manager's record says, where the protocol says so
 pub unheld-same : {w : ℕ} (config : Config) (log : Log w) (mail : AccessMessages w) (request : ℕ → MessageA w)

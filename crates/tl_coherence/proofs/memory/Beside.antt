@@ -54,8 +54,7 @@ open-there {w} c pool source o m d i else_ = elim (cases_eq d c) [
   where
     none : (a b : Bool) (x : Option (Open w)) → (if a && (b && false) then o else x) ≡ x
     none true true x = refl
-    none true false x = refl
-    none false b x = refl
+    none a b x = refl
 
 pub open-releases : {w : ℕ} (c source : ℕ) (o : Option (Open w)) (m : Machine w) (d i : ℕ)
     → (with_open c Requests source o m).opened d Releases i ≡ m.opened d Releases i
@@ -118,18 +117,12 @@ pub same_acquire : (c : ℕ) (s s' : State (List ℕ)) (u : SourceState)
     → ((n : ℕ) → (((s'.block n).pair c).acquiring ≡ ((s.block n).pair c).acquiring)
     × ((s'.block n).waiting c ≡ (s.block n).waiting c))
     → IsSameAcquire c s s' u
-same_acquire c s s' SourceFree e = tt
-same_acquire c s s' Asked e = tt
-same_acquire c s s' (InService n) e = tt
-same_acquire c s s' Replied e = tt
 same_acquire c s s' (Acquires n) e = e n
+same_acquire c s s' u e = tt
 
 same_answer : {w : ℕ} (u : SourceState) (x : Message w) → IsSameAnswer u x x
-same_answer SourceFree x = tt
-same_answer Asked x = tt
-same_answer (InService n) x = tt
 same_answer Replied x = refl
-same_answer (Acquires n) x = tt
+same_answer u x = tt
 
 moved_opened : {w : ℕ} (c source : ℕ) (mail : AccessMessages w) (s : State (List ℕ)) (u v : SourceState)
     (o p : Option (Open w)) → v ≡ u → p ≡ o → IsOpened c source mail s u o → IsOpened c source mail s v p
@@ -166,11 +159,8 @@ pub record IsUsed {w : ℕ} (c source : ℕ) (u : SourceState) (mail mail' : Acc
   pub acquires : (d i : ℕ) → IsElsewhere c source d i → IsSameAcquire d s s' (s.uses d i)
 
 answer_as : {w : ℕ} (u : SourceState) (x y : Message w) → y ≡ x → IsSameAnswer u x y
-answer_as SourceFree x y e = tt
-answer_as Asked x y e = tt
-answer_as (InService n) x y e = tt
 answer_as Replied x y e = e
-answer_as (Acquires n) x y e = tt
+answer_as u x y e = tt
 
 pub beside-used : {w : ℕ} (c source : ℕ) (u : SourceState) (mail mail' : AccessMessages w) (s s' : State (List ℕ))
     (m m' : Machine w) → IsUsed c source u mail mail' s s' m m' → MemoryRelation mail s m → MemoryRelation mail' s' m'

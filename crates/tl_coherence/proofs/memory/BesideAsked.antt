@@ -2,7 +2,7 @@
 use Rattle.tl_coherence.proofs.memory.Imports.{MessageA, Memory, IsBlock, block_at, same_perm, Op, Reply}
 use Rattle.tl_coherence.proofs.memory.Imports.{MemoryRelation, AbstractState, Machine, Open, Requests, Releases}
 use Rattle.tl_coherence.proofs.memory.Imports.{with_open, after_reply, ClientBlock, AcquireOpen, Block, State}
-use Rattle.tl_coherence.proofs.memory.Imports.{SourceState, SourceFree, Asked, InService, Replied, Acquires}
+use Rattle.tl_coherence.proofs.memory.Imports.{SourceState, Asked, Acquires}
 use Rattle.tl_coherence.proofs.memory.Imports.{AccessMessages, set_at}
 use Rattle.std.proofs.Common.{◌≡◌, ℕ, Bool, true, false, ◌&&◌, List, Option, Some, None, length, refl, sym, ◌∙◌, ap}
 use Rattle.std.proofs.Common.{subst, ◌⊎◌, inl, inr}
@@ -66,15 +66,12 @@ acquires-else c n source new p s s' blocks pairs waits alone d i else_ = go (s.u
     apart k e same at = alone i (λ f. else_ at f) (rw (at, same) at e)
 
     go : (u : SourceState) → s.uses d i ≡ u → IsSameAcquire d s s' u
-    go SourceFree e = tt
-    go Asked e = tt
-    go (InService k) e = tt
-    go Replied e = tt
     go (Acquires k) e = elim (cases_eq k n) [
       | inl same ↦ subst (λ (j : ℕ). (((s'.block j).pair d).acquiring ≡ ((s.block j).pair d).acquiring)
           × ((s'.block j).waiting d ≡ (s.block j).waiting d)) (sym same) (here (apart k e same))
       | inr other ↦ there k other
     ]
+    go u e = tt
 
 -- who acquires nothing of a block has no source for it
 pub calm-none : (caching : ℕ → Bool) (s : State (List ℕ)) (c n i : ℕ) → IsInvariant caching s
@@ -199,11 +196,8 @@ beside-access_asked {w} c source a mail s m h =
     }) h
   where
     same_blocks : (d : ℕ) (u : SourceState) → IsSameAcquire d s (access_asked c source s) u
-    same_blocks d SourceFree = tt
-    same_blocks d Asked = tt
-    same_blocks d (InService n) = tt
-    same_blocks d Replied = tt
     same_blocks d (Acquires n) = (refl, refl)
+    same_blocks d u = tt
 
 pub beside-block_stored : {w : ℕ} (caching : ℕ → Bool) (c address size value : ℕ) (mail : AccessMessages w)
     (s : State (List ℕ)) (m : Machine w) → IsInvariant caching s
@@ -260,60 +254,17 @@ pub beside-asked : {w : ℕ} (caching : ℕ → Bool) (c : ℕ) (o : Op w) (r : 
     → IsInvariant caching h.state
     → ((n : ℕ) → AreSized (h.state.block n)) → IsReply o r → IsAskable caching c o r h → IsSizedAsk c o r h
     → MemoryRelation h.mail h.state m → MemoryRelation (asked c o r h).mail (asked c o r h).state (after_reply c o r m)
-beside-asked caching c (op.Load address size) (reply.Value v) h m inv sized is may word b = b
-beside-asked caching c (op.Load address size) reply.Stored h m inv sized is may word b = b
-beside-asked caching c (op.Load address size) reply.Miss h m inv sized is may word b = b
-beside-asked caching c (op.Load address size) (reply.Started source) h m inv sized is may word b = absurd is
-beside-asked caching c (op.Load address size) (reply.Busy why) h m inv sized is may word b = b
 beside-asked caching c (op.Store address size value) reply.Stored h m inv sized is may word b =
     beside-block_stored caching c address size value h.mail h.state m inv (sized (block_at address)) word.0 word.1 b
-beside-asked caching c (op.Store address size value) (reply.Value v) h m inv sized is may word b = b
-beside-asked caching c (op.Store address size value) reply.Miss h m inv sized is may word b = b
-beside-asked caching c (op.Store address size value) (reply.Started source) h m inv sized is may word b = absurd is
-beside-asked caching c (op.Store address size value) (reply.Busy why) h m inv sized is may word b = b
 beside-asked caching c (op.Acquire n g) (reply.Started source) h m inv sized is may word b =
     beside-acquire_asked caching c n source false g ((h.state.block n).waiting c) (op.Acquire n g) h.mail h.state m inv
     may.2 refl b
-beside-asked caching c (op.Acquire n g) (reply.Value v) h m inv sized is may word b = b
-beside-asked caching c (op.Acquire n g) reply.Stored h m inv sized is may word b = b
-beside-asked caching c (op.Acquire n g) reply.Miss h m inv sized is may word b = b
-beside-asked caching c (op.Acquire n g) (reply.Busy why) h m inv sized is may word b = b
 beside-asked caching c (op.AcquireWhole n bytes) (reply.Started source) h m inv sized is may word b =
     beside-acquire_asked caching c n source true (whole_grow ((h.state.block n).pair c).held) bytes
     (op.AcquireWhole n bytes) h.mail h.state m inv may.2 refl b
-beside-asked caching c (op.AcquireWhole n bytes) (reply.Value v) h m inv sized is may word b = b
-beside-asked caching c (op.AcquireWhole n bytes) reply.Stored h m inv sized is may word b = b
-beside-asked caching c (op.AcquireWhole n bytes) reply.Miss h m inv sized is may word b = b
-beside-asked caching c (op.AcquireWhole n bytes) (reply.Busy why) h m inv sized is may word b = b
 beside-asked caching c (op.Release n p) (reply.Started source) h m inv sized is may word b =
     beside-release_asked c n source p h.mail h.state m b
-beside-asked caching c (op.Release n p) (reply.Value v) h m inv sized is may word b = b
-beside-asked caching c (op.Release n p) reply.Stored h m inv sized is may word b = b
-beside-asked caching c (op.Release n p) reply.Miss h m inv sized is may word b = b
-beside-asked caching c (op.Release n p) (reply.Busy why) h m inv sized is may word b = b
 beside-asked caching c (op.Access (message.A a)) (reply.Started source) h m inv sized is may word b =
     beside-access_asked c source a h.mail h.state m b
-beside-asked caching c (op.Access (message.A a)) (reply.Value v) h m inv sized is may word b = b
-beside-asked caching c (op.Access (message.A a)) reply.Stored h m inv sized is may word b = b
-beside-asked caching c (op.Access (message.A a)) reply.Miss h m inv sized is may word b = b
-beside-asked caching c (op.Access (message.A a)) (reply.Busy why) h m inv sized is may word b = b
-beside-asked caching c (op.Access (message.B a)) (reply.Started source) h m inv sized is may word b = absurd is
-beside-asked caching c (op.Access (message.B a)) (reply.Value v) h m inv sized is may word b = b
-beside-asked caching c (op.Access (message.B a)) reply.Stored h m inv sized is may word b = b
-beside-asked caching c (op.Access (message.B a)) reply.Miss h m inv sized is may word b = b
-beside-asked caching c (op.Access (message.B a)) (reply.Busy why) h m inv sized is may word b = b
-beside-asked caching c (op.Access (message.C a)) (reply.Started source) h m inv sized is may word b = absurd is
-beside-asked caching c (op.Access (message.C a)) (reply.Value v) h m inv sized is may word b = b
-beside-asked caching c (op.Access (message.C a)) reply.Stored h m inv sized is may word b = b
-beside-asked caching c (op.Access (message.C a)) reply.Miss h m inv sized is may word b = b
-beside-asked caching c (op.Access (message.C a)) (reply.Busy why) h m inv sized is may word b = b
-beside-asked caching c (op.Access (message.D a)) (reply.Started source) h m inv sized is may word b = absurd is
-beside-asked caching c (op.Access (message.D a)) (reply.Value v) h m inv sized is may word b = b
-beside-asked caching c (op.Access (message.D a)) reply.Stored h m inv sized is may word b = b
-beside-asked caching c (op.Access (message.D a)) reply.Miss h m inv sized is may word b = b
-beside-asked caching c (op.Access (message.D a)) (reply.Busy why) h m inv sized is may word b = b
-beside-asked caching c (op.Access (message.E a)) (reply.Started source) h m inv sized is may word b = absurd is
-beside-asked caching c (op.Access (message.E a)) (reply.Value v) h m inv sized is may word b = b
-beside-asked caching c (op.Access (message.E a)) reply.Stored h m inv sized is may word b = b
-beside-asked caching c (op.Access (message.E a)) reply.Miss h m inv sized is may word b = b
-beside-asked caching c (op.Access (message.E a)) (reply.Busy why) h m inv sized is may word b = b
+beside-asked caching c o (reply.Started source) h m inv sized is may word b = absurd is
+beside-asked caching c o r h m inv sized is may word b = b

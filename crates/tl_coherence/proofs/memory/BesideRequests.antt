@@ -51,8 +51,7 @@ pub accesses-answer : {w : ℕ} (c : ℕ) (m : MessageA w) (r : Answer)
     → accesses_answered ((link_of c, access_answer m r) ∷ []) ≡ (c, m.source) ∷ []
 unfolding accesses_answered
 accesses-answer c m answer.Ack = refl
-accesses-answer c m answer.Hint = refl
-accesses-answer c m (answer.Data payload) = refl
+accesses-answer c m r = refl
 
 accesses-grant : {w : ℕ} (config : Config) (c : ℕ) (v : Service w) (t : Trace w) (memory : Memory)
     → accesses_answered ((link_of c, grant config v t memory) ∷ []) ≡ []
@@ -121,8 +120,6 @@ request-accesses {w} config log h sys c source k is asked comes last =
     accesses : (p : Bool) (o : Option Cap) → probes_some clients c false (cap_probed m.opcode m.param) b.pair ≡ p
         → cap_probed m.opcode m.param ≡ o → accesses_answered done ≡ access_list c source p o
     accesses true None f g = absurd (let no : false ≡ true = rw g at f in cc)
-    accesses false None f g = answered f
-    accesses false (Some j) f g = answered f
     accesses true (Some j) f g =
         let some : some_below clients (λ d. is_probed c false j (b.pair d).recorded d) ≡ true = rw g at f in
         ap (λ (d : Reaction w). accesses_answered d.handed) (reaction-probing config c k n j m sys.manager comes last
@@ -130,6 +127,7 @@ request-accesses {w} config log h sys c source k is asked comes last =
         (probed-some config log h.mail h.request h.state sys c k n false j m is asked.access refl ∙ ap not some))
         ∙ accesses-probes w n j (probed config (service_for c m sys.manager.trace) j
         (with_beat c m k sys.manager.trace))
+    accesses false o f g = answered f
 
 pub request-once : {w : ℕ} (config : Config) (log : Log w) (h : AbstractState w) (sys : System w) (c source k : ℕ)
     (machine : Machine w)
@@ -152,9 +150,7 @@ request-once {w} config log h sys c source k machine is asked comes last beside 
         → IsOnce (accesses_answered (reaction config (link_of c) (beat.A (a_beat_of asked.request k))
         sys.manager).handed) h machine
     go true (Some j) e = inl e
-    go true None e = inr (c, source, e, opened)
-    go false (Some j) e = inr (c, source, e, opened)
-    go false None e = inr (c, source, e, opened)
+    go p o e = inr (c, source, e, opened)
 
 pub beside-request_taken : {w : ℕ} (config : Config) (log : Log w) (h : AbstractState w) (sys : System w)
     (c source k : ℕ) (rest : List Packet) (machine : Machine w)

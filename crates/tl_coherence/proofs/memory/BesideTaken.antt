@@ -3,7 +3,7 @@
 use Rattle.tl_coherence.proofs.memory.Imports.{OpA, Message, MessageA, Config, Cap, Memory, IsBlock, effect, block_at}
 use Rattle.tl_coherence.proofs.memory.Imports.{same_perm, cap_probed, IsAccess, MemoryRelation, some_below, bytes_at}
 use Rattle.tl_coherence.proofs.memory.Imports.{performs, Machine, Open, Requests, with_memory, ClientBlock, Block}
-use Rattle.tl_coherence.proofs.memory.Imports.{State, SourceState, SourceFree, Asked, InService, Replied, Acquires}
+use Rattle.tl_coherence.proofs.memory.Imports.{State, SourceState, Replied, Acquires}
 use Rattle.tl_coherence.proofs.memory.Imports.{is_probed, performing, AccessMessages, set_at}
 use Rattle.std.proofs.Common.{◌≡◌, subst, ℕ, ◌^◌, ◌≤◌, Bool, true, false, not, ◌&&◌, List, [], ◌∷◌, Some, None, length}
 use Rattle.std.proofs.Common.{refl, sym, ◌∙◌, ap, ◌⊎◌, inl, inr}
@@ -28,7 +28,7 @@ use Rattle.tl_manager.proofs.messages.Filled.{length-bytes}
 use Rattle.tl_coherence.specs.refinement.MemoryRelation.{IsReach, Answers}
 use Rattle.tl_coherence.specs.refinement.AbstractStep.{answers}
 use Rattle.tl_coherence.specs.protocol.Invariant.{IsWell}
-use Rattle.tl_coherence.specs.protocol.Phase.{View, ProbePhase, NoProbe, ProbeSent, ProbeAnswered, ok, same_cap}
+use Rattle.tl_coherence.specs.protocol.Phase.{View, ProbePhase, NoProbe, ProbeAnswered, ok, same_cap}
 use Rattle.tl_coherence.specs.protocol.Phase.{is_unprobed}
 use Rattle.tl_coherence.specs.protocol.PhaseSteps.{is_above}
 use Rattle.tl_coherence.specs.protocol.Protocol.{Waits, view, written}
@@ -96,8 +96,7 @@ memory-reported caching c q source r k b well waits answered settled = go (same_
     quiet_low : (x : ProbePhase) → is_unprobed x ≡ true
         → (not (same_perm (report_left (report_told x)) perm.Trunk) && not (is_sent x)) ≡ true
     quiet_low NoProbe e = refl
-    quiet_low (ProbeSent j) e = absurd cc
-    quiet_low (ProbeAnswered j) e = absurd cc
+    quiet_low x e = absurd cc
 
     told_low : same_perm (report_left r) perm.Trunk ≡ false
         → (not (same_perm (report_left (report_told (b.pair c).probing)) perm.Trunk) && not
@@ -149,11 +148,7 @@ reply_reach {w} x f = go x.opcode
     go a.Get = length-bytes f x.address (2 ^ x.size)
     go a.ArithmeticData = length-bytes f x.address (2 ^ x.size)
     go a.LogicalData = length-bytes f x.address (2 ^ x.size)
-    go a.Intent = tt
-    go a.PutFullData = tt
-    go a.PutPartialData = tt
-    go a.AcquireBlock = tt
-    go a.AcquirePerm = tt
+    go o = tt
 
 -- the machine after it
 pub beside-performed : {w : ℕ} (config : Config) (c source : ℕ) (a : MessageA w) (bytes : List ℕ)
@@ -246,11 +241,8 @@ beside-performed {w} config c source a bytes mail s s' m is same_reply others ch
     reaches = subst (λ (y : Memory × memory.AccessResult). IsReach a y.1) (sym effect_is) (reply_reach a m.memory)
 
     same_acquires : (d : ℕ) (u : SourceState) → IsSameAcquire d s s' u
-    same_acquires d SourceFree = tt
-    same_acquires d Asked = tt
-    same_acquires d (InService k) = tt
-    same_acquires d Replied = tt
     same_acquires d (Acquires k) = acquires d k
+    same_acquires d u = tt
 
 -- what an Intent is answered doesn't depend on the bytes
 pub intent-reply : {w : ℕ} (x : MessageA w) (f g : Memory) → cap_probed x.opcode x.param ≡ None
@@ -261,10 +253,4 @@ intent-reply {w} x f g e = go x.opcode refl e
     go : (o : OpA) → x.opcode ≡ o → cap_probed o x.param ≡ None
         → memory.access_result x.opcode x f ≡ memory.access_result x.opcode x g
     go a.Intent e h = rw e refl
-    go a.Get e h = absurd cc
-    go a.PutFullData e h = absurd cc
-    go a.PutPartialData e h = absurd cc
-    go a.ArithmeticData e h = absurd cc
-    go a.LogicalData e h = absurd cc
-    go a.AcquireBlock e h = absurd cc
-    go a.AcquirePerm e h = absurd cc
+    go o e h = absurd cc

@@ -94,29 +94,19 @@ module _ {w : ℕ} (m : MessageA w) (f : Memory) (payload : AreBytes m.payload) 
   memory-after a.PutPartialData address = stored-byte address
   memory-after a.ArithmeticData address = made-byte _ address
   memory-after a.LogicalData address = made-byte _ address
-  memory-after a.Get address = are address
-  memory-after a.Intent address = are address
-  memory-after a.AcquireBlock address = are address
-  memory-after a.AcquirePerm address = are address
+  memory-after opcode address = are address
 
   replied : (opcode : OpA) → IsRangedReply (memory.access_result opcode m f)
-  replied a.PutFullData = tt
-  replied a.PutPartialData = tt
   replied a.ArithmeticData = bytes-from f m.address (memory.byte_count m) are
   replied a.LogicalData = bytes-from f m.address (memory.byte_count m) are
   replied a.Get = bytes-from f m.address (memory.byte_count m) are
-  replied a.Intent = tt
-  replied a.AcquireBlock = tt
-  replied a.AcquirePerm = tt
+  replied opcode = tt
 
 effect-bytes : {w : ℕ} (x : Message w) (f : Memory) → IsRangedOp (op.Access x) → HasBytes f → HasBytes (effect x f).0
     × IsRangedReply (effect x f).1
 unfolding effect
 effect-bytes (message.A m) f payload are = (memory-after m f payload are m.opcode, replied m f payload are m.opcode)
-effect-bytes (message.B m) f payload are = (are, tt)
-effect-bytes (message.C m) f payload are = (are, tt)
-effect-bytes (message.D m) f payload are = (are, tt)
-effect-bytes (message.E m) f payload are = (are, tt)
+effect-bytes x f payload are = (are, tt)
 
 -- ---- the machine
 
@@ -171,40 +161,14 @@ reply-ranged client (op.Store address size value) reply.Stored m is was =
           (of-number value (i - address)) (was.memory i);
       opened = was.opened;
     }
-reply-ranged client (op.Load address size) (reply.Value v) m is was = was
-reply-ranged client (op.Load address size) reply.Stored m is was = was
-reply-ranged client (op.Load address size) reply.Miss m is was = was
-reply-ranged client (op.Load address size) (reply.Busy why) m is was = was
-reply-ranged client (op.Store address size value) (reply.Value v) m is was = was
-reply-ranged client (op.Store address size value) reply.Miss m is was = was
-reply-ranged client (op.Store address size value) (reply.Busy why) m is was = was
-reply-ranged client (op.Acquire k g) (reply.Value v) m is was = was
-reply-ranged client (op.Acquire k g) reply.Stored m is was = was
-reply-ranged client (op.Acquire k g) reply.Miss m is was = was
-reply-ranged client (op.Acquire k g) (reply.Busy why) m is was = was
-reply-ranged client (op.AcquireWhole k bytes) (reply.Value v) m is was = was
-reply-ranged client (op.AcquireWhole k bytes) reply.Stored m is was = was
-reply-ranged client (op.AcquireWhole k bytes) reply.Miss m is was = was
-reply-ranged client (op.AcquireWhole k bytes) (reply.Busy why) m is was = was
-reply-ranged client (op.Release k p) (reply.Value v) m is was = was
-reply-ranged client (op.Release k p) reply.Stored m is was = was
-reply-ranged client (op.Release k p) reply.Miss m is was = was
-reply-ranged client (op.Release k p) (reply.Busy why) m is was = was
-reply-ranged client (op.Access x) (reply.Value v) m is was = was
-reply-ranged client (op.Access x) reply.Stored m is was = was
-reply-ranged client (op.Access x) reply.Miss m is was = was
-reply-ranged client (op.Access x) (reply.Busy why) m is was = was
+reply-ranged client o r m is was = was
 
 -- a whole block is stored as it is granted
 stored-ranged : {w : ℕ} (o : Op w) (f : Memory) → IsRangedOp o → HasBytes f → HasBytes (memory_after o f)
 stored-ranged (op.AcquireWhole k bytes) f is are =
     λ address. either (block_at address == k) (slice_index bytes (address % 64)) (f address)
     (byte-at bytes (address % 64) is) (are address)
-stored-ranged (op.Load address size) f is are = are
-stored-ranged (op.Store address size value) f is are = are
-stored-ranged (op.Acquire k g) f is are = are
-stored-ranged (op.Release k p) f is are = are
-stored-ranged (op.Access x) f is are = are
+stored-ranged o f is are = are
 
 end-ranged : {w : ℕ} (client : ℕ) (at : Pool) (n : ℕ) (o : Option (Open w)) (m : Machine w) → IsRangedOpen o
     → IsRangedMachine m → IsRangedMachine (after_end client at n o m)
@@ -217,16 +181,7 @@ moved-ranged : {w : ℕ} (e : Event w) (o : Outcome w) (m : Machine w) → IsRan
 moved-ranged (Ask client i) (outcome.Replied r) m is was = reply-ranged client i r m is was
 moved-ranged (Deliver link ch) (outcome.Done x n f) m is was =
     end-ranged link.0 (pool_of f) n (m.opened link.0 (pool_of f) n) m (was.opened link.0 (pool_of f) n) was
-moved-ranged (Ask client i) outcome.Empty m is was = was
-moved-ranged (Ask client i) outcome.Stalled m is was = was
-moved-ranged (Ask client i) (outcome.Moved x) m is was = was
-moved-ranged (Ask client i) (outcome.Done x n f) m is was = was
-moved-ranged (Ask client i) outcome.NoSuchClient m is was = was
-moved-ranged (Deliver link ch) (outcome.Replied r) m is was = was
-moved-ranged (Deliver link ch) outcome.Empty m is was = was
-moved-ranged (Deliver link ch) outcome.Stalled m is was = was
-moved-ranged (Deliver link ch) (outcome.Moved x) m is was = was
-moved-ranged (Deliver link ch) outcome.NoSuchClient m is was = was
+moved-ranged e o m is was = was
 
 op-ranged : {w : ℕ} (client n : ℕ) (o : Op w) (r : Option memory.AccessResult) (m : Machine w) → IsRangedOp o
     → IsRangedMachine m → IsRangedMachine (unwrap_or (performed_op client n o r m) m)
@@ -234,12 +189,7 @@ op-ranged client n (op.Access x) None m is was =
     let e = effect-bytes x m.memory is was.memory in
     opened-ranged client Requests n (Some (record { asked = op.Access x; answer = Some (effect x m.memory).1 }))
     (effect x m.memory).0 m e.0 (is, e.1) was
-op-ranged client n (op.Access x) (Some r) m is was = was
-op-ranged client n (op.Load address size) r m is was = was
-op-ranged client n (op.Store address size value) r m is was = was
-op-ranged client n (op.Acquire k g) r m is was = was
-op-ranged client n (op.AcquireWhole k bytes) r m is was = was
-op-ranged client n (op.Release k p) r m is was = was
+op-ranged client n o r m is was = was
 
 one-ranged : {w : ℕ} (client n : ℕ) (m : Machine w) (o : Option (Open w)) → IsRangedOpen o → IsRangedMachine m
     → IsRangedMachine (unwrap_or (performed_open client n o m) m)

@@ -40,10 +40,9 @@ pool_swap Releases Requests = refl
 pool_swap Releases Releases = refl
 
 same_pool_is : (p q : Pool) → same_pool p q ≡ true → p ≡ q
-same_pool_is Requests Requests e = refl
-same_pool_is Releases Releases e = refl
 same_pool_is Requests Releases e = absurd cc
 same_pool_is Releases Requests e = absurd cc
+same_pool_is p q e = refl
 
 -- with another operation at one place
 opened_with : {w : ℕ} (client : ℕ) (at : Pool) (n : ℕ) (o : Option (Open w)) (m : Machine w) (c : ℕ) (pool : Pool)
@@ -69,9 +68,7 @@ same_there {w} client at n x m c pool source e = go (client == c) (same_pool at 
         → asked_at c pool source m ≡ (if a && (b && d) then x else asked_at c pool source m)
     go true true true f g h = let one = eqb-true client c f in let two = same_pool_is at pool g in let three =
         eqb-true n source h in rw (← one, ← two, ← three) e
-    go true true false f g h = refl
-    go true false d f g h = refl
-    go false b d f g h = refl
+    go a b d f g h = refl
 
 reply_opened : {w : ℕ} (client : ℕ) (o : Op w) (r : Reply) (m : Machine w) (c : ℕ) (pool : Pool) (source : ℕ)
     → asked_at c pool source (after_reply client o r m) ≡ started_at (Ask client o) (outcome.Replied r) c pool source
@@ -88,30 +85,7 @@ reply_opened client (op.Release k p) (reply.Started n) m c pool source =
     opened_with client Releases n (Some (record { asked = op.Release k p; answer = None })) m c pool source
 reply_opened client (op.Access a) (reply.Started n) m c pool source =
     opened_with client Requests n (Some (record { asked = op.Access a; answer = None })) m c pool source
-reply_opened client (op.Load address size) (reply.Value v) m c pool source = refl
-reply_opened client (op.Load address size) reply.Stored m c pool source = refl
-reply_opened client (op.Load address size) reply.Miss m c pool source = refl
-reply_opened client (op.Load address size) (reply.Busy why) m c pool source = refl
-reply_opened client (op.Store address size value) (reply.Value v) m c pool source = refl
-reply_opened client (op.Store address size value) reply.Stored m c pool source = refl
-reply_opened client (op.Store address size value) reply.Miss m c pool source = refl
-reply_opened client (op.Store address size value) (reply.Busy why) m c pool source = refl
-reply_opened client (op.Acquire k g) (reply.Value v) m c pool source = refl
-reply_opened client (op.Acquire k g) reply.Stored m c pool source = refl
-reply_opened client (op.Acquire k g) reply.Miss m c pool source = refl
-reply_opened client (op.Acquire k g) (reply.Busy why) m c pool source = refl
-reply_opened client (op.AcquireWhole k bytes) (reply.Value v) m c pool source = refl
-reply_opened client (op.AcquireWhole k bytes) reply.Stored m c pool source = refl
-reply_opened client (op.AcquireWhole k bytes) reply.Miss m c pool source = refl
-reply_opened client (op.AcquireWhole k bytes) (reply.Busy why) m c pool source = refl
-reply_opened client (op.Release k p) (reply.Value v) m c pool source = refl
-reply_opened client (op.Release k p) reply.Stored m c pool source = refl
-reply_opened client (op.Release k p) reply.Miss m c pool source = refl
-reply_opened client (op.Release k p) (reply.Busy why) m c pool source = refl
-reply_opened client (op.Access a) (reply.Value v) m c pool source = refl
-reply_opened client (op.Access a) reply.Stored m c pool source = refl
-reply_opened client (op.Access a) reply.Miss m c pool source = refl
-reply_opened client (op.Access a) (reply.Busy why) m c pool source = refl
+reply_opened client o r m c pool source = refl
 
 end_opened : {w : ℕ} (client : ℕ) (at : Pool) (n : ℕ) (o : Option (Open w)) (m : Machine w) (c : ℕ) (pool : Pool)
     (source : ℕ) → m.opened client at n ≡ o
@@ -125,18 +99,9 @@ end_opened client at n (Some o) m c pool source e =
 moved_opened : {w : ℕ} (e : Event w) (o : Outcome w) (m : Machine w) (c : ℕ) (pool : Pool) (source : ℕ)
     → asked_at c pool source (moved e o m) ≡ started_at e o c pool source (asked_at c pool source m)
 moved_opened (Ask client i) (outcome.Replied r) m c pool source = reply_opened client i r m c pool source
-moved_opened (Ask client i) outcome.Empty m c pool source = refl
-moved_opened (Ask client i) outcome.Stalled m c pool source = refl
-moved_opened (Ask client i) (outcome.Moved x) m c pool source = refl
-moved_opened (Ask client i) (outcome.Done x n f) m c pool source = refl
-moved_opened (Ask client i) outcome.NoSuchClient m c pool source = refl
-moved_opened (Deliver link ch) (outcome.Replied r) m c pool source = refl
-moved_opened (Deliver link ch) outcome.Empty m c pool source = refl
-moved_opened (Deliver link ch) outcome.Stalled m c pool source = refl
-moved_opened (Deliver link ch) (outcome.Moved x) m c pool source = refl
 moved_opened (Deliver link ch) (outcome.Done x n f) m c pool source =
     end_opened link.0 (pool_of f) n (m.opened link.0 (pool_of f) n) m c pool source refl
-moved_opened (Deliver link ch) outcome.NoSuchClient m c pool source = refl
+moved_opened e o m c pool source = refl
 
 -- ---- performing asks for nothing else
 
@@ -152,12 +117,7 @@ op_opened {w} client n o m c pool source e = go o.asked o.answer (ap (option_map
         (Some (record { asked = op.Access a; answer = Some (memory.effect a m.memory).1 }))
         (with_memory (memory.effect a m.memory).0 m) c pool source
         ∙ sym (same_there client Requests n (Some (op.Access a)) m c pool source f)
-    go (op.Access a) (Some r) f = refl
-    go (op.Load address size) r f = refl
-    go (op.Store address size value) r f = refl
-    go (op.Acquire k g) r f = refl
-    go (op.AcquireWhole k bytes) r f = refl
-    go (op.Release k p) r f = refl
+    go x r f = refl
 
 one_opened : {w : ℕ} (client n : ℕ) (m : Machine w) (c : ℕ) (pool : Pool) (source : ℕ)
     → asked_at c pool source (unwrap_or (performed client n m) m) ≡ asked_at c pool source m
@@ -190,10 +150,7 @@ opened-started {w} config (x ∷ log) c pool source =
 
 trunk_is : (p q : Perm) → p ≡ perm.Trunk → perm_le p q ≡ true → same_perm q perm.Trunk ≡ true
 trunk_is perm.Trunk perm.Trunk e f = refl
-trunk_is perm.Trunk perm.None e f = absurd cc
-trunk_is perm.Trunk perm.Branch e f = absurd cc
-trunk_is perm.None q e f = absurd cc
-trunk_is perm.Branch q e f = absurd cc
+trunk_is p q e f = absurd cc
 
 none_is : (p q : Perm) → same_perm q perm.None ≡ true → perm_le p q ≡ true → p ≡ perm.None
 none_is perm.None q e f = refl

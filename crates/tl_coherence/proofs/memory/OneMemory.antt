@@ -75,13 +75,7 @@ effect-sourced {w} source m f = go m.opcode refl
   where
     go : (o : OpA) → m.opcode ≡ o → effect (A (sourced source m)) f ≡ effect (A m) f
     go a.PutFullData e = rw e refl
-    go a.PutPartialData e = rw e refl
-    go a.ArithmeticData e = rw e refl
-    go a.LogicalData e = rw e refl
-    go a.Get e = rw e refl
-    go a.Intent e = rw e refl
-    go a.AcquireBlock e = rw e refl
-    go a.AcquirePerm e = rw e refl
+    go o e = rw e refl
 
 -- ---- a whole block
 

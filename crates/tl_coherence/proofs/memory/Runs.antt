@@ -65,8 +65,7 @@ stall-managed : {w : ℕ} (answer : manager.Reception w × manager_end.End w) (l
     (rest : List (Beat w)) (s : System w)
     → IsTakenIn answer → is_stall (manager_took link ch x rest answer s).outcome ≡ kept.is_stalled answer.0
 stall-managed (manager.Refused rule, e) link ch x rest s taken = absurd taken
-stall-managed (manager.Stalled, e) link ch x rest s taken = refl
-stall-managed (manager.Sent handed, e) link ch x rest s taken = refl
+stall-managed answer link ch x rest s taken = refl
 
 pub stall-delivered : {w : ℕ} (config : Config) (terms : EndConfig) (link : ℕ) (ch : Channel) (x : Beat w)
     (rest : List (Beat w)) (s : System w)

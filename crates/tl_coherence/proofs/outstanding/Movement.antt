@@ -38,10 +38,7 @@ total-none (suc n) f e i lt = go (cases_eq i n) (total-none n f (omega (arith, e
 
 not_used : (u : SourceState) → one_if (is_used u) ≡ 0 → u ≡ SourceFree
 not_used SourceFree e = refl
-not_used Asked e = absurd (omega (arith, e))
-not_used (InService n) e = absurd (omega (arith, e))
-not_used Replied e = absurd (omega (arith, e))
-not_used (Acquires n) e = absurd (omega (arith, e))
+not_used u e = absurd (omega (arith, e))
 
 not_let : (o : Option ℕ) → one_if (is_let o) ≡ 0 → o ≡ None
 not_let None e = refl
@@ -162,19 +159,18 @@ next-while-outstanding {w} config log mail request s matched coherent trackers f
 
     go : (o : Option (Link × Channel)) → next_delivery config (system_after config log) ≡ o → (b : Bool)
         → (outstanding log == 0) ≡ b → is_none o ≡ b
-    go None e true f = refl
     go None e false f =
         let bare = bare-when-standing config log mail request s matched coherent trackers firsts e width in
         let none = none-counted config s (closed-when-standing config log mail request s matched coherent trackers
         firsts width e) bare.silent.e in
         absurd (let yes = zero_is (outstanding log) (sum ∙ none) in let both : true ≡ false = sym yes ∙ f in cc)
-    go (Some d) e false f = refl
     go (Some d) e true f =
         let none : open_requests config s + open_releases config s ≡ 0 = sym sum ∙ eqb-true (outstanding log) 0 f in
         let stands = standing-when-closed config log mail request s matched coherent trackers firsts
         (closed-when-counted config log mail request s matched width none)
         (no-acks-counted config log mail request s matched width none) in
         absurd (let both : Some d ≡ None = sym e ∙ stands in cc)
+    go o e b f = refl
 
 -- where no delivery is next, nothing is outstanding
 pub none-outstanding : {w : ℕ} (config : Config) (log : Log w)

@@ -98,10 +98,7 @@ module _ {w : ℕ} (config : Config) (log : Log w) (mail : AccessMessages w) (re
         go : (x : Beat w) → IsFirst config terms c channel.E x (system_after config log) → Moves config log c x
             → is_movable config c channel.E (system_after config log) ≡ true
         go (beat.E y) first m = m
-        go (beat.A y) first m = absurd (let on = first.on in cc)
-        go (beat.B y) first m = absurd (let on = first.on in cc)
-        go (beat.C y) first m = absurd (let on = first.on in cc)
-        go (beat.D y) first m = absurd (let on = first.on in cc)
+        go x first m = absurd (let on = first.on in cc)
 
     empty_d : (c : ℕ) (terms : EndConfig) → terms_at config c ≡ Some terms
         → (system_after config log).channels c channel.D ≡ []
@@ -111,10 +108,7 @@ module _ {w : ℕ} (config : Config) (log : Log w) (mail : AccessMessages w) (re
         go : (x : Beat w) → IsFirst config terms c channel.D x (system_after config log) → Moves config log c x
             → is_movable config c channel.D (system_after config log) ≡ true
         go (beat.D y) first m = m
-        go (beat.A y) first m = absurd (let on = first.on in cc)
-        go (beat.B y) first m = absurd (let on = first.on in cc)
-        go (beat.C y) first m = absurd (let on = first.on in cc)
-        go (beat.E y) first m = absurd (let on = first.on in cc)
+        go x first m = absurd (let on = first.on in cc)
 
     empty_c : (c : ℕ) (terms : EndConfig) → terms_at config c ≡ Some terms
         → (system_after config log).channels c channel.C ≡ []
@@ -124,10 +118,7 @@ module _ {w : ℕ} (config : Config) (log : Log w) (mail : AccessMessages w) (re
         go : (x : Beat w) → IsFirst config terms c channel.C x (system_after config log) → Moves config log c x
             → is_movable config c channel.C (system_after config log) ≡ true
         go (beat.C y) first m = m
-        go (beat.A y) first m = absurd (let on = first.on in cc)
-        go (beat.B y) first m = absurd (let on = first.on in cc)
-        go (beat.D y) first m = absurd (let on = first.on in cc)
-        go (beat.E y) first m = absurd (let on = first.on in cc)
+        go x first m = absurd (let on = first.on in cc)
 
     -- no Release is outstanding, since neither it nor its ReleaseAck is on its way
     none_releasing : (c n : ℕ) (terms : EndConfig) → terms_at config c ≡ Some terms
@@ -168,10 +159,7 @@ module _ {w : ℕ} (config : Config) (log : Log w) (mail : AccessMessages w) (re
         go (beat.B y) first m = true_from_ne_false _ (λ still.
             let p = started-releasing config log mail request s matched coherent c (block_at y.address) (m.0 still) in
             absurd (let both : true ≡ false = sym p ∙ none_releasing c (block_at y.address) terms is in cc))
-        go (beat.A y) first m = absurd (let on = first.on in cc)
-        go (beat.C y) first m = absurd (let on = first.on in cc)
-        go (beat.D y) first m = absurd (let on = first.on in cc)
-        go (beat.E y) first m = absurd (let on = first.on in cc)
+        go x first m = absurd (let on = first.on in cc)
 
     -- so no block is in service, and each request finds a tracker
     module _ (width : IsWidth w) where
@@ -208,10 +196,7 @@ module _ {w : ℕ} (config : Config) (log : Log w) (mail : AccessMessages w) (re
               let free : nat_le config.trackers 0 ≡ false = few_test config.trackers trackers in
               m ∙ rw (none_in_service, free)
               (rw (and-false (ends (beat.A y) (on_link c (system_after config log).manager.trace))) refl)
-          go (beat.B y) first m = absurd (let on = first.on in cc)
-          go (beat.C y) first m = absurd (let on = first.on in cc)
-          go (beat.D y) first m = absurd (let on = first.on in cc)
-          go (beat.E y) first m = absurd (let on = first.on in cc)
+          go x first m = absurd (let on = first.on in cc)
 
       pub bare-when-standing : IsBare s
       bare-when-standing = record { a = by_client channel.A empty_a; silent = silent }

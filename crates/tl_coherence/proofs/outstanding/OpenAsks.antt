@@ -115,14 +115,12 @@ module _ {w : ℕ} (config : Config) (c : ℕ) (h : AbstractState w) where
   load-opens : (address size : ℕ) (p : Perm) (e : Endpoint w)
       → IsOpenAfter (op.Load address size) (load address size p e).reply
   load-opens address size perm.None e = record { requests = refl; releases = refl }
-  load-opens address size perm.Branch e = record { requests = refl; releases = refl }
-  load-opens address size perm.Trunk e = record { requests = refl; releases = refl }
+  load-opens address size p e = record { requests = refl; releases = refl }
 
   store-opens : (address size value : ℕ) (p : Perm) (e : Endpoint w)
       → IsOpenAfter (op.Store address size value) (store address size value p e).reply
   store-opens address size value perm.None e = record { requests = refl; releases = refl }
-  store-opens address size value perm.Branch e = record { requests = refl; releases = refl }
-  store-opens address size value perm.Trunk e = record { requests = refl; releases = refl }
+  store-opens address size value p e = record { requests = refl; releases = refl }
 
   module _ (terms : EndConfig) (e : Endpoint w) (at : terms_at config c ≡ Some terms) (few : c < clients_in config)
     where
@@ -147,10 +145,7 @@ module _ {w : ℕ} (config : Config) (c : ℕ) (h : AbstractState w) where
       done-opens (op.Access (message.A m)) free may =
           access-asked config h.state c (source_or_0 (free_request terms e.past)) few
           (own_source _ (least_free-some (λ s. pending (RequestSource s) e.past) 0 terms.sources free.b1).1) may
-      done-opens (op.Access (message.B m)) free may = record { requests = refl; releases = refl }
-      done-opens (op.Access (message.C m)) free may = record { requests = refl; releases = refl }
-      done-opens (op.Access (message.D m)) free may = record { requests = refl; releases = refl }
-      done-opens (op.Access (message.E m)) free may = record { requests = refl; releases = refl }
+      done-opens o free may = record { requests = refl; releases = refl }
 
 -- What is open after a client is asked.
 pub balance-asked : {w : ℕ} (config : Config) (log : Log w) (h : AbstractState w) (sys : System w) (terms : EndConfig)

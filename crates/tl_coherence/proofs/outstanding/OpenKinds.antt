@@ -22,7 +22,7 @@ use Rattle.tl_coherence.specs.refinement.AbstractStep.{ack_taken, taken_by_clien
 use Rattle.tl_coherence.specs.protocol.Invariant.{IsInvariant, cap_asked, serves_with}
 use Rattle.tl_coherence.specs.protocol.Phase.{AcquirePhase, NoAcquire, AcquireOpen, is_unprobed, is_whole}
 use Rattle.tl_coherence.specs.protocol.PhaseSteps.{is_granted_data}
-use Rattle.tl_coherence.specs.protocol.Protocol.{Service, Free, Waits, GrantSent, GrantTaken, Block, Link, InService}
+use Rattle.tl_coherence.specs.protocol.Protocol.{Service, Waits, Block, Link, InService}
 use Rattle.tl_coherence.specs.protocol.Protocol.{Replied, on, is_probed, with_probe, answered_link, served_link}
 use Rattle.tl_coherence.specs.protocol.Protocol.{probed_link, popped_link, ended_link, granted_link, let_link}
 use Rattle.tl_coherence.specs.protocol.Protocol.{taken_link, access_answered, access_served, acquire_granted}
@@ -242,9 +242,7 @@ module _ {w : ℕ} (config : Config) (h : AbstractState w) where
 
       go : (b : Bool) (o : Option Cap) → Stays (access_taken c source m tracker b o rest h)
       go true (Some k) = access-served config h.state c n source tracker k rest used
-      go true None = access-answered config h.state c n source (follow.performs m) rest used
-      go false None = access-answered config h.state c n source (follow.performs m) rest used
-      go false (Some k) = access-answered config h.state c n source (follow.performs m) rest used
+      go b o = access-answered config h.state c n source (follow.performs m) rest used
 
   acquire-kind : (clients : ℕ) (p : Profile) (c n tracker : ℕ) (x : AcquirePhase) (rest : List Packet)
       → Stays (acquire_taken clients p c n x tracker rest h)
@@ -272,15 +270,13 @@ module _ {w : ℕ} (config : Config) (h : AbstractState w) where
   last-kind : (caching : ℕ → Bool) (clients : ℕ) (p : Profile) (c n : ℕ) (r : Report) (service : Service)
       (rest : List Packet) → IsInvariant caching h.state
       → (h.state.block n).service ≡ service → Stays (last_taken clients p c n r service rest h)
-  last-kind caching clients p c n r Free rest inv e = unchanged config h.state
-  last-kind caching clients p c n r (GrantSent q d k) rest inv e = unchanged config h.state
-  last-kind caching clients p c n r (GrantTaken q) rest inv e = unchanged config h.state
   last-kind caching clients p c n r (Waits q true source k) rest inv e =
       granted-kind clients p c q n r ((h.state.block n).pair q).acquiring rest
   last-kind caching clients p c n r (Waits q false source k) rest inv e =
       let with : serves_with q source (h.state.block n) ≡ true = rw (e, same_number q, same_number source) refl in
       report-answers config h.state c q n source r (follow.performs (h.request n)) rest
       (serves_of-is n (h.state.uses q source) (inv.named.serves q source n ∙ with))
+  last-kind caching clients p c n r service rest inv e = unchanged config h.state
 
   ack-kind : (caching : ℕ → Bool) (clients : ℕ) (p : Profile) (c n : ℕ) (r : Report) (rest : List Packet)
       → IsInvariant caching h.state → Stays (ack_taken clients p c n r rest h)

@@ -2,7 +2,7 @@
 use Rattle.tl_coherence.proofs.outstanding.Imports.{Beat, Channel, Message, Config, EndConfig, Outcome}
 use Rattle.tl_coherence.proofs.outstanding.Imports.{AbstractState}
 use Rattle.tl_coherence.proofs.outstanding.Imports.{System}
-use Rattle.tl_coherence.proofs.outstanding.Imports.{terms_at, Request, Acquire, Release, ReleaseAck}
+use Rattle.tl_coherence.proofs.outstanding.Imports.{terms_at, Request, Acquire, Release}
 use Rattle.std.proofs.Common.{◌≡◌, subst, ℕ, zero, suc, ◌+◌, ◌<◌, Bool, true, false, List, [], ◌∷◌, refl, sym, ◌∙◌, ap}
 use Rattle.std.proofs.Common.{arith, Option, Some, None}
 use Rattle.std.specs.Prelude.{◌==◌, map, Result, Ok, Err}
@@ -30,7 +30,7 @@ use Rattle.tl_coherence.specs.statement.Delivery.{receiver}
 use Rattle.tl_coherence.specs.protocol.Protocol.{Block, is_on}
 use Rattle.tl_coherence.specs.refinement.PacketMessages.{message_of, message_of_kind, block_message}
 use Rattle.tl_coherence.specs.statement.Step.{is_to_client, outcome_of, stepped, stepped_at, delivered}
-use Rattle.tl_coherence.specs.protocol.Packet.{Kind, Probe, ProbeAck, Answer, Grant, GrantAck}
+use Rattle.tl_coherence.specs.protocol.Packet.{Kind, Probe, ProbeAck, GrantAck}
 use Rattle.tl_coherence.proofs.queues.Carried.{IsNext}
 use Rattle.tl_coherence.proofs.queues.FirstToken.{IsFirst}
 use Rattle.tl_coherence.proofs.outstanding.OpenKinds.{is_ending, is_letting_go}
@@ -41,12 +41,9 @@ abbrev pub Ends : {w : ℕ} → Outcome w → Bool → Bool → Type 0
 Ends o ends lets_go = (ends_request o ≡ ends) × (ends_release o ≡ lets_go)
 
 pub still-ends : {w : ℕ} (o : Outcome w) → is_moving o ≡ false → Ends o false false
-still-ends (outcome.Replied r) e = (refl, refl)
-still-ends outcome.Empty e = (refl, refl)
-still-ends outcome.Stalled e = (refl, refl)
-still-ends outcome.NoSuchClient e = (refl, refl)
 still-ends (outcome.Moved x) e = absurd cc
 still-ends (outcome.Done x source f) e = absurd cc
+still-ends o e = (refl, refl)
 
 abbrev pub is_e : Channel → Bool
 is_e channel.E = true
@@ -54,20 +51,13 @@ is_e _ = false
 
 pub moved-ends : {w : ℕ} (x : Beat w) → Ends (outcome.Moved x) (is_e (channel_of x)) false
 moved-ends (beat.A x) = (refl, refl)
-moved-ends (beat.B x) = (refl, refl)
-moved-ends (beat.C x) = (refl, refl)
-moved-ends (beat.D x) = (refl, refl)
-moved-ends (beat.E x) = (refl, refl)
+moved-ends x = (refl, refl)
 
 -- a response ends what its opcode says
 pub finish-ends : {w : ℕ} (x : Beat w) (source : ℕ) (o : OpD) (param size address : ℕ) (payload : List ℕ)
     → Ends (outcome.Done x source (finish_of w o param size address payload)) (is_access_answer o) (is_release_ack o)
 finish-ends x source opd.AccessAck param size address payload = (refl, refl)
-finish-ends x source opd.AccessAckData param size address payload = (refl, refl)
-finish-ends x source opd.HintAck param size address payload = (refl, refl)
-finish-ends x source opd.Grant param size address payload = (refl, refl)
-finish-ends x source opd.GrantData param size address payload = (refl, refl)
-finish-ends x source opd.ReleaseAck param size address payload = (refl, refl)
+finish-ends x source o param size address payload = (refl, refl)
 
 -- ---- what a message of the manager's channels ends
 
@@ -78,30 +68,7 @@ manager-kind channel.A Acquire down own = (refl, refl)
 manager-kind channel.C ProbeAck down own = (refl, refl)
 manager-kind channel.C Release down own = (refl, refl)
 manager-kind channel.E GrantAck down own = (refl, refl)
-manager-kind channel.A Probe down own = absurd cc
-manager-kind channel.A ProbeAck down own = absurd cc
-manager-kind channel.A Release down own = absurd cc
-manager-kind channel.A Answer down own = absurd cc
-manager-kind channel.A Grant down own = absurd cc
-manager-kind channel.A ReleaseAck down own = absurd cc
-manager-kind channel.A GrantAck down own = absurd cc
-manager-kind channel.C Request down own = absurd cc
-manager-kind channel.C Acquire down own = absurd cc
-manager-kind channel.C Probe down own = absurd cc
-manager-kind channel.C Answer down own = absurd cc
-manager-kind channel.C Grant down own = absurd cc
-manager-kind channel.C ReleaseAck down own = absurd cc
-manager-kind channel.C GrantAck down own = absurd cc
-manager-kind channel.E Request down own = absurd cc
-manager-kind channel.E Acquire down own = absurd cc
-manager-kind channel.E Probe down own = absurd cc
-manager-kind channel.E ProbeAck down own = absurd cc
-manager-kind channel.E Release down own = absurd cc
-manager-kind channel.E Answer down own = absurd cc
-manager-kind channel.E Grant down own = absurd cc
-manager-kind channel.E ReleaseAck down own = absurd cc
-manager-kind channel.B k down own = absurd cc
-manager-kind channel.D k down own = absurd cc
+manager-kind ch k down own = absurd cc
 
 -- a GrantAck is one beat
 pub ack_whole : (w c n : ℕ) (b : Block (List ℕ)) → beats_of (block_message {w = w} GrantAck c n b) ≡ 1
@@ -156,14 +123,7 @@ first-probe {w} c h sys x queue first = go first.kind first.own first.next
           (h.state.block first.number),
       (refl, refl),
     )
-    go Request own next = absurd cc
-    go Acquire own next = absurd cc
-    go ProbeAck own next = absurd cc
-    go Release own next = absurd cc
-    go Answer own next = absurd cc
-    go Grant own next = absurd cc
-    go ReleaseAck own next = absurd cc
-    go GrantAck own next = absurd cc
+    go k own next = absurd cc
 
 -- a delivery that moves a beat is one of a client's link, which has that beat
 pub first-moved : {w : ℕ} (config : Config) (link : Link) (ch : Channel) (sys : System w)

@@ -4,7 +4,7 @@
 use Rattle.tl_coherence.proofs.outstanding.Imports.{IsWidth, Beat, Channel, Message, Config, EndConfig, Outcome}
 use Rattle.tl_coherence.proofs.outstanding.Imports.{AbstractState, abstract_step, starts_request, starts_release, Log}
 use Rattle.tl_coherence.proofs.outstanding.Imports.{system_after, open_requests, open_releases, packet}
-use Rattle.tl_coherence.proofs.outstanding.Imports.{terms_at, Request, Acquire, Release, ReleaseAck, Packet, one_if}
+use Rattle.tl_coherence.proofs.outstanding.Imports.{terms_at, ReleaseAck, Packet, one_if}
 use Rattle.tl_coherence.proofs.outstanding.Imports.{SimulationRelation, is_caching}
 use Rattle.std.proofs.Common.{◌≡◌, subst, ℕ, ◌+◌, ◌<◌, Bool, true, false, List, ◌∷◌, refl, sym, ◌∙◌, ap}
 use Rattle.std.proofs.Common.{Option, Some, None}
@@ -33,7 +33,7 @@ use Rattle.tl_coherence.specs.statement.Delivery.{receiver}
 use Rattle.tl_coherence.specs.protocol.Protocol.{is_on, on}
 use Rattle.tl_coherence.specs.refinement.PacketMessages.{message_of, message_of_kind}
 use Rattle.tl_coherence.specs.statement.Step.{Step, is_to_client, outcome_of, stepped, stepped_at}
-use Rattle.tl_coherence.specs.protocol.Packet.{Kind, Probe, ProbeAck, Answer, Grant, GrantAck}
+use Rattle.tl_coherence.specs.protocol.Packet.{Kind, Answer, Grant, GrantAck}
 use Rattle.tl_coherence.proofs.simulation.Bounded.{matched-bounded}
 use Rattle.tl_coherence.proofs.protocol.TokenNames.{AreBounded}
 use Rattle.tl_coherence.proofs.queues.Carried.{IsNext}
@@ -96,27 +96,17 @@ module _ {w : ℕ} (config : Config) (log : Log w) (h : AbstractState w) (width 
 
   whole_e : (c : ℕ) (k : Kind) (n : ℕ) → is_on channel.E k ≡ true → beats_of (message_of_kind k h.mail h.state c n) ≡ 1
   whole_e c GrantAck n on_it = ack_whole w c n (h.state.block n)
-  whole_e c Request n on_it = absurd cc
-  whole_e c Acquire n on_it = absurd cc
-  whole_e c Probe n on_it = absurd cc
-  whole_e c ProbeAck n on_it = absurd cc
-  whole_e c Release n on_it = absurd cc
-  whole_e c Answer n on_it = absurd cc
-  whole_e c Grant n on_it = absurd cc
-  whole_e c ReleaseAck n on_it = absurd cc
+  whole_e c k n on_it = absurd cc
 
   part_apart : (ch : Channel) (c : ℕ) (x : Beat w) (queue : List (Beat w))
       → IsFirst ch c h.mail h.state (system_after config log) x queue
       → completes x (unfinished ch (receiver ch c (system_after config log))) ≡ false → is_e ch ≡ false
-  part_apart channel.A c x queue first part = refl
-  part_apart channel.B c x queue first part = refl
-  part_apart channel.C c x queue first part = refl
-  part_apart channel.D c x queue first part = refl
   part_apart channel.E c x queue first part =
       let one = whole_e c first.kind first.number first.own in
       let yes = first.next.completes_is ∙ one_whole first.next.k
       (beats_of (message_of_kind first.kind h.mail h.state c first.number)) one first.next.within in
       absurd (let both : true ≡ false = sym yes ∙ part in cc)
+  part_apart ch c x queue first part = refl
 
   counted-manager : (link : Link) (ch : Channel) (terms : EndConfig) (x : Beat w) (queue : List (Beat w))
       → terms_at config link.0 ≡ Some terms
@@ -285,12 +275,7 @@ module _ {w : ℕ} (config : Config) (log : Log w) (h : AbstractState w) (width 
           response-ends c ReleaseAck (ack_message ((h.state.block first.number).release_source c)) next.k x
           (next.beat_is ∙ ap (λ (m : Message w). beat_of m next.k)
           (rendered_release_ack c first.number (h.state.block first.number))) refl refl
-      kinds Request tokens own next = absurd cc
-      kinds Acquire tokens own next = absurd cc
-      kinds Probe tokens own next = absurd cc
-      kinds ProbeAck tokens own next = absurd cc
-      kinds Release tokens own next = absurd cc
-      kinds GrantAck tokens own next = absurd cc
+      kinds k tokens own next = absurd cc
 
   -- ---- any event
 

@@ -1,7 +1,7 @@
 -- A ReleaseAck and a GrantAck that are taken keep the invariant.
 use Rattle.tl_coherence.proofs.protocol.Imports.{Channel, ClientBlock, View, Idle, Acknowledging, GrantedOther}
 use Rattle.tl_coherence.proofs.protocol.Imports.{ReleaseAcked, is_unreleased, is_unprobed, Kind, Request, Acquire}
-use Rattle.tl_coherence.proofs.protocol.Imports.{Probe, ProbeAck, Release, Answer, Grant, ReleaseAck, GrantAck, Packet}
+use Rattle.tl_coherence.proofs.protocol.Imports.{Probe, ProbeAck, Release, Grant, ReleaseAck, GrantAck, Packet}
 use Rattle.tl_coherence.proofs.protocol.Imports.{set, set_at, GrantTaken, Block, State, Link, view, packet, shows}
 use Rattle.tl_coherence.proofs.protocol.Imports.{is_transfer, is_wanting, is_unserved, is_sent, is_answered}
 use Rattle.tl_coherence.proofs.protocol.Imports.{is_releasing, is_acked, is_granting, is_acknowledging, Move, Stays}
@@ -57,8 +57,6 @@ let_go_moves n _ = Stays
 
 let_go_shows : (n : ℕ) (k : Kind) (p : ClientBlock) (v : View) → is_transfer k ≡ true → p.letting ≡ ReleaseAcked
     → agrees (let_go_moves n (channel_for k)) k n (shows k p v) (shows k (after_release_ack p) v) ≡ true
-let_go_shows n Request p v t e = absurd cc
-let_go_shows n Answer p v t e = absurd cc
 let_go_shows n Acquire p v t e = same_again (is_wanting p.acquiring && is_unserved v)
 let_go_shows n Probe p v t e = same_again (is_sent p.probing)
 let_go_shows n ProbeAck p v t e = same_again (is_answered p.probing)
@@ -66,6 +64,7 @@ let_go_shows n Release p v t e = rw e refl
 let_go_shows n Grant p v t e = same_again (is_granting v)
 let_go_shows n ReleaseAck p v t e = rw (same_number n) refl
 let_go_shows n GrantAck p v t e = same_again (is_acknowledging v)
+let_go_shows n k p v t e = absurd cc
 
 pub release_ack_taken-kept : {X : Type 0} (caching : ℕ → Bool) (c n : ℕ) (rest : List Packet) (s : State X)
     → IsInvariant caching s → (s.link c).d ≡ packet ReleaseAck n ∷ rest
@@ -114,18 +113,12 @@ release_ack_taken-kept {X} caching c n rest s inv first acked =
     used = is_of-is n (s.lets c source) (inv.named.releases c source n ∙ rw (acked, same_number source) refl)
 
     moved : AreMoved (let_go_moves n) (s.link c) here
-    moved channel.A = refl
-    moved channel.B = refl
-    moved channel.C = refl
     moved channel.D = first
-    moved channel.E = refl
+    moved _ = refl
 
     own : (ch : Channel) → is_own_move ch (let_go_moves n ch) ≡ true
     own channel.A = refl
-    own channel.B = refl
-    own channel.C = refl
-    own channel.D = refl
-    own channel.E = refl
+    own ch = refl
 
 -- ---- a GrantAck
 
@@ -156,8 +149,6 @@ freed_moves n _ = Stays
 
 freed_shows : (n : ℕ) (k : Kind) (p : ClientBlock) → is_transfer k ≡ true
     → agrees (freed_moves n (channel_for k)) k n (shows k p Acknowledging) (shows k p Idle) ≡ true
-freed_shows n Request p t = absurd cc
-freed_shows n Answer p t = absurd cc
 freed_shows n Acquire p t = same_again (is_wanting p.acquiring && true)
 freed_shows n Probe p t = same_again (is_sent p.probing)
 freed_shows n ProbeAck p t = same_again (is_answered p.probing)
@@ -165,17 +156,11 @@ freed_shows n Release p t = same_again (is_releasing p.letting)
 freed_shows n Grant p t = refl
 freed_shows n ReleaseAck p t = same_again (is_acked p.letting)
 freed_shows n GrantAck p t = rw (same_number n) refl
+freed_shows n k p t = absurd cc
 
 freed_beside : (k : Kind) (p : ClientBlock) → shows k p Idle ≡ shows k p GrantedOther
 freed_beside Request p = refl
-freed_beside Answer p = refl
-freed_beside Acquire p = refl
-freed_beside Probe p = refl
-freed_beside ProbeAck p = refl
-freed_beside Release p = refl
-freed_beside Grant p = refl
-freed_beside ReleaseAck p = refl
-freed_beside GrantAck p = refl
+freed_beside k p = refl
 
 pub grant_ack_taken-kept : {X : Type 0} (caching : ℕ → Bool) (c n : ℕ) (rest : List Packet) (s : State X)
     → IsInvariant caching s → (s.link c).e ≡ packet GrantAck n ∷ rest
@@ -216,15 +201,9 @@ grant_ack_taken-kept {X} caching c n rest s inv first taken =
     used = is_of-is n (s.tracked tracker) (inv.named.trackers tracker n ∙ rw (taken, same_number tracker) refl)
 
     moved : AreMoved (freed_moves n) (s.link c) here
-    moved channel.A = refl
-    moved channel.B = refl
-    moved channel.C = refl
-    moved channel.D = refl
     moved channel.E = first
+    moved _ = refl
 
     own : (ch : Channel) → is_own_move ch (freed_moves n ch) ≡ true
     own channel.A = refl
-    own channel.B = refl
-    own channel.C = refl
-    own channel.D = refl
-    own channel.E = refl
+    own ch = refl

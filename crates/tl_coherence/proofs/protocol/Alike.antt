@@ -44,8 +44,6 @@ alike-probed c k b sent i = elim (cases_eq i c) [
     unsaid x e f = let h : false ≡ true = rw e at f in cc
 
     here : AreAlike c b new
-    here Request e f = (tt, inr refl)
-    here Answer e f = (tt, inr refl)
     here Acquire e f = ((part (λ p. p.acquiring) refl c, refl), inr refl)
     here Probe e f = absurd (gone (set c after b.pair c) (pair_at c after b.pair) f)
     here ProbeAck e f = absurd (unsaid (b.pair c).probing sent e)
@@ -53,10 +51,9 @@ alike-probed c k b sent i = elim (cases_eq i c) [
     here Grant e f = ((refl, refl, refl), inr refl)
     here ReleaseAck e f = (refl, inr refl)
     here GrantAck e f = (refl, inr refl)
+    here _ e f = (tt, inr refl)
 
     there : (i ≡ c → ⊥) → AreAlike i b new
-    there ne Request e f = (tt, inr refl)
-    there ne Answer e f = (tt, inr refl)
     there ne Acquire e f = ((part (λ p. p.acquiring) refl i, refl), inr refl)
     there ne Probe e f = (ap (λ (p : ClientBlock). p.probing) (set-other c i after b.pair ne), inr refl)
     there ne ProbeAck e f = (ap (λ (p : ClientBlock). p.probing) (set-other c i after b.pair ne), inr refl)
@@ -64,6 +61,7 @@ alike-probed c k b sent i = elim (cases_eq i c) [
     there ne Grant e f = ((refl, refl, refl), inr refl)
     there ne ReleaseAck e f = (refl, inr refl)
     there ne GrantAck e f = (refl, inr refl)
+    there ne _ e f = (tt, inr refl)
 
 never : (x y : Bool) → x ≡ false → x ≡ true → ⊥
 never x y e f = let g : false ≡ true = sym e ∙ f in cc
@@ -89,8 +87,6 @@ alike-reported c r b i = go (cases_eq i c)
         absurd (never _ true (ap (λ (p : ClientBlock). is_answered p.probing) (ap new.pair same ∙ here)) e)
 
     go : (i ≡ c) ⊎ (i ≡ c → ⊥) → AreAlike i b new
-    go at Request e f = (tt, inr refl)
-    go at Answer e f = (tt, inr refl)
     go at Acquire e f = ((set-part (λ (p : ClientBlock). p.acquiring) c after b.pair refl i, refl), inr refl)
     go at Probe e f = (probing at (inl f), inr refl)
     go at ProbeAck e f = (probing at (inr f), inr refl)
@@ -98,6 +94,7 @@ alike-reported c r b i = go (cases_eq i c)
     go at Grant e f = ((refl, refl, refl), inr refl)
     go at ReleaseAck e f = (refl, inr refl)
     go at GrantAck e f = (refl, inr refl)
+    go at _ e f = (tt, inr refl)
 
 -- the bytes change only where nothing that is left carries them
 pub alike-ended : (c q source : ℕ) (r : Report) (k : Cap) (f : List ℕ → List ℕ) (b : Block (List ℕ))
@@ -125,8 +122,6 @@ alike-ended c q source r k f b waits bytes i = go (cases_eq i c)
         absurd (never _ true (ap (λ (p : ClientBlock). is_answered p.probing) (ap new.pair same ∙ here)) e)
 
     go : (i ≡ c) ⊎ (i ≡ c → ⊥) → AreAlike i b new
-    go at Request e g = (tt, inl refl)
-    go at Answer e g = (tt, inl refl)
     go at Acquire e g = ((set-part (λ (p : ClientBlock). p.acquiring) c after b.pair refl i, refl), inl refl)
     go at Probe e g = (probing at (inl g), inl refl)
     go at ProbeAck e g = (probing at (inr g), bytes ProbeAck i e g)
@@ -136,6 +131,7 @@ alike-ended c q source r k f b waits bytes i = go (cases_eq i c)
     go at ReleaseAck e g = (refl, inl refl)
     go at GrantAck e g = absurd (unacknowledged b.service i (Waits q false source k) waits
         (waits_unacknowledged false q source k i) e)
+    go at _ e g = (tt, inl refl)
 
 pub alike-granted : (c q source : ℕ) (r : Report) (own d : Bool) (k gift : Cap) (b : Block (List ℕ))
     → b.service ≡ Waits q own source k → (c ≡ q → ⊥) → (i : ℕ)
@@ -178,8 +174,6 @@ alike-granted c q source r own d k gift b waits apart i = go (cases_eq i c)
     left f e g = part f e i ∙ set-part f c (after_report r (b.pair c)) b.pair g i
 
     go : (i ≡ c) ⊎ (i ≡ c → ⊥) → AreAlike i b new
-    go at Request e f = (tt, inr refl)
-    go at Answer e f = (tt, inr refl)
     go at Acquire e f = ((left (λ p. p.acquiring) refl refl, refl), inr refl)
     go at Probe e f = (probing at (inl f), inr refl)
     go at ProbeAck e f = (probing at (inr f), inr refl)
@@ -188,6 +182,7 @@ alike-granted c q source r own d k gift b waits apart i = go (cases_eq i c)
     go at ReleaseAck e f = (refl, inr refl)
     go at GrantAck e f = absurd (unacknowledged b.service i (Waits q own source k) waits
         (waits_unacknowledged own q source k i) e)
+    go at _ e f = (tt, inr refl)
 
 -- ---- a Release, and its answer
 
@@ -207,8 +202,6 @@ alike-let c r b i = go (cases_eq i c)
         (never _ true (ap (λ (p : ClientBlock). is_releasing p.letting) (ap new.pair same ∙ pair_at c after b.pair)) e)
 
     go : (i ≡ c) ⊎ (i ≡ c → ⊥) → AreAlike i b new
-    go at Request e f = (tt, inr refl)
-    go at Answer e f = (tt, inr refl)
     go at Acquire e f = ((set-part (λ (p : ClientBlock). p.acquiring) c after b.pair refl i, refl), inr refl)
     go at Probe e f = (set-part (λ (p : ClientBlock). p.probing) c after b.pair refl i, inr refl)
     go at ProbeAck e f = (set-part (λ (p : ClientBlock). p.probing) c after b.pair refl i, inr refl)
@@ -216,6 +209,7 @@ alike-let c r b i = go (cases_eq i c)
     go at Grant e f = ((refl, refl, refl), inr refl)
     go at ReleaseAck e f = (refl, inr refl)
     go at GrantAck e f = (refl, inr refl)
+    go at _ e f = (tt, inr refl)
 
 pub alike-let_go : (c : ℕ) (b : Block (List ℕ)) → (i : ℕ) → AreAlike i b (let_go_block c b)
 alike-let_go c b i = go (cases_eq i c)
@@ -233,8 +227,6 @@ alike-let_go c b i = go (cases_eq i c)
         (never _ true (ap (λ (p : ClientBlock). is_releasing p.letting) (ap new.pair same ∙ pair_at c after b.pair)) e)
 
     go : (i ≡ c) ⊎ (i ≡ c → ⊥) → AreAlike i b new
-    go at Request e f = (tt, inr refl)
-    go at Answer e f = (tt, inr refl)
     go at Acquire e f = ((set-part (λ (p : ClientBlock). p.acquiring) c after b.pair refl i, refl), inr refl)
     go at Probe e f = (set-part (λ (p : ClientBlock). p.probing) c after b.pair refl i, inr refl)
     go at ProbeAck e f = (set-part (λ (p : ClientBlock). p.probing) c after b.pair refl i, inr refl)
@@ -242,6 +234,7 @@ alike-let_go c b i = go (cases_eq i c)
     go at Grant e f = ((refl, refl, refl), inr refl)
     go at ReleaseAck e f = (refl, inr refl)
     go at GrantAck e f = (refl, inr refl)
+    go at _ e f = (tt, inr refl)
 
 -- ---- a Grant, and its answer
 
@@ -265,8 +258,6 @@ alike-taken c whole d k b sent bytes i = go (cases_eq i c)
         (ap new.pair same ∙ pair_at c after b.pair)) e)
 
     go : (i ≡ c) ⊎ (i ≡ c → ⊥) → AreAlike i b new
-    go at Request e f = (tt, inl refl)
-    go at Answer e f = (tt, inl refl)
     go at Acquire e f = ((acquiring at (is_unserved (view new.service i)) f, refl), inl refl)
     go at Probe e f = (set-part (λ (p : ClientBlock). p.probing) c after b.pair refl i, inl refl)
     go at ProbeAck e f = (set-part (λ (p : ClientBlock). p.probing) c after b.pair refl i, bytes ProbeAck i e f)
@@ -274,6 +265,7 @@ alike-taken c whole d k b sent bytes i = go (cases_eq i c)
     go at Grant e f = absurd (ungranted new.service i (GrantTaken c) refl (taken_ungranted c i) f)
     go at ReleaseAck e f = (refl, inl refl)
     go at GrantAck e f = absurd (unacknowledged b.service i (GrantSent c d k) sent (sent_unacknowledged c d k i) e)
+    go at _ e f = (tt, inl refl)
 
 pub alike-freed : (c : ℕ) (b : Block (List ℕ)) → b.service ≡ GrantTaken c → (i : ℕ) → AreAlike i b (freed_block b)
 alike-freed c b taken i = go
@@ -282,9 +274,7 @@ alike-freed c b taken i = go
     go Request e f = (tt, inr refl)
     go Answer e f = (tt, inr refl)
     go Acquire e f = ((refl, refl), inr refl)
-    go Probe e f = (refl, inr refl)
-    go ProbeAck e f = (refl, inr refl)
     go Release e f = ((refl, refl), inr refl)
     go Grant e f = absurd (ungranted b.service i (GrantTaken c) taken (taken_ungranted c i) e)
-    go ReleaseAck e f = (refl, inr refl)
     go GrantAck e f = absurd (unacknowledged (freed_block b).service i Free refl refl f)
+    go _ e f = (refl, inr refl)

@@ -1,9 +1,9 @@
 -- What is shown of a block stays where a client is asked, and where a request is taken.
-use Rattle.tl_coherence.proofs.protocol.Imports.{Cap, Grow, Prune, ClientBlock, View, Idle, Own, Other}
-use Rattle.tl_coherence.proofs.protocol.Imports.{Granting, Acknowledging, GrantedOther, ProbePhase, NoProbe, ProbeSent}
-use Rattle.tl_coherence.proofs.protocol.Imports.{ProbeAnswered, ReleasePhase, NoRelease, AcquirePhase, NoAcquire}
+use Rattle.tl_coherence.proofs.protocol.Imports.{Cap, Grow, Prune, ClientBlock, View, Own, Other}
+use Rattle.tl_coherence.proofs.protocol.Imports.{Granting, Acknowledging, GrantedOther, ProbePhase, NoProbe}
+use Rattle.tl_coherence.proofs.protocol.Imports.{ReleasePhase, NoRelease, AcquirePhase, NoAcquire}
 use Rattle.tl_coherence.proofs.protocol.Imports.{is_unacquired, is_unprobed, after_grant_sent}
-use Rattle.tl_coherence.proofs.protocol.Imports.{Kind, Request, Acquire, Probe, ProbeAck, Release, Answer}
+use Rattle.tl_coherence.proofs.protocol.Imports.{Kind, Acquire, Probe, ProbeAck, Release}
 use Rattle.tl_coherence.proofs.protocol.Imports.{Grant, ReleaseAck, GrantAck, set, Service, Free, Waits, GrantSent}
 use Rattle.tl_coherence.proofs.protocol.Imports.{GrantTaken, Block, view, is_wanting, is_sent, is_answered}
 use Rattle.tl_coherence.proofs.protocol.Imports.{is_releasing, is_acked, is_granting, is_acknowledging}
@@ -87,15 +87,9 @@ alike-acquiring caching c source whole g bytes b well calm i = elim (cases_eq i 
     granted : (v : View) → view b.service c ≡ v → is_granting v ≡ true → ⊥
     granted (Granting d k) e f =
         uncalm (b.pair c).acquiring calm (granting_asks d k (b.pair c) (view b.service c) (well.phases c) e)
-    granted Idle e f = cc
-    granted Own e f = cc
-    granted (Other k) e f = cc
-    granted Acknowledging e f = cc
-    granted GrantedOther e f = cc
+    granted v e f = cc
 
     here : AreAlike c b new
-    here Request e f = (tt, inr refl)
-    here Answer e f = (tt, inr refl)
     here Acquire e f = absurd (unwanted (b.pair c).acquiring _ calm e)
     here Probe e f = (ap (λ (p : ClientBlock). p.probing) (pair_at c after b.pair), inr refl)
     here ProbeAck e f = (ap (λ (p : ClientBlock). p.probing) (pair_at c after b.pair), inr refl)
@@ -103,10 +97,9 @@ alike-acquiring caching c source whole g bytes b well calm i = elim (cases_eq i 
     here Grant e f = absurd (granted (view b.service c) refl e)
     here ReleaseAck e f = (refl, inr refl)
     here GrantAck e f = (refl, inr refl)
+    here _ e f = (tt, inr refl)
 
     there : (i ≡ c → ⊥) → AreAlike i b new
-    there ne Request e f = (tt, inr refl)
-    there ne Answer e f = (tt, inr refl)
     there ne Acquire e f = (
       (
         ap (λ (p : ClientBlock). p.acquiring) (set-other c i after b.pair ne),
@@ -121,6 +114,7 @@ alike-acquiring caching c source whole g bytes b well calm i = elim (cases_eq i 
     there ne Grant e f = ((refl, set-other c i source b.source ne, refl), inr refl)
     there ne ReleaseAck e f = (refl, inr refl)
     there ne GrantAck e f = (refl, inr refl)
+    there ne _ e f = (tt, inr refl)
 
 pub alike-releasing : (c source : ℕ) (r : Prune) (b : Block (List ℕ)) → (b.pair c).letting ≡ NoRelease → (i : ℕ)
     → AreAlike i b (releasing_block c source r b)
@@ -142,8 +136,6 @@ alike-releasing c source r b kept i = elim (cases_eq i c) [
     unacked x e f = let h : false ≡ true = rw e at f in cc
 
     here : AreAlike c b new
-    here Request e f = (tt, inr refl)
-    here Answer e f = (tt, inr refl)
     here Acquire e f = ((ap (λ (p : ClientBlock). p.acquiring) (pair_at c after b.pair), refl), inr refl)
     here Probe e f = (ap (λ (p : ClientBlock). p.probing) (pair_at c after b.pair), inr refl)
     here ProbeAck e f = (ap (λ (p : ClientBlock). p.probing) (pair_at c after b.pair), inr refl)
@@ -151,10 +143,9 @@ alike-releasing c source r b kept i = elim (cases_eq i c) [
     here Grant e f = ((refl, refl, refl), inr refl)
     here ReleaseAck e f = absurd (unacked (b.pair c).letting kept e)
     here GrantAck e f = (refl, inr refl)
+    here _ e f = (tt, inr refl)
 
     there : (i ≡ c → ⊥) → AreAlike i b new
-    there ne Request e f = (tt, inr refl)
-    there ne Answer e f = (tt, inr refl)
     there ne Acquire e f = ((ap (λ (p : ClientBlock). p.acquiring) (set-other c i after b.pair ne), refl), inr refl)
     there ne Probe e f = (ap (λ (p : ClientBlock). p.probing) (set-other c i after b.pair ne), inr refl)
     there ne ProbeAck e f = (ap (λ (p : ClientBlock). p.probing) (set-other c i after b.pair ne), inr refl)
@@ -169,6 +160,7 @@ alike-releasing c source r b kept i = elim (cases_eq i c) [
     there ne Grant e f = ((refl, refl, refl), inr refl)
     there ne ReleaseAck e f = (set-other c i source b.release_source ne, inr refl)
     there ne GrantAck e f = (refl, inr refl)
+    there ne _ e f = (tt, inr refl)
 
 -- the same of a block whose copies, memory and bytes change alone
 pub alike-bytes : (b b' : Block (List ℕ)) → b'.pair ≡ b.pair → b'.source ≡ b.source
@@ -180,8 +172,6 @@ alike-bytes b b' pair source release service tracker bytes i k e f = (alike k, b
     same = ap (λ (p : ℕ → ClientBlock). p i) pair
 
     alike : (k : Kind) → IsAlike k i b b'
-    alike Request = tt
-    alike Answer = tt
     alike Acquire = (ap (λ (p : ClientBlock). p.acquiring) same, ap (λ (p : ℕ → ℕ). p i) source)
     alike Probe = ap (λ (p : ClientBlock). p.probing) same
     alike ProbeAck = ap (λ (p : ClientBlock). p.probing) same
@@ -189,6 +179,7 @@ alike-bytes b b' pair source release service tracker bytes i k e f = (alike k, b
     alike Grant = (service, ap (λ (p : ℕ → ℕ). p i) source, tracker)
     alike ReleaseAck = ap (λ (p : ℕ → ℕ). p i) release
     alike GrantAck = tracker
+    alike k = tt
 
 -- ---- a request is taken
 
@@ -200,8 +191,6 @@ alike-granted_at_once r tracker d k b free i = go
     after = after_grant_sent k (b.pair r)
 
     go : AreAlike i b (granted_at_once r tracker d k b)
-    go Request e f = (tt, inr refl)
-    go Answer e f = (tt, inr refl)
     go Acquire e f = ((set-part (λ (p : ClientBlock). p.acquiring) r after b.pair refl i, refl), inr refl)
     go Probe e f = (set-part (λ (p : ClientBlock). p.probing) r after b.pair refl i, inr refl)
     go ProbeAck e f = (set-part (λ (p : ClientBlock). p.probing) r after b.pair refl i, inr refl)
@@ -209,16 +198,15 @@ alike-granted_at_once r tracker d k b free i = go
     go Grant e f = absurd (ungranted b.service i Free free refl e)
     go ReleaseAck e f = (refl, inr refl)
     go GrantAck e f = absurd (unacknowledged b.service i Free free refl e)
+    go _ e f = (tt, inr refl)
 
 unsent : (x : ProbePhase) → is_unprobed x ≡ true → is_sent x ≡ true → ⊥
 unsent NoProbe e f = cc
-unsent (ProbeSent k) e f = cc
-unsent (ProbeAnswered r) e f = cc
+unsent x e f = cc
 
 unanswered : (x : ProbePhase) → is_unprobed x ≡ true → is_answered x ≡ true → ⊥
 unanswered NoProbe e f = cc
-unanswered (ProbeSent k) e f = cc
-unanswered (ProbeAnswered r) e f = cc
+unanswered x e f = cc
 
 pub alike-served : (caching : ℕ → Bool) (r : ℕ) (own : Bool) (source tracker : ℕ) (k : Cap) (b : Block (List ℕ))
     → IsWell caching b → b.service ≡ Free → (i : ℕ)
@@ -234,8 +222,6 @@ alike-served caching r own source tracker k b well free i = go
     same part e false = e (b.pair i)
 
     go : AreAlike i b (served_block r own source tracker k b)
-    go Request e f = (tt, inr refl)
-    go Answer e f = (tt, inr refl)
     go Acquire e f = ((same (λ (p : ClientBlock). p.acquiring) (λ p. refl) (own && (i == r)), refl), inr refl)
     go Probe e f = absurd (unsent (b.pair i).probing quiet e)
     go ProbeAck e f = absurd (unanswered (b.pair i).probing quiet e)
@@ -243,3 +229,4 @@ alike-served caching r own source tracker k b well free i = go
     go Grant e f = absurd (ungranted b.service i Free free refl e)
     go ReleaseAck e f = (refl, inr refl)
     go GrantAck e f = absurd (unacknowledged b.service i Free free refl e)
+    go _ e f = (tt, inr refl)

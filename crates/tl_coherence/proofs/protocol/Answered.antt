@@ -1,6 +1,6 @@
 -- An access that is answered as it is taken, and an answer that is taken, keep the invariant.
-use Rattle.tl_coherence.proofs.protocol.Imports.{Channel, same_perm, Kind, Request, Acquire, Probe, ProbeAck, Release}
-use Rattle.tl_coherence.proofs.protocol.Imports.{Answer, Grant, ReleaseAck, GrantAck, Packet, set, Block, State, Link}
+use Rattle.tl_coherence.proofs.protocol.Imports.{Channel, same_perm, Kind, Request, ProbeAck}
+use Rattle.tl_coherence.proofs.protocol.Imports.{Answer, Packet, set, Block, State, Link}
 use Rattle.tl_coherence.proofs.protocol.Imports.{SourceFree, Asked, Replied, view, packet, shown, is_transfer, Move}
 use Rattle.tl_coherence.proofs.protocol.Imports.{Stays, Pushes, Pops, AreMoved, is_own_move, channel_for, is_of}
 use Rattle.tl_coherence.proofs.protocol.Imports.{acquires_of, serves_of, acquires_with, serves_with, releases_with}
@@ -55,13 +55,7 @@ answer_moves source _ = Stays
 answer_spared : (source : ℕ) (k : Kind) → is_transfer k ≡ true → spares (answer_moves source (channel_for k)) k ≡ true
 answer_spared source Request t = absurd cc
 answer_spared source Answer t = absurd cc
-answer_spared source Acquire t = refl
-answer_spared source Probe t = refl
-answer_spared source ProbeAck t = refl
-answer_spared source Release t = refl
-answer_spared source Grant t = refl
-answer_spared source ReleaseAck t = refl
-answer_spared source GrantAck t = refl
+answer_spared source k t = refl
 
 pub access_answered-kept : {X : Type 0} (caching : ℕ → Bool) (c n source : ℕ) (f : X → X) (rest : List Packet)
     (s : State X) → IsInvariant caching s → (s.link c).a ≡ packet Request source ∷ rest
@@ -100,17 +94,11 @@ access_answered-kept {X} caching c n source f rest s inv first asked spared =
 
     moved : AreMoved (answer_moves source) (s.link c) here
     moved channel.A = first
-    moved channel.B = refl
-    moved channel.C = refl
-    moved channel.D = refl
-    moved channel.E = refl
+    moved _ = refl
 
     own : (ch : Channel) → is_own_move ch (answer_moves source ch) ≡ true
     own channel.A = refl
-    own channel.B = refl
-    own channel.C = refl
-    own channel.D = refl
-    own channel.E = refl
+    own ch = refl
 
 -- an answer is taken
 abbrev pub done_moves : ℕ → Channel → Move
@@ -120,13 +108,7 @@ done_moves source _ = Stays
 done_spared : (source : ℕ) (k : Kind) → is_transfer k ≡ true → spares (done_moves source (channel_for k)) k ≡ true
 done_spared source Request t = absurd cc
 done_spared source Answer t = absurd cc
-done_spared source Acquire t = refl
-done_spared source Probe t = refl
-done_spared source ProbeAck t = refl
-done_spared source Release t = refl
-done_spared source Grant t = refl
-done_spared source ReleaseAck t = refl
-done_spared source GrantAck t = refl
+done_spared source k t = refl
 
 pub answer_taken-kept : {X : Type 0} (caching : ℕ → Bool) (c source : ℕ) (rest : List Packet) (s : State X)
     → IsInvariant caching s → (s.link c).d ≡ packet Answer source ∷ rest
@@ -148,15 +130,9 @@ answer_taken-kept caching c source rest s inv first replied = invariant-moved_ac
     here = record (s.link c) { d = rest }
 
     moved : AreMoved (done_moves source) (s.link c) here
-    moved channel.A = refl
-    moved channel.B = refl
-    moved channel.C = refl
     moved channel.D = first
-    moved channel.E = refl
+    moved _ = refl
 
     own : (ch : Channel) → is_own_move ch (done_moves source ch) ≡ true
     own channel.A = refl
-    own channel.B = refl
-    own channel.C = refl
-    own channel.D = refl
-    own channel.E = refl
+    own ch = refl

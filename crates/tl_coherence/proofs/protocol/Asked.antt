@@ -134,13 +134,7 @@ access_moves source _ = Stays
 access_spared : (source : ℕ) (k : Kind) → is_transfer k ≡ true → spares (access_moves source (channel_for k)) k ≡ true
 access_spared source Request t = absurd cc
 access_spared source Answer t = absurd cc
-access_spared source Acquire t = refl
-access_spared source Probe t = refl
-access_spared source ProbeAck t = refl
-access_spared source Release t = refl
-access_spared source Grant t = refl
-access_spared source ReleaseAck t = refl
-access_spared source GrantAck t = refl
+access_spared source k t = refl
 
 pub access_asked-kept : {X : Type 0} (caching : ℕ → Bool) (c source : ℕ) (s : State X) → IsInvariant caching s
     → s.uses c source ≡ SourceFree → IsInvariant caching (access_asked c source s)
@@ -159,17 +153,11 @@ access_asked-kept caching c source s inv closed =
   where
     moved : AreMoved (access_moves source) (s.link c) (with_a (packet Request source) (s.link c))
     moved channel.A = refl
-    moved channel.B = refl
-    moved channel.C = refl
-    moved channel.D = refl
-    moved channel.E = refl
+    moved _ = refl
 
     own : (ch : Channel) → is_own_move ch (access_moves source ch) ≡ true
     own channel.A = refl
-    own channel.B = refl
-    own channel.C = refl
-    own channel.D = refl
-    own channel.E = refl
+    own ch = refl
 
 -- an Acquire
 abbrev pub acquire_moves : ℕ → Channel → Move
@@ -180,8 +168,6 @@ acquire_moves n _ = Stays
 acquire_shows : (n : ℕ) (k : Kind) (whole : Bool) (g : Grow) (p : ClientBlock) (v : View) → is_transfer k ≡ true
     → p.acquiring ≡ NoAcquire → is_unserved v ≡ true
     → agrees (acquire_moves n (channel_for k)) k n (shows k p v) (shows k (after_acquire whole g p) v) ≡ true
-acquire_shows n Request whole g p v t calm out = absurd cc
-acquire_shows n Answer whole g p v t calm out = absurd cc
 acquire_shows n Acquire whole g p v t calm out = rw (calm, out, same_number n) refl
 acquire_shows n Probe whole g p v t calm out = same_again (is_sent p.probing)
 acquire_shows n ProbeAck whole g p v t calm out = same_again (is_answered p.probing)
@@ -189,6 +175,7 @@ acquire_shows n Release whole g p v t calm out = same_again (is_releasing p.lett
 acquire_shows n Grant whole g p v t calm out = same_again (is_granting v)
 acquire_shows n ReleaseAck whole g p v t calm out = same_again (is_acked p.letting)
 acquire_shows n GrantAck whole g p v t calm out = same_again (is_acknowledging v)
+acquire_shows n k whole g p v t calm out = absurd cc
 
 pub acquire_asked-kept : {X : Type 0} (caching : ℕ → Bool) (c n source : ℕ) (whole : Bool) (g : Grow) (bytes : X)
     (s : State X) → IsInvariant caching s → caching c ≡ true → s.uses c source ≡ SourceFree
@@ -238,17 +225,11 @@ acquire_asked-kept {X} caching c n source whole g bytes s inv inside closed calm
 
     moved : AreMoved (acquire_moves n) (s.link c) here
     moved channel.A = refl
-    moved channel.B = refl
-    moved channel.C = refl
-    moved channel.D = refl
-    moved channel.E = refl
+    moved _ = refl
 
     own : (ch : Channel) → is_own_move ch (acquire_moves n ch) ≡ true
     own channel.A = refl
-    own channel.B = refl
-    own channel.C = refl
-    own channel.D = refl
-    own channel.E = refl
+    own ch = refl
 
 -- a Release
 abbrev pub release_moves : ℕ → Channel → Move
@@ -258,8 +239,6 @@ release_moves n _ = Stays
 release_shows : (n : ℕ) (k : Kind) (r : Prune) (p : ClientBlock) (v : View) → is_transfer k ≡ true
     → p.letting ≡ NoRelease
     → agrees (release_moves n (channel_for k)) k n (shows k p v) (shows k (after_release r p) v) ≡ true
-release_shows n Request r p v t kept = absurd cc
-release_shows n Answer r p v t kept = absurd cc
 release_shows n Acquire r p v t kept = same_again (is_wanting p.acquiring && is_unserved v)
 release_shows n Probe r p v t kept = same_again (is_sent p.probing)
 release_shows n ProbeAck r p v t kept = same_again (is_answered p.probing)
@@ -267,6 +246,7 @@ release_shows n Release r p v t kept = rw (kept, same_number n) refl
 release_shows n Grant r p v t kept = same_again (is_granting v)
 release_shows n ReleaseAck r p v t kept = rw kept refl
 release_shows n GrantAck r p v t kept = same_again (is_acknowledging v)
+release_shows n k r p v t kept = absurd cc
 
 pub release_asked-kept : {X : Type 0} (caching : ℕ → Bool) (c n source : ℕ) (r : Prune) (s : State X)
     → IsInvariant caching s → caching c ≡ true → s.lets c source ≡ None
@@ -314,17 +294,11 @@ release_asked-kept {X} caching c n source r s inv inside closed calm kept fits =
 
     moved : AreMoved (release_moves n) (s.link c) here
     moved channel.A = refl
-    moved channel.B = refl
-    moved channel.C = refl
-    moved channel.D = refl
-    moved channel.E = refl
+    moved _ = refl
 
     own : (ch : Channel) → is_own_move ch (release_moves n ch) ≡ true
     own channel.A = refl
-    own channel.B = refl
-    own channel.C = refl
-    own channel.D = refl
-    own channel.E = refl
+    own ch = refl
 
 -- a store
 pub block_stored-kept : {X : Type 0} (caching : ℕ → Bool) (c n : ℕ) (bytes : X) (s : State X) → IsInvariant caching s

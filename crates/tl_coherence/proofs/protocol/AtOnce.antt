@@ -2,7 +2,7 @@
 use Rattle.tl_coherence.proofs.protocol.Imports.{Channel, Cap, Grow, Perm, cap_right, same_perm, ClientBlock, Idle}
 use Rattle.tl_coherence.proofs.protocol.Imports.{Granting, GrantedOther, AcquireOpen, same_cap, is_unacquired}
 use Rattle.tl_coherence.proofs.protocol.Imports.{is_unprobed, cap_fits, is_above, is_granted_data, after_grant_sent}
-use Rattle.tl_coherence.proofs.protocol.Imports.{Kind, Request, Acquire, Probe, ProbeAck, Release, Answer, Grant}
+use Rattle.tl_coherence.proofs.protocol.Imports.{Kind, Request, Acquire, Probe, ProbeAck, Release, Grant}
 use Rattle.tl_coherence.proofs.protocol.Imports.{ReleaseAck, GrantAck, Packet, set, Free, Block, State, Link, view}
 use Rattle.tl_coherence.proofs.protocol.Imports.{packet, shows, is_transfer, is_wanting, is_sent, is_answered}
 use Rattle.tl_coherence.proofs.protocol.Imports.{is_releasing, is_acked, Move, Stays, Pushes, Pops, AreMoved, agrees}
@@ -123,8 +123,6 @@ once_shows : (n : ℕ) (k : Kind) (p : ClientBlock) (d : Bool) (gift : Cap) → 
     → is_wanting p.acquiring ≡ true
     → agrees (once_moves n (channel_for k)) k n (shows k p Idle) (shows k (after_grant_sent gift p) (Granting d gift))
     ≡ true
-once_shows n Request p d gift t e = absurd cc
-once_shows n Answer p d gift t e = absurd cc
 once_shows n Acquire p d gift t e = rw (e, same_number n) refl
 once_shows n Probe p d gift t e = same_again (is_sent p.probing)
 once_shows n ProbeAck p d gift t e = same_again (is_answered p.probing)
@@ -132,17 +130,11 @@ once_shows n Release p d gift t e = same_again (is_releasing p.letting)
 once_shows n Grant p d gift t e = rw (same_number n) refl
 once_shows n ReleaseAck p d gift t e = same_again (is_acked p.letting)
 once_shows n GrantAck p d gift t e = refl
+once_shows n k p d gift t e = absurd cc
 
 beside_shows : (k : Kind) (p : ClientBlock) → shows k p GrantedOther ≡ shows k p Idle
 beside_shows Request p = refl
-beside_shows Answer p = refl
-beside_shows Acquire p = refl
-beside_shows Probe p = refl
-beside_shows ProbeAck p = refl
-beside_shows Release p = refl
-beside_shows Grant p = refl
-beside_shows ReleaseAck p = refl
-beside_shows GrantAck p = refl
+beside_shows k p = refl
 
 pub acquire_granted-kept : {X : Type 0} (caching : ℕ → Bool) (r n tracker : ℕ) (whole : Bool) (g : Grow) (gift : Cap)
     (rest : List Packet) (s : State X) → IsInvariant caching s
@@ -192,14 +184,8 @@ acquire_granted-kept {X} caching r n tracker whole g gift rest s inv first is un
 
     moved : AreMoved (once_moves n) (s.link r) here
     moved channel.A = first
-    moved channel.B = refl
-    moved channel.C = refl
-    moved channel.D = refl
-    moved channel.E = refl
+    moved _ = refl
 
     own : (ch : Channel) → is_own_move ch (once_moves n ch) ≡ true
     own channel.A = refl
-    own channel.B = refl
-    own channel.C = refl
-    own channel.D = refl
-    own channel.E = refl
+    own ch = refl

@@ -93,14 +93,7 @@ same_channels a b = inr (λ e. absurd cc)
 
 own_kind : (k : Kind) → is_on (channel_for k) k ≡ true
 own_kind Request = refl
-own_kind Acquire = refl
-own_kind Probe = refl
-own_kind ProbeAck = refl
-own_kind Release = refl
-own_kind Answer = refl
-own_kind Grant = refl
-own_kind ReleaseAck = refl
-own_kind GrantAck = refl
+own_kind k = refl
 
 module _ {w : ℕ} (caching : ℕ → Bool) (n : ℕ) (moves : ℕ → Channel → Move) (mail mail' : AccessMessages w)
     (s s' : State (List ℕ)) (showing : IsShowing caching n moves mail mail' s s') where

@@ -1,6 +1,6 @@
 -- What is kept across clients where one client's part of a block changes.
-use Rattle.tl_coherence.proofs.protocol.Imports.{same_perm, ClientBlock, Own, is_unprobed, set, Service, Free, Waits}
-use Rattle.tl_coherence.proofs.protocol.Imports.{GrantSent, GrantTaken, view, resting, IsAskedCap}
+use Rattle.tl_coherence.proofs.protocol.Imports.{same_perm, ClientBlock, Own, is_unprobed, set, Service, Waits}
+use Rattle.tl_coherence.proofs.protocol.Imports.{view, resting, IsAskedCap}
 use Rattle.std.proofs.Common.{◌≡◌, refl, ◌∙◌, ap, inl, inr}
 use Rattle.std.specs.Prelude.{ℕ, Bool, true, false}
 use Rattle.std.proofs.lemmas.Bool.{cases_eq}
@@ -12,50 +12,37 @@ use Rattle.tl_coherence.proofs.queues.Tokens.{same_number, set-same, set-other}
 
 pub awaited_by : (s : Service) (pair : ℕ → ClientBlock) (c : ℕ) → is_unprobed (pair c).probing ≡ false
     → IsAwaited s pair
-awaited_by Free pair c h = tt
 awaited_by (Waits r own s k) pair c h = (c, h)
-awaited_by (GrantSent r d k) pair c h = tt
-awaited_by (GrantTaken r) pair c h = tt
+awaited_by s pair c h = tt
 
 pub awaited-same : (s : Service) (pair after : ℕ → ClientBlock)
     → ((d : ℕ) → is_unprobed (after d).probing ≡ is_unprobed (pair d).probing) → IsAwaited s pair → IsAwaited s after
-awaited-same Free pair after e h = tt
 awaited-same (Waits r own s k) pair after e h = (h.0, e h.0 ∙ h.1)
-awaited-same (GrantSent r d k) pair after e h = tt
-awaited-same (GrantTaken r) pair after e h = tt
+awaited-same s pair after e h = tt
 
 -- the cap stays where the Acquires do
 pub asked_cap-same : (s : Service) (pair after : ℕ → ClientBlock) → ((d : ℕ) → (after d).acquiring ≡ (pair d).acquiring)
     → IsAskedCap s pair → IsAskedCap s after
-asked_cap-same Free pair after e h = tt
 asked_cap-same (Waits r true s k) pair after e h = rw (e r) h
-asked_cap-same (Waits r false s k) pair after e h = tt
-asked_cap-same (GrantSent r d k) pair after e h = tt
-asked_cap-same (GrantTaken r) pair after e h = tt
+asked_cap-same s pair after e h = tt
 
 -- and where another's changes than the one that is served
 pub asked_cap-other : (s : Service) (c : ℕ) (q : ClientBlock) (pair : ℕ → ClientBlock) → (view s c ≡ Own → ⊥)
     → IsAskedCap s pair → IsAskedCap s (set c q pair)
-asked_cap-other Free c q pair ne h = tt
 asked_cap-other (Waits r true s k) c q pair ne h = elim (cases_eq r c) [
   | inl same ↦ absurd (ne (rw (same, same_number c) refl))
   | inr other ↦ rw (set-other c r q pair other) h
 ]
-asked_cap-other (Waits r false s k) c q pair ne h = tt
-asked_cap-other (GrantSent r d k) c q pair ne h = tt
-asked_cap-other (GrantTaken r) c q pair ne h = tt
+asked_cap-other s c q pair ne h = tt
 
 -- the source stays where another's changes than that of the one that is served
 pub own_source-other : (s : Service) (c i : ℕ) (source : ℕ → ℕ) → (view s c ≡ Own → ⊥) → IsOwnSource s source
     → IsOwnSource s (set c i source)
-own_source-other Free c i source ne h = tt
 own_source-other (Waits r true s k) c i source ne h = elim (cases_eq r c) [
   | inl same ↦ absurd (ne (rw (same, same_number c) refl))
   | inr other ↦ rw (set-other c r i source other) h
 ]
-own_source-other (Waits r false s k) c i source ne h = tt
-own_source-other (GrantSent r d k) c i source ne h = tt
-own_source-other (GrantTaken r) c i source ne h = tt
+own_source-other s c i source ne h = tt
 
 -- ---- who owns the block
 

@@ -1,6 +1,6 @@
 -- How many messages a channel holds: as many at most as there are sources, trackers, or both.
-use Rattle.tl_coherence.proofs.protocol.Imports.{Channel, View, Other, Idle, Own, Granting, Acknowledging}
-use Rattle.tl_coherence.proofs.protocol.Imports.{GrantedOther, is_unprobed, Kind, Request, Acquire}
+use Rattle.tl_coherence.proofs.protocol.Imports.{Channel, View, Acknowledging}
+use Rattle.tl_coherence.proofs.protocol.Imports.{is_unprobed, Kind, Request, Acquire}
 use Rattle.tl_coherence.proofs.protocol.Imports.{Probe, ProbeAck, Release, Answer, Grant, ReleaseAck, GrantAck, Packet}
 use Rattle.tl_coherence.proofs.protocol.Imports.{State}
 use Rattle.tl_coherence.proofs.protocol.Imports.{SourceState, SourceFree, Asked, Replied, Acquires, view}
@@ -59,11 +59,7 @@ module _ {X : Type 0} (caching : ℕ → Bool) (s : State X) (c n : ℕ) (inv : 
     where
       go : (v : View) → is_acknowledging v ≡ true → is_idle v ≡ false
       go Acknowledging h = refl
-      go Idle h = absurd cc
-      go Own h = absurd cc
-      go (Other k) h = absurd cc
-      go (Granting d k) h = absurd cc
-      go GrantedOther h = absurd cc
+      go v h = absurd cc
 
 -- ---- the channels
 
@@ -109,13 +105,7 @@ module _ {X : Type 0} (caching : ℕ → Bool) (s : State X) (c sources trackers
             used_below bounds ((s.block x.number).source c)
                 (Acquires x.number) used (λ h. absurd cc),
           )
-      go Probe e on_it = absurd cc
-      go ProbeAck e on_it = absurd cc
-      go Release e on_it = absurd cc
-      go Answer e on_it = absurd cc
-      go Grant e on_it = absurd cc
-      go ReleaseAck e on_it = absurd cc
-      go GrantAck e on_it = absurd cc
+      go k e on_it = absurd cc
 
   pub few_on_a : length (s.link c).a ≤ sources
   few_on_a =
@@ -147,13 +137,7 @@ module _ {X : Type 0} (caching : ℕ → Bool) (s : State X) (c sources trackers
             used_below bounds ((s.block x.number).source c)
                 (Acquires x.number) used (λ h. absurd cc),
           )
-      go Request e on_it pass = absurd cc
-      go Acquire e on_it pass = absurd cc
-      go Probe e on_it pass = absurd cc
-      go ProbeAck e on_it pass = absurd cc
-      go Release e on_it pass = absurd cc
-      go ReleaseAck e on_it pass = absurd cc
-      go GrantAck e on_it pass = absurd cc
+      go k e on_it pass = absurd cc
 
   -- a Release by its source, and its ReleaseAck
   released_token : (ch : Channel) (x : Packet) (k : Kind) → x.kind ≡ k → is_on ch k ≡ true

@@ -279,21 +279,14 @@ begins_fit : (g : Grow) (p : Perm) → same_perm (grow_left g) p ≡ true → gr
 begins_fit grow.NtoB perm.None e = refl
 begins_fit grow.NtoT perm.None e = refl
 begins_fit grow.BtoT perm.Branch e = refl
-begins_fit grow.NtoB perm.Branch e = absurd cc
-begins_fit grow.NtoB perm.Trunk e = absurd cc
-begins_fit grow.NtoT perm.Branch e = absurd cc
-begins_fit grow.NtoT perm.Trunk e = absurd cc
-begins_fit grow.BtoT perm.None e = absurd cc
-begins_fit grow.BtoT perm.Trunk e = absurd cc
+begins_fit g p e = absurd cc
 
 whole_fits : (p : Perm) → same_perm perm.Trunk p ≡ false → grow_fits p (AcquireOpen true (whole_grow p)) ≡ true
-whole_fits perm.None e = refl
-whole_fits perm.Branch e = refl
 whole_fits perm.Trunk e = absurd cc
+whole_fits p e = refl
 
 pub asked-kept : {w : ℕ} (caching : ℕ → Bool) (c : ℕ) (o : Op w) (r : Reply) (h : AbstractState w)
     → IsInvariant caching h.state → IsAskable caching c o r h → IsInvariant caching (asked c o r h).state
-asked-kept caching c (op.Load address size) r h inv is = inv
 asked-kept caching c (op.Store address size value) reply.Stored h inv may =
     block_stored-kept caching c (block_at address)
     (copy_stored address size value ((h.state.block (block_at address)).copy c)) h.state inv may
@@ -307,27 +300,4 @@ asked-kept caching c (op.Release n r) (reply.Started source) h inv is =
     release_asked-kept caching c n source r h.state inv is.0 is.1 is.2 is.3 is.4
 asked-kept caching c (op.Access (message.A m)) (reply.Started source) h inv closed =
     access_asked-kept caching c source h.state inv closed
-asked-kept caching c (op.Store address size value) (reply.Value v) h inv is = inv
-asked-kept caching c (op.Store address size value) reply.Miss h inv is = inv
-asked-kept caching c (op.Store address size value) (reply.Started source) h inv is = inv
-asked-kept caching c (op.Store address size value) (reply.Busy why) h inv is = inv
-asked-kept caching c (op.Acquire n g) (reply.Value v) h inv is = inv
-asked-kept caching c (op.Acquire n g) reply.Stored h inv is = inv
-asked-kept caching c (op.Acquire n g) reply.Miss h inv is = inv
-asked-kept caching c (op.Acquire n g) (reply.Busy why) h inv is = inv
-asked-kept caching c (op.AcquireWhole n bytes) (reply.Value v) h inv is = inv
-asked-kept caching c (op.AcquireWhole n bytes) reply.Stored h inv is = inv
-asked-kept caching c (op.AcquireWhole n bytes) reply.Miss h inv is = inv
-asked-kept caching c (op.AcquireWhole n bytes) (reply.Busy why) h inv is = inv
-asked-kept caching c (op.Release n p) (reply.Value v) h inv is = inv
-asked-kept caching c (op.Release n p) reply.Stored h inv is = inv
-asked-kept caching c (op.Release n p) reply.Miss h inv is = inv
-asked-kept caching c (op.Release n p) (reply.Busy why) h inv is = inv
-asked-kept caching c (op.Access (message.A m)) (reply.Value v) h inv is = inv
-asked-kept caching c (op.Access (message.A m)) reply.Stored h inv is = inv
-asked-kept caching c (op.Access (message.A m)) reply.Miss h inv is = inv
-asked-kept caching c (op.Access (message.A m)) (reply.Busy why) h inv is = inv
-asked-kept caching c (op.Access (message.B m)) r h inv is = inv
-asked-kept caching c (op.Access (message.C m)) r h inv is = inv
-asked-kept caching c (op.Access (message.D m)) r h inv is = inv
-asked-kept caching c (op.Access (message.E m)) r h inv is = inv
+asked-kept caching c o r h inv is = inv

@@ -46,25 +46,20 @@ low_within perm.Trunk cap.ToB e low = absurd cc
 low_within perm.Trunk cap.ToN e low = absurd cc
 
 pub both_trunk : (p q : Perm) → same_perm p q ≡ true → same_perm p perm.Trunk ≡ false → same_perm q perm.Trunk ≡ false
-both_trunk perm.None perm.None e f = refl
-both_trunk perm.None perm.Branch e f = refl
 both_trunk perm.None perm.Trunk e f = absurd cc
-both_trunk perm.Branch perm.None e f = refl
-both_trunk perm.Branch perm.Branch e f = refl
 both_trunk perm.Branch perm.Trunk e f = absurd cc
 both_trunk perm.Trunk q e f = absurd cc
+both_trunk p q e f = refl
 
 pub none_or_trunk : (p : Perm) → same_perm p perm.None ≡ true → same_perm p perm.Trunk ≡ true → ⊥
 none_or_trunk perm.None e f = absurd cc
-none_or_trunk perm.Branch e f = absurd cc
-none_or_trunk perm.Trunk e f = absurd cc
+none_or_trunk p e f = absurd cc
 
 -- a Grant that fits gives Trunk or Branch
 pub gives : (whole : Bool) (g : Grow) (k : Cap) → cap_fits whole g k ≡ true → (same_cap k cap.ToT ≡ true)
     ⊎ (same_perm (cap_right k) perm.Trunk ≡ false)
 gives whole g cap.ToT e = inl refl
-gives whole g cap.ToB e = inr refl
-gives whole g cap.ToN e = inr refl
+gives whole g k e = inr refl
 
 -- ---- the block
 
@@ -224,15 +219,13 @@ low_none k perm.Branch e f = absurd (let g : perm_le perm.Branch (cap_right cap.
 low_none k perm.Trunk e f = absurd (let g : perm_le perm.Trunk (cap_right cap.ToN) ≡ true = rw e at f in cc)
 
 is_none : (k : Cap) → same_cap k cap.ToN ≡ true → k ≡ cap.ToN
-is_none cap.ToT e = absurd cc
-is_none cap.ToB e = absurd cc
 is_none cap.ToN e = refl
+is_none k e = absurd cc
 
 asks_none : (k : Cap) (whole : Bool) (g : Grow) → grows_to_trunk g ≡ true
     → same_cap k (cap_asked (AcquireOpen whole g)) ≡ true → k ≡ cap.ToN
 asks_none k whole grow.NtoB e f = absurd cc
-asks_none k whole grow.NtoT e f = is_none k f
-asks_none k whole grow.BtoT e f = is_none k f
+asks_none k whole g e f = is_none k f
 
 -- where the Acquire asks for Trunk, all others were probed to None
 pub room-trunk : {X : Type 0} (caching : ℕ → Bool) (c q : ℕ) (r : Report) (whole : Bool) (g : Grow) (source : ℕ)

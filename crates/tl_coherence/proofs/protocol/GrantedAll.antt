@@ -1,7 +1,7 @@
 -- The last ProbeAck that is taken, with which the Acquire that waited is granted, keeps the invariant.
 use Rattle.tl_coherence.proofs.protocol.Imports.{Channel, Cap, Grow, Report, ClientBlock, Own, Other, Granting}
 use Rattle.tl_coherence.proofs.protocol.Imports.{GrantedOther, ProbeAnswered, is_unprobed, is_granted_data}
-use Rattle.tl_coherence.proofs.protocol.Imports.{after_grant_sent, after_report, Kind, Request, Acquire, Probe}
+use Rattle.tl_coherence.proofs.protocol.Imports.{after_grant_sent, after_report, Kind, Acquire, Probe}
 use Rattle.tl_coherence.proofs.protocol.Imports.{ProbeAck, Release, Answer, Grant, ReleaseAck, GrantAck, Packet, set}
 use Rattle.tl_coherence.proofs.protocol.Imports.{Block, State, Link, view, packet, packets_on, is_transfer, is_wanting}
 use Rattle.tl_coherence.proofs.protocol.Imports.{is_sent, is_answered, is_releasing, is_acked, shows, shown}
@@ -30,8 +30,6 @@ granted_moves n c q d _ = Stays
 at_sender : (n : ℕ) (k : Kind) (p : ClientBlock) (d : Bool) (gift : Cap) → is_transfer k ≡ true
     → agrees (granted_moves n 0 1 1 (channel_for k)) k n (shows k p Own)
     (shows k (after_grant_sent gift p) (Granting d gift)) ≡ true
-at_sender n Request p d gift t = absurd cc
-at_sender n Answer p d gift t = absurd cc
 at_sender n Acquire p d gift t = go (is_wanting p.acquiring)
   where
     go : (b : Bool) → beq (b && false) (b && false) ≡ true
@@ -43,13 +41,12 @@ at_sender n Release p d gift t = same_again (is_releasing p.letting)
 at_sender n Grant p d gift t = rw (same_number n) refl
 at_sender n ReleaseAck p d gift t = same_again (is_acked p.letting)
 at_sender n GrantAck p d gift t = refl
+at_sender n k p d gift t = absurd cc
 
 at_reporter : (n : ℕ) (k : Kind) (r : Report) (p : ClientBlock) (j : Cap) → is_transfer k ≡ true
     → p.probing ≡ ProbeAnswered r
     → agrees (granted_moves n 1 0 1 (channel_for k)) k n (shows k p (Other j)) (shows k (after_report r p) GrantedOther)
     ≡ true
-at_reporter n Request r p j t e = absurd cc
-at_reporter n Answer r p j t e = absurd cc
 at_reporter n Acquire r p j t e = same_again (is_wanting p.acquiring && true)
 at_reporter n Probe r p j t e = rw e refl
 at_reporter n ProbeAck r p j t e = rw (same_number n) refl
@@ -57,11 +54,10 @@ at_reporter n Release r p j t e = same_again (is_releasing p.letting)
 at_reporter n Grant r p j t e = refl
 at_reporter n ReleaseAck r p j t e = same_again (is_acked p.letting)
 at_reporter n GrantAck r p j t e = refl
+at_reporter n k r p j t e = absurd cc
 
 at_other : (n : ℕ) (k : Kind) (p : ClientBlock) (j : Cap) → is_transfer k ≡ true
     → agrees Stays k n (shows k p (Other j)) (shows k p GrantedOther) ≡ true
-at_other n Request p j t = absurd cc
-at_other n Answer p j t = absurd cc
 at_other n Acquire p j t = same_again (is_wanting p.acquiring && true)
 at_other n Probe p j t = same_again (is_sent p.probing)
 at_other n ProbeAck p j t = same_again (is_answered p.probing)
@@ -69,28 +65,23 @@ at_other n Release p j t = same_again (is_releasing p.letting)
 at_other n Grant p j t = refl
 at_other n ReleaseAck p j t = same_again (is_acked p.letting)
 at_other n GrantAck p j t = refl
+at_other n k p j t = absurd cc
 
 -- moves by the place of the client
 moves_of_sender : (n c q : ℕ) (ch : Channel) → (q ≡ c → ⊥) → granted_moves n c q q ch ≡ granted_moves n 0 1 1 ch
-moves_of_sender n c q channel.A ne = refl
-moves_of_sender n c q channel.B ne = refl
 moves_of_sender n c q channel.C ne = rw (ne_eqb q c ne) refl
 moves_of_sender n c q channel.D ne = rw (same_number q) refl
-moves_of_sender n c q channel.E ne = refl
+moves_of_sender n c q ch ne = refl
 
 moves_of_reporter : (n c q : ℕ) (ch : Channel) → (c ≡ q → ⊥) → granted_moves n c q c ch ≡ granted_moves n 1 0 1 ch
-moves_of_reporter n c q channel.A ne = refl
-moves_of_reporter n c q channel.B ne = refl
 moves_of_reporter n c q channel.C ne = rw (same_number c) refl
 moves_of_reporter n c q channel.D ne = rw (ne_eqb c q ne) refl
-moves_of_reporter n c q channel.E ne = refl
+moves_of_reporter n c q ch ne = refl
 
 moves_of_other : (n c q d : ℕ) (ch : Channel) → (d ≡ c → ⊥) → (d ≡ q → ⊥) → granted_moves n c q d ch ≡ Stays
-moves_of_other n c q d channel.A o m = refl
-moves_of_other n c q d channel.B o m = refl
 moves_of_other n c q d channel.C o m = rw (ne_eqb d c o) refl
 moves_of_other n c q d channel.D o m = rw (ne_eqb d q m) refl
-moves_of_other n c q d channel.E o m = refl
+moves_of_other n c q d ch o m = refl
 
 pub report_grants-kept : {X : Type 0} (caching : ℕ → Bool) (c q n : ℕ) (r : Report) (whole : Bool) (g : Grow)
     (gift : Cap) (source : ℕ) (k : Cap) (rest : List Packet) (s : State X)
@@ -138,8 +129,6 @@ report_grants-kept {X} caching c q n r whole g gift source k rest s inv first la
     never false m e = absurd cc
 
     own : (d : ℕ) (ch : Channel) → is_own_move ch (granted_moves n c q d ch) ≡ true
-    own d channel.A = refl
-    own d channel.B = refl
     own d channel.C = go (d == c)
       where
         go : (b : Bool) → is_own_move channel.C (if b then Pops ProbeAck n else Stays) ≡ true
@@ -150,7 +139,7 @@ report_grants-kept {X} caching c q n r whole g gift source k rest s inv first la
         go : (b : Bool) → is_own_move channel.D (if b then Pushes Grant n else Stays) ≡ true
         go true = refl
         go false = refl
-    own d channel.E = refl
+    own d ch = refl
 
     at_q : Link
     at_q = record (s.link q) { d = (s.link q).d ++ packet Grant n ∷ [] }
@@ -169,17 +158,11 @@ report_grants-kept {X} caching c q n r whole g gift source k rest s inv first la
 
     moved_q : (ch : Channel) → IsMoved (granted_moves n 0 1 1 ch) (packets_on ch (s.link q)) (packets_on ch at_q)
     moved_q channel.A = refl
-    moved_q channel.B = refl
-    moved_q channel.C = refl
-    moved_q channel.D = refl
-    moved_q channel.E = refl
+    moved_q ch = refl
 
     moved_c : (ch : Channel) → IsMoved (granted_moves n 1 0 1 ch) (packets_on ch (s.link c)) (packets_on ch at_c)
-    moved_c channel.A = refl
-    moved_c channel.B = refl
     moved_c channel.C = first
-    moved_c channel.D = refl
-    moved_c channel.E = refl
+    moved_c ch = refl
 
     moved : (d : ℕ) (ch : Channel) → IsMoved (granted_moves n c q d ch) (packets_on ch (s.link d))
         (packets_on ch (links d))

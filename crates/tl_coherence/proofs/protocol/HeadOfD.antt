@@ -1,7 +1,7 @@
 -- What is due to a client: the message of the first token of channel D, and what it answers.
 use Rattle.tl_coherence.proofs.protocol.Imports.{Message, MessageA, Cap, Grow, is_replied, IsInvariant, Own, Other}
-use Rattle.tl_coherence.proofs.protocol.Imports.{Granting, Acknowledging, GrantedOther, ReleasePhase, NoRelease}
-use Rattle.tl_coherence.proofs.protocol.Imports.{ReleaseSent, ReleaseAcked, AcquirePhase, NoAcquire, AcquireOpen}
+use Rattle.tl_coherence.proofs.protocol.Imports.{Granting, Acknowledging, GrantedOther, ReleasePhase}
+use Rattle.tl_coherence.proofs.protocol.Imports.{ReleaseAcked, AcquirePhase, NoAcquire, AcquireOpen}
 use Rattle.tl_coherence.proofs.protocol.Imports.{is_unacquired, is_unreleased, Service, Free, Waits, GrantSent}
 use Rattle.tl_coherence.proofs.protocol.Imports.{GrantTaken, State, Replied, Acquires, view, packet, shown, is_wanting}
 use Rattle.tl_coherence.proofs.protocol.Imports.{is_granting, is_acked, AccessMessages, block_message, Answer, Grant}
@@ -60,14 +60,7 @@ answer-due {w} caching c source rest mail s inv answered first = go (mail.reques
       from = is.2;
       size = is.3;
     }
-    go (message.A m) (message.A x) e f is = absurd is
-    go (message.A m) (message.B x) e f is = absurd is
-    go (message.A m) (message.C x) e f is = absurd is
-    go (message.A m) (message.E x) e f is = absurd is
-    go (message.B m) x e f is = absurd is
-    go (message.C m) x e f is = absurd is
-    go (message.D m) x e f is = absurd is
-    go (message.E m) x e f is = absurd is
+    go a x e f is = absurd is
 
 -- ---- a Grant
 
@@ -182,8 +175,7 @@ ack_message source = record {
 
 acked_open : (x : ReleasePhase) → is_acked x ≡ true → not (is_unreleased x) ≡ true
 acked_open ReleaseAcked e = refl
-acked_open NoRelease e = absurd cc
-acked_open (ReleaseSent r) e = absurd cc
+acked_open x e = absurd cc
 
 pub ack-due : (caching : ℕ → Bool) (c n : ℕ) (rest : List Packet) (s : State (List ℕ)) → IsInvariant caching s
     → (s.link c).d ≡ packet ReleaseAck n ∷ rest

@@ -42,10 +42,7 @@ pub record IsOfSource {w : ℕ} (source : ℕ) (m : Message w) : Type 0 where
 
 of_source : {w : ℕ} (source : ℕ) (m : Message w) → request_source m ≡ Some source → IsOfSource source m
 of_source source (message.A m) e = record { request = m; is_it = refl; source_is = same_Some m.source source e }
-of_source source (message.B m) e = absurd cc
-of_source source (message.C m) e = absurd cc
-of_source source (message.D m) e = absurd cc
-of_source source (message.E m) e = absurd cc
+of_source source m e = absurd cc
 
 pub record IsAsked {w : ℕ} (config : Config) (c source : ℕ) (mail : AccessMessages w) (s : State (List ℕ)) : Type 0
   where

@@ -1,7 +1,7 @@
 -- A Probe that is taken keeps the invariant.
 use Rattle.tl_coherence.proofs.protocol.Imports.{Channel, Cap, Perm, report_right, same_perm, ClientBlock, View}
-use Rattle.tl_coherence.proofs.protocol.Imports.{NoProbe, ProbeSent, NoRelease, is_unprobed, Kind, Request, Acquire}
-use Rattle.tl_coherence.proofs.protocol.Imports.{Probe, ProbeAck, Release, Answer, Grant, ReleaseAck, GrantAck, Packet}
+use Rattle.tl_coherence.proofs.protocol.Imports.{NoProbe, ProbeSent, NoRelease, is_unprobed, Kind, Acquire}
+use Rattle.tl_coherence.proofs.protocol.Imports.{Probe, ProbeAck, Release, Grant, ReleaseAck, GrantAck, Packet}
 use Rattle.tl_coherence.proofs.protocol.Imports.{set, count, Block, State, Link, view, packet, is_transfer, is_wanting}
 use Rattle.tl_coherence.proofs.protocol.Imports.{is_unserved, is_releasing, is_acked, is_granting, is_acknowledging}
 use Rattle.tl_coherence.proofs.protocol.Imports.{shows, Move, Stays, Pushes, Pops, AreMoved, agrees, is_own_move}
@@ -75,8 +75,6 @@ probe_moves n _ = Stays
 
 probe_shows : (n : ℕ) (k : Kind) (j : Cap) (p : ClientBlock) (v : View) → is_transfer k ≡ true → p.probing ≡ ProbeSent j
     → agrees (probe_moves n (channel_for k)) k n (shows k p v) (shows k (after_probe j p) v) ≡ true
-probe_shows n Request j p v t e = absurd cc
-probe_shows n Answer j p v t e = absurd cc
 probe_shows n Acquire j p v t e = same_again (is_wanting p.acquiring && is_unserved v)
 probe_shows n Probe j p v t e = rw (same_number n) refl
 probe_shows n ProbeAck j p v t e = rw (e, same_number n) refl
@@ -84,6 +82,7 @@ probe_shows n Release j p v t e = same_again (is_releasing p.letting)
 probe_shows n Grant j p v t e = same_again (is_granting v)
 probe_shows n ReleaseAck j p v t e = same_again (is_acked p.letting)
 probe_shows n GrantAck j p v t e = same_again (is_acknowledging v)
+probe_shows n k j p v t e = absurd cc
 
 pub probe_taken-kept : {X : Type 0} (caching : ℕ → Bool) (c n : ℕ) (k : Cap) (rest : List Packet) (s : State X)
     → IsInvariant caching s
@@ -116,18 +115,12 @@ probe_taken-kept {X} caching c n k rest s inv first sent kept =
     here = probed_link n rest (s.link c)
 
     moved : AreMoved (probe_moves n) (s.link c) here
-    moved channel.A = refl
     moved channel.B = first
-    moved channel.C = refl
-    moved channel.D = refl
-    moved channel.E = refl
+    moved _ = refl
 
     own : (ch : Channel) → is_own_move ch (probe_moves n ch) ≡ true
     own channel.A = refl
-    own channel.B = refl
-    own channel.C = refl
-    own channel.D = refl
-    own channel.E = refl
+    own ch = refl
 
     number_is : (m : ℕ) → Pushes ProbeAck n ≡ Pushes ProbeAck m → m ≡ n
     number_is m e = cc

@@ -1,5 +1,5 @@
 -- Where nothing is on channels B, C, D and E, no block is in service: so requests can move.
-use Rattle.tl_coherence.proofs.protocol.Imports.{ProbePhase, NoProbe, ProbeSent, ProbeAnswered, is_unprobed, Kind}
+use Rattle.tl_coherence.proofs.protocol.Imports.{ProbePhase, NoProbe, is_unprobed, Kind}
 use Rattle.tl_coherence.proofs.protocol.Imports.{Probe, ProbeAck, Grant, GrantAck, one_if, count, Service, Free, Waits}
 use Rattle.tl_coherence.proofs.protocol.Imports.{GrantSent, GrantTaken, State, is_transfer, is_sent, is_answered, on}
 use Rattle.tl_coherence.proofs.protocol.Imports.{shown, IsInvariant}
@@ -33,8 +33,7 @@ free-when_silent {X} caching s n inv silent = go (s.block n).service refl
       where
         quiet_of : (x : ProbePhase) → is_sent x ≡ false → is_answered x ≡ false → is_unprobed x ≡ true
         quiet_of NoProbe e f = refl
-        quiet_of (ProbeSent k) e f = absurd cc
-        quiet_of (ProbeAnswered r) e f = absurd cc
+        quiet_of x e f = absurd cc
 
     waited : (c : ℕ) → is_unprobed ((s.block n).pair c).probing ≡ false → ⊥
     waited c e = let f = not_probed c in absurd cc

@@ -194,11 +194,4 @@ module _ {X : Type 0} (caching : ℕ → Bool) (s : State X) (inv : IsInvariant 
       apart : (ch : Channel) → is_e ch ≡ false → (k : Kind) → is_on ch k ≡ true → is_on channel.E k ≡ false
       apart channel.E e k on_it = absurd cc
       apart ch e GrantAck on_it = absurd cc
-      apart ch e Request on_it = refl
-      apart ch e Acquire on_it = refl
-      apart ch e Probe on_it = refl
-      apart ch e ProbeAck on_it = refl
-      apart ch e Release on_it = refl
-      apart ch e Answer on_it = refl
-      apart ch e Grant on_it = refl
-      apart ch e ReleaseAck on_it = refl
+      apart ch e k on_it = refl

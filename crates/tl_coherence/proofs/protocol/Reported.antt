@@ -1,8 +1,8 @@
 -- A ProbeAck that is taken while others are missing, and a Release that is taken, keep the invariant.
 use Rattle.tl_coherence.proofs.protocol.Imports.{Channel, Prune, Report, Perm, prune_left, report_left, report_right}
 use Rattle.tl_coherence.proofs.protocol.Imports.{same_perm, ClientBlock, View, ProbeAnswered, ReleaseSent}
-use Rattle.tl_coherence.proofs.protocol.Imports.{is_unreleased, is_unprobed, after_report, Kind, Request, Acquire}
-use Rattle.tl_coherence.proofs.protocol.Imports.{Probe, ProbeAck, Release, Answer, Grant, ReleaseAck, GrantAck, Packet}
+use Rattle.tl_coherence.proofs.protocol.Imports.{is_unreleased, is_unprobed, after_report, Kind, Acquire}
+use Rattle.tl_coherence.proofs.protocol.Imports.{Probe, ProbeAck, Release, Grant, ReleaseAck, GrantAck, Packet}
 use Rattle.tl_coherence.proofs.protocol.Imports.{set, count, one_if, Service, Block, State, Link, view, packet, shows}
 use Rattle.tl_coherence.proofs.protocol.Imports.{is_transfer, is_wanting, is_unserved, is_sent, is_answered}
 use Rattle.tl_coherence.proofs.protocol.Imports.{is_releasing, is_acked, is_granting, is_acknowledging, Move, Stays}
@@ -33,14 +33,8 @@ use Rattle.tl_coherence.proofs.queues.Perms.{not_out}
 
 report_trunk : (r : Report) (p : Perm) → same_perm (report_left r) p ≡ true
     → same_perm (report_right r) perm.Trunk ≡ true → same_perm p perm.Trunk ≡ true
-report_trunk report.TtoB p e f = absurd cc
-report_trunk report.TtoN p e f = absurd cc
-report_trunk report.BtoN p e f = absurd cc
 report_trunk report.TtoT perm.Trunk e f = refl
-report_trunk report.TtoT perm.None e f = absurd cc
-report_trunk report.TtoT perm.Branch e f = absurd cc
-report_trunk report.BtoB p e f = absurd cc
-report_trunk report.NtoN p e f = absurd cc
+report_trunk r p e f = absurd cc
 
 report_none : (r : Report) (p : Perm) → same_perm (report_left r) p ≡ true → same_perm p perm.None ≡ true
     → same_perm (report_right r) perm.None ≡ true
@@ -65,8 +59,7 @@ gentle-report r p e = record {
 prune_trunk : (r : Prune) (p : Perm) → same_perm (prune_left r) p ≡ true → same_perm (prune_right r) perm.Trunk ≡ true
     → same_perm p perm.Trunk ≡ true
 prune_trunk prune.TtoB p e f = absurd cc
-prune_trunk prune.TtoN p e f = absurd cc
-prune_trunk prune.BtoN p e f = absurd cc
+prune_trunk r p e f = absurd cc
 
 prune_none : (r : Prune) (p : Perm) → same_perm (prune_left r) p ≡ true → same_perm p perm.None ≡ true
     → same_perm (prune_right r) perm.None ≡ true
@@ -169,8 +162,6 @@ report_moves n _ = Stays
 pub report_shows : (n : ℕ) (k : Kind) (r : Report) (p : ClientBlock) (v : View) → is_transfer k ≡ true
     → p.probing ≡ ProbeAnswered r
     → agrees (report_moves n (channel_for k)) k n (shows k p v) (shows k (after_report r p) v) ≡ true
-report_shows n Request r p v t e = absurd cc
-report_shows n Answer r p v t e = absurd cc
 report_shows n Acquire r p v t e = same_again (is_wanting p.acquiring && is_unserved v)
 report_shows n Probe r p v t e = rw e refl
 report_shows n ProbeAck r p v t e = rw (same_number n) refl
@@ -178,6 +169,7 @@ report_shows n Release r p v t e = same_again (is_releasing p.letting)
 report_shows n Grant r p v t e = same_again (is_granting v)
 report_shows n ReleaseAck r p v t e = same_again (is_acked p.letting)
 report_shows n GrantAck r p v t e = same_again (is_acknowledging v)
+report_shows n k r p v t e = absurd cc
 
 pub report_taken-kept : {X : Type 0} (caching : ℕ → Bool) (c n : ℕ) (r : Report) (rest : List Packet) (s : State X)
     → IsInvariant caching s → (s.link c).c ≡ packet ProbeAck n ∷ rest
@@ -212,18 +204,12 @@ report_taken-kept {X} caching c n r rest s inv first answered w apart missing =
     here = record (s.link c) { c = rest }
 
     moved : AreMoved (report_moves n) (s.link c) here
-    moved channel.A = refl
-    moved channel.B = refl
     moved channel.C = first
-    moved channel.D = refl
-    moved channel.E = refl
+    moved _ = refl
 
     own : (ch : Channel) → is_own_move ch (report_moves n ch) ≡ true
     own channel.A = refl
-    own channel.B = refl
-    own channel.C = refl
-    own channel.D = refl
-    own channel.E = refl
+    own ch = refl
 
 -- ---- a Release
 
@@ -235,8 +221,6 @@ let_moves n _ = Stays
 let_shows : (n : ℕ) (k : Kind) (r : Prune) (p : ClientBlock) (v : View) → is_transfer k ≡ true
     → p.letting ≡ ReleaseSent r
     → agrees (let_moves n (channel_for k)) k n (shows k p v) (shows k (after_release_taken r p) v) ≡ true
-let_shows n Request r p v t e = absurd cc
-let_shows n Answer r p v t e = absurd cc
 let_shows n Acquire r p v t e = same_again (is_wanting p.acquiring && is_unserved v)
 let_shows n Probe r p v t e = same_again (is_sent p.probing)
 let_shows n ProbeAck r p v t e = same_again (is_answered p.probing)
@@ -244,6 +228,7 @@ let_shows n Release r p v t e = rw (same_number n) refl
 let_shows n Grant r p v t e = same_again (is_granting v)
 let_shows n ReleaseAck r p v t e = rw (e, same_number n) refl
 let_shows n GrantAck r p v t e = same_again (is_acknowledging v)
+let_shows n k r p v t e = absurd cc
 
 -- a Release that is first has no ProbeAck of its block beside it
 pub release_first : {X : Type 0} (caching : ℕ → Bool) (c n : ℕ) (rest : List Packet) (s : State X)
@@ -294,15 +279,9 @@ release_taken-kept {X} caching c n r rest s inv first releasing =
     here = let_link n rest (s.link c)
 
     moved : AreMoved (let_moves n) (s.link c) here
-    moved channel.A = refl
-    moved channel.B = refl
     moved channel.C = first
-    moved channel.D = refl
-    moved channel.E = refl
+    moved _ = refl
 
     own : (ch : Channel) → is_own_move ch (let_moves n ch) ≡ true
     own channel.A = refl
-    own channel.B = refl
-    own channel.C = refl
-    own channel.D = refl
-    own channel.E = refl
+    own ch = refl

@@ -102,14 +102,11 @@ leaves_memory m memory e = go m.opcode refl
   where
     go : (o : OpA) → m.opcode ≡ o → (cap_probed m.opcode m.param ≡ Some cap.ToN)
         ⊎ ((effect (message.A m) memory).0 ≡ memory)
-    go a.PutFullData f = inl (rw f refl)
-    go a.PutPartialData f = inl (rw f refl)
-    go a.ArithmeticData f = inl (rw f refl)
-    go a.LogicalData f = inl (rw f refl)
     go a.Get f = inr (rw f refl)
     go a.Intent f = inr (rw f refl)
     go a.AcquireBlock f = inr (rw f refl)
     go a.AcquirePerm f = inr (rw f refl)
+    go o f = inl (rw f refl)
 
 pub leaves-bytes : {w : ℕ} (m : MessageA w) (bytes : List ℕ) → is_acquire m.opcode ≡ false → length bytes ≡ 64
     → (performs m bytes ≡ bytes) ⊎ (cap_probed m.opcode m.param ≡ Some cap.ToN)
@@ -194,10 +191,8 @@ pub gift_trunk : (p : Profile) (whole : Bool) (g : Grow) (held : Perm) (unheld :
     → (grows_to_trunk g ≡ true) ⊎ (unheld ≡ true)
 gift_trunk p whole grow.NtoT held unheld e f = inl refl
 gift_trunk p whole grow.BtoT held unheld e f = inl refl
-gift_trunk p true grow.NtoB held unheld e f = absurd cc
-gift_trunk profile.One false grow.NtoB held unheld e f = absurd cc
 gift_trunk profile.Two false grow.NtoB held true e f = inr refl
-gift_trunk profile.Two false grow.NtoB held false e f = absurd cc
+gift_trunk p whole grow.NtoB held unheld e f = absurd cc
 
 -- nobody is recorded
 pub unheld_none : (clients : ℕ) (caching : ℕ → Bool) (pair : ℕ → ClientBlock) → ((d : ℕ) → clients ≤ d → caching d ≡ false)
@@ -241,8 +236,7 @@ acquire_taken-kept {w} caching clients p c n tracker rest h inv plain first free
           where
             same_again : (k : Cap) → same_cap k k ≡ true
             same_again cap.ToT = refl
-            same_again cap.ToB = refl
-            same_again cap.ToN = refl
+            same_again k = refl
 
         served : (x : Bool) → some_below clients (λ d. is_probed c true (cap_asked (AcquireOpen whole g))
             (b.pair d).recorded d) ≡ x

@@ -1,6 +1,6 @@
 -- A request that is taken, and for which clients are probed, keeps the invariant.
 use Rattle.tl_coherence.proofs.protocol.Imports.{Channel, Cap, Grow, Perm, same_perm, ClientBlock, View, Idle, Own}
-use Rattle.tl_coherence.proofs.protocol.Imports.{Other, ProbePhase, NoProbe, ProbeSent, ProbeAnswered, AcquireOpen, ok}
+use Rattle.tl_coherence.proofs.protocol.Imports.{Other, ProbePhase, ProbeSent, AcquireOpen, ok}
 use Rattle.tl_coherence.proofs.protocol.Imports.{same_cap, is_unprobed, is_above, Kind, Request, Acquire, Probe}
 use Rattle.tl_coherence.proofs.protocol.Imports.{ProbeAck, Release, Answer, Grant, ReleaseAck, GrantAck, Packet, set}
 use Rattle.tl_coherence.proofs.protocol.Imports.{Free, Waits, Block, State, Link, Asked, InService, view, packet}
@@ -163,8 +163,6 @@ served_moves r own n source k pair d =
 -- what the sender of an Acquire shows
 sender_shows : (n : ℕ) (j : Kind) (p : ClientBlock) → is_transfer j ≡ true → is_wanting p.acquiring ≡ true
     → agrees (request_move (Pops Acquire n) false n (channel_for j)) j n (shows j p Idle) (shows j p Own) ≡ true
-sender_shows n Request p t e = absurd cc
-sender_shows n Answer p t e = absurd cc
 sender_shows n Acquire p t e = rw (e, same_number n) refl
 sender_shows n Probe p t e = same_again (is_sent p.probing)
 sender_shows n ProbeAck p t e = same_again (is_answered p.probing)
@@ -172,6 +170,7 @@ sender_shows n Release p t e = same_again (is_releasing p.letting)
 sender_shows n Grant p t e = refl
 sender_shows n ReleaseAck p t e = same_again (is_acked p.letting)
 sender_shows n GrantAck p t e = refl
+sender_shows n j p t e = absurd cc
 
 -- what another shows, or the sender of an access
 other_shows : (n : ℕ) (j : Kind) (m : Move) (k : Cap) (p : ClientBlock) (above : Bool) → is_transfer j ≡ true
@@ -183,9 +182,8 @@ other_shows n Acquire m k p above t u q e = spared-agrees m Acquire n (is_wantin
 other_shows n Probe m k p true t u q e = rw (e, same_number n, not_sent p.probing q) refl
   where
     not_sent : (y : ProbePhase) → is_unprobed y ≡ true → is_sent y ≡ false
-    not_sent NoProbe f = refl
     not_sent (ProbeSent c) f = absurd cc
-    not_sent (ProbeAnswered c) f = refl
+    not_sent y f = refl
 other_shows n Probe m k p false t u q e = rw e (same_again (is_sent p.probing))
 other_shows n ProbeAck m k p true t u q e = rw (e, quiet_unanswered p.probing q) refl
 other_shows n ProbeAck m k p false t u q e = rw e (same_again (is_answered p.probing))

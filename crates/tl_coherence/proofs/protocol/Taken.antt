@@ -29,9 +29,8 @@ whole_trunk grow.NtoT cap.ToN p e f = absurd cc
 whole_trunk grow.BtoT cap.ToN p e f = absurd cc
 
 some_held : (p : Perm) → same_perm p perm.Branch ≡ true → same_perm p perm.None ≡ false
-some_held perm.None e = absurd cc
 some_held perm.Branch e = refl
-some_held perm.Trunk e = absurd cc
+some_held p e = absurd cc
 
 pub taken-block : {X : Type 0} (caching : ℕ → Bool) (c : ℕ) (d whole : Bool) (g : Grow) (k : Cap) (b : Block X)
     → IsWell caching b → b.service ≡ GrantSent c d k

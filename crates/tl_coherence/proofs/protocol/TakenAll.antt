@@ -1,6 +1,6 @@
 -- A Grant that is taken keeps the invariant.
 use Rattle.tl_coherence.proofs.protocol.Imports.{Channel, Cap, Grow, ClientBlock, Granting, Acknowledging, AcquireOpen}
-use Rattle.tl_coherence.proofs.protocol.Imports.{after_grant, Kind, Request, Acquire, Probe, ProbeAck, Release, Answer}
+use Rattle.tl_coherence.proofs.protocol.Imports.{after_grant, Kind, Acquire, Probe, ProbeAck, Release}
 use Rattle.tl_coherence.proofs.protocol.Imports.{Grant, ReleaseAck, GrantAck, Packet, set, GrantSent, Block, State}
 use Rattle.tl_coherence.proofs.protocol.Imports.{Link, SourceFree, Acquires, packet, shows, is_transfer, is_wanting}
 use Rattle.tl_coherence.proofs.protocol.Imports.{is_sent, is_answered, is_releasing, is_acked, taken_block, Move, Stays}
@@ -28,8 +28,6 @@ taken_moves n _ = Stays
 taken_shows : (n : ℕ) (j : Kind) (d : Bool) (k : Cap) (p : ClientBlock) → is_transfer j ≡ true
     → agrees (taken_moves n (channel_for j)) j n (shows j p (Granting d k)) (shows j (after_grant k p) Acknowledging)
     ≡ true
-taken_shows n Request d k p t = absurd cc
-taken_shows n Answer d k p t = absurd cc
 taken_shows n Acquire d k p t = go (is_wanting p.acquiring)
   where
     go : (b : Bool) → agrees Stays Acquire n (b && false) false ≡ true
@@ -41,6 +39,7 @@ taken_shows n Release d k p t = same_again (is_releasing p.letting)
 taken_shows n Grant d k p t = rw (same_number n) refl
 taken_shows n ReleaseAck d k p t = same_again (is_acked p.letting)
 taken_shows n GrantAck d k p t = rw (same_number n) refl
+taken_shows n j d k p t = absurd cc
 
 pub grant_taken-kept : {X : Type 0} (caching : ℕ → Bool) (c n : ℕ) (d whole : Bool) (g : Grow) (k : Cap)
     (rest : List Packet) (s : State X) → IsInvariant caching s → (s.link c).d ≡ packet Grant n ∷ rest
@@ -89,15 +88,9 @@ grant_taken-kept {X} caching c n d whole g k rest s inv first granting wants =
     used = acquires_of-is n (s.uses c source) (inv.named.acquires c source n ∙ rw (wants, same_number source) refl)
 
     moved : AreMoved (taken_moves n) (s.link c) here
-    moved channel.A = refl
-    moved channel.B = refl
-    moved channel.C = refl
     moved channel.D = first
-    moved channel.E = refl
+    moved _ = refl
 
     own : (ch : Channel) → is_own_move ch (taken_moves n ch) ≡ true
     own channel.A = refl
-    own channel.B = refl
-    own channel.C = refl
-    own channel.D = refl
-    own channel.E = refl
+    own ch = refl

@@ -2,7 +2,7 @@
 use Rattle.tl_coherence.proofs.protocol.Imports.{Channel, ClientBlock, View}
 use Rattle.tl_coherence.proofs.protocol.Imports.{is_unreleased, is_unprobed, ok, Kind, Request, Acquire}
 use Rattle.tl_coherence.proofs.protocol.Imports.{Probe, ProbeAck, Release, Answer, Grant, ReleaseAck, GrantAck, Packet}
-use Rattle.tl_coherence.proofs.protocol.Imports.{one_if, count, Service, Free, Waits, GrantSent, GrantTaken, State}
+use Rattle.tl_coherence.proofs.protocol.Imports.{one_if, count, Service, Free, State}
 use Rattle.tl_coherence.proofs.protocol.Imports.{SourceState, SourceFree, Asked, Replied, Acquires, packet, view, on}
 use Rattle.tl_coherence.proofs.protocol.Imports.{packets_on, is_on, is_wanting, is_granting, shown}
 use Rattle.tl_coherence.proofs.protocol.Imports.{IsInvariant, is_asked, is_replied}
@@ -157,9 +157,7 @@ tracker_of_service caching s n inv busy =
 
 pub busy_unless_idle : (service : Service) (c : ℕ) → is_idle (view service c) ≡ false → is_busy service ≡ true
 busy_unless_idle Free c e = absurd cc
-busy_unless_idle (Waits r own source k) c e = refl
-busy_unless_idle (GrantSent q d k) c e = refl
-busy_unless_idle (GrantTaken q) c e = refl
+busy_unless_idle service c e = refl
 
 asks_for_grant : ClientBlock → View → Bool
 asks_for_grant p v = not (is_granting v) || is_wanting p.acquiring
@@ -168,9 +166,8 @@ probes_in_service : ClientBlock → View → Bool
 probes_in_service p v = is_unprobed p.probing || not (is_idle v)
 
 unless : (a b : Bool) → (a || not b) ≡ true → a ≡ false → b ≡ false
-unless true b e f = absurd cc
-unless false true e f = absurd cc
 unless false false e f = refl
+unless a b e f = absurd cc
 
 pub grants_ask : (p : ClientBlock) (v : View) → ok p v ≡ true → is_granting v ≡ true → is_wanting p.acquiring ≡ true
 unfolding each_phase asks_for_grant

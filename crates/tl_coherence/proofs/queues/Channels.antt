@@ -30,9 +30,8 @@ count_behind k n (y ∷ xs) x = omega (arith, count_behind k n xs x)
 stay_before : (move : Move) (k : Kind) (n : ℕ) (xs ys : List Packet) → IsMoved move xs ys
     → count k n (staying move xs ys) ≤ count k n xs
 unfolding count
-stay_before Stays k n xs ys e = omega arith
-stay_before (Pushes j i) k n xs ys e = omega arith
 stay_before (Pops j i) k n xs ys e = rw e (omega arith)
+stay_before move k n xs ys e = omega arith
 
 stay_after : (move : Move) (k : Kind) (n : ℕ) (xs ys : List Packet) → IsMoved move xs ys
     → count k n (staying move xs ys) ≤ count k n ys
@@ -86,42 +85,7 @@ on_same channel.D Answer l e = refl
 on_same channel.D Grant l e = refl
 on_same channel.D ReleaseAck l e = refl
 on_same channel.E GrantAck l e = refl
-on_same channel.A Probe l e = absurd cc
-on_same channel.A ProbeAck l e = absurd cc
-on_same channel.A Release l e = absurd cc
-on_same channel.A Answer l e = absurd cc
-on_same channel.A Grant l e = absurd cc
-on_same channel.A ReleaseAck l e = absurd cc
-on_same channel.A GrantAck l e = absurd cc
-on_same channel.B Request l e = absurd cc
-on_same channel.B Acquire l e = absurd cc
-on_same channel.B ProbeAck l e = absurd cc
-on_same channel.B Release l e = absurd cc
-on_same channel.B Answer l e = absurd cc
-on_same channel.B Grant l e = absurd cc
-on_same channel.B ReleaseAck l e = absurd cc
-on_same channel.B GrantAck l e = absurd cc
-on_same channel.C Request l e = absurd cc
-on_same channel.C Acquire l e = absurd cc
-on_same channel.C Probe l e = absurd cc
-on_same channel.C Answer l e = absurd cc
-on_same channel.C Grant l e = absurd cc
-on_same channel.C ReleaseAck l e = absurd cc
-on_same channel.C GrantAck l e = absurd cc
-on_same channel.D Request l e = absurd cc
-on_same channel.D Acquire l e = absurd cc
-on_same channel.D Probe l e = absurd cc
-on_same channel.D ProbeAck l e = absurd cc
-on_same channel.D Release l e = absurd cc
-on_same channel.D GrantAck l e = absurd cc
-on_same channel.E Request l e = absurd cc
-on_same channel.E Acquire l e = absurd cc
-on_same channel.E Probe l e = absurd cc
-on_same channel.E ProbeAck l e = absurd cc
-on_same channel.E Release l e = absurd cc
-on_same channel.E Answer l e = absurd cc
-on_same channel.E Grant l e = absurd cc
-on_same channel.E ReleaseAck l e = absurd cc
+on_same ch k l e = absurd cc
 
 -- a kind of which there is one where the test says so
 not_there : (a b : Bool) (n : ℕ) → n ≤ one_if a → n ≤ one_if b → (n ≡ 0) ⊎ ((a ≡ true) × (b ≡ true))
@@ -249,13 +213,7 @@ queued-by true None (Pops k n) render x queue q after r rest fits e f taken =
     (x, (taken refl).0 ∙ ap (λ l. x ∷ l) (sym e), (taken refl).1, f)
 queued-by false None Stays render x queue q after r rest fits e f taken = (e, f)
 queued-by false (Some m) (Pushes k n) render x queue q after r rest fits e f taken = (rw fits e, f)
-queued-by true None Stays render x queue q after r rest fits e f taken = absurd fits
-queued-by true None (Pushes k n) render x queue q after r rest fits e f taken = absurd fits
-queued-by true (Some m) move render x queue q after r rest fits e f taken = absurd fits
-queued-by false None (Pops k n) render x queue q after r rest fits e f taken = absurd fits
-queued-by false None (Pushes k n) render x queue q after r rest fits e f taken = absurd fits
-queued-by false (Some m) Stays render x queue q after r rest fits e f taken = absurd fits
-queued-by false (Some m) (Pops k n) render x queue q after r rest fits e f taken = absurd fits
+queued-by pop push move render x queue q after r rest fits e f taken = absurd fits
 
 -- The whole after the last beat of the first message on channel ch of client c's link was taken, and
 -- messages were handed out.
@@ -275,26 +233,7 @@ same_channel-is channel.B channel.B e = refl
 same_channel-is channel.C channel.C e = refl
 same_channel-is channel.D channel.D e = refl
 same_channel-is channel.E channel.E e = refl
-same_channel-is channel.A channel.B e = absurd cc
-same_channel-is channel.A channel.C e = absurd cc
-same_channel-is channel.A channel.D e = absurd cc
-same_channel-is channel.A channel.E e = absurd cc
-same_channel-is channel.B channel.A e = absurd cc
-same_channel-is channel.B channel.C e = absurd cc
-same_channel-is channel.B channel.D e = absurd cc
-same_channel-is channel.B channel.E e = absurd cc
-same_channel-is channel.C channel.A e = absurd cc
-same_channel-is channel.C channel.B e = absurd cc
-same_channel-is channel.C channel.D e = absurd cc
-same_channel-is channel.C channel.E e = absurd cc
-same_channel-is channel.D channel.A e = absurd cc
-same_channel-is channel.D channel.B e = absurd cc
-same_channel-is channel.D channel.C e = absurd cc
-same_channel-is channel.D channel.E e = absurd cc
-same_channel-is channel.E channel.A e = absurd cc
-same_channel-is channel.E channel.B e = absurd cc
-same_channel-is channel.E channel.C e = absurd cc
-same_channel-is channel.E channel.D e = absurd cc
+same_channel-is a b e = absurd cc
 
 pub queued-taken : {w : ℕ} (c : ℕ) (ch : Channel) (x : Beat w) (queue : List (Beat w)) (pushes : ℕ → Channel
     → Option (Message w)) (moves : ℕ → Channel → Move)
@@ -334,10 +273,7 @@ queued-handed {w} pushes moves mail s sys sys' is fits d at =
         → after ≡ behind push q → rest ≡ r → IsQueued move render q after r rest
     queued-with None Stays q after r rest render f e g = (e, g)
     queued-with (Some m) (Pushes k n) q after r rest render f e g = (rw f e, g)
-    queued-with None (Pushes k n) q after r rest render f e g = absurd f
-    queued-with None (Pops k n) q after r rest render f e g = absurd f
-    queued-with (Some m) Stays q after r rest render f e g = absurd f
-    queued-with (Some m) (Pops k n) q after r rest render f e g = absurd f
+    queued-with push move q after r rest render f e g = absurd f
 
 -- ---- at one client
 

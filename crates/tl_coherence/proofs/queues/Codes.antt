@@ -31,25 +31,20 @@ acquires-so true = refl
 acquires-so false = refl
 
 pub access_kind : (o : OpD) → is_access_answer o ≡ true → (is_grant o ≡ false) × (is_release_ack o ≡ false)
-access_kind opd.AccessAck e = (refl, refl)
-access_kind opd.AccessAckData e = (refl, refl)
-access_kind opd.HintAck e = (refl, refl)
 access_kind opd.Grant e = absurd cc
 access_kind opd.GrantData e = absurd cc
 access_kind opd.ReleaseAck e = absurd cc
+access_kind o e = (refl, refl)
 
 -- ---- caps
 
 pub cap-again : (k : Cap) → cap_of (cap_code k) ≡ Some k
 cap-again cap.ToT = refl
-cap-again cap.ToB = refl
-cap-again cap.ToN = refl
+cap-again k = refl
 
 pub low_cap : (o : OpA) (param : ℕ) (k : Cap) → cap_probed o param ≡ Some k → same_cap k cap.ToT ≡ false
 low_cap o param cap.ToB e = refl
 low_cap o param cap.ToN e = refl
-low_cap a.Get param cap.ToT e = absurd cc
-low_cap a.Intent param cap.ToT e = absurd cc
 low_cap a.AcquireBlock param cap.ToT e = absurd (never (param == 0) e)
   where
     never : (b : Bool) → Some (if b then cap.ToB else cap.ToN) ≡ Some cap.ToT → ⊥
@@ -60,10 +55,7 @@ low_cap a.AcquirePerm param cap.ToT e = absurd (never (param == 0) e)
     never : (b : Bool) → Some (if b then cap.ToB else cap.ToN) ≡ Some cap.ToT → ⊥
     never true f = cc
     never false f = cc
-low_cap a.PutFullData param cap.ToT e = absurd cc
-low_cap a.PutPartialData param cap.ToT e = absurd cc
-low_cap a.ArithmeticData param cap.ToT e = absurd cc
-low_cap a.LogicalData param cap.ToT e = absurd cc
+low_cap o param cap.ToT e = absurd cc
 
 -- a Grant gives something
 pub gives-some : (p : Profile) (whole : Bool) (g : Grow) (unheld : Bool)

@@ -54,10 +54,9 @@ module _ {w : ℕ} (config : Config) (P : ℕ → Endpoint w → Type 0) (keep :
   managed-kept : (a : manager.Reception w × manager_end.End w) (k : ℕ) (ch : Channel) (x : Beat w)
       (rest : List (Beat w)) (s : System w) → ((c : ℕ) → P c (s.clients c))
       → (c : ℕ) → P c ((manager_took k ch x rest a s).after.clients c)
-  managed-kept (manager.Refused rule, e) k ch x rest s all c = all c
-  managed-kept (manager.Stalled, e) k ch x rest s all c = all c
   managed-kept (manager.Sent handed, e) k ch x rest s all c =
       rw (clients-with_messages handed (with_manager e (with_channel k ch rest s))) (all c)
+  managed-kept a k ch x rest s all c = all c
 
   delivered-kept : (terms : EndConfig) (k : ℕ) (ch : Channel) (beats : List (Beat w)) (s : System w)
       → terms_at config k ≡ Some terms → ((c : ℕ) → P c (s.clients c))

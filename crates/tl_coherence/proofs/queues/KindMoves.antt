@@ -21,10 +21,9 @@ same_again true = refl
 same_again false = refl
 
 same_bools : (a b : Bool) → beq a b ≡ true → b ≡ a
-same_bools true true e = refl
 same_bools true false e = absurd cc
 same_bools false true e = absurd cc
-same_bools false false e = refl
+same_bools a b e = refl
 
 -- the tokens of a kind after a move, where number n gets another value
 pub holds-moved : {B : Type 0} (k : Kind) (move : Move) (xs ys : List Packet) (q : B → Bool) (f : ℕ → B) (n : ℕ) (y : B)
@@ -34,9 +33,8 @@ holds-moved k Stays xs ys q f n y moved fits h = rw moved (holds-set k xs q f n 
 holds-moved {B} k (Pushes j i) xs ys q f n y moved fits h = rw moved (go (same_kind j k) refl fits)
   where
     both : (a b : Bool) → (not a && b) ≡ true → (a ≡ false) × (b ≡ true)
-    both true b e = absurd cc
     both false true e = (refl, refl)
-    both false false e = absurd cc
+    both a b e = absurd cc
 
     go : (own : Bool) → same_kind j k ≡ own → (if own then (i == n) && (not (q (f n)) && q y) else beq (q (f n)) (q y))
         ≡ true → Holds k (xs ++ packet j i ∷ []) (λ m. q (set n y f m))
@@ -75,14 +73,7 @@ holds-spared k (Pops j i) xs ys test moved fits h =
 
 pub on_is : (k : Kind) (l : Link) → on k l ≡ packets_on (channel_for k) l
 on_is Request l = refl
-on_is Acquire l = refl
-on_is Probe l = refl
-on_is ProbeAck l = refl
-on_is Release l = refl
-on_is Answer l = refl
-on_is Grant l = refl
-on_is ReleaseAck l = refl
-on_is GrantAck l = refl
+on_is k l = refl
 
 -- all transfers of a client after the moves of its link, where one block changes
 pub transfers-moved : {X : Type 0} (moves : Channel → Move) (l m : Link) (d n : ℕ) (b : Block X) (block : ℕ → Block X)

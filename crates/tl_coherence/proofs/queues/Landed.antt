@@ -163,13 +163,7 @@ landed-client {w} c ch x queue m e sys to_client first is heard = record {
     not_here channel.D channel.A a b = refl
     not_here channel.D channel.C a b = refl
     not_here channel.D channel.E a b = refl
-    not_here channel.A at a b = absurd cc
-    not_here channel.C at a b = absurd cc
-    not_here channel.E at a b = absurd cc
-    not_here channel.B channel.B a b = absurd cc
-    not_here channel.B channel.D a b = absurd cc
-    not_here channel.D channel.B a b = absurd cc
-    not_here channel.D channel.D a b = absurd cc
+    not_here ch at a b = absurd cc
 
     rests : (d : ℕ) (at : Channel)
         → unfinished at (receiver at d after) ≡ (if (d == c) && same_channel at ch then grown x
@@ -270,17 +264,7 @@ rests-manager {w} c ch x queue handed e sys to_manager is heard = rests
     not_here channel.C channel.D a b = refl
     not_here channel.E channel.B a b = refl
     not_here channel.E channel.D a b = refl
-    not_here channel.B at a b = absurd cc
-    not_here channel.D at a b = absurd cc
-    not_here channel.A channel.A a b = absurd cc
-    not_here channel.A channel.C a b = absurd cc
-    not_here channel.A channel.E a b = absurd cc
-    not_here channel.C channel.A a b = absurd cc
-    not_here channel.C channel.C a b = absurd cc
-    not_here channel.C channel.E a b = absurd cc
-    not_here channel.E channel.A a b = absurd cc
-    not_here channel.E channel.C a b = absurd cc
-    not_here channel.E channel.E a b = absurd cc
+    not_here ch at a b = absurd cc
 
     ours : (d : ℕ) (at : Channel) → same_channel at ch ≡ false
         → unfinished at (after.clients d).past ≡ (if (d == c) && same_channel at ch then grown x

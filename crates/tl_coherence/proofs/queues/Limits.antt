@@ -32,7 +32,4 @@ limits_broken a b c e =
 
 pub limits-fit : (a b c e : Bool) → limits_broken a b c e ≡ None → (a ≡ true) × (b ≡ true) × (c ≡ true) × (e ≡ true)
 limits-fit true true true true f = (refl, refl, refl, refl)
-limits-fit true true true false f = absurd cc
-limits-fit true true false e f = absurd cc
-limits-fit true false c e f = absurd cc
-limits-fit false b c e f = absurd cc
+limits-fit a b c e f = absurd cc

@@ -11,23 +11,19 @@ use Rattle.tl_coherence.specs.protocol.PhaseSteps.{is_above}
 
 pub trunk-some : (p : Perm) → same_perm p perm.Trunk ≡ true → same_perm p perm.None ≡ false
 trunk-some perm.Trunk e = refl
-trunk-some perm.None e = absurd cc
-trunk-some perm.Branch e = absurd cc
+trunk-some p e = absurd cc
 
 pub held-some : (p : Perm) → holds p ≡ true → same_perm p perm.None ≡ false
-held-some perm.Branch e = refl
-held-some perm.Trunk e = refl
 held-some perm.None e = absurd cc
+held-some p e = refl
 
 pub nothing-above : (j : Cap) → is_above j perm.None ≡ false
 nothing-above cap.ToT = refl
-nothing-above cap.ToB = refl
-nothing-above cap.ToN = refl
+nothing-above j = refl
 
 pub none-above : (p : Perm) → is_above cap.ToN p ≡ false → same_perm p perm.None ≡ true
 none-above perm.None e = refl
-none-above perm.Branch e = absurd cc
-none-above perm.Trunk e = absurd cc
+none-above p e = absurd cc
 
 pub nothing_below : (p q : Perm) → perm_le p q ≡ true → same_perm q perm.None ≡ true → same_perm p perm.None ≡ true
 nothing_below perm.None q e f = refl

@@ -183,9 +183,8 @@ served-ok k p v h idle low =
     (of_phase served_test served_all p v h)) k)
   where
     go : (a : Bool) → a ≡ false → (b : Bool) → (not a && b || a) ≡ true → b ≡ true
-    go true e b t = absurd cc
     go false e true t = refl
-    go false e false t = absurd cc
+    go a e b t = absurd cc
 
 -- a Grant is handed out, at once or with the last ProbeAck
 granted_to : ClientBlock → Bool → Grow → Cap → Bool

@@ -87,8 +87,7 @@ IsSix a b c d e f = (a ≡ true) × (b ≡ true) × (c ≡ true) × (d ≡ true)
 
 three : (a b c : Bool) → (a && (b && c)) ≡ true → IsThree a b c
 three true true c e = (refl, refl, e)
-three true false c e = absurd cc
-three false b c e = absurd cc
+three a b c e = absurd cc
 
 six : (a b c d e f : Bool) → (a && (b && (c && (d && (e && f))))) ≡ true → IsSix a b c d e f
 six a b c d e f h =

@@ -11,7 +11,7 @@ use Rattle.tl_params.specs.declared.param.Prune.TheVariants as prune
 use Rattle.tl_params.specs.declared.perm.Perm.TheVariants as perm
 use Rattle.tl_params.specs.statement.Param.{report_left}
 use Rattle.tl_client.specs.statement.Send.{release, probe_ack}
-use Rattle.tl_coherence.specs.protocol.Protocol.{Service, Free, Waits, GrantSent, GrantTaken, Block, view}
+use Rattle.tl_coherence.specs.protocol.Protocol.{Service, GrantSent, Block, view}
 use Rattle.tl_coherence.specs.protocol.Tokens.{is_granting}
 use Rattle.tl_coherence.specs.protocol.Invariant.{IsWell}
 use Rattle.tl_coherence.specs.refinement.PacketMessages.{report_told, prune_told, grant_of, block_message}
@@ -46,22 +46,18 @@ IsAlike k d b b' = ⊤
 
 ack_bytes : (w : ℕ) (p : Perm) (r : Report) (n : ℕ) (x y : List ℕ) → same_perm p perm.Trunk ≡ false
     → probe_ack {w = w} opb.ProbeBlock p r n x ≡ probe_ack opb.ProbeBlock p r n y
-ack_bytes w perm.None r n x y e = refl
-ack_bytes w perm.Branch r n x y e = refl
 ack_bytes w perm.Trunk r n x y e = absurd cc
+ack_bytes w p r n x y e = refl
 
 release_bytes : (w : ℕ) (p : Prune) (source n : ℕ) (x y : List ℕ) → same_perm (prune_left p) perm.Trunk ≡ false
     → release {w = w} p source n x ≡ release p source n y
-release_bytes w prune.TtoB source n x y e = absurd cc
-release_bytes w prune.TtoN source n x y e = absurd cc
 release_bytes w prune.BtoN source n x y e = refl
+release_bytes w p source n x y e = absurd cc
 
 grant_bytes : (w : ℕ) (v : Service) (source sink : ℕ) (x y : List ℕ) → is_given v ≡ false
     → grant_of {w = w} v source sink x ≡ grant_of v source sink y
-grant_bytes w Free source sink x y e = refl
-grant_bytes w (Waits r own s k) source sink x y e = refl
 grant_bytes w (GrantSent q d k) source sink x y e = rw e refl
-grant_bytes w (GrantTaken q) source sink x y e = refl
+grant_bytes w v source sink x y e = refl
 
 pub rendered-alike : (w : ℕ) (k : Kind) (d n : ℕ) (b b' : Block (List ℕ)) → IsAlike k d b b' → (carries k d b ≡ false)
     ⊎ (b'.truth ≡ b.truth) → block_message {w = w} k d n b' ≡ block_message k d n b
@@ -69,7 +65,6 @@ unfolding block_message
 rendered-alike w Request d n b b' same bytes = refl
 rendered-alike w Answer d n b b' same bytes = refl
 rendered-alike w Acquire d n b b' same bytes = rw (same.0, same.1) refl
-rendered-alike w Probe d n b b' same bytes = rw same refl
 rendered-alike w ProbeAck d n b b' same (inl none) =
     rw same (ack_bytes w (report_left (report_told (b.pair d).probing)) (report_told (b.pair d).probing) n b'.truth
     b.truth none)
@@ -80,8 +75,7 @@ rendered-alike w Release d n b b' same (inr e) = rw (same.0, same.1, e) refl
 rendered-alike w Grant d n b b' same (inl none) =
     rw (same.0, same.1, same.2) (grant_bytes w b.service (b.source d) b.tracker b'.truth b.truth none)
 rendered-alike w Grant d n b b' same (inr e) = rw (same.0, same.1, same.2, e) refl
-rendered-alike w ReleaseAck d n b b' same bytes = rw same refl
-rendered-alike w GrantAck d n b b' same bytes = rw same refl
+rendered-alike w k d n b b' same bytes = rw same refl
 
 -- ---- an event that changes one block
 
@@ -148,11 +142,9 @@ granted-untold p v h e = implies_is (is_granting v) (not (is_told p)) (of_phase 
 
 -- no message of the block carries its bytes, where nobody told, and no Grant is on its way
 ungiven : (v : Service) → ((d : ℕ) → is_granting (view v d) ≡ false) → is_given v ≡ false
-ungiven Free none = refl
-ungiven (Waits r own source k) none = refl
 ungiven (GrantSent q d k) none = absurd (let e : is_granting (if q == q then Granting d k else GrantedOther) ≡ false =
     none q in let f : true ≡ false = rw (same_number q) at e in cc)
-ungiven (GrantTaken q) none = refl
+ungiven v none = refl
 
 pub uncarried : (k : Kind) (d : ℕ) (b : Block (List ℕ)) → is_told (b.pair d) ≡ false → is_given b.service ≡ false
     → carries k d b ≡ false
@@ -163,12 +155,7 @@ uncarried Release d b told given =
     (or_parts (same_perm (report_left (report_told (b.pair d).probing)) perm.Trunk)
     (same_perm (prune_left (prune_told (b.pair d).letting)) perm.Trunk) told).1
 uncarried Grant d b told given = given
-uncarried Request d b told given = refl
-uncarried Acquire d b told given = refl
-uncarried Probe d b told given = refl
-uncarried Answer d b told given = refl
-uncarried ReleaseAck d b told given = refl
-uncarried GrantAck d b told given = refl
+uncarried k d b told given = refl
 
 pub none-carried : (caching : ℕ → Bool) (b : Block (List ℕ)) → IsWell caching b
     → ((d : ℕ) → (same_perm (b.pair d).held perm.Trunk || same_perm (b.pair d).recorded perm.None) ≡ true)

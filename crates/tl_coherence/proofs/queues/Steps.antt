@@ -36,10 +36,7 @@ stepped-asked config k op s t e = rw e refl
 
 pub same_channel-refl : (c : Channel) → same_channel c c ≡ true
 same_channel-refl channel.A = refl
-same_channel-refl channel.B = refl
-same_channel-refl channel.C = refl
-same_channel-refl channel.D = refl
-same_channel-refl channel.E = refl
+same_channel-refl c = refl
 
 -- ---- a beat is delivered
 

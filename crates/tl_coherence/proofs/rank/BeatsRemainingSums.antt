@@ -1,7 +1,7 @@
 -- How many beats are left of what is on the channels: no more than a block has, of a report one unless it is the
 -- writer's,
 -- and of an access and its answer one more than a block has.
-use Rattle.tl_coherence.proofs.rank.Imports.{Beat, Channel, Config, IsInvariant, View, ProbePhase, NoProbe, ProbeSent}
+use Rattle.tl_coherence.proofs.rank.Imports.{Beat, Channel, Config, IsInvariant, View, ProbePhase}
 use Rattle.tl_coherence.proofs.rank.Imports.{ProbeAnswered, State, Asked, Replied, view, AccessMessages, Request}
 use Rattle.tl_coherence.proofs.rank.Imports.{Acquire, ProbeAck, Answer}
 use Rattle.std.proofs.Common.{◌≡◌, ℕ, ◌+◌, ◌/◌, ◌≤◌, Bool, true, false, List, [], ◌∷◌, refl, sym, ◌∙◌, arith, inl, inr}
@@ -31,7 +31,7 @@ use Rattle.tl_client.specs.statement.Send.{probe_ack}
 use Rattle.tl_manager.specs.code.Kept.{illegal_message_at}
 use Rattle.tl_manager.specs.statement.Service.{is_access_answer}
 use Rattle.tl_manager.specs.statement.Offer.{level_of}
-use Rattle.tl_coherence.specs.protocol.Phase.{ClientBlock, AcquirePhase, NoAcquire, AcquireOpen, ok}
+use Rattle.tl_coherence.specs.protocol.Phase.{ClientBlock, AcquirePhase, AcquireOpen, ok}
 use Rattle.tl_coherence.specs.refinement.PacketMessages.{acquire_of, report_told, block_message, message_of_kind}
 use Rattle.tl_coherence.specs.refinement.SimulationRelation.{IsRequest, IsSourced, IsAnswer, IsAnswered}
 use Rattle.tl_coherence.proofs.queues.PhaseFacts.{data_carried}
@@ -84,10 +84,7 @@ answer-few {w} (message.A m) width = go (is_read m.opcode)
     go : (b : Bool) → (if b then data_beats w m.size else 1) ≤ 64 / w
     go true = data-few m width
     go false = let four = wide-block w width in omega (arith, four)
-answer-few {w} (message.B m) width = let four = wide-block w width in omega (arith, four)
-answer-few {w} (message.C m) width = let four = wide-block w width in omega (arith, four)
-answer-few {w} (message.D m) width = let four = wide-block w width in omega (arith, four)
-answer-few {w} (message.E m) width = let four = wide-block w width in omega (arith, four)
+answer-few {w} m width = let four = wide-block w width in omega (arith, four)
 
 -- an answer has as many beats as its request is answered with
 answer_opcode : (x : OpD) (o : OpA) (n : ℕ) → is_access_answer x ≡ true → answers x o ≡ true
@@ -130,16 +127,14 @@ atomic-few w size width e = go (size == 2) (size == 3) refl refl e
 
 both-few : (w size : ℕ) (l : Level) (o : OpA) → IsWidth w → a_has_size w l o size ≡ true → data_beats w size ≤ 64 / w
     → (if a_carries_data o then data_beats w size else 1) + (if is_read o then data_beats w size else 1) ≤ 64 / w + 1
-both-few w size l a.PutFullData width e few = omega (arith, few)
-both-few w size l a.PutPartialData width e few = omega (arith, few)
 both-few w size l a.ArithmeticData width e few = let two = atomic-few w size width e in let four = wide-block w width in
     omega (arith, two, four)
 both-few w size l a.LogicalData width e few = let two = atomic-few w size width e in let four = wide-block w width in
     omega (arith, two, four)
-both-few w size l a.Get width e few = omega (arith, few)
 both-few w size l a.Intent width e few = let four = wide-block w width in omega (arith, four)
 both-few w size l a.AcquireBlock width e few = let four = wide-block w width in omega (arith, four)
 both-few w size l a.AcquirePerm width e few = let four = wide-block w width in omega (arith, four)
+both-few w size l o width e few = omega (arith, few)
 
 access_at : {w : ℕ} (o : Option Level) (m : MessageA w) → IsWidth w → illegal_message_at o (message.A m) ≡ None
     → beats_of (message.A m) + answer_beats (message.A m) ≤ 64 / w + 1
@@ -154,23 +149,18 @@ access_at {w} (Some l) m width e =
 pub access-few : {w : ℕ} (config : Config) (c source : ℕ) (m : Message w) → IsWidth w → IsRequest config c source m
     → beats_of m + answer_beats m ≤ 64 / w + 1
 access-few config c source (message.A m) width h = access_at (level_of config c) m width h.1
-access-few config c source (message.B m) width h = absurd (let no = h.0 in cc)
-access-few config c source (message.C m) width h = absurd (let no = h.0 in cc)
-access-few config c source (message.D m) width h = absurd (let no = h.0 in cc)
-access-few config c source (message.E m) width h = absurd (let no = h.0 in cc)
+access-few config c source m width h = absurd (let no = h.0 in cc)
 
 -- ---- an Acquire, and a report
 
 acquire-one : (w : ℕ) (x : AcquirePhase) (source n : ℕ) → beats_of (acquire_of {w = w} x source n) ≡ 1
 acquire-one w (AcquireOpen true g) source n = refl
-acquire-one w (AcquireOpen false g) source n = refl
-acquire-one w NoAcquire source n = refl
+acquire-one w x source n = refl
 
 report-one : (w : ℕ) (p : Perm) (r : Report) (n : ℕ) (bytes : List ℕ) → same_perm p perm.Trunk ≡ false
     → beats_of (probe_ack {w = w} opb.ProbeBlock p r n bytes) ≡ 1
-report-one w perm.None r n bytes e = refl
-report-one w perm.Branch r n bytes e = refl
 report-one w perm.Trunk r n bytes e = absurd cc
+report-one w p r n bytes e = refl
 
 untold : (p : ClientBlock) (v : View) → ok p v ≡ true → same_perm p.recorded perm.Trunk ≡ false
     → same_perm (report_left (report_told p.probing)) perm.Trunk ≡ false
@@ -185,9 +175,8 @@ untold p v h none = go p.probing refl
         absurd (let both : false ≡ true = sym none ∙ recorded in cc)
 
     go : (x : ProbePhase) → p.probing ≡ x → same_perm (report_left (report_told x)) perm.Trunk ≡ false
-    go NoProbe e = refl
-    go (ProbeSent k) e = refl
     go (ProbeAnswered r) e = answered r e (same_perm (report_left r) perm.Trunk) refl
+    go x e = refl
 
 -- ---- all
 

@@ -1,6 +1,6 @@
 -- What is owed for what an event leaves alone.
-use Rattle.tl_coherence.proofs.rank.Imports.{Beat, Channel, Config, IsInvariant, View, Idle, Own, Other, Granting}
-use Rattle.tl_coherence.proofs.rank.Imports.{Acknowledging, GrantedOther, ProbePhase, NoProbe, ProbeSent, ProbeAnswered}
+use Rattle.tl_coherence.proofs.rank.Imports.{Beat, Channel, Config, IsInvariant, View, Own, Granting}
+use Rattle.tl_coherence.proofs.rank.Imports.{ProbePhase, ProbeAnswered}
 use Rattle.tl_coherence.proofs.rank.Imports.{Left, pair_weight, probes_weight, acquire_weight, letting_weight}
 use Rattle.tl_coherence.proofs.rank.Imports.{let_weight, State, Asked, InService, Replied, Acquires, view}
 use Rattle.tl_coherence.proofs.rank.Imports.{AccessMessages, Request, Acquire, ProbeAck, Release, Answer, Grant}
@@ -9,7 +9,7 @@ use Rattle.std.specs.Prelude.{Option, Some, None}
 use Rattle.std.proofs.lemmas.Bool.{cases_eq, and_from}
 use Rattle.tl_coherence.specs.protocol.Invariant.{is_asked, is_replied}
 use Rattle.tl_coherence.specs.refinement.Move.{Move}
-use Rattle.tl_coherence.specs.protocol.Phase.{ReleasePhase, NoRelease, ReleaseSent, ReleaseAcked}
+use Rattle.tl_coherence.specs.protocol.Phase.{ReleasePhase, ReleaseSent}
 use Rattle.tl_coherence.specs.bound.Rank.{probing_weight}
 use Rattle.tl_coherence.specs.protocol.Tokens.{is_wanting, is_unserved, shown}
 use Rattle.tl_manager.specs.laws.Pending.{one_if}
@@ -56,10 +56,7 @@ wants-used caching s inv d i m e = and_left (is_wanting ((s.block m).pair d).acq
 pub unserved-weight : (n a g p : ℕ) (v : View) → is_unserved v ≡ true → acquire_weight n a g p v ≡ a + n + 32
 unserved-weight n a g p Own e = absurd cc
 unserved-weight n a g p (Granting d k) e = absurd cc
-unserved-weight n a g p Idle e = refl
-unserved-weight n a g p (Other k) e = refl
-unserved-weight n a g p Acknowledging e = refl
-unserved-weight n a g p GrantedOther e = refl
+unserved-weight n a g p v e = refl
 
 -- ---- a block of which all that counts is as before
 
@@ -86,10 +83,9 @@ module _ {w : ℕ} (config : Config) (caching : ℕ → Bool) (n : ℕ) (moves :
       go : (x : ProbePhase) → ((s.block m).pair d).probing ≡ x
           → probing_weight size (left' d ProbeAck m) ((s.block m).pair d).recorded x ≤ probing_weight size
           (left d ProbeAck m) ((s.block m).pair d).recorded x
-      go NoProbe e = omega arith
-      go (ProbeSent k) e = omega arith
       go (ProbeAnswered r) e = same d ProbeAck m (report-here caching s showing.before d m (rw e refl))
           (report-here caching s' showing.after d m (rw (probing, e) refl))
+      go x e = omega arith
 
   -- an Acquire that is served as before
   pub acquire-stays : (d m : ℕ) → is_wanting ((s.block m).pair d).acquiring ≡ true
@@ -113,13 +109,7 @@ module _ {w : ℕ} (config : Config) (caching : ℕ → Bool) (n : ℕ) (moves :
       go Own e = omega (arith, probes)
       go (Granting x k) e = let g = same d Grant m (grant-here caching s showing.before d m (rw e refl))
           (grant-here caching s' showing.after d m (rw (viewed, e) refl)) in omega (arith, g)
-      go Idle e = let a = same d Acquire m (acquire-here caching s showing.before d m (rw (e, wants) refl))
-          (acquire-here caching s' showing.after d m (rw (viewed, e, acquiring, wants) refl)) in omega (arith, a)
-      go (Other k) e = let a = same d Acquire m (acquire-here caching s showing.before d m (rw (e, wants) refl))
-          (acquire-here caching s' showing.after d m (rw (viewed, e, acquiring, wants) refl)) in omega (arith, a)
-      go Acknowledging e = let a = same d Acquire m (acquire-here caching s showing.before d m (rw (e, wants) refl))
-          (acquire-here caching s' showing.after d m (rw (viewed, e, acquiring, wants) refl)) in omega (arith, a)
-      go GrantedOther e = let a = same d Acquire m (acquire-here caching s showing.before d m (rw (e, wants) refl))
+      go v e = let a = same d Acquire m (acquire-here caching s showing.before d m (rw (e, wants) refl))
           (acquire-here caching s' showing.after d m (rw (viewed, e, acquiring, wants) refl)) in omega (arith, a)
 
   -- a Release that is as before
@@ -130,10 +120,9 @@ module _ {w : ℕ} (config : Config) (caching : ℕ → Bool) (n : ℕ) (moves :
     where
       go : (x : ReleasePhase) → ((s.block m).pair d).letting ≡ x → letting_weight (left' d Release m) x ≤ letting_weight
           (left d Release m) x
-      go NoRelease e = omega arith
       go (ReleaseSent r) e = let a = same d Release m (release-here caching s showing.before d m (rw e refl))
           (release-here caching s' showing.after d m (rw (letting, e) refl)) in omega (arith, a)
-      go ReleaseAcked e = omega arith
+      go x e = omega arith
 
   -- ---- all requests and Releases, given those of the block that changes
 

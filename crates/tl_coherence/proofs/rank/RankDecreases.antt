@@ -1,6 +1,6 @@
 -- The potential falls where what is owed falls at one client and rises nowhere.
-use Rattle.tl_coherence.proofs.rank.Imports.{Config, sources_of, View, Idle, Own, Other, Granting, Acknowledging}
-use Rattle.tl_coherence.proofs.rank.Imports.{GrantedOther, Left, pair_weight, probes_weight, acquire_weight, let_weight}
+use Rattle.tl_coherence.proofs.rank.Imports.{Config, sources_of, View, Own, Granting}
+use Rattle.tl_coherence.proofs.rank.Imports.{Left, pair_weight, probes_weight, acquire_weight, let_weight}
 use Rattle.tl_coherence.proofs.rank.Imports.{rank, State, SourceState, SourceFree, Asked, InService, Replied, Acquires}
 use Rattle.tl_coherence.proofs.rank.Imports.{view, terms_at, Request, Acquire, Answer, Grant}
 use Rattle.std.proofs.Common.{◌≡◌, ℕ, zero, suc, ◌+◌, ◌<◌, ◌≤◌, true, refl, arith, ◌⊎◌, inl, inr}
@@ -159,7 +159,4 @@ pub acquire-no-more : (n a a' g g' p p' : ℕ) (v : View) → (is_unserved v ≡
     → acquire_weight n a' g' p' v ≤ acquire_weight n a g p v
 acquire-no-more n a a' g g' p p' Own ha hg hp = omega (arith, hp)
 acquire-no-more n a a' g g' p p' (Granting d k) ha hg hp = omega (arith, hg)
-acquire-no-more n a a' g g' p p' Idle ha hg hp = let h = ha refl in omega (arith, h)
-acquire-no-more n a a' g g' p p' (Other k) ha hg hp = let h = ha refl in omega (arith, h)
-acquire-no-more n a a' g g' p p' Acknowledging ha hg hp = let h = ha refl in omega (arith, h)
-acquire-no-more n a a' g g' p p' GrantedOther ha hg hp = let h = ha refl in omega (arith, h)
+acquire-no-more n a a' g g' p p' v ha hg hp = let h = ha refl in omega (arith, h)

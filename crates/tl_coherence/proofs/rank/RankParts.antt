@@ -1,8 +1,8 @@
 -- What is owed falls with each delivery: block by block.
 use Rattle.tl_coherence.proofs.rank.Imports.{Beat, Channel, Config, sources_of, IsInvariant, Own, Granting}
 use Rattle.tl_coherence.proofs.rank.Imports.{Acknowledging, GrantedOther, Left, pair_weight, probes_weight}
-use Rattle.tl_coherence.proofs.rank.Imports.{letting_weight, rank, State, SourceState, SourceFree, Asked, InService}
-use Rattle.tl_coherence.proofs.rank.Imports.{Replied, Acquires, view, AccessMessages, terms_at, Release}
+use Rattle.tl_coherence.proofs.rank.Imports.{letting_weight, rank, State, SourceState, SourceFree, InService}
+use Rattle.tl_coherence.proofs.rank.Imports.{Acquires, view, AccessMessages, terms_at, Release}
 use Rattle.std.proofs.Common.{◌≡◌, ℕ, ◌+◌, ◌<◌, ◌≤◌, Bool, true, false, List, refl, sym, ◌∙◌, ap, arith, ◌⊎◌, inl, inr}
 use Rattle.std.specs.Prelude.{◌==◌, if◌then◌else◌, Some, length}
 use Rattle.std.proofs.lemmas.Bool.{cases_eq, eqb-true}
@@ -39,10 +39,7 @@ serving-use caching s n q source k inv e =
   where
     is_serving : (u : SourceState) (m : ℕ) → serves_of m u ≡ true → u ≡ InService m
     is_serving (InService j) m h = ap InService (sym (eqb-true m j h))
-    is_serving SourceFree m h = absurd cc
-    is_serving Asked m h = absurd cc
-    is_serving Replied m h = absurd cc
-    is_serving (Acquires j) m h = absurd cc
+    is_serving u m h = absurd cc
 
 -- the source of the request for which a block waits
 pub record IsAsking {X : Type 0} (n q : ℕ) (own : Bool) (source : ℕ) (s : State X) : Type 0 where

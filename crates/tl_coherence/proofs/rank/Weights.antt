@@ -1,7 +1,7 @@
 -- What is owed for each open request is at most 33 beats and those of a block, for each Release one
 -- and those of a block.
-use Rattle.tl_coherence.proofs.rank.Imports.{Config, sources_of, IsInvariant, View, Idle, Own, Other, Granting}
-use Rattle.tl_coherence.proofs.rank.Imports.{Acknowledging, GrantedOther, ProbePhase, NoProbe, ProbeSent, ProbeAnswered}
+use Rattle.tl_coherence.proofs.rank.Imports.{Config, sources_of, IsInvariant, View, Own, Granting}
+use Rattle.tl_coherence.proofs.rank.Imports.{ProbePhase, NoProbe, ProbeSent, ProbeAnswered}
 use Rattle.tl_coherence.proofs.rank.Imports.{Left, pair_weight, probes_weight, acquire_weight, letting_weight}
 use Rattle.tl_coherence.proofs.rank.Imports.{let_weight, rank, State, SourceState, SourceFree, Asked, InService}
 use Rattle.tl_coherence.proofs.rank.Imports.{Replied, Acquires, view, terms_at, Request, Acquire, ProbeAck, Release}
@@ -74,8 +74,7 @@ light-pair n left recorded (ProbeAnswered r) e le = let one = le refl in omega (
 quiet-pair : (n left : ℕ) (recorded : Perm) (x : ProbePhase) → is_unprobed x ≡ true
     → probing_weight n left recorded x ≡ 0
 quiet-pair n left recorded NoProbe e = refl
-quiet-pair n left recorded (ProbeSent k) e = absurd cc
-quiet-pair n left recorded (ProbeAnswered r) e = absurd cc
+quiet-pair n left recorded x e = absurd cc
 
 heavy-pair : (n left : ℕ) (recorded : Perm) (x : ProbePhase) → left ≤ n → 1 ≤ n
     → probing_weight n left recorded x ≤ n + 1
@@ -97,8 +96,7 @@ module _ {X : Type 0} (caching : ℕ → Bool) (s : State X) (inv : IsInvariant 
 
   both : (a b : Bool) → (not a && b) ≡ true → (a ≡ false) × (b ≡ true)
   both false true e = (refl, refl)
-  both false false e = absurd cc
-  both true b e = absurd cc
+  both a b e = absurd cc
 
   neither : (a b : Bool) → (not a && b) ≡ false → a ≡ false → b ≡ false
   neither false b e f = e
@@ -176,10 +174,7 @@ module _ {X : Type 0} (caching : ℕ → Bool) (s : State X) (inv : IsInvariant 
       → acquire_weight n asked granted probes v ≤ n + 33
   acquire-few asked granted probes Own a g p = omega (arith, p)
   acquire-few asked granted probes (Granting d k) a g p = omega (arith, g)
-  acquire-few asked granted probes Idle a g p = omega (arith, a)
-  acquire-few asked granted probes (Other k) a g p = omega (arith, a)
-  acquire-few asked granted probes Acknowledging a g p = omega (arith, a)
-  acquire-few asked granted probes GrantedOther a g p = omega (arith, a)
+  acquire-few asked granted probes v a g p = omega (arith, a)
 
   use-few : (c source : ℕ) (u : SourceState) → s.uses c source ≡ u
       → use_weight clients n left answer s c source u ≤ (n + 33) * one_if (is_used u)

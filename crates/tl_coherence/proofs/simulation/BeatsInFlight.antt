@@ -43,7 +43,7 @@ use Rattle.tl_client.specs.laws.Sound.{IsSound, corrupt_in}
 use Rattle.tl_client.specs.statement.Send.{release, probe_ack}
 use Rattle.tl_manager.specs.statement.Handing.{Handed}
 use Rattle.tl_manager.specs.code.Kept as manager
-use Rattle.tl_manager.specs.code.Kept.{Each, illegal_at, IsClean, AreLawful}
+use Rattle.tl_manager.specs.code.Kept.{Each}
 use Rattle.tl_manager.specs.statement.Offer.{level_of}
 use Rattle.tl_manager.proofs.messages.Lawful.{IsHandable, no_bit}
 use Rattle.tl_coherence.specs.statement.System.{with_message}
@@ -119,48 +119,34 @@ abbrev pub AreGood : {w : ℕ} → Config → ℕ → Message w → Type 0
 AreGood config c m = (i : ℕ) → i < beats_of m → IsGood config c (beat_of m i)
 
 lanes_are : {w : ℕ} (x : Beat w) → rules.IsTyped x → AreLanes x
-lanes_are (beat.A x) typed = typed
 lanes_are (beat.B x) typed = typed.1
-lanes_are (beat.C x) typed = typed
-lanes_are (beat.D x) typed = typed
 lanes_are (beat.E x) typed = tt
+lanes_are x typed = typed
 
 typed_is : {w : ℕ} (x : Beat w) → rules.IsTyped x → manager.IsTyped x
 typed_is (beat.A x) typed = typed
-typed_is (beat.B x) typed = tt
-typed_is (beat.C x) typed = tt
-typed_is (beat.D x) typed = tt
-typed_is (beat.E x) typed = tt
+typed_is x typed = tt
 
 same_channel_of : {w : ℕ} (m : Message w) (i : ℕ) → channel_of (beat_of m i) ≡ channel_of (beat_of m 0)
 same_channel_of (message.A m) i = refl
-same_channel_of (message.B m) i = refl
-same_channel_of (message.C m) i = refl
-same_channel_of (message.D m) i = refl
-same_channel_of (message.E m) i = refl
+same_channel_of m i = refl
 
 same_outside : {w : ℕ} (blocks : ℕ) (m : Message w) (i : ℕ) → is_outside blocks (beat_of m i) ≡ is_outside blocks
     (beat_of m 0)
 same_outside blocks (message.A m) i = refl
-same_outside blocks (message.B m) i = refl
-same_outside blocks (message.C m) i = refl
-same_outside blocks (message.D m) i = refl
-same_outside blocks (message.E m) i = refl
+same_outside blocks m i = refl
 
 -- of a channel on which clients send
 abbrev pub IsOfClient : {w : ℕ} → Message w → Type 0
-IsOfClient (message.A m) = ⊤
 IsOfClient (message.B m) = ⊥
-IsOfClient (message.C m) = ⊤
 IsOfClient (message.D m) = ⊥
-IsOfClient (message.E m) = ⊤
+IsOfClient _ = ⊤
 
 unspoiled : {w : ℕ} (m : Message w) (i : ℕ) → IsOfClient m → corrupt_in m ≡ 0 → is_spoiled (beat_of m i) ≡ false
-unspoiled (message.A m) i is clean = rw clean (no_bit i)
 unspoiled (message.B m) i is clean = absurd is
-unspoiled (message.C m) i is clean = rw clean (no_bit i)
 unspoiled (message.D m) i is clean = absurd is
 unspoiled (message.E m) i is clean = refl
+unspoiled m i is clean = rw clean (no_bit i)
 
 pub good-message : {w : ℕ} (config : Config) (c : ℕ) (l : Level) (m : Message w) → IsWidth w
     → level_of config c ≡ Some l → IsSound l m → IsOfClient m
@@ -214,15 +200,13 @@ level-terms config c terms e = go (slice_get config.clients.items c) e
 
 copied_release : (w : ℕ) (p : Prune) (source n : ℕ) (copy : List ℕ) → length copy ≡ 64
     → HasBlock {w = w} (release p source n copy) × IsOfClient {w = w} (release p source n copy)
-copied_release w prune.TtoB source n copy long = (long, tt)
-copied_release w prune.TtoN source n copy long = (long, tt)
 copied_release w prune.BtoN source n copy long = (refl, tt)
+copied_release w p source n copy long = (long, tt)
 
 release_inside : (w blocks : ℕ) (p : Prune) (source n : ℕ) (copy : List ℕ) → nat_le blocks n ≡ false
     → is_outside blocks (beat_of {w = w} (release p source n copy) 0) ≡ false
 release_inside w blocks prune.TtoB source n copy e = rw (same_block n) e
-release_inside w blocks prune.TtoN source n copy e = rw (same_block n) e
-release_inside w blocks prune.BtoN source n copy e = rw (same_block n) e
+release_inside w blocks p source n copy e = rw (same_block n) e
 
 -- what a message that a client hands out is besides sound
 pub record IsFit {w : ℕ} (blocks : ℕ) (m : Message w) : Type 0 where
@@ -241,14 +225,12 @@ first_false true y e = absurd cc
 fit_load : {w : ℕ} (blocks address size : ℕ) (p : Perm) (e : Endpoint w)
     → IsFitIfAny blocks (load address size p e).message
 fit_load blocks address size perm.None e = tt
-fit_load blocks address size perm.Branch e = tt
-fit_load blocks address size perm.Trunk e = tt
+fit_load blocks address size p e = tt
 
 fit_store : {w : ℕ} (blocks address size value : ℕ) (p : Perm) (e : Endpoint w)
     → IsFitIfAny blocks (store address size value p e).message
 fit_store blocks address size value perm.None e = tt
-fit_store blocks address size value perm.Branch e = tt
-fit_store blocks address size value perm.Trunk e = tt
+fit_store blocks address size value p e = tt
 
 fit_done : {w : ℕ} (terms : EndConfig) (op : Op w) (e : Endpoint w) → NotBusy terms op e → IsTypedOp op
     → ((n : ℕ) → length (copy_at e n) ≡ 64) → IsFitIfAny terms.blocks (done terms op e).message
@@ -298,10 +280,7 @@ ended_fit : {w : ℕ} (blocks : ℕ) (opcode : OpD) (x : BeatD w) (f : Finish) (
     → IsFitAnswer blocks (ended opcode x f e).answer
 ended_fit blocks d.Grant x f e = record { long = tt; ours = tt; inside = refl }
 ended_fit blocks d.GrantData x f e = record { long = tt; ours = tt; inside = refl }
-ended_fit blocks d.AccessAck x f e = tt
-ended_fit blocks d.AccessAckData x f e = tt
-ended_fit blocks d.HintAck x f e = tt
-ended_fit blocks d.ReleaseAck x f e = tt
+ended_fit blocks opcode x f e = tt
 
 pub fit-taken : {w : ℕ} (blocks : ℕ) (x : Beat w) (e : Endpoint w) → is_outside blocks x ≡ false
     → ((n : ℕ) → length (copy_at e n) ≡ 64) → IsFitAnswer blocks (taken x e).answer

@@ -37,10 +37,7 @@ has_first m n e = rw e refl
 
 source_known : {w : ℕ} (m : Message w) (source : ℕ) → request_source m ≡ Some source → is_some (first_of m) ≡ true
 source_known (message.A m) source e = refl
-source_known (message.B m) source e = absurd cc
-source_known (message.C m) source e = absurd cc
-source_known (message.D m) source e = absurd cc
-source_known (message.E m) source e = absurd cc
+source_known m source e = absurd cc
 
 -- ---- trackers
 

@@ -76,10 +76,7 @@ access_asked-carried {w} caching c source m mail s sys sys' width inv inv' close
 
     moved : AreMoved (access_moves source) (s.link c) (with_a (packet Request source) (s.link c))
     moved channel.A = refl
-    moved channel.B = refl
-    moved channel.C = refl
-    moved channel.D = refl
-    moved channel.E = refl
+    moved _ = refl
 
     requests : (d i : ℕ) → is_asked (s.uses d i) ≡ true → (d ≡ c) ⊎ (d ≡ c → ⊥) → (i ≡ source) ⊎ (i ≡ source → ⊥)
         → set_at c source m mail.request d i ≡ mail.request d i
@@ -92,10 +89,7 @@ access_asked-carried {w} caching c source m mail s sys sys' width inv inv' close
         (λ k i. message_of mail' s' c (packet k i))
     fits channel.A = ap (λ (f : ℕ → Message w). f source) (set-same c (set source m (mail.request c)) mail.request)
         ∙ set-same source m (mail.request c)
-    fits channel.B = tt
-    fits channel.C = tt
-    fits channel.D = tt
-    fits channel.E = tt
+    fits at = tt
 
 pub acquire_asked-carried : {w : ℕ} (caching : ℕ → Bool) (c n source : ℕ) (whole : Bool) (g : Grow) (bytes : List ℕ)
     (m : Message w) (mail : AccessMessages w)
@@ -125,18 +119,12 @@ acquire_asked-carried {w} caching c n source whole g bytes m mail s sys sys' wid
 
     moved : AreMoved (acquire_moves n) (s.link c) (with_a (packet Acquire n) (s.link c))
     moved channel.A = refl
-    moved channel.B = refl
-    moved channel.C = refl
-    moved channel.D = refl
-    moved channel.E = refl
+    moved _ = refl
 
     fits : (at : Channel) → Fits false (only_on channel.A m at) (acquire_moves n at)
         (λ k i. message_of mail s' c (packet k i))
     fits channel.A = new_there Acquire c n new s.block m is
-    fits channel.B = tt
-    fits channel.C = tt
-    fits channel.D = tt
-    fits channel.E = tt
+    fits at = tt
 
 pub release_asked-carried : {w : ℕ} (caching : ℕ → Bool) (c n source : ℕ) (r : Prune) (m : Message w)
     (mail : AccessMessages w) (s : State (List ℕ)) (sys sys' : System w) → IsWidth w
@@ -164,18 +152,12 @@ release_asked-carried {w} caching c n source r m mail s sys sys' width inv inv' 
 
     moved : AreMoved (release_moves n) (s.link c) (with_c (packet Release n) (s.link c))
     moved channel.A = refl
-    moved channel.B = refl
-    moved channel.C = refl
-    moved channel.D = refl
-    moved channel.E = refl
+    moved _ = refl
 
     fits : (at : Channel) → Fits false (only_on channel.C m at) (release_moves n at)
         (λ k i. message_of mail s' c (packet k i))
-    fits channel.A = tt
-    fits channel.B = tt
     fits channel.C = new_there Release c n new s.block m is
-    fits channel.D = tt
-    fits channel.E = tt
+    fits at = tt
 
 -- nothing is handed out
 abbrev still_moves : ℕ → Channel → Move

@@ -66,10 +66,7 @@ access_answered-shown {w} caching c n source f rest m mail s inv inv' first used
 
     moved : AreMoved (answer_moves source) (s.link c) (answered_link (packet Answer source) rest (s.link c))
     moved channel.A = first
-    moved channel.B = refl
-    moved channel.C = refl
-    moved channel.D = refl
-    moved channel.E = refl
+    moved _ = refl
 
     answers : (d i : ℕ) → is_replied (s.uses d i) ≡ true → (d ≡ c) ⊎ (d ≡ c → ⊥) → (i ≡ source) ⊎ (i ≡ source → ⊥)
         → set_at c source m mail.answer d i ≡ mail.answer d i
@@ -80,12 +77,9 @@ access_answered-shown {w} caching c n source f rest m mail s inv inv' first used
 
     fits : (at : Channel) → Fits (same_channel at channel.A) (only_on channel.D m at) (answer_moves source at)
         (λ k i. message_of mail' s' c (packet k i))
-    fits channel.A = tt
-    fits channel.B = tt
-    fits channel.C = tt
     fits channel.D = ap (λ (g : ℕ → Message w). g source) (set-same c (set source m (mail.answer c)) mail.answer)
         ∙ set-same source m (mail.answer c)
-    fits channel.E = tt
+    fits at = tt
 
 pub acquire_granted-shown : {w : ℕ} (caching : ℕ → Bool) (r n tracker : ℕ) (d : Bool) (k : Cap) (rest : List Packet)
     (m : Message w) (mail : AccessMessages w)
@@ -113,18 +107,12 @@ acquire_granted-shown {w} caching r n tracker d k rest m mail s inv inv' first f
 
     moved : AreMoved (once_moves n) (s.link r) (answered_link (packet Grant n) rest (s.link r))
     moved channel.A = first
-    moved channel.B = refl
-    moved channel.C = refl
-    moved channel.D = refl
-    moved channel.E = refl
+    moved _ = refl
 
     fits : (at : Channel) → Fits (same_channel at channel.A) (only_on channel.D m at) (once_moves n at)
         (λ j l. message_of mail s' r (packet j l))
-    fits channel.A = tt
-    fits channel.B = tt
-    fits channel.C = tt
     fits channel.D = new_there Grant r n new s.block m is
-    fits channel.E = tt
+    fits at = tt
 
 -- ---- a Probe is taken
 
@@ -151,19 +139,13 @@ probe_taken-shown {w} caching c n k rest m mail s inv inv' first sent chan is = 
     s' = probe_taken c n k rest s
 
     moved : AreMoved (probe_moves n) (s.link c) (probed_link n rest (s.link c))
-    moved channel.A = refl
     moved channel.B = first
-    moved channel.C = refl
-    moved channel.D = refl
-    moved channel.E = refl
+    moved _ = refl
 
     fits : (at : Channel) → Fits (same_channel at channel.B) (only_on channel.C m at) (probe_moves n at)
         (λ j l. message_of mail s' c (packet j l))
-    fits channel.A = tt
-    fits channel.B = tt
     fits channel.C = new_there ProbeAck c n new s.block m is
-    fits channel.D = tt
-    fits channel.E = tt
+    fits at = tt
 
 -- ---- a report is taken
 
@@ -186,11 +168,8 @@ report_taken-shown {w} caching c n r rest mail s inv inv' first = record {
     s' = report_taken c n r rest s
 
     moved : AreMoved (report_moves n) (s.link c) (record (s.link c) { c = rest })
-    moved channel.A = refl
-    moved channel.B = refl
     moved channel.C = first
-    moved channel.D = refl
-    moved channel.E = refl
+    moved _ = refl
 
     fits : (d : ℕ) (at : Channel) (b : Bool)
         → Fits (b && same_channel at channel.C) None (if b then report_moves n at else Stays)
@@ -227,16 +206,10 @@ release_taken-shown {w} caching c n r rest m mail s inv inv' first chan is = rec
     s' = release_taken c n r rest s
 
     moved : AreMoved (let_moves n) (s.link c) (let_link n rest (s.link c))
-    moved channel.A = refl
-    moved channel.B = refl
     moved channel.C = first
-    moved channel.D = refl
-    moved channel.E = refl
+    moved _ = refl
 
     fits : (at : Channel) → Fits (same_channel at channel.C) (only_on channel.D m at) (let_moves n at)
         (λ j l. message_of mail s' c (packet j l))
-    fits channel.A = tt
-    fits channel.B = tt
-    fits channel.C = tt
     fits channel.D = new_there ReleaseAck c n new s.block m is
-    fits channel.E = tt
+    fits at = tt

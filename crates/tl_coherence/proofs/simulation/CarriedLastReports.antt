@@ -141,27 +141,21 @@ granted_moved n c q d ch rest link apart first = elim (cases_eq d q) [
 
     at_sender : (ch : Channel) (l : Link) → l ≡ record (link q) { d = (link q).d ++ packet Grant n ∷ [] }
         → IsMoved (granted_moves n c q q ch) (packets_on ch (link q)) (packets_on ch l)
-    at_sender channel.A l e = rw e refl
-    at_sender channel.B l e = rw e refl
     at_sender channel.C l e = rw (e, ne_eqb q c swapped) refl
     at_sender channel.D l e = rw (e, same_number q) refl
-    at_sender channel.E l e = rw e refl
+    at_sender ch l e = rw e refl
 
     at_reporter : (ch : Channel) (l : Link) → l ≡ record (link c) { c = rest }
         → IsMoved (granted_moves n c q c ch) (packets_on ch (link c)) (packets_on ch l)
-    at_reporter channel.A l e = rw e refl
-    at_reporter channel.B l e = rw e refl
     at_reporter channel.C l e = rw (e, same_number c) first
     at_reporter channel.D l e = rw (e, ne_eqb c q apart) refl
-    at_reporter channel.E l e = rw e refl
+    at_reporter ch l e = rw e refl
 
     at_other : (ch : Channel) (l : Link) → (d ≡ q → ⊥) → (d ≡ c → ⊥) → l ≡ link d
         → IsMoved (granted_moves n c q d ch) (packets_on ch (link d)) (packets_on ch l)
-    at_other channel.A l o i e = rw e refl
-    at_other channel.B l o i e = rw e refl
     at_other channel.C l o i e = rw (e, ne_eqb d c i) refl
     at_other channel.D l o i e = rw (e, ne_eqb d q o) refl
-    at_other channel.E l o i e = rw e refl
+    at_other ch l o i e = rw e refl
 
 granted_fits : {w : ℕ} (n : ℕ) (m : Message w) (at : Channel) (c q d : ℕ) (render : Kind → ℕ → Message w)
     → ((d == q) ≡ true → render Grant n ≡ m)
@@ -172,9 +166,7 @@ granted_fits {w} n m at c q d render e = rw (same at) (cases at (d == c) (d == q
     moves : Bool → Bool → Channel → Move
     moves x y channel.C = if x then Pops ProbeAck n else Stays
     moves x y channel.D = if y then Pushes Grant n else Stays
-    moves x y channel.A = Stays
-    moves x y channel.B = Stays
-    moves x y channel.E = Stays
+    moves x y _ = Stays
 
     cases : (at : Channel) (x y : Bool) → (y ≡ true → render Grant n ≡ m)
         → Fits (x && same_channel at channel.C) (if y then only_on channel.D m at else None) (moves x y at) render
@@ -201,10 +193,7 @@ granted_fits {w} n m at c q d render e = rw (same at) (cases at (d == c) (d == q
 
     same : (at : Channel) → granted_moves n c q d at ≡ moves (d == c) (d == q) at
     same channel.A = refl
-    same channel.B = refl
-    same channel.C = refl
-    same channel.D = refl
-    same channel.E = refl
+    same at = refl
 
 pub report_grants-shown : {w : ℕ} (caching : ℕ → Bool) (c q n source : ℕ) (r : Report) (d : Bool) (k gift : Cap)
     (rest : List Packet) (m : Message w)

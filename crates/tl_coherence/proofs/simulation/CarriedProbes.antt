@@ -198,10 +198,7 @@ served_fits n k channel.E false y j i render e = tt
 pushes_is : {w : ℕ} (n : ℕ) (k : Cap) (test : ℕ → Bool) (d : ℕ) (at : Channel)
     → probe_pushes {w = w} n k test d at ≡ probe_pushes n k (λ i. test d) 0 at
 pushes_is n k test d channel.A = refl
-pushes_is n k test d channel.B = refl
-pushes_is n k test d channel.C = refl
-pushes_is n k test d channel.D = refl
-pushes_is n k test d channel.E = refl
+pushes_is n k test d at = refl
 
 -- the Probe that one is sent
 sent_probe : (w r : ℕ) (own : Bool) (n : ℕ) (k : Cap) (d : ℕ) (p : ClientBlock) → is_probed r own k p.recorded d ≡ true
@@ -210,9 +207,8 @@ sent_probe w r own n k d p e = go (own && (d == r)) (is_above k p.recorded) refl
   where
     go : (x y : Bool) → is_above k p.recorded ≡ y → (not x && y) ≡ true
         → probe_of_block {w = w} n (cap_sent (if x then p else after_served k p).probing) ≡ probe_of_block n k
-    go true y f g = absurd cc
     go false true f g = rw f refl
-    go false false f g = absurd cc
+    go x y f g = absurd cc
 
 sent_rendered : {w : ℕ} (r : ℕ) (own : Bool) (source tracker : ℕ) (n : ℕ) (k : Cap) (d : ℕ) (b : Block (List ℕ))
     → is_probed r own k (b.pair d).recorded d ≡ true

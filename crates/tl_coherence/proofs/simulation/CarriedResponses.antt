@@ -49,19 +49,13 @@ answer_taken-shown {w} caching c source rest mail s inv inv' first = record {
     s' = answer_taken c source rest s
 
     moved : AreMoved (done_moves source) (s.link c) (record (s.link c) { d = rest })
-    moved channel.A = refl
-    moved channel.B = refl
-    moved channel.C = refl
     moved channel.D = first
-    moved channel.E = refl
+    moved _ = refl
 
     fits : (at : Channel) → Fits (same_channel at channel.D) None (done_moves source at)
         (λ j l. message_of mail s' c (packet j l))
     fits channel.A = tt
-    fits channel.B = tt
-    fits channel.C = tt
-    fits channel.D = tt
-    fits channel.E = tt
+    fits at = tt
 
 pub release_ack_taken-shown : {w : ℕ} (caching : ℕ → Bool) (c n : ℕ) (rest : List Packet) (mail : AccessMessages w)
     (s : State (List ℕ)) → IsInvariant caching s
@@ -82,19 +76,13 @@ release_ack_taken-shown {w} caching c n rest mail s inv inv' first = record {
     s' = release_ack_taken c n rest s
 
     moved : AreMoved (let_go_moves n) (s.link c) (record (s.link c) { d = rest })
-    moved channel.A = refl
-    moved channel.B = refl
-    moved channel.C = refl
     moved channel.D = first
-    moved channel.E = refl
+    moved _ = refl
 
     fits : (at : Channel) → Fits (same_channel at channel.D) None (let_go_moves n at)
         (λ j l. message_of mail s' c (packet j l))
     fits channel.A = tt
-    fits channel.B = tt
-    fits channel.C = tt
-    fits channel.D = tt
-    fits channel.E = tt
+    fits at = tt
 
 pub grant_taken-shown : {w : ℕ} (caching : ℕ → Bool) (c n : ℕ) (whole d : Bool) (k : Cap) (rest : List Packet)
     (m : Message w) (mail : AccessMessages w)
@@ -123,19 +111,13 @@ grant_taken-shown {w} caching c n whole d k rest m mail s inv inv' first sent by
     s' = grant_taken c n whole d k rest s
 
     moved : AreMoved (taken_moves n) (s.link c) (taken_link n rest (s.link c))
-    moved channel.A = refl
-    moved channel.B = refl
-    moved channel.C = refl
     moved channel.D = first
-    moved channel.E = refl
+    moved _ = refl
 
     fits : (at : Channel) → Fits (same_channel at channel.D) (only_on channel.E m at) (taken_moves n at)
         (λ j l. message_of mail s' c (packet j l))
-    fits channel.A = tt
-    fits channel.B = tt
-    fits channel.C = tt
-    fits channel.D = tt
     fits channel.E = new_there GrantAck c n new s.block m is
+    fits at = tt
 
 -- ---- a GrantAck is taken
 
@@ -159,11 +141,8 @@ grant_ack_taken-shown {w} caching c n rest mail s inv inv' first sent = record {
     s' = grant_ack_taken c n rest s
 
     moved : AreMoved (freed_moves n) (s.link c) (record (s.link c) { e = rest })
-    moved channel.A = refl
-    moved channel.B = refl
-    moved channel.C = refl
-    moved channel.D = refl
     moved channel.E = first
+    moved _ = refl
 
     fits : (d : ℕ) (at : Channel) (b : Bool)
         → Fits (b && same_channel at channel.E) None (if b then freed_moves n at else Stays)

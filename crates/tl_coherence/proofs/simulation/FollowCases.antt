@@ -65,8 +65,7 @@ delivered-cases {w} config log mail request s sys link ch P width h none kinds =
 
     either : (x y : Bool) → (x ≡ true → y ≡ true → P event) → P (if x && y then event else before)
     either true true both = both refl refl
-    either true false both = none
-    either false y both = none
+    either x y both = none
 
     go : (beats : List (Beat w)) → sys.channels link.0 ch ≡ beats
         → P (if is_moving o && is_last (sys.channels link.0 ch) rest_now then event else before)

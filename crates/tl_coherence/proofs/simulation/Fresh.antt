@@ -1,7 +1,6 @@
 -- As a world begins, it is matched by the protocol as that begins.
 use Rattle.tl_coherence.proofs.simulation.Imports.{Channel, unfinished, Config, pending, services, IsInvariant}
-use Rattle.tl_coherence.proofs.simulation.Imports.{receiver, on, shown, packets_on, Kind, Request, Acquire, Probe}
-use Rattle.tl_coherence.proofs.simulation.Imports.{ProbeAck, Release, Answer, Grant, ReleaseAck, GrantAck}
+use Rattle.tl_coherence.proofs.simulation.Imports.{receiver, on, shown, packets_on, Kind, Request}
 use Rattle.tl_coherence.proofs.simulation.Imports.{SimulationRelation, is_caching}
 use Rattle.std.proofs.Common.{◌≡◌, ℕ, zero, suc, ◌*◌, ◌+◌, true, List, [], ◌∷◌, replicate, Bool, refl, sym, ap, arith}
 use Rattle.std.proofs.lemmas.List.{get_or-replicate}
@@ -44,22 +43,12 @@ first-well caching = record {
 none-shown : (c : ℕ) (k : Kind) → is_transfer k ≡ true → Holds k (on k first_link) (λ n. shown k c first_block)
 unfolding count
 none-shown c Request t n = refl
-none-shown c Acquire t n = refl
-none-shown c Probe t n = refl
-none-shown c ProbeAck t n = refl
-none-shown c Release t n = refl
-none-shown c Answer t n = refl
-none-shown c Grant t n = refl
-none-shown c ReleaseAck t n = refl
-none-shown c GrantAck t n = refl
+none-shown c k t n = refl
 
 none-there : (ch : Channel) (k : Kind) (n : ℕ) → count k n (packets_on ch first_link) ≡ 0
 unfolding count
 none-there channel.A k n = refl
-none-there channel.B k n = refl
-none-there channel.C k n = refl
-none-there channel.D k n = refl
-none-there channel.E k n = refl
+none-there ch k n = refl
 
 pub first-invariant : (caching : ℕ → Bool) → IsInvariant caching first_state
 unfolding count IsOrdered
@@ -89,18 +78,12 @@ none-carried : (w c : ℕ) (ch : Channel) → IsCarried {w = w} (unfinished ch (
     (messages_on ch (first_abstract_state {w = w}).mail first_state c) []
 unfolding unfinished on_link
 none-carried w c channel.A = (refl, refl)
-none-carried w c channel.B = (refl, refl)
-none-carried w c channel.C = (refl, refl)
-none-carried w c channel.D = (refl, refl)
-none-carried w c channel.E = (refl, refl)
+none-carried w c ch = (refl, refl)
 
 none-left : (w c : ℕ) (ch : Channel) → unfinished {w = w} ch [] ≡ unfinished ch (receiver ch c fresh)
 unfolding unfinished on_link
 none-left w c channel.A = refl
-none-left w c channel.B = refl
-none-left w c channel.C = refl
-none-left w c channel.D = refl
-none-left w c channel.E = refl
+none-left w c ch = refl
 
 -- a whole of ends and channels that are fresh is that of the protocol's first state
 pub fresh-matched : {w : ℕ} (config : Config) → SimulationRelation {w = w} config [] first_abstract_state.mail

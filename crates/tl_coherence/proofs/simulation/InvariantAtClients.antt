@@ -3,8 +3,8 @@ use Rattle.tl_coherence.proofs.simulation.Imports.{IsWidth, Beat, Link, Channel,
 use Rattle.tl_coherence.proofs.simulation.Imports.{EndConfig, Offered, Deliver, is_moving, asked, IsInvariant, Log}
 use Rattle.tl_coherence.proofs.simulation.Imports.{receiver, State, packet, is_on, packets_on, AccessMessages}
 use Rattle.tl_coherence.proofs.simulation.Imports.{message_of, stepped, stepped_at, client_took, is_to_client, System}
-use Rattle.tl_coherence.proofs.simulation.Imports.{terms_at, Kind, Request, Acquire, Probe, ProbeAck, Release, Answer}
-use Rattle.tl_coherence.proofs.simulation.Imports.{Grant, ReleaseAck, GrantAck, Packet, SimulationRelation, is_caching}
+use Rattle.tl_coherence.proofs.simulation.Imports.{terms_at, Kind, Probe, Answer}
+use Rattle.tl_coherence.proofs.simulation.Imports.{Grant, ReleaseAck, Packet, SimulationRelation, is_caching}
 use Rattle.std.proofs.Common.{◌≡◌, ℕ, Bool, true, false, not, List, ◌∷◌, Option, Some, None, refl, sym, ◌∙◌, ap}
 use Rattle.std.specs.Prelude.{map}
 use Rattle.tl_beat.specs.declared.channel.Channel.TheVariants as channel
@@ -85,37 +85,5 @@ ready-client config log mail request s sys link channel.D Grant i rest x queue w
     tt
 ready-client config log mail request s sys link channel.D ReleaseAck i rest x queue width h up own moves beats first
     next = tt
-ready-client config log mail request s sys link channel.B Request i rest x queue width h up own moves beats first next =
-    absurd cc
-ready-client config log mail request s sys link channel.B Acquire i rest x queue width h up own moves beats first next =
-    absurd cc
-ready-client config log mail request s sys link channel.B ProbeAck i rest x queue width h up own moves beats first
-    next = absurd cc
-ready-client config log mail request s sys link channel.B Release i rest x queue width h up own moves beats first next =
-    absurd cc
-ready-client config log mail request s sys link channel.B Answer i rest x queue width h up own moves beats first next =
-    absurd cc
-ready-client config log mail request s sys link channel.B Grant i rest x queue width h up own moves beats first next =
-    absurd cc
-ready-client config log mail request s sys link channel.B ReleaseAck i rest x queue width h up own moves beats first
-    next = absurd cc
-ready-client config log mail request s sys link channel.B GrantAck i rest x queue width h up own moves beats first
-    next = absurd cc
-ready-client config log mail request s sys link channel.D Request i rest x queue width h up own moves beats first next =
-    absurd cc
-ready-client config log mail request s sys link channel.D Acquire i rest x queue width h up own moves beats first next =
-    absurd cc
-ready-client config log mail request s sys link channel.D Probe i rest x queue width h up own moves beats first next =
-    absurd cc
-ready-client config log mail request s sys link channel.D ProbeAck i rest x queue width h up own moves beats first
-    next = absurd cc
-ready-client config log mail request s sys link channel.D Release i rest x queue width h up own moves beats first next =
-    absurd cc
-ready-client config log mail request s sys link channel.D GrantAck i rest x queue width h up own moves beats first
-    next = absurd cc
-ready-client config log mail request s sys link channel.A k i rest x queue width h up own moves beats first next =
-    absurd cc
-ready-client config log mail request s sys link channel.C k i rest x queue width h up own moves beats first next =
-    absurd cc
-ready-client config log mail request s sys link channel.E k i rest x queue width h up own moves beats first next =
+ready-client config log mail request s sys link ch k i rest x queue width h up own moves beats first next =
     absurd cc

@@ -5,7 +5,7 @@ use Rattle.tl_coherence.proofs.simulation.Imports.{receiver, State, AccessMessag
 use Rattle.tl_coherence.proofs.simulation.Imports.{System, same_channel, terms_at, with_channel}
 use Rattle.std.proofs.Common.{◌≡◌, ℕ, Bool, true, false, ◌+◌, ◌<◌, List, [], ◌∷◌, refl, sym, ◌∙◌, ap, ◌⊎◌, inl, inr}
 use Rattle.std.proofs.Common.{arith}
-use Rattle.std.specs.Prelude.{◌==◌, ◌&&◌, if◌then◌else◌, Option, Some, None, Result, Ok, Err}
+use Rattle.std.specs.Prelude.{◌==◌, ◌&&◌, if◌then◌else◌, Option, Some, None, Result, Ok}
 use Rattle.std.proofs.lemmas.Bool.{cases_eq, ne_eqb}
 use Rattle.tl_beat.specs.declared.channel.Channel.TheVariants as channel
 use Rattle.tl_burst.specs.statement.Messages.{grown}
@@ -40,10 +40,9 @@ use Rattle.tl_coherence.proofs.queues.Tokens.{same_number}
 
 -- a client takes the beat: not a refusal, nor a stall
 abbrev pub is_taken : {w : ℕ} → Result (Verdict × Option (Message w)) Rule → Bool
-is_taken (Err rule) = false
-is_taken (Ok (verdict.Stalled, m)) = false
 is_taken (Ok (verdict.Taken, m)) = true
 is_taken (Ok (verdict.Done source finish, m)) = true
+is_taken _ = false
 
 pub offered-taken : {w : ℕ} (terms : client.EndConfig) (ch : Channel) (x : Beat w) (e : client.Endpoint w)
     → is_taken (offer.offered terms ch x e).answer ≡ true → offer.offered terms ch x e ≡ offer.taken x e
@@ -110,10 +109,9 @@ client_moves {w} terms c ch x queue sys moving = go (offer.offered terms ch x (s
     go : (a : Result (Verdict × Option (Message w)) Rule) → o.answer ≡ a
         → is_moving (judged a c ch x queue o.after sys).outcome ≡ true
         → IsTakenByClient terms c ch x queue sys (judged o.answer c ch x queue o.after sys)
-    go (Err rule) e h = absurd cc
-    go (Ok (verdict.Stalled, m)) e h = absurd cc
     go (Ok (verdict.Taken, m)) e h = made verdict.Taken m e refl refl refl
     go (Ok (verdict.Done source finish, m)) e h = made (verdict.Done source finish) m e refl refl refl
+    go a e h = absurd cc
 
 pub client-moves : {w : ℕ} (config : Config) (link : Link) (ch : Channel) (sys : System w) (terms : client.EndConfig)
     (x : Beat w) (queue : List (Beat w))
@@ -155,9 +153,8 @@ offered-passes {w} config link ch x e handed is = go (manager_offer.judged confi
           manager_offer.Sent (manager_reaction.reaction config link x e).handed,
           manager_offer.taken link x (manager_reaction.reaction config link x e) e,
         )
-    go (manager_offer.Breaks rule) h = absurd cc
-    go manager_offer.Waits h = absurd cc
     go manager_offer.Passes h = refl
+    go j h = absurd cc
 
 -- the step, where the manager takes the beat
 pub record IsTakenByManager {w : ℕ} (config : Config) (link : Link) (ch : Channel) (x : Beat w) (queue : List (Beat w))
@@ -184,12 +181,11 @@ manager_moves {w} config link ch x queue sys moving = go (manager_offer.offered 
         → is_moving (manager_took link.0 ch x queue a sys).outcome ≡ true
         → IsTakenByManager config link ch x queue sys
         (manager_took link.0 ch x queue (manager_offer.offered config link ch x sys.manager) sys)
-    go (manager_offer.Refused rule, e) f h = absurd cc
-    go (manager_offer.Stalled, e) f h = absurd cc
     go (manager_offer.Sent handed, e) f h =
         let takes = offered-passes config link ch x sys.manager handed
         (ap (λ (p : manager_offer.Reception w × manager_end.End w). p.0) f) in
         record { takes = takes; step_is = ap (λ p. manager_took link.0 ch x queue p sys) takes }
+    go a f h = absurd cc
 
 pub manager-moves : {w : ℕ} (config : Config) (link : Link) (ch : Channel) (sys : System w) (terms : client.EndConfig)
     (x : Beat w) (queue : List (Beat w))
@@ -232,8 +228,7 @@ manager-heard {w} config link ch x queue sys step width typed kept is d = λ at.
     go channel.A f = one channel.A refl
     go channel.C f = one channel.C refl
     go channel.E f = one channel.E refl
-    go channel.B f = absurd cc
-    go channel.D f = absurd cc
+    go at f = absurd cc
 
 -- ---- a beat that isn't the last of its message
 

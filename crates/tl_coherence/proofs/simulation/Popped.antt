@@ -44,26 +44,20 @@ pub record IsHead (xs ys : List Packet) : Type 0 where
 popped_first : {w : ℕ} (push : Option (Message w)) (move : Move) (render : Kind → ℕ → Message w) (xs ys : List Packet)
     → Fits true push move render → IsMoved move xs ys → IsHead xs ys
 popped_first None (Pops k n) render xs ys fits e = record { first = packet k n; is = e }
-popped_first None Stays render xs ys fits e = absurd fits
-popped_first None (Pushes k n) render xs ys fits e = absurd fits
-popped_first (Some m) move render xs ys fits e = absurd fits
+popped_first push move render xs ys fits e = absurd fits
 
 not_popped : {w : ℕ} (push : Option (Message w)) (move : Move) (render : Kind → ℕ → Message w)
     → Fits false push move render → is_pop move ≡ false
 not_popped None Stays render fits = refl
 not_popped (Some m) (Pushes k n) render fits = refl
-not_popped None (Pops k n) render fits = absurd fits
-not_popped None (Pushes k n) render fits = absurd fits
-not_popped (Some m) Stays render fits = absurd fits
-not_popped (Some m) (Pops k n) render fits = absurd fits
+not_popped push move render fits = absurd fits
 
 pub elsewhere : (c d : ℕ) (ch at : Channel) → (d ≡ c → at ≡ ch → ⊥) → ((d == c) && same_channel at ch) ≡ false
 elsewhere c d ch at ne = go (d == c) (same_channel at ch) refl refl
   where
     go : (a b : Bool) → (d == c) ≡ a → same_channel at ch ≡ b → (a && b) ≡ false
-    go false b e f = refl
-    go true false e f = refl
     go true true e f = absurd (ne (eqb-true d c e) (same_channel-is at ch f))
+    go a b e f = refl
 
 fits_by : {w : ℕ} (a b : Bool) (push : Option (Message w)) (move : Move) (render : Kind → ℕ → Message w) → a ≡ b
     → Fits a push move render → Fits b push move render

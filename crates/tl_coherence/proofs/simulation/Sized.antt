@@ -2,7 +2,7 @@
 -- source: after every event.
 use Rattle.tl_coherence.proofs.simulation.Imports.{Message, MessageA, Config, Cap, Report, block_at, Op, EndConfig}
 use Rattle.tl_coherence.proofs.simulation.Imports.{AbstractState, asked, kind_taken, IsInvariant, NoAcquire, Service}
-use Rattle.tl_coherence.proofs.simulation.Imports.{Free, Waits, GrantSent, GrantTaken, State, SourceState, SourceFree}
+use Rattle.tl_coherence.proofs.simulation.Imports.{Waits, GrantSent, State, SourceState, SourceFree}
 use Rattle.tl_coherence.proofs.simulation.Imports.{Asked, InService, Replied, Acquires, terms_at, Kind, Request}
 use Rattle.tl_coherence.proofs.simulation.Imports.{Acquire, Probe, ProbeAck, Release, Answer, Grant, ReleaseAck}
 use Rattle.tl_coherence.proofs.simulation.Imports.{GrantAck, Packet, set_at}
@@ -58,9 +58,7 @@ strange_access : {w : ℕ} (config : Config) (c source : ℕ) (m : MessageA w) (
     → AreStrange config (access_taken c source m tracker p o rest h).state.uses
 strange_access config c source m tracker true (Some k) rest h terms known before =
     strange_set config c source (InService (block_at m.address)) h.state.uses terms known before
-strange_access config c source m tracker true None rest h terms known before =
-    strange_set config c source Replied h.state.uses terms known before
-strange_access config c source m tracker false o rest h terms known before =
+strange_access config c source m tracker p o rest h terms known before =
     strange_set config c source Replied h.state.uses terms known before
 
 strange_request : {w : ℕ} (config : Config) (clients c source : ℕ) (m : Message w) (tracker : ℕ) (rest : List Packet)
@@ -69,10 +67,7 @@ strange_request : {w : ℕ} (config : Config) (clients c source : ℕ) (m : Mess
     → AreStrange config (request_taken clients c source m tracker rest h).state.uses
 strange_request config clients c source (message.A m) tracker rest h terms known before =
     strange_access config c source m tracker _ _ rest h terms known before
-strange_request config clients c source (message.B m) tracker rest h terms known before = before
-strange_request config clients c source (message.C m) tracker rest h terms known before = before
-strange_request config clients c source (message.D m) tracker rest h terms known before = before
-strange_request config clients c source (message.E m) tracker rest h terms known before = before
+strange_request config clients c source m tracker rest h terms known before = before
 
 strange_acquire : {w : ℕ} (config : Config) (clients : ℕ) (p : Profile) (c n : ℕ) (x : AcquirePhase) (tracker : ℕ)
     (rest : List Packet) (h : AbstractState w) → AreStrange config h.state.uses
@@ -95,21 +90,17 @@ strange_last : {w : ℕ} (config : Config) (clients : ℕ) (p : Profile) (c n : 
     (rest : List Packet) (h : AbstractState w)
     → ((q source : ℕ) (k : Cap) → v ≡ Waits q false source k → h.state.uses q source ≡ SourceFree → ⊥)
     → AreStrange config h.state.uses → AreStrange config (last_taken clients p c n r v rest h).state.uses
-strange_last config clients p c n r Free rest h used before = before
 strange_last config clients p c n r (Waits q true source k) rest h used before =
     strange_granted config clients p c q n r ((h.state.block n).pair q).acquiring rest h before
 strange_last config clients p c n r (Waits q false source k) rest h used before =
     strange_used config q source Replied h.state.uses (used q source k refl) before
-strange_last config clients p c n r (GrantSent q d k) rest h used before = before
-strange_last config clients p c n r (GrantTaken q) rest h used before = before
+strange_last config clients p c n r v rest h used before = before
 
 strange_taken : {w : ℕ} (config : Config) (c n : ℕ) (v : Service) (rest : List Packet) (h : AbstractState w)
     → AreStrange config h.state.uses → AreStrange config (taken_by_client c n v rest h).state.uses
-strange_taken config c n Free rest h before = before
-strange_taken config c n (Waits q own source k) rest h before = before
 strange_taken config c n (GrantSent q d k) rest h before = strange_closed config c ((h.state.block n).source c)
     h.state.uses before
-strange_taken config c n (GrantTaken q) rest h before = before
+strange_taken config c n v rest h before = before
 
 pub strangers-kind_taken : {w : ℕ} (caching : ℕ → Bool) (config : Config) (tracker c : ℕ) (k : Kind) (i : ℕ)
     (rest : List Packet) (h : AbstractState w) (terms : EndConfig)

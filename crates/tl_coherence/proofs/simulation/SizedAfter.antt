@@ -1,11 +1,11 @@
 -- The bytes of each block are 64, and each access that is under way has its source, after every event.
 use Rattle.tl_coherence.proofs.simulation.Imports.{Message, MessageA, Config, Cap, Report, block_at, Op, AbstractState}
-use Rattle.tl_coherence.proofs.simulation.Imports.{asked, kind_taken, IsTypedOp, IsInvariant, NoAcquire, Service, Free}
-use Rattle.tl_coherence.proofs.simulation.Imports.{Waits, GrantSent, GrantTaken, Block, State}
+use Rattle.tl_coherence.proofs.simulation.Imports.{asked, kind_taken, IsTypedOp, IsInvariant, NoAcquire, Service}
+use Rattle.tl_coherence.proofs.simulation.Imports.{Waits, GrantSent, Block, State}
 use Rattle.tl_coherence.proofs.simulation.Imports.{Kind, Request}
 use Rattle.tl_coherence.proofs.simulation.Imports.{Acquire, Probe, ProbeAck, Release, Answer, Grant, ReleaseAck}
 use Rattle.tl_coherence.proofs.simulation.Imports.{GrantAck, Packet, set}
-use Rattle.std.proofs.Common.{◌≡◌, ℕ, ◌*◌, Bool, true, false, ◌&&◌, List, Option, Some, None, refl, sym, ◌∙◌, ap}
+use Rattle.std.proofs.Common.{◌≡◌, ℕ, ◌*◌, Bool, true, false, ◌&&◌, List, Option, Some, refl, sym, ◌∙◌, ap}
 use Rattle.std.proofs.Common.{◌⊎◌, inl, inr}
 use Rattle.std.specs.Prelude.{◌==◌, if◌then◌else◌, length, ⊤}
 use Rattle.std.proofs.lemmas.Bool.{cases_eq}
@@ -98,9 +98,8 @@ sized_taken_block c d k b h = sized_same b (taken_block c (is_whole (b.pair c).a
   where
     bytes : (x : AcquirePhase) → (b.pair c).acquiring ≡ x
         → length (granted_truth (is_whole x) (b.waiting c) b.truth) ≡ 64
-    bytes NoAcquire e = h.truth
     bytes (AcquireOpen true g) e = h.waiting c (ap is_whole e)
-    bytes (AcquireOpen false g) e = h.truth
+    bytes x e = h.truth
 
     storing : (i : ℕ) → (i ≡ c) ⊎ (i ≡ c → ⊥) → is_whole (set c (after_grant k (b.pair c)) b.pair i).acquiring ≡ true
         → is_whole (b.pair i).acquiring ≡ true
@@ -132,16 +131,12 @@ sized_access {w} c source m tracker p o rest h before = go p o
     go : (p : Bool) (o : Option Cap) → AllSized (access_taken c source m tracker p o rest h).state
     go true (Some k) i = sized_block n (served_block c false source tracker k b) h.state.block
         (sized_served c false source tracker k b (before n)) before i
-    go true None i = answered i
-    go false o i = answered i
+    go p o i = answered i
 
 sized_request : {w : ℕ} (clients c source : ℕ) (m : Message w) (tracker : ℕ) (rest : List Packet) (h : AbstractState w)
     → AllSized h.state → AllSized (request_taken clients c source m tracker rest h).state
 sized_request clients c source (message.A m) tracker rest h before = sized_access c source m tracker _ _ rest h before
-sized_request clients c source (message.B m) tracker rest h before = before
-sized_request clients c source (message.C m) tracker rest h before = before
-sized_request clients c source (message.D m) tracker rest h before = before
-sized_request clients c source (message.E m) tracker rest h before = before
+sized_request clients c source m tracker rest h before = before
 
 sized_acquire : {w : ℕ} (clients : ℕ) (p : Profile) (c n : ℕ) (x : AcquirePhase) (tracker : ℕ) (rest : List Packet)
     (h : AbstractState w) → AllSized h.state
@@ -168,7 +163,6 @@ sized_granted clients p c q n r (AcquireOpen whole g) rest h before =
 
 sized_last : {w : ℕ} (clients : ℕ) (p : Profile) (c n : ℕ) (r : Report) (v : Service) (rest : List Packet)
     (h : AbstractState w) → AllSized h.state → AllSized (last_taken clients p c n r v rest h).state
-sized_last clients p c n r Free rest h before = before
 sized_last clients p c n r (Waits q true source k) rest h before =
     sized_granted clients p c q n r ((h.state.block n).pair q).acquiring rest h before
 sized_last clients p c n r (Waits q false source k) rest h before = λ i.
@@ -177,16 +171,13 @@ sized_last clients p c n r (Waits q false source k) rest h before = λ i.
     (length-bytes _ (64 * block_at (h.request n).address) 64)
     (λ j. refl) (λ j e. still_acquires c (after_report r ((h.state.block n).pair c)) (h.state.block n).pair refl j e)
     (before n)) before i
-sized_last clients p c n r (GrantSent q d k) rest h before = before
-sized_last clients p c n r (GrantTaken q) rest h before = before
+sized_last clients p c n r v rest h before = before
 
 sized_taken : {w : ℕ} (c n : ℕ) (v : Service) (rest : List Packet) (h : AbstractState w) → AllSized h.state
     → AllSized (taken_by_client c n v rest h).state
-sized_taken c n Free rest h before = before
-sized_taken c n (Waits q own source k) rest h before = before
 sized_taken c n (GrantSent q d k) rest h before =
     λ i. sized_block n _ h.state.block (sized_taken_block c d k (h.state.block n) (before n)) before i
-sized_taken c n (GrantTaken q) rest h before = before
+sized_taken c n v rest h before = before
 
 pub sized-kind_taken : {w : ℕ} (config : Config) (tracker c : ℕ) (k : Kind) (i : ℕ) (rest : List Packet)
     (h : AbstractState w) → AllSized h.state → AllSized (kind_taken config tracker c k i rest h).state

@@ -4,14 +4,13 @@ use Rattle.tl_coherence.proofs.simulation.Imports.{Verdict, Deliver, IsTypedOp, 
 use Rattle.tl_coherence.proofs.simulation.Imports.{stepped_at, client_took, is_to_client, System, terms_at}
 use Rattle.tl_coherence.proofs.simulation.Imports.{with_channel, with_messages, SimulationRelation}
 use Rattle.std.proofs.Common.{◌≡◌, ℕ, Bool, true, false, List, [], ◌∷◌, Option, Some, None, refl, ◌∙◌, ap, subst}
-use Rattle.std.specs.Prelude.{if◌then◌else◌, All, length, Result, Ok, Err, unwrap_or, is_some}
+use Rattle.std.specs.Prelude.{if◌then◌else◌, All, length, Result, Ok, unwrap_or, is_some}
 use Rattle.std.proofs.lemmas.List.Elements.{All-head}
 use Rattle.tl_params.specs.declared.perm.Perm.{Perm}
 use Rattle.tl_params.specs.declared.perm.Perm.TheVariants as perm
 use Rattle.tl_rules.specs.statement.Conformance.{same_perm}
 use Rattle.tl_client.specs.declared.verdict.Verdict.TheVariants as verdict
 use Rattle.tl_client.specs.statement.Ask as ask
-use Rattle.tl_client.specs.statement.Ask.{Asked}
 use Rattle.tl_client.specs.statement.Endpoint as client
 use Rattle.tl_client.specs.statement.Endpoint.{zeros, copy_at}
 use Rattle.tl_client.specs.statement.EndpointInvariant.{holds}
@@ -79,9 +78,6 @@ judged_good : {w : ℕ} (config : Config) (c : ℕ) (ch : Channel) (x : Beat w) 
     → terms_at config c ≡ Some terms → IsSoundAnswer terms.level a → IsFitAnswer config.blocks a
     → sys.channels c ch ≡ x ∷ queue → AllGood config sys
     → AllGood config (judged a c ch x queue e sys).after
-judged_good config c ch x queue (Err rule) e sys terms width known sound fit first before d at = before d at
-judged_good config c ch x queue (Ok (verdict.Stalled, m)) e sys terms width known sound fit first before d at =
-    before d at
 judged_good config c ch x queue (Ok (verdict.Taken, m)) e sys terms width known sound fit first before d at =
     one_good config c m (with_client c e (with_channel c ch queue sys)) terms width known sound fit
     (all-popped (IsGood config) c ch x queue sys first before) d at
@@ -89,6 +85,7 @@ judged_good config c ch x queue (Ok (verdict.Done source finish, m)) e sys terms
     at =
     one_good config c m (with_client c e (with_channel c ch queue sys)) terms width known sound fit
     (all-popped (IsGood config) c ch x queue sys first before) d at
+judged_good config c ch x queue a e sys terms width known sound fit first before d at = before d at
 
 manager_good : {w : ℕ} (config : Config) (link : Link) (ch : Channel) (x : Beat w) (queue : List (Beat w))
     (j : manager_offer.Judgement) (e : manager_end.End w)

@@ -1,11 +1,11 @@
 -- Accesses and their sources fit each other after each event.
 use Rattle.tl_coherence.proofs.simulation.Imports.{Message, MessageA, Config, Cap, Report, block_at, Op, AbstractState}
-use Rattle.tl_coherence.proofs.simulation.Imports.{asked, kind_taken, IsInvariant, NoAcquire, Service, Free}
-use Rattle.tl_coherence.proofs.simulation.Imports.{Waits, GrantSent, GrantTaken, State, SourceState, SourceFree}
+use Rattle.tl_coherence.proofs.simulation.Imports.{asked, kind_taken, IsInvariant, NoAcquire, Service}
+use Rattle.tl_coherence.proofs.simulation.Imports.{Waits, GrantSent, State, SourceState, SourceFree}
 use Rattle.tl_coherence.proofs.simulation.Imports.{Asked, InService, Replied, Acquires, packet, on, Kind, Request}
 use Rattle.tl_coherence.proofs.simulation.Imports.{Acquire, Probe, ProbeAck, Release, Answer, Grant, ReleaseAck}
 use Rattle.tl_coherence.proofs.simulation.Imports.{GrantAck, Packet, set, set_at}
-use Rattle.std.proofs.Common.{◌≡◌, ℕ, Bool, true, false, List, ◌∷◌, Option, Some, None, refl, ◌∙◌, ap}
+use Rattle.std.proofs.Common.{◌≡◌, ℕ, Bool, true, false, List, ◌∷◌, Option, Some, refl, ◌∙◌, ap}
 use Rattle.std.proofs.Common.{inl, inr}
 use Rattle.std.specs.Prelude.{if◌then◌else◌, ⊤}
 use Rattle.std.proofs.lemmas.Bool.{cases_eq, ne_eqb}
@@ -55,10 +55,7 @@ sourced_access : {w : ℕ} (config : Config) (c source : ℕ) (m : MessageA w) (
 sourced_access config c source m tracker true (Some k) rest h used before =
     sourced_set config h.mail.request c source (InService (block_at m.address)) h.state.uses
     (asked_request config c source (h.mail.request c source) (h.state.uses c source) used (before c source)) before
-sourced_access config c source m tracker true None rest h used before =
-    sourced_set config h.mail.request c source Replied h.state.uses
-    (asked_request config c source (h.mail.request c source) (h.state.uses c source) used (before c source)) before
-sourced_access config c source m tracker false o rest h used before =
+sourced_access config c source m tracker p o rest h used before =
     sourced_set config h.mail.request c source Replied h.state.uses
     (asked_request config c source (h.mail.request c source) (h.state.uses c source) used (before c source)) before
 
@@ -69,10 +66,7 @@ sourced_request : {w : ℕ} (config : Config) (clients c source : ℕ) (m : Mess
     (request_taken clients c source m tracker rest h).state.uses
 sourced_request config clients c source (message.A m) tracker rest h used before =
     sourced_access config c source m tracker _ _ rest h used before
-sourced_request config clients c source (message.B m) tracker rest h used before = before
-sourced_request config clients c source (message.C m) tracker rest h used before = before
-sourced_request config clients c source (message.D m) tracker rest h used before = before
-sourced_request config clients c source (message.E m) tracker rest h used before = before
+sourced_request config clients c source m tracker rest h used before = before
 
 sourced_acquire : {w : ℕ} (config : Config) (clients : ℕ) (p : Profile) (c n : ℕ) (x : AcquirePhase) (tracker : ℕ)
     (rest : List Packet) (h : AbstractState w) → AreSourced config h.mail.request h.state.uses
@@ -99,24 +93,20 @@ sourced_last : {w : ℕ} (config : Config) (clients : ℕ) (p : Profile) (c n : 
     → AreSourced config h.mail.request h.state.uses
     → AreSourced config (last_taken clients p c n r v rest h).mail.request
     (last_taken clients p c n r v rest h).state.uses
-sourced_last config clients p c n r Free rest h used before = before
 sourced_last config clients p c n r (Waits q true source k) rest h used before =
     sourced_granted config clients p c q n r ((h.state.block n).pair q).acquiring rest h before
 sourced_last config clients p c n r (Waits q false source k) rest h used before =
     sourced_set config h.mail.request q source Replied h.state.uses
     (served-request config q source n (h.mail.request q source) (h.state.uses q source) (used q source k refl)
     (before q source)) before
-sourced_last config clients p c n r (GrantSent q d k) rest h used before = before
-sourced_last config clients p c n r (GrantTaken q) rest h used before = before
+sourced_last config clients p c n r v rest h used before = before
 
 sourced_taken : {w : ℕ} (config : Config) (c n : ℕ) (v : Service) (rest : List Packet) (h : AbstractState w)
     → AreSourced config h.mail.request h.state.uses
     → AreSourced config (taken_by_client c n v rest h).mail.request (taken_by_client c n v rest h).state.uses
-sourced_taken config c n Free rest h before = before
-sourced_taken config c n (Waits q own source k) rest h before = before
 sourced_taken config c n (GrantSent q d k) rest h before =
     sourced_set config h.mail.request c ((h.state.block n).source c) SourceFree h.state.uses tt before
-sourced_taken config c n (GrantTaken q) rest h before = before
+sourced_taken config c n v rest h before = before
 
 pub first-asked : {w : ℕ} (caching : ℕ → Bool) (c i : ℕ) (rest : List Packet) (h : AbstractState w)
     → IsInvariant caching h.state

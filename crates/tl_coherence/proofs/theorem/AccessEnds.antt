@@ -118,8 +118,7 @@ ends_answered {w} o m d (memory.Bytes bytes) beats width lawful answer reach bur
 finish_sourced : {w : ℕ} (source : ℕ) (m : MessageA w) (r : memory.AccessResult)
     → finish_with (message.A (sourced source m)) r ≡ finish_with (message.A m) r
 finish_sourced source m memory.Done = refl
-finish_sourced source m memory.Hinted = refl
-finish_sourced source m (memory.Bytes bytes) = refl
+finish_sourced source m r = refl
 
 -- ---- as the machine allows
 
@@ -128,8 +127,7 @@ open_ends : {w : ℕ} (c source : ℕ) (m : Machine w) (a : MessageA w) (r : mem
     → m.opened c Requests source ≡ Some (record { asked = Access (message.A a); answer = Some r })
     → Ends (m.opened c (pool_of (finish_with (message.A a) r)) source) x (finish_with (message.A a) r)
 open_ends c source m a memory.Done x e = rw e refl
-open_ends c source m a memory.Hinted x e = rw e refl
-open_ends c source m a (memory.Bytes bytes) x e = rw e refl
+open_ends c source m a r x e = rw e refl
 
 -- a request that is open is the pending one
 request_open : {w : ℕ} (source : ℕ) (x : BeatA w) (t : History w) → open_beat source t ≡ Some x

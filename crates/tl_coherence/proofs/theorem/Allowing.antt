@@ -1,8 +1,8 @@
 -- What the one-memory machine allows at a delivery: how a Grant and a ReleaseAck end their operations.
 use Rattle.tl_coherence.proofs.theorem.Imports.{Beat, Link, Channel, Config, Grow, Perm, Finish, AbstractState, Log}
 use Rattle.tl_coherence.proofs.theorem.Imports.{system_after, Ends, Machine, pool_of, AcquirePhase, AcquireOpen, packet}
-use Rattle.tl_coherence.proofs.theorem.Imports.{one_memory_after, System, Kind, Request, Acquire, Probe, ProbeAck}
-use Rattle.tl_coherence.proofs.theorem.Imports.{Release, Answer, Grant, ReleaseAck, GrantAck, SimulationRelation}
+use Rattle.tl_coherence.proofs.theorem.Imports.{one_memory_after, System, Kind}
+use Rattle.tl_coherence.proofs.theorem.Imports.{Answer, Grant, ReleaseAck, SimulationRelation}
 use Rattle.tl_coherence.proofs.theorem.Imports.{is_caching}
 use Rattle.std.proofs.Common.{◌≡◌, ℕ, Bool, true, false, List, ◌∷◌, Option, Some, None, refl, sym, ◌∙◌, ap, subst}
 use Rattle.tl_beat.specs.declared.channel.Channel.TheVariants as channel
@@ -125,9 +125,4 @@ ends-transfer {w} config log link ch h x source f is end other = go end.first.ki
         subst (λ (i : Finish). Ends (m.opened c (pool_of i) source) x i) (sym fin)
         (let_open n (h.state.lets c source) (m.opened c Releases source) x lets (is.beside.releases c source))
     go Answer e own = absurd (other e)
-    go Request e own = absurd (let g : false ≡ true = rw e at own in cc)
-    go Acquire e own = absurd (let g : false ≡ true = rw e at own in cc)
-    go Probe e own = absurd (let g : false ≡ true = rw e at own in cc)
-    go ProbeAck e own = absurd (let g : false ≡ true = rw e at own in cc)
-    go Release e own = absurd (let g : false ≡ true = rw e at own in cc)
-    go GrantAck e own = absurd (let g : false ≡ true = rw e at own in cc)
+    go k e own = absurd (let g : false ≡ true = rw e at own in cc)

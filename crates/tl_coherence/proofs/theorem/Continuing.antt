@@ -37,11 +37,9 @@ use Rattle.tl_coherence.proofs.queues.Steps.{stepped-empty}
 
 ours-quiet : {w : ℕ} (c : ℕ) (m : Message w) → IsOfClient m → accesses_answered (handed_by c (Some m)) ≡ []
 unfolding accesses_answered
-ours-quiet c (message.A m) is = refl
-ours-quiet c (message.C m) is = refl
-ours-quiet c (message.E m) is = refl
 ours-quiet c (message.B m) is = absurd is
 ours-quiet c (message.D m) is = absurd is
+ours-quiet c m is = refl
 
 none-quiet : (w c : ℕ) → accesses_answered (handed_by {w = w} c None) ≡ []
 unfolding accesses_answered
@@ -164,10 +162,7 @@ answering-delivered {w} config log link ch h width is = go (is_moving (stepped c
         acked : (y : Beat w) → channel_of y ≡ channel.E → accesses_answered (reaction config link y sys.manager).handed
             ≡ []
         acked (beat.E y) e = ack-none config link (beat.E y) sys y refl
-        acked (beat.A y) e = absurd cc
-        acked (beat.B y) e = absurd cc
-        acked (beat.C y) e = absurd cc
-        acked (beat.D y) e = absurd cc
+        acked y e = absurd cc
 
     found : (o : Option EndConfig) → terms_at config c ≡ o
         → is_moving (stepped config (Deliver link ch) sys).outcome ≡ true → Then ch

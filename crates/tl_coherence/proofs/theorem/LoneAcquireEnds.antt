@@ -171,8 +171,7 @@ alone config log client block source n grow none given drains =
 
 is_trunk : (held : Perm) → same_perm perm.Trunk held ≡ true → held ≡ perm.Trunk
 is_trunk perm.Trunk e = refl
-is_trunk perm.Branch e = absurd cc
-is_trunk perm.None e = absurd cc
+is_trunk held e = absurd cc
 
 whole-brings : (p : Profile) (before held : Perm) → grown_to p (whole_grow before) held ≡ true → held ≡ perm.Trunk
 whole-brings profile.One perm.None held e = is_trunk held e

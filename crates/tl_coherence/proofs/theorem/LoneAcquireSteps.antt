@@ -56,9 +56,7 @@ grown p (AcquireOpen whole g) held = grown_to p g held
 abbrev pub Brings : Profile → ℕ → AcquirePhase → SourceState → ClientBlock → Type 0
 Brings p n a SourceFree x = grown p a x.held ≡ true
 Brings p n a (Acquires m) x = (m ≡ n) × (x.acquiring ≡ a)
-Brings p n a Asked x = ⊥
-Brings p n a (InService m) x = ⊥
-Brings p n a Replied x = ⊥
+Brings p n a _ x = ⊥
 
 -- client c's Acquire of block n with this source is alone: no other source is in use
 pub record IsLone (p : Profile) (c n source : ℕ) (a : AcquirePhase) (s : State (List ℕ)) : Type 0 where
@@ -74,9 +72,7 @@ brings_steady : (p : Profile) (n : ℕ) (a : AcquirePhase) (u v : SourceState) (
     → Brings p n a u x → Brings p n a v y
 brings_steady p n a SourceFree v x y e same is = rw e (ap (grown p a) same.0 ∙ is)
 brings_steady p n a (Acquires m) v x y e same is = rw e (is.0, same.1 ∙ is.1)
-brings_steady p n a Asked v x y e same is = absurd is
-brings_steady p n a (InService m) v x y e same is = absurd is
-brings_steady p n a Replied v x y e same is = absurd is
+brings_steady p n a u v x y e same is = absurd is
 
 steady_at : (m : ℕ) (b : Block (List ℕ)) (block : ℕ → Block (List ℕ)) (i d : ℕ)
     → (i ≡ m → IsSteady ((block m).pair d) (b.pair d)) → IsSteady ((block i).pair d) ((set m b block i).pair d)
@@ -114,25 +110,13 @@ steady_granted d q r k pair j =
 grows : (p : Profile) (whole : Bool) (g : Grow) (k : Cap) → cap_fits whole g k ≡ true
     → gives_asked p (AcquireOpen whole g) k ≡ true → grown_to p g (cap_right k) ≡ true
 grows profile.One false grow.NtoB cap.ToB e f = refl
-grows profile.One false grow.NtoB cap.ToT e f = absurd cc
 grows profile.Two false grow.NtoB cap.ToB e f = refl
 grows profile.Two false grow.NtoB cap.ToT e f = refl
 grows profile.One whole grow.NtoT cap.ToT e f = refl
 grows profile.Two whole grow.NtoT cap.ToT e f = refl
 grows profile.One whole grow.BtoT cap.ToT e f = refl
 grows profile.Two whole grow.BtoT cap.ToT e f = refl
-grows p false grow.NtoB cap.ToN e f = absurd cc
-grows p true grow.NtoB cap.ToN e f = absurd cc
-grows p true grow.NtoB cap.ToB e f = absurd cc
-grows p true grow.NtoB cap.ToT e f = absurd cc
-grows p false grow.NtoT cap.ToB e f = absurd cc
-grows p true grow.NtoT cap.ToB e f = absurd cc
-grows p false grow.NtoT cap.ToN e f = absurd cc
-grows p true grow.NtoT cap.ToN e f = absurd cc
-grows p false grow.BtoT cap.ToB e f = absurd cc
-grows p true grow.BtoT cap.ToB e f = absurd cc
-grows p false grow.BtoT cap.ToN e f = absurd cc
-grows p true grow.BtoT cap.ToN e f = absurd cc
+grows p whole g k e f = absurd cc
 
 fits_cap : (recorded held : Perm) (d : Bool) (k : Cap) (whole : Bool) (g : Grow)
     → grant_fits recorded held d k (AcquireOpen whole g) ≡ true → cap_fits whole g k ≡ true
@@ -169,9 +153,7 @@ module _ (p : Profile) (c n source : ℕ) (a : AcquirePhase) where
           → (s.uses d i ≡ SourceFree) ⊎ IsOwn s d i
       go SourceFree e b x y = inl (ap₂ s.uses x y ∙ e)
       go (Acquires m) e b x y = inr (x, y, ap₂ s.uses x y ∙ e ∙ ap Acquires b.0, b.1)
-      go Asked e b x y = absurd b
-      go (InService m) e b x y = absurd b
-      go Replied e b x y = absurd b
+      go u e b x y = absurd b
 
   no_access : (s : State (List ℕ)) (d i : ℕ) (u : SourceState) → IsLone p c n source a s → s.uses d i ≡ u
       → is_access u ≡ true → ⊥
@@ -274,13 +256,11 @@ module _ (p : Profile) (c n source : ℕ) (a : AcquirePhase) where
       (h : AbstractState w)
       → ((q i : ℕ) (k : Cap) → v ≡ Waits q false i k → h.state.uses q i ≡ InService m) → IsLone p c n source a h.state
       → IsLone p c n source a (last_taken clients profile d m r v rest h).state
-  lone_last clients profile d m r Free rest h used is = is
   lone_last clients profile d m r (Waits q true i k) rest h used is =
       lone_granted clients profile d q m r ((h.state.block m).pair q).acquiring rest h is
   lone_last clients profile d m r (Waits q false i k) rest h used is =
       absurd (no_access h.state q i (InService m) is (used q i k refl) refl)
-  lone_last clients profile d m r (GrantSent q e k) rest h used is = is
-  lone_last clients profile d m r (GrantTaken q) rest h used is = is
+  lone_last clients profile d m r v rest h used is = is
 
   lone_grant : {w : ℕ} (config : Config) (tracker d m : ℕ) (rest : List Packet) (h : AbstractState w)
       → AreGiven p h.state → IsGrantDue d m h.state

@@ -36,12 +36,9 @@ use Rattle.tl_coherence.proofs.queues.Steps.{stepped-asked}
 -- ---- what a delivery can come to
 
 is_delivered : {w : ℕ} → Outcome w → Bool
-is_delivered outcome.Empty = true
-is_delivered outcome.Stalled = true
-is_delivered (outcome.Moved x) = true
-is_delivered (outcome.Done x source f) = true
 is_delivered (outcome.Replied r) = false
 is_delivered outcome.NoSuchClient = false
+is_delivered _ = true
 
 delivered-so : {w : ℕ} (config : Config) (terms : EndConfig) (c : ℕ) (ch : Channel) (beats : List (Beat w))
     (s : System w) → is_delivered (step.delivered config terms c ch beats s).outcome ≡ true
@@ -59,8 +56,7 @@ delivered-so {w} config terms c ch (x ∷ rest) s = go (is_to_client ch)
     of_manager : (a : manager.Reception w × manager_end.End w)
         → is_delivered (manager_took c ch x rest a s).outcome ≡ true
     of_manager (manager.Refused rule, e) = refl
-    of_manager (manager.Stalled, e) = refl
-    of_manager (manager.Sent handed, e) = refl
+    of_manager a = refl
 
     go : (b : Bool) → is_delivered (if b then judged (offered terms ch x (s.clients c)).answer c ch x rest
         (offered terms ch x (s.clients c)).after s else manager_took c ch x rest
@@ -81,21 +77,6 @@ step_allowed : {w : ℕ} (config : Config) (link : Link) (ch : Channel) (o : Out
     → (ch ≡ channel.D) × Ends (m.opened link.0 (pool_of f) source) x f)
     → IsStep config (Deliver link ch) o m (moved (Deliver link ch) o m)
 unfolding is_delivered
-step_allowed config link channel.A outcome.Empty m so known done = (known, tt, refl)
-step_allowed config link channel.B outcome.Empty m so known done = (known, tt, refl)
-step_allowed config link channel.C outcome.Empty m so known done = (known, tt, refl)
-step_allowed config link channel.D outcome.Empty m so known done = (known, tt, refl)
-step_allowed config link channel.E outcome.Empty m so known done = (known, tt, refl)
-step_allowed config link channel.A outcome.Stalled m so known done = (known, tt, refl)
-step_allowed config link channel.B outcome.Stalled m so known done = (known, tt, refl)
-step_allowed config link channel.C outcome.Stalled m so known done = (known, tt, refl)
-step_allowed config link channel.D outcome.Stalled m so known done = (known, tt, refl)
-step_allowed config link channel.E outcome.Stalled m so known done = (known, tt, refl)
-step_allowed config link channel.A (outcome.Moved x) m so known done = (known, tt, refl)
-step_allowed config link channel.B (outcome.Moved x) m so known done = (known, tt, refl)
-step_allowed config link channel.C (outcome.Moved x) m so known done = (known, tt, refl)
-step_allowed config link channel.D (outcome.Moved x) m so known done = (known, tt, refl)
-step_allowed config link channel.E (outcome.Moved x) m so known done = (known, tt, refl)
 step_allowed config link channel.D (outcome.Done x source f) m so known done = (known, (done x source f refl).1, refl)
 step_allowed config link channel.A (outcome.Done x source f) m so known done =
     absurd (let e = (done x source f refl).0 in cc)
@@ -107,6 +88,7 @@ step_allowed config link channel.E (outcome.Done x source f) m so known done =
     absurd (let e = (done x source f refl).0 in cc)
 step_allowed config link ch (outcome.Replied r) m so known done = absurd cc
 step_allowed config link ch outcome.NoSuchClient m so known done = absurd cc
+step_allowed config link ch o m so known done = (known, tt, refl)
 
 -- ---- events
 

@@ -1,7 +1,7 @@
 -- An access is performed at a moment at which no link holds what excludes it.
 use Rattle.tl_coherence.proofs.flow.Imports.{BeatA, Channel, Message, MessageA, Config, Log, AbstractState}
 use Rattle.tl_coherence.proofs.flow.Imports.{SimulationRelation, MonitorRelations, AccessMessages, State, SourceState}
-use Rattle.tl_coherence.proofs.flow.Imports.{SourceFree, Asked, InService, Replied, Acquires, a_beat_of, block_at}
+use Rattle.tl_coherence.proofs.flow.Imports.{SourceFree, Replied, Acquires, a_beat_of, block_at}
 use Rattle.tl_coherence.proofs.flow.Imports.{on_link, request_of}
 use Rattle.std.proofs.Common.{◌≡◌, ℕ, true, List, [], ◌∷◌, Option, Some, None, refl, sym, ◌∙◌, ap, subst, inl, inr}
 use Rattle.tl_beat.specs.declared.beat.Link.{Link}
@@ -46,20 +46,16 @@ replied : {w : ℕ} (c source : ℕ) (mail : AccessMessages w) (s : State (List 
     (opened : Option (Open w)) (m : Message w) (r : AccessResult) → IsOpened c source mail s u opened
     → opened ≡ Some (record { asked = op.Access m; answer = Some r }) → u ≡ Replied
 replied c source mail s SourceFree opened m r is e = absurd (let same = sym is ∙ e in cc)
-replied c source mail s Asked opened m r is e = absurd (unanswered opened _ (op.Access m) r is.2 e)
-replied c source mail s (InService n) opened m r is e = absurd (unanswered opened _ (op.Access m) r is.2 e)
 replied c source mail s Replied opened m r is e = refl
 replied c source mail s (Acquires n) opened m r is e = absurd (unanswered opened _ (op.Access m) r is e)
+replied c source mail s u opened m r is e = absurd (unanswered opened _ (op.Access m) r is.2 e)
 
 -- one that is open without an answer isn't
 unreplied : {w : ℕ} (c source : ℕ) (mail : AccessMessages w) (s : State (List ℕ)) (u : SourceState)
     (opened : Option (Open w)) (m : Message w) → IsOpened c source mail s u opened
     → opened ≡ Some (record { asked = op.Access m; answer = None }) → u ≡ Replied → ⊥
 unreplied c source mail s Replied opened m is e f = unanswered opened (op.Access m) _ is.0 e is.1.2
-unreplied c source mail s SourceFree opened m is e f = cc
-unreplied c source mail s Asked opened m is e f = cc
-unreplied c source mail s (InService n) opened m is e f = cc
-unreplied c source mail s (Acquires n) opened m is e f = cc
+unreplied c source mail s u opened m is e f = cc
 
 same_one : (a b : ℕ × ℕ) (rest : List (ℕ × ℕ)) → a ∷ rest ≡ b ∷ [] → (b ≡ a) × (rest ≡ [])
 same_one a b rest e = (cc, cc)

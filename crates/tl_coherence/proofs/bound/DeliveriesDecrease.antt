@@ -4,11 +4,11 @@ use Rattle.tl_coherence.proofs.bound.Imports.{is_moving, AbstractState, kind_tak
 use Rattle.tl_coherence.proofs.bound.Imports.{packet, packets_on, message_of_kind, stepped, System, Kind, Request}
 use Rattle.tl_coherence.proofs.bound.Imports.{Acquire, Probe, ProbeAck, Release, Answer, Grant, ReleaseAck, GrantAck}
 use Rattle.tl_coherence.proofs.bound.Imports.{Packet, SimulationRelation, is_caching}
-use Rattle.std.proofs.Common.{◌≡◌, ℕ, ◌+◌, ◌-◌, ◌<◌, ◌≤◌, Bool, true, false, List, ◌∷◌, refl, sym, ◌∙◌, ap, subst}
+use Rattle.std.proofs.Common.{◌≡◌, ℕ, ◌+◌, ◌-◌, ◌<◌, ◌≤◌, Bool, true, false, List, ◌∷◌, refl, sym, ap, subst}
 use Rattle.std.proofs.Common.{arith}
-use Rattle.std.specs.Prelude.{◌/◌, if◌then◌else◌, length, Some}
+use Rattle.std.specs.Prelude.{◌/◌, length, Some}
 use Rattle.tl_client.specs.statement.Endpoint.{EndConfig}
-use Rattle.tl_coherence.specs.refinement.AbstractStep.{abstract_step, packet_taken}
+use Rattle.tl_coherence.specs.refinement.AbstractStep.{abstract_step}
 use Rattle.tl_coherence.specs.statement.System.{terms_at}
 use Rattle.tl_coherence.proofs.bound.Beginnings.{none-more}
 use Rattle.tl_coherence.proofs.rank.RankDecreases.{stays}
@@ -127,11 +127,7 @@ module _ {w : ℕ} (config : Config) (log : Log w) (h : AbstractState w) (width 
 
           follows : abstract_step config (Deliver link ch) sys h ≡ kind_taken config (next_tracker sys) link.0
               first.kind first.number first.rest h
-          follows =
-              followed-moving config link ch sys h x queue moving beats ∙ ap
-              (λ (b : Bool). if b then packet_taken config (next_tracker sys) link.0
-              (packets_on ch (h.state.link link.0)) h else h) last
-              ∙ ap (λ (l : List Packet). packet_taken config (next_tracker sys) link.0 l h) first.tokens
+          follows = cc (followed-moving config link ch sys h x queue moving beats, last, first.tokens)
       taken x queue terms known beats false part =
           subst (λ (z : AbstractState w). IsLess z sys') (sym follows)
           (owed-begun config log h.mail h.request h.state sys' ch link.0 x queue width matched
@@ -140,9 +136,7 @@ module _ {w : ℕ} (config : Config) (log : Log w) (h : AbstractState w) (width 
           moving) part))
         where
           follows : abstract_step config (Deliver link ch) sys h ≡ h
-          follows = followed-moving config link ch sys h x queue moving beats
-              ∙ ap (λ (b : Bool). if b then packet_taken config (next_tracker sys) link.0
-              (packets_on ch (h.state.link link.0)) h else h) part
+          follows = cc (followed-moving config link ch sys h x queue moving beats, part)
 
       go : ((x : Beat w) × (queue : List (Beat w)) × (terms : EndConfig)
           × ((sys.channels link.0 ch ≡ x ∷ queue) × (terms_at config link.0 ≡ Some terms)))

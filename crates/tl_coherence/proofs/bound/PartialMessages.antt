@@ -1,7 +1,7 @@
 -- What the receiver of each channel has of the message that comes first there, after a delivery that moves a beat.
 use Rattle.tl_coherence.proofs.bound.Imports.{IsWidth, Beat, Link, Channel, completes, Config, Deliver, is_moving}
 use Rattle.tl_coherence.proofs.bound.Imports.{AbstractState, Log, system_after, stepped, System, SimulationRelation}
-use Rattle.std.proofs.Common.{◌≡◌, ℕ, ◌&&◌, Bool, true, false, List, ◌∷◌, Some, refl, sym, ◌∙◌, ap, subst}
+use Rattle.std.proofs.Common.{◌≡◌, ℕ, ◌&&◌, Bool, true, false, List, ◌∷◌, Some, refl, sym, ◌∙◌, subst}
 use Rattle.std.specs.Prelude.{◌==◌, if◌then◌else◌}
 use Rattle.tl_burst.specs.statement.Messages.{grown}
 use Rattle.tl_client.specs.statement.Endpoint.{EndConfig}
@@ -67,6 +67,5 @@ pub grown-begun : {w : ℕ} (c : ℕ) (ch : Channel) (x : Beat w) (sys sys' : Sy
     → IsBegun c ch x (unfinished_at sys) (unfinished_at sys')
 grown-begun c ch x sys sys' is part = record {
   here = is c ch ∙ rw (same_number c, same_channel-refl ch, part) refl;
-  others = λ d at ne. is d at ∙ ap (λ (b : Bool). if b then grown x (unfinished_at sys d at) else unfinished_at sys d
-      at) (elsewhere c d ch at ne);
+  others = λ d at ne. cc (is d at, elsewhere c d ch at ne);
 }

@@ -269,12 +269,14 @@ module _ {w : ℕ} (config : Config) (caching : ℕ → Bool) (n : ℕ) (moves :
       acquire d i e g (inr other) = unserved d i e g (waiting_else d other) (given_else d other)
 
       letting : (d : ℕ) → ((s'.block n).pair d).letting ≡ ((s.block n).pair d).letting
-      letting d =
-          ap (λ (b : Block (List ℕ)). (b.pair d).letting) new
-          ∙ (set-part (λ p. p.letting) q (after_grant_sent gift ((s.block n).pair q))
-          (set c (after_report r was) (s.block n).pair)
-          (sym (set-part (λ p. p.letting) c (after_report r was) (s.block n).pair refl q)) d
-          ∙ set-part (λ p. p.letting) c (after_report r was) (s.block n).pair refl d)
+      letting d = cc (
+        new,
+        set-part (λ p. p.letting) q (after_grant_sent gift ((s.block n).pair q))
+            (set c (after_report r was) (s.block n).pair)
+            (sym (set-part (λ p. p.letting) c (after_report r was) (s.block n).pair refl q)) d,
+        set-part (λ p. p.letting)
+            c (after_report r was) (s.block n).pair refl d,
+      )
 
       block : IsBlockNoMore config caching n moves mail mail' s s' showing c ch rest rest' popped size answer
       block = record {

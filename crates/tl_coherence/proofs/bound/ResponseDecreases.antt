@@ -171,8 +171,7 @@ module _ {w : ℕ} (config : Config) (caching : ℕ → Bool) (n : ℕ) (moves :
       own = ap (λ (f : ℕ → ClientBlock). f c) pairs ∙ set-same c (after_release_taken r was) (s.block n).pair
 
       other : (d : ℕ) → (d ≡ c → ⊥) → (s'.block n).pair d ≡ (s.block n).pair d
-      other d ne = ap (λ (f : ℕ → ClientBlock). f d) pairs ∙ set-other c d (after_release_taken r was) (s.block n).pair
-          ne
+      other d ne = cc (pairs, set-other c d (after_release_taken r was) (s.block n).pair ne)
 
       acked : ((s'.block n).pair c).letting ≡ ReleaseAcked
       acked = ap (λ (p : ClientBlock). p.letting) own

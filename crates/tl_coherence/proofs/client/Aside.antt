@@ -39,18 +39,13 @@ pub aside-block : {w : ℕ} (c n : ℕ) (b : Block (List ℕ)) (mail mail' : Acc
     → ((source : ℕ) → mail'.request c source ≡ mail.request c source)
     → IsAside c mail mail' s s'
 aside-block c n b mail mail' s s' changed aside lets uses request = record {
-  held = λ i. ap (λ (f : ℕ → Block (List ℕ)). ((f i).pair c).held) changed ∙ set-part
-      (λ (x : Block (List ℕ)). (x.pair c).held) n b s.block aside.held i;
-  acquiring = λ i. ap (λ (f : ℕ → Block (List ℕ)). ((f i).pair c).acquiring) changed ∙ set-part
-      (λ (x : Block (List ℕ)). (x.pair c).acquiring) n b s.block aside.acquiring i;
+  held = λ i. cc (changed, set-part (λ (x : Block (List ℕ)). (x.pair c).held) n b s.block aside.held i);
+  acquiring = λ i. cc (changed, set-part (λ (x : Block (List ℕ)). (x.pair c).acquiring) n b s.block aside.acquiring i);
   letting = λ i. ap (λ (f : ℕ → Block (List ℕ)). is_unreleased ((f i).pair c).letting) changed ∙ set-part
       (λ (x : Block (List ℕ)). is_unreleased (x.pair c).letting) n b s.block aside.letting i;
-  source = λ i. ap (λ (f : ℕ → Block (List ℕ)). (f i).source c) changed ∙ set-part (λ (x : Block (List ℕ)). x.source c)
-      n b s.block aside.source i;
-  copy = λ i. ap (λ (f : ℕ → Block (List ℕ)). (f i).copy c) changed ∙ set-part (λ (x : Block (List ℕ)). x.copy c) n b
-      s.block aside.copy i;
-  waiting = λ i. ap (λ (f : ℕ → Block (List ℕ)). (f i).waiting c) changed ∙ set-part
-      (λ (x : Block (List ℕ)). x.waiting c) n b s.block aside.waiting i;
+  source = λ i. cc (changed, set-part (λ (x : Block (List ℕ)). x.source c) n b s.block aside.source i);
+  copy = λ i. cc (changed, set-part (λ (x : Block (List ℕ)). x.copy c) n b s.block aside.copy i);
+  waiting = λ i. cc (changed, set-part (λ (x : Block (List ℕ)). x.waiting c) n b s.block aside.waiting i);
   lets = lets;
   uses = uses;
   request = request;

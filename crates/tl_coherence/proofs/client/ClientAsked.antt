@@ -142,12 +142,12 @@ end-release_asked {w} c n source r copy mail s e width begins kept end =
       releases = is.releases;
       of_block = is.of_block;
       whole = is.whole;
-      held = λ i. column (λ (b : Block (List ℕ)). (b.pair c).held) n new s.block i ∙ ap
-          (λ (q : Perm). cond (i == n) q ((s.block i).pair c).held) (ap (λ (q : ClientBlock). q.held) pair_is);
-      letting = λ i. column (λ (b : Block (List ℕ)). not (is_unreleased (b.pair c).letting)) n new s.block i
-          ∙ ap (λ (x : Bool). cond (i == n) x (not (is_unreleased ((s.block i).pair c).letting)))
-          (ap (λ (q : ClientBlock). not (is_unreleased q.letting)) pair_is)
-          ∙ ap (λ (b : Bool). cond b true (not (is_unreleased ((s.block i).pair c).letting))) (swapped i n);
+      held = λ i. cc (column (λ (b : Block (List ℕ)). (b.pair c).held) n new s.block i, pair_is);
+      letting = λ i. cc (
+        column (λ (b : Block (List ℕ)). not (is_unreleased (b.pair c).letting)) n new s.block i,
+        pair_is,
+        swapped i n,
+      );
       lets = λ i. lets_now i is.from (cases_eq i source);
       acquiring = λ i. set-part (λ (b : Block (List ℕ)). is_wanting (b.pair c).acquiring) n new s.block
           (ap (λ (q : ClientBlock). is_wanting q.acquiring) pair_is) i;

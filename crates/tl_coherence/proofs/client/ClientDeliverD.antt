@@ -142,14 +142,24 @@ pub opened-heard : {w : ℕ} (c : ℕ) (x : BeatD w) (t u : History w) (p : Perm
     → OpenSourceRelation asked c s t → OpenSourceRelation asked' c s' u
 opened-heard {w} c x t u p closes_block closes_release closes_source closes_let asked asked' s s' echo event open_ =
     record {
-      requests = λ i. echo.requests i ∙ source_now i x t ∙ ap (λ (b : Bool). cond b false (pending (RequestSource i) t))
-          (event.source_is i)
-          ∙ ap (λ (b : Bool). cond (closes_source i) false b) (open_.requests i)
-          ∙ sym (none_cond (closes_source i) (asked i)) ∙ ap is_some (sym (event.asks i));
-      releases = λ i. echo.release_sources i ∙ release_source_now i x t ∙ ap
-          (λ (b : Bool). cond b false (pending (ReleaseSource i) t)) (event.let_is i)
-          ∙ ap (λ (b : Bool). cond (closes_let i) false b) (open_.releases i)
-          ∙ sym (none_cond (closes_let i) (s.lets c i)) ∙ ap is_some (sym (event.lets i));
+      requests = λ i. cc (
+        echo.requests i,
+        source_now i x t,
+        event.source_is i,
+        open_.requests i,
+        none_cond
+            (closes_source i) (asked i),
+        event.asks i,
+      );
+      releases = λ i. cc (
+        echo.release_sources i,
+        release_source_now i x t,
+        event.let_is i,
+        open_.releases i,
+        none_cond
+            (closes_let i) (s.lets c i),
+        event.lets i,
+      );
       released = λ i n some. ap (option_map (λ y. block_at y.address)) (echo.released i ∙ release_of-d i x t)
           ∙ open_.released i n (some_kept (closes_let i) (s.lets c i) n (sym (event.lets i) ∙ some));
       sizes = λ i n some. ap (option_map (λ y. y.size)) (echo.released i ∙ release_of-d i x t) ∙ open_.sizes i n

@@ -2,13 +2,13 @@
 use Rattle.tl_coherence.proofs.client.Imports.{IsWidth, Beat, BeatA, BeatD, OpD, Message, MessageA, MessageD}
 use Rattle.tl_coherence.proofs.client.Imports.{unfinished, completes, Config, Cap, Perm, ends, is_grant, is_release_ack}
 use Rattle.tl_coherence.proofs.client.Imports.{request_of, same_perm, Finish, EndConfig, Endpoint, with_past, Offered}
-use Rattle.tl_coherence.proofs.client.Imports.{offered, taken, ended, responded, silent, AbstractState, is_whole}
+use Rattle.tl_coherence.proofs.client.Imports.{offered, taken, ended, responded, AbstractState, is_whole}
 use Rattle.tl_coherence.proofs.client.Imports.{taken_by_client, kind_taken, packet_taken, Log, AcquirePhase}
 use Rattle.tl_coherence.proofs.client.Imports.{AcquireOpen, Service, GrantSent, State, packet, is_on, grant_taken}
 use Rattle.tl_coherence.proofs.client.Imports.{AccessMessages, block_message, System, terms_at, Kind}
 use Rattle.tl_coherence.proofs.client.Imports.{Answer, Grant, ReleaseAck, Packet}
 use Rattle.tl_coherence.proofs.client.Imports.{SimulationRelation, gives_asked, asked_by, is_caching}
-use Rattle.std.proofs.Common.{◌≡◌, subst, ℕ, ◌+◌, ◌*◌, Bool, true, false, ◌||◌, cond, List, ◌∷◌, Option, Some, length}
+use Rattle.std.proofs.Common.{◌≡◌, subst, ℕ, ◌+◌, ◌*◌, Bool, true, false, ◌||◌, List, ◌∷◌, Option, Some, length}
 use Rattle.std.proofs.Common.{refl, sym, ◌∙◌, ap, arith, lit<}
 use Rattle.std.specs.Prelude.{map}
 use Rattle.std.proofs.lemmas.Bool.{eqb-true}
@@ -23,7 +23,6 @@ use Rattle.tl_params.specs.declared.perm.Perm.TheVariants as perm
 use Rattle.tl_rules.specs.statement.Admission.{payload_of}
 use Rattle.tl_rules.proofs.Payload.{payload-d}
 use Rattle.tl_client.specs.statement.Offer.{granted}
-use Rattle.tl_client.specs.declared.verdict.Verdict.TheVariants as verdict
 use Rattle.tl_client.proofs.pending.Accounted.{accounted-offered}
 use Rattle.tl_client.proofs.pending.KeptOffered.{kept-offered}
 use Rattle.tl_coherence.specs.refinement.PacketMessages.{message_of, message_of_kind}
@@ -43,18 +42,12 @@ use Rattle.tl_rules.proofs.Widths.{whole_block}
 
 part_end : {w : ℕ} (y : BeatD w) (e : Endpoint w) → ends (beat.D y) e.past ≡ false
     → (taken (beat.D y) e).after ≡ with_past (beat.D y ∷ e.past) e
-part_end {w} y e more = ap
-    (λ (b : Bool). (cond b (responded y (request_of y.source e.past)
-    (payload_of (beat.D y ∷ unfinished channel.D e.past)) e)
-    (silent verdict.Taken (with_past (beat.D y ∷ e.past) e))).after) more
+part_end {w} y e more = cc more
 
 last_end : {w : ℕ} (y : BeatD w) (e : Endpoint w) → ends (beat.D y) e.past ≡ true
     → (taken (beat.D y) e).after ≡ (responded y (request_of y.source e.past)
     (payload_of (beat.D y ∷ unfinished channel.D e.past)) e).after
-last_end {w} y e last = ap
-    (λ (b : Bool). (cond b (responded y (request_of y.source e.past)
-    (payload_of (beat.D y ∷ unfinished channel.D e.past)) e)
-    (silent verdict.Taken (with_past (beat.D y ∷ e.past) e))).after) last
+last_end {w} y e last = cc last
 
 ended_plain : {w : ℕ} (o : OpD) (y : BeatD w) (f : Finish) (r : Option (BeatA w)) (payload : List ℕ) (e : Endpoint w)
     → is_grant o ≡ false → (ended o y f (granted o r payload e)).after ≡ e

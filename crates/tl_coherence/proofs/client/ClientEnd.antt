@@ -2,7 +2,7 @@
 use Rattle.tl_coherence.proofs.client.Imports.{Beat, BeatA, Message, MessageA, a_beat_of, History, unfinished, Config}
 use Rattle.tl_coherence.proofs.client.Imports.{Grow, RequestSource, AcquireOf, ReleaseOf, is_grant, held, pending}
 use Rattle.tl_coherence.proofs.client.Imports.{request_of, same_perm, Endpoint, open_beat, acquisition, acquire_opcode}
-use Rattle.tl_coherence.proofs.client.Imports.{ClientRelation, Log, AcquirePhase, AcquireOpen, is_unreleased, Block}
+use Rattle.tl_coherence.proofs.client.Imports.{ClientRelation, Log, AcquireOpen, is_unreleased, Block}
 use Rattle.tl_coherence.proofs.client.Imports.{State, SourceState, SourceFree, Asked, InService, Replied, Acquires}
 use Rattle.tl_coherence.proofs.client.Imports.{is_wanting, AccessMessages, acquire_of, block_message}
 use Rattle.tl_coherence.proofs.client.Imports.{OpenSourceRelation, System, Acquire, set, SimulationRelation, asked_by}
@@ -193,15 +193,15 @@ pub asks-same : {w : ℕ} (c source : ℕ) (mail mail' : AccessMessages w) (s s'
     → ((n : ℕ) → s.uses c source ≡ Acquires n → (s'.block n).source c ≡ (s.block n).source c)
     → asked_by mail' s' c source ≡ asked_by mail s c source
 asks-same {w} c source mail mail' s s' request (inl same) a b =
-    ap (λ (u : SourceState). asked_with u (mail'.request c source) s'.block c) same
-    ∙ ap (λ (m : Message w). asked_with (s.uses c source) m s'.block c) request
-    ∙ acquires_same (s.uses c source) (mail.request c source) s.block s'.block c a b
+    cc (same, request, acquires_same (s.uses c source) (mail.request c source) s.block s'.block c a b)
 asks-same {w} c source mail mail' s s' request (inr both) a b =
-    access_asks (s'.uses c source) (mail'.request c source) both.1
-    (block_message Acquire c (block_used (s'.uses c source)) (s'.block (block_used (s'.uses c source))))
-    ∙ ap first_of request
-    ∙ sym (access_asks (s.uses c source) (mail.request c source) both.0
-    (block_message Acquire c (block_used (s.uses c source)) (s.block (block_used (s.uses c source)))))
+    cc (
+      access_asks (s'.uses c source) (mail'.request c source) both.1
+          (block_message Acquire c (block_used (s'.uses c source)) (s'.block (block_used (s'.uses c source)))),
+      request,
+      access_asks (s.uses c source) (mail.request c source) both.0 (block_message Acquire c (block_used (s.uses c source))
+          (s.block (block_used (s.uses c source)))),
+    )
 
 -- a source that is closed asks for nothing, and the use that is an access for it, and that of an Acquire for that
 pub asks-closed : {w : ℕ} (c source : ℕ) (mail : AccessMessages w) (s : State (List ℕ)) → s.uses c source ≡ SourceFree
@@ -226,10 +226,7 @@ pub asks-acquire : {w : ℕ} (c source n i : ℕ) (whole : Bool) (g : Grow) (mai
     → ((s.block n).pair c).acquiring ≡ AcquireOpen whole g → (s.block n).source c ≡ i
     → asked_by mail s c source ≡ Some (a_beat_of (acquisition (acquire_opcode whole) g i n) 0)
 unfolding block_message
-asks-acquire {w} c source n i whole g mail s used wants from =
-    ap (λ (u : SourceState). asked_with u (mail.request c source) s.block c) used
-    ∙ ap (λ (x : AcquirePhase). first_of (acquire_of {w = w} x ((s.block n).source c) n)) wants ∙ ap
-    (λ (j : ℕ). first_of (acquire_of {w = w} (AcquireOpen whole g) j n)) from ∙ acquire-first whole g i n
+asks-acquire {w} c source n i whole g mail s used wants from = cc (used, wants, from, acquire-first whole g i n)
 
 -- ---- events that leave a client's end alone
 

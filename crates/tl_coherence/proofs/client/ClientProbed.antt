@@ -11,7 +11,7 @@ use Rattle.tl_beat.specs.declared.beat.Beat.TheVariants as beat
 use Rattle.tl_beat.specs.declared.channel.Channel.TheVariants as channel
 use Rattle.tl_beat.specs.declared.opcode.OpB.TheVariants as opb
 use Rattle.tl_params.specs.declared.perm.Perm.TheVariants as perm
-use Rattle.tl_params.specs.statement.Param.{report_at, report_right}
+use Rattle.tl_params.specs.statement.Param.{report_right}
 use Rattle.tl_client.specs.statement.EndpointInvariant.{holds}
 use Rattle.tl_client.specs.statement.Offer.{report_for}
 use Rattle.tl_client.specs.statement.Send.{probe_ack}
@@ -43,11 +43,12 @@ end-probe_taken {w} c n k rest mail s e width well end =
       copies = λ i some. kept_copies n left g i ∙ copy_of i (i == n) refl
           (sym (column (λ (b : Block (List ℕ)). same_perm (b.pair c).held perm.None) n new s.block i) ∙ some)
           ∙ ap Some (sym (set-part (λ (b : Block (List ℕ)). b.copy c) n new s.block refl i));
-      waiting = λ i storing. kept_waiting n left g i ∙ end.waiting i
-          (sym (set-part (λ (b : Block (List ℕ)). is_whole (b.pair c).acquiring) n new s.block
-          (ap (λ (q : ClientBlock). is_whole q.acquiring) pair_is) i)
-          ∙ storing)
-          ∙ ap Some (sym (set-part (λ (b : Block (List ℕ)). b.waiting c) n new s.block refl i));
+      waiting = λ i storing. cc (
+        kept_waiting n left g i,
+        end.waiting i (sym (set-part (λ (b : Block (List ℕ)). is_whole
+            (b.pair c).acquiring) n new s.block (ap (λ (q : ClientBlock). is_whole q.acquiring) pair_is) i) ∙ storing),
+        set-part (λ (b : Block (List ℕ)). b.waiting c) n new s.block refl i,
+      );
       live = kept_closed n left g ∙ end.live;
     }
   where
@@ -86,8 +87,7 @@ end-probe_taken {w} c n k rest mail s e width well end =
     }
 
     left_is : left ≡ (new.pair c).held
-    left_is = ap report_right (report_is w n k p) ∙ ap (λ (q : Perm). report_right (report_at k q))
-        (end.known.held_is n) ∙ sym (ap (λ (q : ClientBlock). q.held) pair_is)
+    left_is = cc (report_is w n k p, end.known.held_is n, pair_is)
 
     some_held : (q : Perm) → same_perm q perm.None ≡ false → holds q ≡ true
     some_held perm.None e = absurd cc

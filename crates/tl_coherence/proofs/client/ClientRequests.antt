@@ -145,10 +145,11 @@ end-acquire_asked {w} c n source whole g bytes mail s e f width named idle past 
       letting = λ i. set-part (λ (b : Block (List ℕ)). is_unreleased (b.pair c).letting) n new s.block
           (ap (λ (p : ClientBlock). is_unreleased p.letting) pair_is) i;
       lets = λ i. refl;
-      acquiring = λ i. column (λ (b : Block (List ℕ)). is_wanting (b.pair c).acquiring) n new s.block i
-          ∙ ap (λ (x : Bool). cond (i == n) x (is_wanting ((s.block i).pair c).acquiring))
-          (ap (λ (p : ClientBlock). is_wanting p.acquiring) pair_is)
-          ∙ ap (λ (b : Bool). cond b true (is_wanting ((s.block i).pair c).acquiring)) (sym (of_block i));
+      acquiring = λ i. cc (
+        column (λ (b : Block (List ℕ)). is_wanting (b.pair c).acquiring) n new s.block i,
+        pair_is,
+        of_block i,
+      );
       asks = λ i. asks_acquire c n source i whole g bytes mail s named calm;
     } in
     record {
@@ -158,9 +159,12 @@ end-acquire_asked {w} c n source whole g bytes mail s e f width named idle past 
           end.opened);
       kept = kept.kept;
       accounted = kept.accounted;
-      copies = λ i some. ap (λ (h : ℕ → Option (List ℕ)). h i) copies ∙ end.copies i
-          (sym (ap (λ (p : Perm). same_perm p perm.None) (event.held i)) ∙ some)
-          ∙ ap Some (sym (set-part (λ (b : Block (List ℕ)). b.copy c) n new s.block refl i));
+      copies = λ i some. cc (
+        copies,
+        end.copies i (sym (ap (λ (p : Perm). same_perm p perm.None) (event.held i))
+            ∙ some),
+        set-part (λ (b : Block (List ℕ)). b.copy c) n new s.block refl i,
+      );
       waiting = λ i storing. go i storing (cases_eq i n);
       live = closed ∙ end.live;
     }

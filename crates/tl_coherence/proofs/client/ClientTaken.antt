@@ -125,10 +125,11 @@ end-release_ack_taken {w} c n x rest mail s e f is last plain acks from let_ wel
           (ap (λ (q : ClientBlock). q.held) pair_is) k;
       acquiring = λ k. set-part (λ (b : Block (List ℕ)). is_wanting (b.pair c).acquiring) n new s.block
           (ap (λ (q : ClientBlock). is_wanting q.acquiring) pair_is) k;
-      letting = λ k. column (λ (b : Block (List ℕ)). not (is_unreleased (b.pair c).letting)) n new s.block k
-          ∙ ap (λ (z : Bool). cond (k == n) z (not (is_unreleased ((s.block k).pair c).letting)))
-          (ap (λ (q : ClientBlock). not (is_unreleased q.letting)) pair_is)
-          ∙ ap (λ (z : Bool). cond z false (not (is_unreleased ((s.block k).pair c).letting))) (swapped k n);
+      letting = λ k. cc (
+        column (λ (b : Block (List ℕ)). not (is_unreleased (b.pair c).letting)) n new s.block k,
+        pair_is,
+        swapped k n,
+      );
       lets = λ i. lets_now i (cases_eq i ((s.block n).release_source c));
       asks = λ i. asks-same c i mail mail s s' refl (inl refl)
           (λ j used. set-part (λ (b : Block (List ℕ)). (b.pair c).acquiring) n new s.block
@@ -144,11 +145,14 @@ end-release_ack_taken {w} c n x rest mail s e f is last plain acks from let_ wel
           (asked_by mail s c) (asked_by mail s' c) s s' echo event end.opened;
       kept = well.kept;
       accounted = well.accounted;
-      copies = λ k some. ap (λ (g : Endpoint w). g.copies k) is
-          ∙ end.copies k (sym (ap (λ (q : Perm). same_perm q perm.None)
-          (set-part (λ (b : Block (List ℕ)). (b.pair c).held) n new s.block
-          (ap (λ (q : ClientBlock). q.held) pair_is) k)) ∙ some)
-          ∙ ap Some (sym (set-part (λ (b : Block (List ℕ)). b.copy c) n new s.block refl k));
+      copies = λ k some. cc (
+        is,
+        end.copies k
+            (sym (ap (λ (q : Perm). same_perm q perm.None) (set-part (λ (b : Block (List ℕ)). (b.pair c).held) n new
+            s.block (ap (λ (q : ClientBlock). q.held) pair_is) k)) ∙ some),
+        set-part (λ (b : Block (List ℕ)). b.copy c) n
+            new s.block refl k,
+      );
       waiting = λ k storing. ap (λ (g : Endpoint w). g.waiting k) is
           ∙ end.waiting k (sym (set-part (λ (b : Block (List ℕ)). is_whole (b.pair c).acquiring) n new s.block
           (ap (λ (q : ClientBlock). is_whole q.acquiring) pair_is) k) ∙ storing)
@@ -217,14 +221,10 @@ grant_end {w} data_too x r payload e f opcode is =
     is ∙ ended_end x.opcode data_too x (finish_of w x.opcode x.param x.size (address_asked (Some r)) payload) g
     opcode in
     record {
-      past_is = ap (λ (h : Endpoint w). h.past) sends ∙ ap (λ (t : History w). sent (E (record { sink = x.sink })) t)
-          does.same_past;
+      past_is = cc (sends, does.same_past);
       same_closed = ap (λ (h : Endpoint w). h.closed) sends ∙ does.same_closed;
-      new_copies = λ k. ap (λ (h : Endpoint w). h.copies k) sends ∙ does.new_copies k ∙ ap
-          (λ (o : OpD). copy_granted o (Some r) payload k before) opcode
-          ∙ same_copy data_too r payload k (beat.D x ∷ e.past) e;
-      new_waiting = λ k. ap (λ (h : Endpoint w). h.waiting k) sends ∙ does.new_waiting k ∙ ap
-          (λ (o : OpD). waiting_granted o (Some r) k (e.waiting k)) opcode;
+      new_copies = λ k. cc (sends, does.new_copies k, opcode, same_copy data_too r payload k (beat.D x ∷ e.past) e);
+      new_waiting = λ k. cc (sends, does.new_waiting k, opcode);
     }
 
 pub end-grant_taken : {w : ℕ} (c n : ℕ) (whole data_too : Bool) (g : Grow) (k : Cap) (x : BeatD w) (payload : List ℕ)
@@ -251,13 +251,12 @@ end-grant_taken {w} c n whole data_too g k x payload rest mail s e f width named
       releases_is = closes.1;
       source_is = closes.2;
       let_is = closes.3;
-      held = λ i. column (λ (b : Block (List ℕ)). (b.pair c).held) n new s.block i ∙ ap
-          (λ (q : Perm). cond (i == n) q ((s.block i).pair c).held) (ap (λ (q : ClientBlock). q.held) pair_is)
-          ∙ ap (λ (z : Bool). cond z (cap_right k) ((s.block i).pair c).held) (swapped i n);
-      acquiring = λ i. column (λ (b : Block (List ℕ)). is_wanting (b.pair c).acquiring) n new s.block i
-          ∙ ap (λ (z : Bool). cond (i == n) z (is_wanting ((s.block i).pair c).acquiring))
-          (ap (λ (q : ClientBlock). is_wanting q.acquiring) pair_is)
-          ∙ ap (λ (z : Bool). cond z false (is_wanting ((s.block i).pair c).acquiring)) (swapped i n);
+      held = λ i. cc (column (λ (b : Block (List ℕ)). (b.pair c).held) n new s.block i, pair_is, swapped i n);
+      acquiring = λ i. cc (
+        column (λ (b : Block (List ℕ)). is_wanting (b.pair c).acquiring) n new s.block i,
+        pair_is,
+        swapped i n,
+      );
       letting = λ i. ap not (set-part (λ (b : Block (List ℕ)). is_unreleased (b.pair c).letting) n new s.block
           (ap (λ (q : ClientBlock). is_unreleased q.letting) pair_is) i);
       lets = λ i. refl;
@@ -329,9 +328,12 @@ end-grant_taken {w} c n whole data_too g k x payload rest mail s e f width named
         ap₂_and : {u v : Bool} → whole ≡ u → data_too ≡ v → (whole && data_too) ≡ (u && v)
         ap₂_and p q = rw (p, q) refl
     copy_here i true false a b same =
-        chosen ((i == block_at (64 * n)) && true) (e.waiting i) (e.copies i)
-        (and_true (i == block_at (64 * n)) (here i same)) ∙ ap e.waiting same ∙ end.waiting n
-        (ap is_whole is.wants ∙ a)
+        cc (
+          chosen ((i == block_at (64 * n)) && true) (e.waiting i) (e.copies i)
+              (and_true (i == block_at (64 * n)) (here i same)),
+          same,
+          end.waiting n (ap is_whole is.wants ∙ a),
+        )
       where
         and_true : (u : Bool) → u ≡ true → (u && true) ≡ true
         and_true u p = rw p refl

@@ -1,7 +1,7 @@
 -- What a client answers to the last beat of a response.
 use Rattle.tl_coherence.proofs.client.Imports.{BeatD, OpD, Message, unfinished, Rule, ends, is_grant, is_release_ack}
-use Rattle.tl_coherence.proofs.client.Imports.{request_of, Finish, Endpoint, with_past, taken, ended, responded, silent}
-use Rattle.std.proofs.Common.{◌≡◌, ℕ, Bool, true, false, cond, List, ◌∷◌, Option, Some, None, refl, sym, ◌∙◌, ap}
+use Rattle.tl_coherence.proofs.client.Imports.{request_of, Finish, Endpoint, taken, ended}
+use Rattle.std.proofs.Common.{◌≡◌, ℕ, true, false, List, ◌∷◌, Option, Some, None, refl, sym, ◌∙◌, ap}
 use Rattle.std.specs.Prelude.{if◌then◌else◌, Result, Ok}
 use Rattle.tl_beat.specs.declared.beat.Beat.TheVariants as beat
 use Rattle.tl_beat.specs.declared.channel.Channel.TheVariants as channel
@@ -28,18 +28,11 @@ ended_answer o y f e = refl
 
 pub answer-last : {w : ℕ} (y : BeatD w) (e : Endpoint w) → ends (beat.D y) e.past ≡ true
     → (taken (beat.D y) e).answer ≡ Ok (verdict.Done y.source (finish_at y e), acked y.opcode y.sink)
-answer-last {w} y e last =
-    ap (λ (b : Bool). (cond b
-    (responded y (request_of y.source e.past) (payload_of (beat.D y ∷ unfinished channel.D e.past)) e)
-    (silent verdict.Taken (with_past (beat.D y ∷ e.past) e))).answer) last
-    ∙ ended_answer y.opcode y (finish_at y e) _
+answer-last {w} y e last = cc (last, ended_answer y.opcode y (finish_at y e) _)
 
 pub answer-part : {w : ℕ} (y : BeatD w) (e : Endpoint w) → ends (beat.D y) e.past ≡ false
     → (taken (beat.D y) e).answer ≡ Ok (verdict.Taken, None)
-answer-part {w} y e part =
-    ap (λ (b : Bool). (cond b
-    (responded y (request_of y.source e.past) (payload_of (beat.D y ∷ unfinished channel.D e.past)) e)
-    (silent verdict.Taken (with_past (beat.D y ∷ e.past) e))).answer) part
+answer-part {w} y e part = cc part
 
 abbrev made : {w : ℕ} → Verdict × Option (Message w) → Result (Verdict × Option (Message w)) Rule
 made p = Ok p

@@ -166,9 +166,7 @@ given_acquire {w} p clients c n tracker (AcquireOpen whole g) rest h is given =
     k = gift p whole g (is_unheld clients b.pair)
 
     gives : gives_asked p (set c (after_grant_sent k (b.pair c)) b.pair c).acquiring k ≡ true
-    gives = ap (λ (x : ClientBlock). gives_asked p x.acquiring k) (set-same c (after_grant_sent k (b.pair c)) b.pair)
-        ∙ ap (λ (x : AcquirePhase). gives_asked p x k) is
-        ∙ gift_given p whole g (is_unheld clients b.pair)
+    gives = cc (set-same c (after_grant_sent k (b.pair c)) b.pair, is, gift_given p whole g (is_unheld clients b.pair))
 
     go : (x : Bool)
         → AreGiven p (if x then acquire_served c n (b.source c) tracker (cap_asked (AcquireOpen whole g)) rest h.state

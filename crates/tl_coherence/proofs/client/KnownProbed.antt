@@ -223,8 +223,7 @@ known-probed {w} {X} asked burst c n k rest s e width none known =
 
     told : report_right (report_for (probe_beat {w = w} n k) (held_at e n)) ≡ report_right
         (report_at k ((s.block n).pair c).held)
-    told = ap report_right (report_is w n k (held_at e n)) ∙ ap (λ (q : Perm). report_right (report_at k q))
-        (known.held_is n)
+    told = cc (report_is w n k (held_at e n), known.held_is n)
 
     held_now : (i : ℕ) → (i ≡ n) ⊎ (i ≡ n → ⊥)
         → cond (i == n) (report_right (report_for (probe_beat {w = w} n k) (held_at e n)))
@@ -265,6 +264,5 @@ opened-probed {w} asked c n k rest s e width none open_ =
           source;
       released = λ source i some. ap (option_map (λ y. block_at y.address))
           (same_release source x a.0 t width a.2.releases_none none) ∙ open_.released source i some;
-      sizes = λ source i some. ap (option_map (λ y. y.size)) (same_release source x a.0 t width a.2.releases_none none)
-          ∙ open_.sizes source i some;
+      sizes = λ source i some. cc (same_release source x a.0 t width a.2.releases_none none, open_.sizes source i some);
     })

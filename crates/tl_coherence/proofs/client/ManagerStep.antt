@@ -143,8 +143,7 @@ manager_ends {w} config log mail request s sys link ch k x queue (manager.Sent h
     tracker = least_untaken (trackers_of (services sys.manager.trace))
 
     same : (with_messages handed (with_manager e (with_channel link.0 ch queue sys))).clients k ≡ sys.clients k
-    same = ap (λ (f : ℕ → Endpoint w). f k)
-        (clients-with_messages handed (with_manager e (with_channel link.0 ch queue sys)))
+    same = cc (clients-with_messages handed (with_manager e (with_channel link.0 ch queue sys)))
 
     go : (b : Bool) → IsEndOf k (if b then packet_taken config tracker link.0 (packets_on ch (s.link link.0)) before
         else before)

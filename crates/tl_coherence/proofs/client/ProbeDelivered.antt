@@ -1,7 +1,7 @@
 -- A Probe that is delivered to a client waits for its Release, or is taken, and the client's end is
 -- then that of the protocol.
 use Rattle.tl_coherence.proofs.client.Imports.{IsWidth, Beat, BeatA, OpD, Message, MessageA, MessageD, beat_of}
-use Rattle.tl_coherence.proofs.client.Imports.{unfinished, completes, Config, ReleaseOf, Level, Cap, Rule, is_outside}
+use Rattle.tl_coherence.proofs.client.Imports.{unfinished, completes, Config, ReleaseOf, Cap, Rule}
 use Rattle.tl_coherence.proofs.client.Imports.{is_grant, pending, illegal, EndConfig, Endpoint, held_at, Offered}
 use Rattle.tl_coherence.proofs.client.Imports.{offered, taken, probed, silent, waits, same_block, grant_opcode}
 use Rattle.tl_coherence.proofs.client.Imports.{level_of, AbstractState, packet_taken, kind_taken, IsInvariant, Log}
@@ -55,8 +55,7 @@ IsElse {w} n asked m = (x : MessageD w) × (m ≡ message.D x)
 comes_else : {w : ℕ} (n : ℕ) (asked : ℕ → Option (BeatA w)) (m : Message w) (k : ℕ) (rest : List (Beat w))
     → rest ≡ begun m k → IsElse n asked m → comes_granting n asked rest ≡ false
 unfolding IsElse
-comes_else n asked m k rest e is = ap (comes_granting n asked) e ∙ ap (λ y. comes_granting n asked (begun y k))
-    is.1 ∙ go k
+comes_else n asked m k rest e is = cc (e, is.1, go k)
   where
     go : (i : ℕ) → comes_granting n asked (begun (message.D is.0) i) ≡ false
     go zero = refl
@@ -246,37 +245,36 @@ probe-delivered {w} config log mail request s sys terms tracker c n rest ms x qu
     lawful_at : level_of config c ≡ Some terms.level → manager.illegal_at (level_of config c) x ≡ None
         → x ≡ beat.B (probe_beat n k)
         → illegal terms.level channel.B (beat.B (probe_beat {w = w} n k)) ≡ None
-    lawful_at f g i = sym (ap (λ (l : Option Level). manager.illegal_at l (beat.B (probe_beat {w = w} n k))) f) ∙ sym
-        (ap (λ (y : Beat w). manager.illegal_at (level_of config c) y) i) ∙ g
+    lawful_at f g i = cc (f, i, g)
 
     lawful : illegal terms.level channel.B (beat.B (probe_beat {w = w} n k)) ≡ None
     lawful = lawful_at is.level (sound-beat config log mail request s sys c channel.B x queue h beats).lawful beat_is
 
     before : x ≡ beat.B (probe_beat n k) → broken_before terms channel.B x e ≡ None
-    before f = ap (λ (y : Beat w). broken_before terms channel.B y e) f ∙ passes_before terms channel.B
-        (beat.B (probe_beat n k)) e (h.live c) refl lawful
+    before f = cc (f, passes_before terms channel.B (beat.B (probe_beat n k)) e (h.live c) refl lawful)
 
     pends : is_unreleased ((s.block n).pair c).letting ≡ false → waits (beat.B (probe_beat n k)) e.past ≡ true
     pends open_ = ap (λ (i : ℕ). pending (ReleaseOf i) e.past) (same_block n) ∙ end.known.releases n ∙ ap not open_
 
     inside : nat_le terms.blocks n ≡ false
-    inside =
-        ap (λ (b : ℕ). nat_le b n) is.blocks ∙ sym (ap (nat_le config.blocks) (same_block n)) ∙ sym
-        (ap (λ (y : Beat w). is_outside config.blocks y) beat_is)
-        ∙ (sound-beat config log mail request s sys c channel.B x queue h beats).inside
+    inside = cc (
+      is.blocks,
+      same_block n,
+      beat_is,
+      (sound-beat config log mail request s sys c channel.B x queue h
+          beats).inside,
+    )
 
     taken_is : is_unreleased ((s.block n).pair c).letting ≡ true → offered terms channel.B (beat.B (probe_beat n k))
         e ≡ probed (probe_beat n k) n (held_at e n) e
-    taken_is kept = probe-taken terms n k e (h.live c) lawful inside end.kept.b_whole
-        (end.known.releases n ∙ ap not kept) (end.known.probes n)
-        (end.known.grants n ∙ not_coming config log mail request s sys c n h sent)
+    taken_is kept = cc (probe-taken terms n k e (h.live c) lawful inside end.kept.b_whole (end.known.releases n
+        ∙ ap not kept) (end.known.probes n) (end.known.grants n ∙ not_coming config log mail request s sys c n h sent))
 
     same_taken : taken (beat.B (probe_beat n k)) e ≡ probed (probe_beat n k) n (held_at e n) e
     same_taken = ap (λ (i : ℕ). probed (probe_beat n k) i (held_at e i) e) (same_block n)
 
     takes : is_unreleased ((s.block n).pair c).letting ≡ true → offered terms channel.B x e ≡ taken x e
-    takes kept = ap (λ (y : Beat w). offered terms channel.B y e) beat_is ∙ taken_is kept ∙ sym same_taken ∙ sym
-        (ap (λ (y : Beat w). taken y e) beat_is)
+    takes kept = cc (beat_is, taken_is kept, same_taken)
 
     well : is_unreleased ((s.block n).pair c).letting ≡ true
         → IsWellKept (probed (probe_beat n k) n (held_at e n) e).after

@@ -3,7 +3,7 @@ use Rattle.tl_coherence.proofs.deliveries.Imports.{IsWidth, Beat, Link, Channel,
 use Rattle.tl_coherence.proofs.deliveries.Imports.{on_link, reaction, Deliver, is_moving, AbstractState, kind_taken}
 use Rattle.tl_coherence.proofs.deliveries.Imports.{Log, system_after, ChannelRelation, MemoryRelation, GrantTaken}
 use Rattle.tl_coherence.proofs.deliveries.Imports.{packet, is_on, shown, one_memory_after, performing}
-use Rattle.tl_coherence.proofs.deliveries.Imports.{accesses_answered, block_message, message_of_kind, stepped, System}
+use Rattle.tl_coherence.proofs.deliveries.Imports.{accesses_answered, block_message, stepped, System}
 use Rattle.tl_coherence.proofs.deliveries.Imports.{terms_at, with_channel, with_messages, Kind}
 use Rattle.tl_coherence.proofs.deliveries.Imports.{GrantAck}
 use Rattle.tl_coherence.proofs.deliveries.Imports.{SimulationRelation, is_caching}
@@ -53,8 +53,7 @@ delivered-e {w} config log link h terms x queue width matched known beats moving
     tokens = is.first.tokens ∙ ap (λ (k : Kind). packet k n ∷ is.first.rest) kind
 
     x_is : x ≡ beat_of (block_message GrantAck link.0 n (h.state.block n)) is.first.next.k
-    x_is = is.first.next.beat_is ∙ ap (λ (k : Kind). beat_of (message_of_kind k h.mail h.state link.0 n)
-        is.first.next.k) kind
+    x_is = cc (is.first.next.beat_is, kind)
 
     y : BeatE
     y = record { sink = (h.state.block n).tracker }

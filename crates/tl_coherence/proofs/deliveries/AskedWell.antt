@@ -1,29 +1,27 @@
 -- What a client answers to an operation, beside the protocol and the one-memory machine: what it starts it may start,
 -- and its reply is one that the machine allows.
 use Rattle.tl_coherence.proofs.deliveries.Imports.{IsWidth, MessageA, Config, Perm, prune_left}
-use Rattle.tl_coherence.proofs.deliveries.Imports.{block_at, same_perm, Op, EndConfig, release, AbstractState, Log}
+use Rattle.tl_coherence.proofs.deliveries.Imports.{block_at, same_perm, Op, EndConfig, AbstractState, Log}
 use Rattle.tl_coherence.proofs.deliveries.Imports.{Machine, Requests, NoAcquire}
 use Rattle.tl_coherence.proofs.deliveries.Imports.{State, SourceState, one_memory_after}
 use Rattle.tl_coherence.proofs.deliveries.Imports.{System, terms_at, SimulationRelation, is_caching, IsRequest}
-use Rattle.std.proofs.Common.{◌≡◌, ℕ, ◌%◌, ◌^◌, true, false, not, ◌||◌, List, Option, Some}
+use Rattle.std.proofs.Common.{◌≡◌, ℕ, true, false, not, ◌||◌, List, Option, Some}
 use Rattle.std.proofs.Common.{None, refl, sym, ◌∙◌, ap, subst}
-use Rattle.std.specs.Prelude.{◌==◌, is_none, unwrap_or, slice_index, nat_le}
+use Rattle.std.specs.Prelude.{◌==◌, is_none, nat_le}
 use Rattle.std.proofs.lemmas.Bool.{eqb-true, and_parts, not-false, or_parts}
 use Rattle.tl_beat.specs.declared.channel.Channel.TheVariants as channel
-use Rattle.tl_beat.specs.declared.opcode.OpA.TheVariants as a
 use Rattle.tl_burst.specs.declared.message.Message.TheVariants as message
 use Rattle.tl_params.specs.declared.key.Key.TheVariants.{RequestSource, ReleaseSource, AcquireOf, ReleaseOf}
 use Rattle.tl_params.specs.declared.perm.Perm.TheVariants as perm
 use Rattle.tl_params.specs.statement.Param.{grow_left}
-use Rattle.tl_rules.specs.statement.Effect.{number_from}
 use Rattle.tl_rules.specs.statement.History.{pending}
 use Rattle.tl_rules.specs.statement.Legality.{has_transfers, illegal_message}
 use Rattle.tl_client.specs.declared.operation.Op.TheVariants as op
 use Rattle.tl_client.specs.declared.reply.Reply.TheVariants as reply
 use Rattle.tl_client.specs.statement.Ask.{asked, done, only, load, store, loaded, is_word, is_clean, is_formed}
-use Rattle.tl_client.specs.statement.Ask.{op_block, free_request, free_release, source_or_0, whole_grow}
-use Rattle.tl_client.specs.statement.Endpoint.{Endpoint, zeros, copy_at, held_at}
-use Rattle.tl_client.specs.statement.Send.{access, acquisition}
+use Rattle.tl_client.specs.statement.Ask.{op_block, free_request, free_release, source_or_0}
+use Rattle.tl_client.specs.statement.Endpoint.{Endpoint, copy_at, held_at}
+use Rattle.tl_client.specs.statement.Send.{access}
 use Rattle.tl_client.proofs.endpoint.Cases.{NotBusy, asked-cases}
 use Rattle.tl_client.proofs.messages.Clean.{to_blank}
 use Rattle.tl_client.proofs.pending.Free.{least_free-some}
@@ -65,8 +63,7 @@ asked-well {w} config log h sys c terms o width is known = asked-cases terms o e
 
     -- the copy, where something is held
     copy_is : (n : ℕ) → same_perm ((s.block n).pair c).held perm.None ≡ false → copy_at e n ≡ (s.block n).truth
-    copy_is n some = ap (λ (x : Option (List ℕ)). unwrap_or x zeros) (is.copies c n some)
-        ∙ (is.invariant.blocks n).copies c some
+    copy_is n some = cc (is.copies c n some, (is.invariant.blocks n).copies c some)
 
     formed : (i : Op w) → NotBusy terms i e → is_formed terms.level i ≡ true
     formed i free = not-false (is_formed terms.level i)
@@ -118,10 +115,11 @@ asked-well {w} config log h sys c terms o width is known = asked-cases terms o e
           word = tt;
           source = tt;
           reply = tt;
-          replies = ap (λ (bytes : List ℕ). number_from (slice_index bytes) (address % 64) (2 ^ size))
-              (copy_is (block_at address) some)
-              ∙ loaded_number m.memory address size (s.block (block_at address)).truth (word_room address size word)
-              (is.beside.memory (block_at address));
+          replies = cc (
+            copy_is (block_at address) some,
+            loaded_number m.memory address size
+                (s.block (block_at address)).truth (word_room address size word) (is.beside.memory (block_at address)),
+          );
           message = refl;
         }
     load_well address size perm.Trunk f word = record {
@@ -129,10 +127,11 @@ asked-well {w} config log h sys c terms o width is known = asked-cases terms o e
       word = tt;
       source = tt;
       reply = tt;
-      replies = ap (λ (bytes : List ℕ). number_from (slice_index bytes) (address % 64) (2 ^ size))
-          (copy_is (block_at address) (ap (λ p. same_perm p perm.None) f))
-          ∙ loaded_number m.memory address size (s.block (block_at address)).truth (word_room address size word)
-          (is.beside.memory (block_at address));
+      replies = cc (
+        copy_is (block_at address) (ap (λ p. same_perm p perm.None) f),
+        loaded_number m.memory address size
+            (s.block (block_at address)).truth (word_room address size word) (is.beside.memory (block_at address)),
+      );
       message = refl;
     }
 
@@ -202,9 +201,7 @@ asked-well {w} config log h sys c terms o width is known = asked-cases terms o e
           source = tt;
           reply = tt;
           replies = (refl, unopened _ closed);
-          message = ap (λ (p : Perm). Some
-              (message.A (acquisition a.AcquirePerm (whole_grow p) (source_or_0 (free_request terms e.past)) n)))
-              (held_is n);
+          message = cc (held_is n);
         }
     well (op.Release n p) free =
         let source = source_or_0 (free_release terms e.past) in
@@ -220,8 +217,7 @@ asked-well {w} config log h sys c terms o width is known = asked-cases terms o e
           source = tt;
           reply = tt;
           replies = (refl, unlet source none);
-          message = ap (λ (bytes : List ℕ). Some (release p source n bytes))
-              (copy_is n (some_held p ((s.block n).pair c).held begins));
+          message = cc (copy_is n (some_held p ((s.block n).pair c).held begins));
         }
       where
         unlet : (source : ℕ) → s.lets c source ≡ None → m.opened c Releases source ≡ None

@@ -7,7 +7,7 @@ use Rattle.tl_coherence.proofs.deliveries.Imports.{packet, packets_on, shown, on
 use Rattle.tl_coherence.proofs.deliveries.Imports.{block_message, stepped, handed_by, System, with_client, with_channel}
 use Rattle.tl_coherence.proofs.deliveries.Imports.{with_messages, Kind, Answer, Grant, ReleaseAck, GrantAck, Packet}
 use Rattle.tl_coherence.proofs.deliveries.Imports.{SimulationRelation, is_caching}
-use Rattle.std.proofs.Common.{◌≡◌, ℕ, Bool, true, false, ◌&&◌, List, [], ◌∷◌, Option, Some, None, refl, sym, ◌∙◌, ap}
+use Rattle.std.proofs.Common.{◌≡◌, ℕ, Bool, true, false, List, [], ◌∷◌, Option, Some, None, refl, sym, ◌∙◌, ap}
 use Rattle.std.proofs.Common.{subst, ◌⊎◌}
 use Rattle.std.specs.Prelude.{if◌then◌else◌}
 use Rattle.tl_beat.specs.declared.beat.Beat.TheVariants as beat
@@ -19,8 +19,7 @@ use Rattle.tl_rules.specs.statement.History.{is_grant, is_release_ack}
 use Rattle.tl_client.specs.declared.verdict.Finish.{Finish}
 use Rattle.tl_client.specs.statement.Offer as offer
 use Rattle.tl_client.specs.statement.Send.{grant_ack}
-use Rattle.tl_manager.specs.statement.Handing.{grant_opcode}
-use Rattle.tl_coherence.specs.refinement.AbstractStep.{is_last, taken_by_client}
+use Rattle.tl_coherence.specs.refinement.AbstractStep.{taken_by_client}
 use Rattle.tl_coherence.specs.statement.Machine.{Pool, Releases, pool_of, after_end}
 use Rattle.tl_coherence.specs.protocol.Phase.{is_unreleased, is_whole}
 use Rattle.tl_coherence.specs.protocol.Protocol.{answer_taken, grant_taken, release_ack_taken, taken_block}
@@ -46,21 +45,13 @@ pub followed-moving : {w : ℕ} (config : Config) (link : Link) (ch : Channel) (
     → abstract_step config (Deliver link ch) sys h ≡ (if completes x (unfinished ch (receiver ch link.0 sys)) then
     packet_taken config (next_tracker sys) link.0
     (packets_on ch (h.state.link link.0)) h else h)
-followed-moving {w} config link ch sys h x queue moving first =
-    ap (λ (b : Bool). if b && is_last (sys.channels link.0 ch) (unfinished ch (receiver ch link.0 sys)) then
-    packet_taken config (next_tracker sys) link.0
-    (packets_on ch (h.state.link link.0)) h else h) moving
-    ∙ ap (λ (l : List (Beat w)). if is_last l (unfinished ch (receiver ch link.0 sys)) then packet_taken config
-    (next_tracker sys) link.0 (packets_on ch (h.state.link link.0)) h else h) first
+followed-moving {w} config link ch sys h x queue moving first = cc (moving, first)
 
 -- and one that moves none leaves it
 pub followed-still : {w : ℕ} (config : Config) (link : Link) (ch : Channel) (sys : System w) (h : AbstractState w)
     → is_moving (stepped config (Deliver link ch) sys).outcome ≡ false
     → abstract_step config (Deliver link ch) sys h ≡ h
-followed-still {w} config link ch sys h still = ap
-    (λ (b : Bool). if b && is_last (sys.channels link.0 ch) (unfinished ch (receiver ch link.0 sys)) then packet_taken
-    config (next_tracker sys) link.0
-    (packets_on ch (h.state.link link.0)) h else h) still
+followed-still {w} config link ch sys h still = cc still
 
 pub on_d : {w : ℕ} (y : BeatD w) → IsOn channel.D (beat.D y)
 on_d y channel.A = refl
@@ -104,8 +95,7 @@ taken_d {w} c x queue sys mm m is =
 finish_pool_is : {w : ℕ} (c : ℕ) (x : Beat w) (queue : List (Beat w)) (sys : System w) (mm : MessageD w)
     (is : IsLastBeat c x queue sys mm)
     → pool_of (finish_at is.y (sys.clients c)) ≡ (if is_release_ack mm.opcode then Releases else Requests)
-finish_pool_is {w} c x queue sys mm is = finish-pool w is.y.opcode is.y.param is.y.size _ _ ∙ ap
-    (λ (o : OpD). if is_release_ack o then Releases else Requests) is.opcode
+finish_pool_is {w} c x queue sys mm is = cc (finish-pool w is.y.opcode is.y.param is.y.size _ _, is.opcode)
 
 acked_none : {w : ℕ} (o : OpD) (sink : ℕ) → is_grant o ≡ false → acked {w = w} o sink ≡ None
 acked_none o sink e = rw e refl
@@ -222,14 +212,10 @@ responded-grant {w} config log h sys c n rest x queue due width matched first ba
     mm = grant_message due.data_too due.k ((h.state.block n).source c) (h.state.block n).tracker (h.state.block n).truth
 
     some : acked {w = w} is.y.opcode is.y.sink ≡ Some (grant_ack (h.state.block n).tracker)
-    some = ap (λ (o : OpD). acked {w = w} o is.y.sink) is.opcode ∙ ap
-        (λ (i : ℕ). acked {w = w} (grant_opcode due.data_too) i) is.sink
-        ∙ ap (λ (b : Bool). if b then Some (grant_ack {w = w} (h.state.block n).tracker) else None)
-        (grants-so due.data_too)
+    some = cc (is.opcode, is.sink, grants-so due.data_too)
 
     pool : pool_of (finish_at is.y (sys.clients c)) ≡ Requests
-    pool = finish_pool_is c x queue sys mm is ∙ ap (λ (b : Bool). if b then Releases else Requests)
-        (no_ack_grant due.data_too)
+    pool = cc (finish_pool_is c x queue sys mm is, no_ack_grant due.data_too)
 
     same : kind_taken config (next_tracker sys) c Grant n rest h ≡ record h {
       state =

@@ -10,7 +10,7 @@ use Rattle.tl_coherence.proofs.deliveries.Imports.{stepped, handing, handed_by}
 use Rattle.tl_coherence.proofs.deliveries.Imports.{System, terms_at, with_client, with_channel, Kind}
 use Rattle.tl_coherence.proofs.deliveries.Imports.{Answer, Grant}
 use Rattle.tl_coherence.proofs.deliveries.Imports.{ReleaseAck, Packet, SimulationRelation, is_caching}
-use Rattle.std.proofs.Common.{◌≡◌, ℕ, Bool, true, false, List, ◌∷◌, Option, Some, None, refl, sym, ◌∙◌, ap, subst}
+use Rattle.std.proofs.Common.{◌≡◌, ℕ, Bool, true, false, List, ◌∷◌, Some, None, refl, sym, ◌∙◌, ap, subst}
 use Rattle.std.specs.Prelude.{◌==◌, if◌then◌else◌, map}
 use Rattle.tl_beat.specs.declared.beat.Beat.TheVariants as beat
 use Rattle.tl_beat.specs.declared.beat.BeatD.{BeatD}
@@ -18,12 +18,10 @@ use Rattle.tl_beat.specs.declared.channel.Channel.TheVariants as channel
 use Rattle.tl_burst.specs.declared.message.Message.TheVariants as message
 use Rattle.tl_burst.specs.declared.message.MessageD.{MessageD}
 use Rattle.tl_burst.specs.statement.Burst.{d_beat_of}
-use Rattle.tl_client.specs.declared.verdict.Verdict.{Verdict}
 use Rattle.tl_client.specs.declared.verdict.Verdict.TheVariants as verdict
 use Rattle.tl_client.specs.statement.Endpoint as client
 use Rattle.tl_client.specs.statement.Offer as offer
 use Rattle.tl_coherence.specs.declared.event.Outcome.TheVariants as outcome
-use Rattle.tl_coherence.specs.statement.Step as step
 use Rattle.tl_coherence.proofs.queues.Carried.{IsNext}
 use Rattle.tl_coherence.proofs.queues.Channels.{pushes_at}
 use Rattle.tl_coherence.proofs.protocol.HeadOfD.{grant_message, ack_message, answer-due, grant-due}
@@ -49,9 +47,7 @@ pub remembered_after : {w : ℕ} (config : Config) (log : Log w) (link : Link) (
     ∷ log) ≡ performing (accesses_answered x.handed)
     (moved (Deliver link ch) x.outcome (one_memory_after config log))
 unfolding one_memory_after
-remembered_after {w} config log link ch x e =
-    ap (λ (y : Step w). performing (accesses_answered y.handed)
-    (moved (Deliver link ch) y.outcome (one_memory_after config log))) e
+remembered_after {w} config log link ch x e = cc e
 
 last_d : {w : ℕ} (config : Config) (log : Log w) (link : Link) (h h' : AbstractState w) (terms : client.EndConfig)
     (x : Beat w) (queue : List (Beat w)) (mm : MessageD w)
@@ -92,12 +88,7 @@ last_d {w} config log link h h' terms x queue mm is t same responded =
         last)
 
     step_is : stepped config (Deliver link channel.D) sys ≡ now
-    step_is =
-        t.step_is
-        ∙ ap (λ (v : Verdict). handing (step.outcome_of x v) (handed_by link.0 t.message)
-        (with_client link.0 (offer.taken x e).after (with_channel link.0 channel.D queue sys))) same_parts.0
-        ∙ ap (λ (m : Option (Message w)). handing (outcome.Done x is.y.source (finish_at is.y e)) (handed_by link.0 m)
-        (with_client link.0 (offer.taken x e).after (with_channel link.0 channel.D queue sys))) same_parts.1
+    step_is = cc (t.step_is, same_parts.0, same_parts.1)
 
 none_pushed : (w : ℕ) (at : Channel) (b : Bool) → (if b then pushes_of {w = w} None at else None) ≡ None
 none_pushed w at true = refl
@@ -146,12 +137,7 @@ part_d {w} config log link h terms x queue mm k width is first x_is part t same 
         (ap (λ (z : Beat w). (offer.taken z e).answer) x_is ∙ answer-part y e unended)
 
     step_is : stepped config (Deliver link channel.D) sys ≡ now
-    step_is =
-        t.step_is
-        ∙ ap (λ (v : Verdict). handing (step.outcome_of x v) (handed_by link.0 t.message)
-        (with_client link.0 (offer.taken x e).after (with_channel link.0 channel.D queue sys))) same_parts.0
-        ∙ ap (λ (m : Option (Message w)). handing (outcome.Moved x) (handed_by link.0 m)
-        (with_client link.0 (offer.taken x e).after (with_channel link.0 channel.D queue sys))) same_parts.1
+    step_is = cc (t.step_is, same_parts.0, same_parts.1)
 
 pub rendered_release_ack : {w : ℕ} (c n : ℕ) (b : Block (List ℕ)) → block_message {w = w} ReleaseAck c n b ≡ message.D
     (ack_message (b.release_source c))

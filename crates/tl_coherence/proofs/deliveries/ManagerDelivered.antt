@@ -109,8 +109,7 @@ delivered-c {w} config h h' kind c n x m ms queue e width is sound next order la
           manager = subst (λ (b : Bool). IsManagerOf config (if b then h' else h)
               (left c y (reaction config (record { 0 = c }) y e) e)) (sym part)
               (report_part-left config c (c_beat_of m next.k) h e width up part is);
-          handed = ap (λ (d : Reaction w). d.handed) (reaction-part config (record { 0 = c }) y e part) ∙ sym
-              (ap (λ (b : Bool). if b then pushes else []) part);
+          handed = cc (reaction-part config (record { 0 = c }) y e part, part);
         }
 
 pub reports-delivered : {w : ℕ} (config : Config) (log : Log w) (h : AbstractState w) (sys : System w) (c n : ℕ)

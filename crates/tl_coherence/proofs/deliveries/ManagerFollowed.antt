@@ -3,7 +3,7 @@ use Rattle.tl_coherence.proofs.deliveries.Imports.{IsWidth, Beat, Channel, unfin
 use Rattle.tl_coherence.proofs.deliveries.Imports.{reaction, End, Deliver, AbstractState}
 use Rattle.tl_coherence.proofs.deliveries.Imports.{abstract_delivery, abstract_step}
 use Rattle.tl_coherence.proofs.deliveries.Imports.{packet_taken, Log, receiver, packets_on, Step, handing, is_to_client}
-use Rattle.tl_coherence.proofs.deliveries.Imports.{manager_took, stepped, System, terms_at, with_channel, with_manager}
+use Rattle.tl_coherence.proofs.deliveries.Imports.{stepped, System, terms_at, with_channel, with_manager}
 use Rattle.tl_coherence.proofs.deliveries.Imports.{SimulationRelation}
 use Rattle.std.proofs.Common.{false, ◌≡◌, ℕ, List, ◌∷◌, Option, Some, None, refl, sym, ◌∙◌, ap, subst, arith}
 use Rattle.std.specs.Prelude.{if◌then◌else◌, option_map, slice_get, All}
@@ -12,8 +12,6 @@ use Rattle.tl_params.specs.declared.config.ClientConfig.{ClientConfig}
 use Rattle.tl_manager.specs.code.Kept as manager
 use Rattle.tl_manager.specs.code.Kept.{illegal_at}
 use Rattle.tl_manager.specs.statement.Service.{services, least_untaken, trackers_of}
-use Rattle.tl_manager.specs.statement.Offer as manager_offer
-use Rattle.tl_manager.specs.statement.Offer.{level_of}
 use Rattle.tl_coherence.specs.declared.event.Outcome.TheVariants as outcome
 use Rattle.tl_coherence.specs.refinement.AbstractStep.{is_last}
 use Rattle.tl_coherence.proofs.manager.ManagerAfter.{IsManagerOf, left}
@@ -51,8 +49,7 @@ pub step-taken : {w : ℕ} (config : Config) (c : ℕ) (ch : Channel) (x : Beat 
     (with_manager (left c x (reaction config (record { 0 = c }) x sys.manager) sys.manager)
     (with_channel c ch queue sys))
 step-taken {w} config c ch x queue sys t terms beats down up =
-    stepped-to-manager config (record { 0 = c }) ch sys t x queue terms beats down ∙ ap
-    (λ (p : manager_offer.Reception w × End w). manager_took c ch x queue p sys) up.answer
+    cc (stepped-to-manager config (record { 0 = c }) ch sys t x queue terms beats down, up.answer)
 
 pub manager-taken : {w : ℕ} (config : Config) (c : ℕ) (ch : Channel) (x : Beat w) (queue : List (Beat w))
     (sys : System w) (t : EndConfig)
@@ -60,11 +57,12 @@ pub manager-taken : {w : ℕ} (config : Config) (c : ℕ) (ch : Channel) (x : Be
     → IsTakenUp config c ch x sys.manager
     → (stepped config (Deliver (record { 0 = c }) ch) sys).after.manager ≡ left c x
     (reaction config (record { 0 = c }) x sys.manager) sys.manager
-manager-taken {w} config c ch x queue sys t terms beats down up =
-    ap (λ (s : Step w). s.after.manager) (step-taken config c ch x queue sys t terms beats down up)
-    ∙ manager-with_messages (reaction config (record { 0 = c }) x sys.manager).handed
-    (with_manager (left c x (reaction config (record { 0 = c }) x sys.manager) sys.manager)
-    (with_channel c ch queue sys))
+manager-taken {w} config c ch x queue sys t terms beats down up = cc (
+  step-taken config c ch x queue sys t terms beats
+      down up,
+  manager-with_messages (reaction config (record { 0 = c }) x sys.manager).handed (with_manager (left c x
+      (reaction config (record { 0 = c }) x sys.manager) sys.manager) (with_channel c ch queue sys)),
+)
 
 -- and what the protocol does then
 pub followed-taken : {w : ℕ} (config : Config) (c : ℕ) (ch : Channel) (x : Beat w) (queue : List (Beat w))

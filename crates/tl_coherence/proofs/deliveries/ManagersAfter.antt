@@ -2,7 +2,7 @@
 use Rattle.tl_coherence.proofs.deliveries.Imports.{IsWidth, Beat, Link, Channel, Message, beat_of, unfinished}
 use Rattle.tl_coherence.proofs.deliveries.Imports.{completes, Config, Prune, Report, Perm, report_left, on_link}
 use Rattle.tl_coherence.proofs.deliveries.Imports.{release, Handed, reaction, reaction-part, Deliver, MemoryRelation}
-use Rattle.tl_coherence.proofs.deliveries.Imports.{is_moving, AbstractState, abstract_step, packet_taken, kind_taken}
+use Rattle.tl_coherence.proofs.deliveries.Imports.{is_moving, AbstractState, abstract_step, kind_taken}
 use Rattle.tl_coherence.proofs.deliveries.Imports.{Log, system_after, Machine, ChannelRelation, receiver, AcquirePhase}
 use Rattle.tl_coherence.proofs.deliveries.Imports.{NoAcquire, AcquireOpen, Block, SourceState, packet, packets_on}
 use Rattle.tl_coherence.proofs.deliveries.Imports.{is_on, one_memory_after, performing, accesses_answered, report_told}
@@ -151,9 +151,7 @@ at-manager {w} config log link ch h terms x queue width is known down beats movi
       heard = manager-heard config link ch x queue (system_after config log)
           (stepped config (Deliver link ch) (system_after config log)) width head.typed is.manager_kept t;
       step_is = t.step_is;
-      follows = followed-moving config link ch (system_after config log) h x queue moving beats
-          ∙ ap (λ (l : List Packet). if completes x (unfinished ch (receiver ch link.0 (system_after config log))) then
-          packet_taken config (next_tracker (system_after config log)) link.0 l h else h) first.tokens;
+      follows = cc (followed-moving config link ch (system_after config log) h x queue moving beats, first.tokens);
     }
   where
     head : manager.IsSound config (record { 0 = link.0 }, x)
@@ -249,8 +247,7 @@ delivered-last {w} config log link ch h x queue handed pushes down is last gives
     now = handing (outcome.Moved x) handed (with_manager e (with_channel link.0 ch queue sys))
 
     step_is : stepped config (Deliver link ch) sys ≡ now
-    step_is = is.step_is ∙ ap
-        (λ (l : Handed w). handing (outcome.Moved x) l (with_manager e (with_channel link.0 ch queue sys))) gives
+    step_is = cc (is.step_is, gives)
 
 -- ---- a beat that isn't the last of its message
 
@@ -288,8 +285,7 @@ delivered-part {w} config log link ch h x queue width matched down is part =
     now = handing (outcome.Moved x) [] (with_manager e (with_channel link.0 ch queue sys))
 
     unended : ends x (on_link link.0 sys.manager.trace) ≡ false
-    unended = ap (λ (i : Channel). completes x (unfinished i (on_link link.0 sys.manager.trace))) is.of_it ∙ ap
-        (λ t. completes x (unfinished ch t)) (sym (receiver_down ch link.0 sys down)) ∙ part
+    unended = cc (is.of_it, receiver_down ch link.0 sys down, part)
 
     step_is : stepped config (Deliver link ch) sys ≡ now
     step_is = is.step_is ∙ ap

@@ -2,16 +2,16 @@
 use Rattle.tl_coherence.proofs.deliveries.Imports.{IsWidth, Beat, Link, Message, unfinished, Config, Cap, Report, Perm}
 use Rattle.tl_coherence.proofs.deliveries.Imports.{report_left, block_at, same_perm, same_block, Deliver}
 use Rattle.tl_coherence.proofs.deliveries.Imports.{MemoryRelation, is_moving, AbstractState, abstract_step}
-use Rattle.tl_coherence.proofs.deliveries.Imports.{packet_taken, kind_taken, Log, system_after, Machine, moved}
+use Rattle.tl_coherence.proofs.deliveries.Imports.{kind_taken, Log, system_after, Machine, moved}
 use Rattle.tl_coherence.proofs.deliveries.Imports.{ChannelRelation, ClientBlock, Block, packet, is_on, shown}
 use Rattle.tl_coherence.proofs.deliveries.Imports.{one_memory_after, performing, accesses_answered, block_message}
 use Rattle.tl_coherence.proofs.deliveries.Imports.{message_of, message_of_kind, Step, stepped, handing, handed_by}
 use Rattle.tl_coherence.proofs.deliveries.Imports.{System, terms_at, with_client, with_channel, Kind}
 use Rattle.tl_coherence.proofs.deliveries.Imports.{Probe, ProbeAck}
-use Rattle.tl_coherence.proofs.deliveries.Imports.{Packet, SimulationRelation, is_caching}
-use Rattle.std.proofs.Common.{◌≡◌, ℕ, ◌*◌, Bool, true, false, List, [], ◌∷◌, Option, Some, None, refl, sym, ◌∙◌, ap}
+use Rattle.tl_coherence.proofs.deliveries.Imports.{SimulationRelation, is_caching}
+use Rattle.std.proofs.Common.{◌≡◌, ℕ, ◌*◌, Bool, true, false, List, [], ◌∷◌, Some, None, refl, sym, ◌∙◌, ap}
 use Rattle.std.proofs.Common.{subst}
-use Rattle.std.specs.Prelude.{if◌then◌else◌, map, unwrap_or, Ok}
+use Rattle.std.specs.Prelude.{map, Ok}
 use Rattle.tl_beat.specs.declared.beat.Beat.TheVariants as beat
 use Rattle.tl_beat.specs.declared.beat.BeatB.{BeatB}
 use Rattle.tl_beat.specs.declared.channel.Channel.TheVariants as channel
@@ -19,10 +19,9 @@ use Rattle.tl_beat.specs.declared.opcode.OpB.TheVariants as opb
 use Rattle.tl_params.specs.declared.param.Cap.TheVariants as cap
 use Rattle.tl_params.specs.declared.perm.Perm.TheVariants as perm
 use Rattle.tl_params.specs.statement.Param.{report_at}
-use Rattle.tl_client.specs.declared.verdict.Verdict.{Verdict}
 use Rattle.tl_client.specs.declared.verdict.Verdict.TheVariants as verdict
 use Rattle.tl_client.specs.statement.Endpoint as client
-use Rattle.tl_client.specs.statement.Endpoint.{zeros, copy_at, held_at}
+use Rattle.tl_client.specs.statement.Endpoint.{copy_at, held_at}
 use Rattle.tl_client.specs.statement.Offer as offer
 use Rattle.tl_client.specs.statement.Offer.{report_for}
 use Rattle.tl_client.specs.statement.Send.{probe_ack}
@@ -31,7 +30,6 @@ use Rattle.tl_coherence.specs.protocol.Phase.{ProbeSent, is_unreleased}
 use Rattle.tl_coherence.specs.protocol.PhaseSteps.{after_probe}
 use Rattle.tl_coherence.specs.protocol.Protocol.{probed_block, probe_taken}
 use Rattle.tl_coherence.specs.refinement.PacketMessages.{cap_sent, probe_beat}
-use Rattle.tl_coherence.specs.statement.Step as step
 use Rattle.tl_coherence.proofs.memory.BesideKinds.{beside_block, same_acquiring}
 use Rattle.tl_coherence.proofs.queues.Carried.{IsNext}
 use Rattle.tl_coherence.proofs.queues.Shown.{carried-shown}
@@ -159,19 +157,17 @@ delivered-b {w} config log link h terms x queue width is known beats moving =
         ack = probe_ack opb.ProbeBlock b_pair.held (report_at k b_pair.held) n (h.state.block n).truth
 
         copied : same_perm b_pair.held perm.None ≡ false → copy_at e n ≡ (h.state.block n).truth
-        copied some = ap (λ (o : Option (List ℕ)). unwrap_or o zeros) (is.copies c n some)
-            ∙ (is.invariant.blocks n).copies c some
+        copied some = cc (is.copies c n some, (is.invariant.blocks n).copies c some)
 
         handed_at : (m : ℕ) → m ≡ n → probe_ack {w = w} opb.ProbeBlock (held_at e m) (report_for y (held_at e m)) m
             (copy_at e m) ≡ ack
-        handed_at m at =
-            ap (λ (i : ℕ). probe_ack {w = w} opb.ProbeBlock (held_at e i) (report_for y (held_at e i)) i (copy_at e i))
-            at
-            ∙ ap (λ (p : Perm). probe_ack {w = w} opb.ProbeBlock p (report_for y p) n (copy_at e n))
-            ((is.known c).held_is n)
-            ∙ ap (λ (r : Report). probe_ack {w = w} opb.ProbeBlock b_pair.held r n (copy_at e n))
-            (report_is w n k b_pair.held)
-            ∙ ack_same b_pair.held (report_at k b_pair.held) n (copy_at e n) (h.state.block n).truth copied
+        handed_at m at = cc (
+          at,
+          (is.known c).held_is n,
+          report_is w n k b_pair.held,
+          ack_same b_pair.held
+              (report_at k b_pair.held) n (copy_at e n) (h.state.block n).truth copied,
+        )
 
         message_is : t.message ≡ Some ack
         message_is = same_parts.1 ∙ ap Some (handed_at (block_at (64 * n)) (same_block n))
@@ -181,12 +177,7 @@ delivered-b {w} config log link h terms x queue width is known beats moving =
             (with_client c (offer.taken x e).after (with_channel c channel.B queue sys))
 
         step_is : stepped config (Deliver link channel.B) sys ≡ now
-        step_is =
-            t.step_is
-            ∙ ap (λ (v : Verdict). handing (step.outcome_of x v) (handed_by c t.message)
-            (with_client c (offer.taken x e).after (with_channel c channel.B queue sys))) same_parts.0
-            ∙ ap (λ (m : Option (Message w)). handing (outcome.Moved x) (handed_by c m)
-            (with_client c (offer.taken x e).after (with_channel c channel.B queue sys))) message_is
+        step_is = cc (t.step_is, same_parts.0, message_is)
 
         sent : b_pair.probing ≡ ProbeSent k
         sent = sent-is b_pair.probing (holds-first Probe (h.state.link c).b first.rest (packet Probe n)
@@ -203,11 +194,7 @@ delivered-b {w} config log link h terms x queue width is known beats moving =
 
         follows : abstract_step config (Deliver link channel.B) sys h ≡ kind_taken config (next_tracker sys) c Probe n
             first.rest h
-        follows =
-            followed-moving config link channel.B sys h x queue moving beats
-            ∙ ap (λ (b : Bool). if b then packet_taken config (next_tracker sys) c (h.state.link c).b h else h)
-            probed.whole
-            ∙ ap (λ (l : List Packet). packet_taken config (next_tracker sys) c l h) tokens
+        follows = cc (followed-moving config link channel.B sys h x queue moving beats, probed.whole, tokens)
 
         by_letting : (b : Bool) → is_unreleased b_pair.letting ≡ b → IsDelivered config log link channel.B h
         by_letting true kept =

@@ -2,11 +2,11 @@
 use Rattle.tl_coherence.proofs.flow.Imports.{Beat, BeatA, Channel, Message, a_beat_of, History, is_empty, completes}
 use Rattle.tl_coherence.proofs.flow.Imports.{Config, Cap, comes_in_request, comes_in_grant, same_perm, same_block}
 use Rattle.tl_coherence.proofs.flow.Imports.{MonitorRelation, AbstractState, Log, ClientBlock, View, Own, Granting}
-use Rattle.tl_coherence.proofs.flow.Imports.{is_unprobed, is_unreleased, Service, Free, GrantSent, Block, State}
+use Rattle.tl_coherence.proofs.flow.Imports.{is_unprobed, is_unreleased, Free, GrantSent, Block, State}
 use Rattle.tl_coherence.proofs.flow.Imports.{Replied, view, is_granting, is_acknowledging, is_answered, is_unserved}
-use Rattle.tl_coherence.proofs.flow.Imports.{is_wanting, served_block, acquire_served, granted_at_once, acquire_granted}
+use Rattle.tl_coherence.proofs.flow.Imports.{served_block, acquire_served, granted_at_once, acquire_granted}
 use Rattle.tl_coherence.proofs.flow.Imports.{System, Packet, set, SimulationRelation, asked_by}
-use Rattle.std.proofs.Common.{◌≡◌, subst, ℕ, Bool, true, false, not, ◌&&◌, List, [], ◌∷◌, Option, Some, None, refl, sym}
+use Rattle.std.proofs.Common.{◌≡◌, subst, ℕ, Bool, true, false, ◌&&◌, List, [], ◌∷◌, Option, Some, None, refl, sym}
 use Rattle.std.proofs.Common.{◌∙◌, ap, ◌⊎◌, inl, inr}
 use Rattle.std.specs.Prelude.{◌==◌, if◌then◌else◌}
 use Rattle.std.proofs.lemmas.Bool.{cases_eq, eqb-true}
@@ -59,14 +59,21 @@ module _ {w : ℕ} (config : Config) (log : Log w) (h : AbstractState w) (sys : 
   access_of source asked k ms queue next rests b last zeroth = record {
     access = asked.access;
     use_is = λ i e. ap (h.state.uses c) (sym (eqb-true asked.request.source i e) ∙ asked.source_is) ∙ asked.used;
-    asked_is = λ i e first. ap (asked_by h.mail h.state c) (sym (eqb-true asked.request.source i e) ∙ asked.source_is)
-        ∙ asks-access c source asked.request h.mail h.state (ap is_access asked.used) asked.is_it
-        ∙ ap (λ (j : ℕ). Some (a_beat_of asked.request j)) (sym (zeroth first));
+    asked_is = λ i e first. cc (
+      eqb-true asked.request.source i e,
+      asked.source_is,
+      asks-access c source asked.request
+          h.mail h.state (ap is_access asked.used) asked.is_it,
+      zeroth first,
+    );
     came = λ i. came-so (comes_in_request i) (message.A asked.request) y (unfinished_at sys c channel.A) ms queue
         (asked.request.source == i) next refl (λ j. refl);
-    comes = λ i. ap (comes_in_request i) (rests channel.A)
-        ∙ comes-so (comes_in_request i) y (unfinished_at sys c channel.A) (asked.request.source == i) refl refl
-        ∙ ap (λ (z : Bool). not z && (asked.request.source == i)) last;
+    comes = λ i. cc (
+      rests channel.A,
+      comes-so (comes_in_request i) y (unfinished_at sys c channel.A)
+          (asked.request.source == i) refl refl,
+      last,
+    );
     blocks = λ m. blocks b m;
     uses = λ i. uses b i;
     lets = λ i. lets b i;
@@ -170,17 +177,21 @@ module _ {w : ℕ} (config : Config) (log : Log w) (h : AbstractState w) (sys : 
           at = same_block n;
           use_is = λ i e. ap (s.uses c) (sym (eqb-true ((s.block n).source c) i e)) ∙ wanted.used;
           no_use = λ i e. unused-else c n i s is.invariant.named e;
-          asks = λ i e. ap (asked_by h.mail s c) (sym (eqb-true ((s.block n).source c) i e))
-              ∙ asks-acquire c ((s.block n).source c) n ((s.block n).source c) wanted.whole wanted.grow h.mail s
-              wanted.used wanted.wants refl;
+          asks = λ i e. cc (
+            eqb-true ((s.block n).source c) i e,
+            asks-acquire c ((s.block n).source c) n
+                ((s.block n).source c) wanted.whole wanted.grow h.mail s wanted.used wanted.wants refl,
+          );
           idle = rw free refl;
           quiet = quiet;
           coming = coming-granting config log h.mail h.request s sys c is;
           came = λ i. ap (comes_in_request i) one.1;
-          comes = λ i. ap (comes_in_request i) (rests_y channel.A)
-              ∙ comes-so (comes_in_request i) (beat.A y) (unfinished_at sys c channel.A) ((s.block n).source c == i)
-              refl refl
-              ∙ ap (λ (z : Bool). not z && ((s.block n).source c == i)) last_y;
+          comes = λ i. cc (
+            rests_y channel.A,
+            comes-so (comes_in_request i) (beat.A y) (unfinished_at sys c channel.A)
+                ((s.block n).source c == i) refl refl,
+            last_y,
+          );
           asked_is = asks;
           elsewhere = λ m ne. changed m ∙ set-other n m new s.block ne;
           uses = uses;
@@ -193,12 +204,10 @@ module _ {w : ℕ} (config : Config) (log : Log w) (h : AbstractState w) (sys : 
           held_is = ap (held_by c) now ∙ taken.keeps_held;
           served = ap (λ (b : Block (List ℕ)). is_unserved (view b.service c)) now ∙ taken.serves;
           waits = ap (λ (b : Block (List ℕ)). is_acknowledging (view b.service c)) now ∙ taken.waits_so;
-          wants = ap (λ (b : Block (List ℕ)). is_wanting (b.pair c).acquiring) now ∙ ap is_wanting
-              (taken.pair_acquiring ∙ wanted.wants);
+          wants = cc (now, taken.pair_acquiring, wanted.wants);
           letting_is = ap (λ (b : Block (List ℕ)). (b.pair c).letting) now ∙ taken.pair_letting;
           release_source = ap (λ (b : Block (List ℕ)). b.release_source c) now ∙ taken.keeps_source;
-          answered = ap (λ (b : Block (List ℕ)). is_answered (b.pair c).probing) now ∙ ap is_answered taken.pair_probing
-              ∙ quiet;
+          answered = cc (now, taken.pair_probing, quiet);
         }) flowed)
       where
         y : BeatA w
@@ -248,8 +257,7 @@ module _ {w : ℕ} (config : Config) (log : Log w) (h : AbstractState w) (sys : 
         ) (and-false (is_granting (view (s'.block n).service c)))
 
     held_free : held_by c (s.block n) ≡ ((s.block n).pair c).recorded
-    held_free = ap (λ (q : Service). if is_granting (view q c) then ((s.block n).pair c).held else
-        ((s.block n).pair c).recorded) free
+    held_free = cc free
 
     -- it waits for ProbeAcks
     pub own-acquire_served : (k : Cap) (toks : List Packet) (x : Beat w) (ms : List (Message w)) (queue : List (Beat w))

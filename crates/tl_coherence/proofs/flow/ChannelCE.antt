@@ -131,10 +131,12 @@ module _ {w : ℕ} (config : Config) (log : Log w) (h : AbstractState w) (sys : 
         queue (is_release m.opcode && (m.source == i)) next_y refl (λ j. refl)
 
     comes : (i : ℕ) → comes_in_release i (rest' channel.C) ≡ (not b && (is_release m.opcode && (m.source == i)))
-    comes i =
-        ap (comes_in_release i) (rests_y channel.C) ∙ comes-so (comes_in_release i) (beat.C (c_beat_of m next.k))
-        (unfinished_at sys c channel.C) (is_release m.opcode && (m.source == i)) refl refl
-        ∙ ap (λ (z : Bool). not z && (is_release m.opcode && (m.source == i))) last_y
+    comes i = cc (
+      rests_y channel.C,
+      comes-so (comes_in_release i) (beat.C (c_beat_of m next.k))
+          (unfinished_at sys c channel.C) (is_release m.opcode && (m.source == i)) refl refl,
+      last_y,
+    )
 
   -- ---- a ProbeAck
 
@@ -222,10 +224,8 @@ module _ {w : ℕ} (config : Config) (log : Log w) (h : AbstractState w) (sys : 
         size = about.4;
         says = ap reported about.2.param_is ∙ reported-prune r;
         letting = releasing;
-        came = λ i. came m x ms queue here rests b last i ∙ ap
-            (λ (z : Bool). not (is_empty (unfinished_at sys c channel.C)) && (z && (m.source == i))) about.2.releases;
-        comes = λ i. comes m x ms queue here rests b last i ∙ ap (λ (z : Bool). not b && (z && (m.source == i)))
-            about.2.releases;
+        came = λ i. cc (came m x ms queue here rests b last i, about.2.releases);
+        comes = λ i. cc (comes m x ms queue here rests b last i, about.2.releases);
         elsewhere = elsewhere b;
         uses = uses b;
         lets = lets b;
@@ -292,10 +292,7 @@ module _ {w : ℕ} (config : Config) (log : Log w) (h : AbstractState w) (sys : 
 
       held_is : (z : Bool) → held_by c ((released_if r z).block n) ≡ (if z then prune_right r else held_by c
           (s.block n))
-      held_is true =
-          ap (held_by c) (now true) ∙ ap (λ (g : Bool). if g then ((let_block c r (s.block n)).pair c).held else
-          ((let_block c r (s.block n)).pair c).recorded)
-          ungranted ∙ ap (λ (p : ClientBlock). p.recorded) pair
+      held_is true = cc (now true, ungranted, pair)
       held_is false = refl
 
       service : (z : Bool) → (block_if z).service ≡ (s.block n).service

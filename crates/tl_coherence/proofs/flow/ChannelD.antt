@@ -2,7 +2,7 @@
 use Rattle.tl_coherence.proofs.flow.Imports.{Beat, BeatA, Channel, Message, MessageD, History, unfinished, is_empty}
 use Rattle.tl_coherence.proofs.flow.Imports.{completes, Config, Cap, comes_in_grant, is_grant, is_release_ack, asks_for}
 use Rattle.tl_coherence.proofs.flow.Imports.{same_block, MonitorRelation, AbstractState, acquires_of, is_busy}
-use Rattle.tl_coherence.proofs.flow.Imports.{comes_granting, Log, ClientBlock, View, Granting, is_unprobed}
+use Rattle.tl_coherence.proofs.flow.Imports.{comes_granting, Log, ClientBlock, Granting, is_unprobed}
 use Rattle.tl_coherence.proofs.flow.Imports.{is_unreleased, after_release_ack, Block, State, SourceFree, Acquires}
 use Rattle.tl_coherence.proofs.flow.Imports.{packet, shown, view, is_granting, is_answered, is_wanting, taken_block}
 use Rattle.tl_coherence.proofs.flow.Imports.{let_go_block, release_ack_taken, block_message, System, Answer, Grant}
@@ -74,10 +74,12 @@ module _ {w : ℕ} (config : Config) (log : Log w) (h : AbstractState w) (sys : 
         queue (is_grant m.opcode && (m.sink == i)) next_y refl (λ j. refl)
 
     comes : (i : ℕ) → comes_in_grant i (rest' channel.D) ≡ (not b && (is_grant m.opcode && (m.sink == i)))
-    comes i =
-        ap (comes_in_grant i) (rests_y channel.D) ∙ comes-so (comes_in_grant i) (beat.D (d_beat_of m next.k))
-        (unfinished_at sys c channel.D) (is_grant m.opcode && (m.sink == i)) refl refl
-        ∙ ap (λ (z : Bool). not z && (is_grant m.opcode && (m.sink == i))) last_y
+    comes i = cc (
+      rests_y channel.D,
+      comes-so (comes_in_grant i) (beat.D (d_beat_of m next.k))
+          (unfinished_at sys c channel.D) (is_grant m.opcode && (m.sink == i)) refl refl,
+      last_y,
+    )
 
     -- and of a Grant of block j
     granted : (j : ℕ) → comes_granting j before (unfinished_at sys c channel.D)
@@ -88,11 +90,12 @@ module _ {w : ℕ} (config : Config) (log : Log w) (h : AbstractState w) (sys : 
 
     grants : (asked' : ℕ → Option (BeatA w)) (j : ℕ)
         → comes_granting j asked' (rest' channel.D) ≡ (not b && (is_grant m.opcode && asks_for j (asked' m.source)))
-    grants asked' j =
-        ap (comes_granting j asked') (rests_y channel.D) ∙ comes-so (comes_granting j asked')
-        (beat.D (d_beat_of m next.k)) (unfinished_at sys c channel.D)
-        (is_grant m.opcode && asks_for j (asked' m.source)) refl refl
-        ∙ ap (λ (z : Bool). not z && (is_grant m.opcode && asks_for j (asked' m.source))) last_y
+    grants asked' j = cc (
+      rests_y channel.D,
+      comes-so (comes_granting j asked') (beat.D (d_beat_of m next.k))
+          (unfinished_at sys c channel.D) (is_grant m.opcode && asks_for j (asked' m.source)) refl refl,
+      last_y,
+    )
 
     begins_y : is_empty (unfinished channel.D t) ≡ is_empty (unfinished_at sys c channel.D)
     begins_y = ap is_empty (flowed.rest_is channel.D)
@@ -241,13 +244,11 @@ module _ {w : ℕ} (config : Config) (log : Log w) (h : AbstractState w) (sys : 
   grant_asks : (n : ℕ) (whole d : Bool) (k : Cap) (b : Bool) (i : ℕ) → (b && ((s.block n).source c == i)) ≡ false
       → asked_by h.mail (granted_if n whole d k b) c i ≡ before i
   grant_asks n whole d k false i e = refl
-  grant_asks n whole d k true i e =
-      asks-same c i h.mail h.mail s (grant_taken c n whole d k toks s) refl
-      (inl (set_at-else c ((s.block n).source c) i SourceFree s.uses (λ same. eqb-false ((s.block n).source c) i e (sym same)) c))
-      (λ j used. ap (λ (z : Block (List ℕ)). (z.pair c).acquiring) (set-other n j (taken_block c whole d k (s.block n))
-      s.block (apart j used)))
-      (λ j used. ap (λ (z : Block (List ℕ)). z.source c) (set-other n j (taken_block c whole d k (s.block n)) s.block
-      (apart j used)))
+  grant_asks n whole d k true i e = cc (asks-same c i h.mail h.mail s (grant_taken c n whole d k toks s) refl (inl
+      (set_at-else c ((s.block n).source c) i SourceFree s.uses (λ same. eqb-false ((s.block n).source c) i e (sym
+      same)) c)) (λ j used. ap (λ (z : Block (List ℕ)). (z.pair c).acquiring) (set-other n j (taken_block c whole d k
+      (s.block n)) s.block (apart j used))) (λ j used. ap (λ (z : Block (List ℕ)). z.source c) (set-other n j
+      (taken_block c whole d k (s.block n)) s.block (apart j used))))
     where
       apart : (j : ℕ) → s.uses c i ≡ Acquires j → j ≡ n → ⊥
       apart j used same =
@@ -278,23 +279,18 @@ module _ {w : ℕ} (config : Config) (log : Log w) (h : AbstractState w) (sys : 
         quiet = grant_quiet (is_caching config) c n s is.invariant due;
         use_is = λ i e. ap (s.uses c) (sym (eqb-true ((s.block n).source c) i e)) ∙ due.used;
         no_use = λ i e. unused-else c n i s is.invariant.named e;
-        tracks = λ i e. ap s.tracked (sym (eqb-true (s.block n).tracker i e)) ∙ grant_tracked (is_caching config) c n s
-            is.invariant due;
+        tracks = λ i e. cc (eqb-true (s.block n).tracker i e, grant_tracked (is_caching config) c n s is.invariant due);
         tracks_not = λ i e. is.invariant.named.trackers i n ∙ with_false (is_busy (s.block n).service)
             (i == (s.block n).tracker) (not_swapped (s.block n).tracker i e);
         asks = asks;
-        came = λ i. came m x ms queue here rests b last i ∙ ap
-            (λ (z : Bool). not (is_empty (unfinished_at sys c channel.D)) && (z && ((s.block n).tracker == i)))
-            (grants-so due.data_too);
-        comes = λ i. comes m x ms queue here rests b last i ∙ ap
-            (λ (z : Bool). not b && (z && ((s.block n).tracker == i))) (grants-so due.data_too);
-        granted = λ j. granted m x ms queue here rests b last j
-            ∙ ap (λ (z : Bool). not (is_empty (unfinished_at sys c channel.D))
-            && (z && asks_for j (before ((s.block n).source c)))) (grants-so due.data_too)
-            ∙ ap (λ (z : Bool). not (is_empty (unfinished_at sys c channel.D)) && z) (asks j);
-        grants = λ j. grants m x ms queue here rests b last (asked_by h.mail (s_if b) c) j
-            ∙ ap (λ (z : Bool). not b && (z && asks_for j (asked_by h.mail (s_if b) c ((s.block n).source c))))
-            (grants-so due.data_too) ∙ asks_now b j;
+        came = λ i. cc (came m x ms queue here rests b last i, grants-so due.data_too);
+        comes = λ i. cc (comes m x ms queue here rests b last i, grants-so due.data_too);
+        granted = λ j. cc (granted m x ms queue here rests b last j, grants-so due.data_too, asks j);
+        grants = λ j. cc (
+          grants m x ms queue here rests b last (asked_by h.mail (s_if b) c) j,
+          grants-so due.data_too,
+          asks_now b j,
+        );
         asked_is = grant_asks n whole due.data_too due.k b;
         elsewhere = elsewhere b;
         uses = uses b;
@@ -375,8 +371,7 @@ module _ {w : ℕ} (config : Config) (log : Log w) (h : AbstractState w) (sys : 
       seen_is false = seen
 
       held_is : (z : Bool) → held_by c ((s_if z).block n) ≡ (if z then cap_right due.k else held_by c (s.block n))
-      held_is true = ap (held_by c) (now true) ∙ ap (λ (v : View). if is_granting v then (new.pair c).held else
-          (new.pair c).recorded) (seen_is true) ∙ ap (λ (p : ClientBlock). p.recorded) pair ∙ even
+      held_is true = cc (now true, seen_is true, pair, even)
       held_is false = refl
 
       wants_is : (z : Bool) → is_wanting ((block_if z).pair c).acquiring ≡ not z

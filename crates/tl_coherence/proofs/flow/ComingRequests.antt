@@ -70,8 +70,7 @@ comes_not : {w : ℕ} (c source : ℕ) (s : State (List ℕ)) (m : Message w) (k
     → rest ≡ begun m k → IsWaiting c s m
     → waits_on_a c (s.uses c source) s ≡ false → comes_in_request source rest ≡ false
 unfolding IsWaiting
-comes_not {w} c source s m k rest e is none =
-    ap (comes_in_request source) e ∙ ap (λ (y : Message w). comes_in_request source (begun y k)) is.1 ∙ go k
+comes_not {w} c source s m k rest e is none = cc (e, is.1, go k)
   where
     differ : (b : Bool) → (is.0.source == source) ≡ b → b ≡ false
     differ false f = refl

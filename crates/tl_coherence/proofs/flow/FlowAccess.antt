@@ -1,11 +1,11 @@
 -- What is delivered on a link, as a beat of an access is.
-use Rattle.tl_coherence.proofs.flow.Imports.{Beat, BeatA, Channel, History, Perm, comes_in_request, comes_in_grant}
+use Rattle.tl_coherence.proofs.flow.Imports.{Beat, BeatA, Channel, History, Perm, comes_in_request}
 use Rattle.tl_coherence.proofs.flow.Imports.{begins, ends, block_at, is_acquire, request_of, release_of}
 use Rattle.tl_coherence.proofs.flow.Imports.{MonitorRelation, is_requested, is_let_by, is_sunk, Block, State}
-use Rattle.tl_coherence.proofs.flow.Imports.{SourceState, SourceFree, Asked, InService, Replied, Acquires, view}
-use Rattle.tl_coherence.proofs.flow.Imports.{is_granting, is_acknowledging, is_answered, is_unserved, probe_beat}
+use Rattle.tl_coherence.proofs.flow.Imports.{SourceState, SourceFree, Asked, InService, Replied, Acquires}
+use Rattle.tl_coherence.proofs.flow.Imports.{is_answered, probe_beat}
 use Rattle.tl_coherence.proofs.flow.Imports.{cap_waited}
-use Rattle.std.proofs.Common.{◌≡◌, ℕ, Bool, true, false, not, ◌&&◌, ◌||◌, ◌∷◌, Option, Some, None, refl, sym, ◌∙◌, ap}
+use Rattle.std.proofs.Common.{◌≡◌, ℕ, Bool, true, false, not, ◌&&◌, ◌∷◌, Option, Some, None, refl, sym, ◌∙◌, ap}
 use Rattle.std.proofs.Common.{List}
 use Rattle.std.proofs.lemmas.Bool.{and_right}
 use Rattle.std.specs.Prelude.{◌==◌, if◌then◌else◌, option_map}
@@ -64,8 +64,7 @@ requested-rest c i rest rest' SourceFree s s' same e = refl
 requested-rest c i rest rest' Asked s s' same e = e
 requested-rest c i rest rest' (InService m) s s' same e = refl
 requested-rest c i rest rest' Replied s s' same e = refl
-requested-rest {w} {X} c i rest rest' (Acquires m) s s' same e =
-    ap (λ (z : Block X). not (is_unserved (view z.service c))) (same m)
+requested-rest {w} {X} c i rest rest' (Acquires m) s s' same e = cc (same m)
 
 pub flowed-access : {w : ℕ} {X : Type 0} (c : ℕ) (y : BeatA w) (first last : Bool) (asked : ℕ → Option (BeatA w))
     (rest rest' : Channel → List (Beat w)) (s s' : State X) (t : History w)
@@ -104,19 +103,16 @@ flowed-access {w} {X} c y first last asked rest rest' s s' t first_is last_is re
     }) before
   where
     was : (i : ℕ) → (y.source == i) ≡ true → is_requested c i (rest channel.A) (s.uses c i) s ≡ not first
-    was i e = ap (λ (u : SourceState). is_requested c i (rest channel.A) u s) (is.use_is i e) ∙ is.came i ∙ with_true
-        (not first) (y.source == i) e
+    was i e = cc (is.use_is i e, is.came i, with_true (not first) (y.source == i) e)
 
     now : (i : ℕ) (z : Bool) → last ≡ z → (y.source == i) ≡ true
         → is_requested c i (rest' channel.A) (if z && true then Replied else s.uses c i) s' ≡ true
     now i true e f = refl
-    now i false e f = ap (λ (u : SourceState). is_requested c i (rest' channel.A) u s') (is.use_is i f) ∙ is.comes
-        i ∙ with_true (not last) (y.source == i) f ∙ ap not e
+    now i false e f = cc (is.use_is i f, is.comes i, with_true (not last) (y.source == i) f, e)
 
     use_at : (i : ℕ) (here : Bool) → (y.source == i) ≡ here → is_requested c i (rest' channel.A) (s'.uses c i)
         s' ≡ is_requested c i (rest' channel.A) (if last && here then Replied else s.uses c i) s'
-    use_at i here e = ap (λ (u : SourceState). is_requested c i (rest' channel.A) u s')
-        (is.uses i ∙ ap (λ (z : Bool). if last && z then Replied else s.uses c i) e)
+    use_at i here e = cc (is.uses i, e)
 
     off : (z : Bool) (u v : SourceState) → (if z && false then v else u) ≡ u
     off true u v = refl
@@ -124,12 +120,13 @@ flowed-access {w} {X} c y first last asked rest rest' s s' t first_is last_is re
 
     same : (i : ℕ) → (y.source == i) ≡ false → is_requested c i (rest' channel.A) (s'.uses c i) s' ≡ is_requested c i
         (rest channel.A) (s.uses c i) s
-    same i e =
-        use_at i false e ∙ ap (λ (u : SourceState). is_requested c i (rest' channel.A) u s')
-        (off last (s.uses c i) Replied)
-        ∙ requested-rest c i (rest channel.A) (rest' channel.A) (s.uses c i) s s' is.blocks
-        (is.comes i ∙ and_right (not last) (y.source == i) e ∙ sym (is.came i ∙ and_right (not first) (y.source == i)
-        e))
+    same i e = cc (
+      use_at i false e,
+      off last (s.uses c i) Replied,
+      requested-rest c i (rest channel.A)
+          (rest' channel.A) (s.uses c i) s s' is.blocks (is.comes i ∙ and_right (not last) (y.source == i) e
+          ∙ sym (is.came i ∙ and_right (not first) (y.source == i) e)),
+    )
 
     requests : (i : ℕ) (here : Bool) → (y.source == i) ≡ here
         → is_requested c i (rest' channel.A) (s'.uses c i) s' ≡ step first last (y.source == i) false
@@ -146,18 +143,17 @@ flowed-access {w} {X} c y first last asked rest rest' s s' t first_is last_is re
     asked_still i e false f = of_other i y t f ∙ before.asked_is i (before.requests i ∙ sym (same i f) ∙ e)
 
     lets : (i : ℕ) → is_let_by c i (rest' channel.C) (s'.lets c i) s' ≡ is_let_by c i (rest channel.C) (s.lets c i) s
-    lets i =
-        ap (λ (l : List (Beat w)). is_let_by c i l (s'.lets c i) s') (rests channel.C) ∙ ap
-        (λ (o : Option ℕ). is_let_by c i (rest channel.C) o s') (is.lets i)
-        ∙ let_by-same c i (rest channel.C) (s.lets c i) s s'
-        (λ m. ap (λ (z : Block X). (z.pair c).letting) (is.blocks m))
+    lets i = cc (
+      rests channel.C,
+      is.lets i,
+      let_by-same c i (rest channel.C) (s.lets c i) s s'
+          (λ m. ap (λ (z : Block X). (z.pair c).letting) (is.blocks m)),
+    )
 
     sinks : (i : ℕ) (o : Option ℕ) → is_sunk c i (rest channel.D) o s' ≡ is_sunk c i (rest channel.D) o s
     sinks i None = refl
-    sinks i (Some m) = ap (λ (z : Block X). is_acknowledging
-        (view z.service c) || (is_granting (view z.service c) && comes_in_grant i (rest channel.D))) (is.blocks m)
+    sinks i (Some m) = cc (is.blocks m)
 
     grants : (m : ℕ) → granted_by c m asked (rest' channel.D) (s'.block m) ≡ granted_by c m asked (rest channel.D)
         (s.block m)
-    grants m = ap (λ (l : List (Beat w)). granted_by c m asked l (s'.block m)) (rests channel.D) ∙ ap
-        (granted_by c m asked (rest channel.D)) (is.blocks m)
+    grants m = cc (rests channel.D, is.blocks m)

@@ -2,7 +2,7 @@
 use Rattle.tl_coherence.proofs.flow.Imports.{Beat, BeatA, Channel, History, comes_in_request, begins, ends, block_at}
 use Rattle.tl_coherence.proofs.flow.Imports.{is_acquire, request_of, probe_of, grant_sink, MonitorRelation}
 use Rattle.tl_coherence.proofs.flow.Imports.{is_requested, is_let_by, is_sunk, acquires_of, comes_granting, Idle, Block}
-use Rattle.tl_coherence.proofs.flow.Imports.{State, SourceState, Acquires, view, is_acknowledging, is_answered}
+use Rattle.tl_coherence.proofs.flow.Imports.{State, Acquires, view, is_acknowledging, is_answered}
 use Rattle.tl_coherence.proofs.flow.Imports.{is_granting, is_wanting, is_unserved, probe_beat, cap_waited}
 use Rattle.std.proofs.Common.{◌≡◌, ℕ, Bool, true, false, not, ◌&&◌, ◌||◌, ◌∷◌, Option, Some, refl, sym, ◌∙◌, ap, List}
 use Rattle.std.specs.Prelude.{◌==◌, option_map}
@@ -90,15 +90,15 @@ flowed-acquire {w} {X} c n y asked asked' rest rest' s s' t first_is last_is res
     new = s'.block n
 
     now : (i : ℕ) → (y.source == i) ≡ true → is_requested c i (rest' channel.A) (s'.uses c i) s' ≡ true
-    now i e = ap (λ (u : SourceState). is_requested c i (rest' channel.A) u s') (is.uses i ∙ is.use_is i e) ∙ ap not
-        is.served
+    now i e = cc (is.uses i, is.use_is i e, is.served)
 
     same : (i : ℕ) → (y.source == i) ≡ false → is_requested c i (rest' channel.A) (s'.uses c i) s' ≡ is_requested c i
         (rest channel.A) (s.uses c i) s
-    same i e =
-        ap (λ (u : SourceState). is_requested c i (rest' channel.A) u s') (is.uses i)
-        ∙ requested-apart c i n (rest channel.A) (rest' channel.A) (s.uses c i) s s' is.elsewhere
-        (is.comes i ∙ sym (is.came i)) (is.no_use i e)
+    same i e = cc (
+      is.uses i,
+      requested-apart c i n (rest channel.A) (rest' channel.A) (s.uses c i) s s' is.elsewhere
+          (is.comes i ∙ sym (is.came i)) (is.no_use i e),
+    )
 
     requests : (i : ℕ) (here : Bool) → (y.source == i) ≡ here
         → is_requested c i (rest' channel.A) (s'.uses c i) s' ≡ step true true (y.source == i) false
@@ -116,11 +116,12 @@ flowed-acquire {w} {X} c n y asked asked' rest rest' s s' t first_is last_is res
         (is.asked_is i)
 
     lets : (i : ℕ) → is_let_by c i (rest' channel.C) (s'.lets c i) s' ≡ is_let_by c i (rest channel.C) (s.lets c i) s
-    lets i =
-        ap (λ (l : List (Beat w)). is_let_by c i l (s'.lets c i) s') (rests channel.C) ∙ ap
-        (λ (o : Option ℕ). is_let_by c i (rest channel.C) o s') (is.lets i)
-        ∙ let_by-same c i (rest channel.C) (s.lets c i) s s' (part-block (λ (z : Block X). (z.pair c).letting) n s s'
-        is.elsewhere is.letting_is)
+    lets i = cc (
+      rests channel.C,
+      is.lets i,
+      let_by-same c i (rest channel.C) (s.lets c i) s s'
+          (part-block (λ (z : Block X). (z.pair c).letting) n s s' is.elsewhere is.letting_is),
+    )
 
     none_comes : comes_granting n asked (rest channel.D) ≡ false
     none_comes = no_coming (is_granting (view b.service c)) (comes_granting n asked (rest channel.D))
@@ -132,14 +133,14 @@ flowed-acquire {w} {X} c n y asked asked' rest rest' s s' t first_is last_is res
 
     grants : (m : ℕ) → granted_by c m asked' (rest' channel.D) (s'.block m) ≡ granted_by c m asked (rest channel.D)
         (s.block m)
-    grants m =
-        ap (λ (l : List (Beat w)). granted_by c m asked' l (s'.block m)) (rests channel.D)
-        ∙ ap (λ (z : Bool). is_acknowledging (view (s'.block m).service c) || z)
-        (comes-same m asked asked' (rest channel.D) is.asked_is)
-        ∙ each-block (λ j z. granted_by c j asked (rest channel.D) z ≡ granted_by c j asked (rest channel.D)
-        (s.block j)) n s s' is.elsewhere
-        (neither (is_acknowledging (view new.service c)) (comes_granting n asked (rest channel.D)) is.waits none_comes
-        ∙ sym granted_then) (λ j ne. refl) m
+    grants m = cc (
+      rests channel.D,
+      comes-same m asked asked' (rest channel.D) is.asked_is,
+      each-block
+          (λ j z. granted_by c j asked (rest channel.D) z ≡ granted_by c j asked (rest channel.D) (s.block j)) n s s'
+          is.elsewhere (neither (is_acknowledging (view new.service c)) (comes_granting n asked (rest channel.D)) is.waits
+          none_comes ∙ sym granted_then) (λ j ne. refl) m,
+    )
 
     answered : (m : ℕ) → is_answered ((s'.block m).pair c).probing ≡ is_answered ((s.block m).pair c).probing
     answered = part-block (λ (z : Block X). is_answered (z.pair c).probing) n s s' is.elsewhere

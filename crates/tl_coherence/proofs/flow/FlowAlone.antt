@@ -6,7 +6,6 @@ use Rattle.tl_coherence.proofs.flow.Imports.{is_requested, is_let_by, is_sunk, i
 use Rattle.tl_coherence.proofs.flow.Imports.{Own, Acknowledging, Other, Service, Free, Waits}
 use Rattle.tl_coherence.proofs.flow.Imports.{Block, State, view, is_granting, is_acknowledging, is_answered, is_wanting}
 use Rattle.tl_coherence.proofs.flow.Imports.{is_unserved, grant_ack_taken, freed_block, probe_beat, cap_waited, Packet}
-use Rattle.tl_coherence.proofs.flow.Imports.{set}
 use Rattle.std.proofs.Common.{◌≡◌, ℕ, Bool, true, false, not, ◌&&◌, ◌||◌, ◌∷◌, Option, Some, None, refl, sym, ◌∙◌, ap}
 use Rattle.std.proofs.Common.{List, ◌⊎◌, inl, inr}
 use Rattle.std.specs.Prelude.{◌==◌, if◌then◌else◌, option_map}
@@ -90,16 +89,18 @@ flowed-grant_ack {w} {X} c n toks y asked asked' rest rest' s t first last rests
 
     requests : (i : ℕ) → is_requested c i (rest' channel.A) (s'.uses c i) s' ≡ is_requested c i (rest channel.A)
         (s.uses c i) s
-    requests i =
-        ap (λ (r : List (Beat w)). is_requested c i r (s.uses c i) s') (rests channel.A)
-        ∙ requested-blocks c i (rest channel.A) (s.uses c i) s s'
-        (set-part (λ (z : Block X). is_unserved (view z.service c)) n new s.block (sym (ap is_unserved seen)))
+    requests i = cc (
+      rests channel.A,
+      requested-blocks c i (rest channel.A) (s.uses c i) s s'
+          (set-part (λ (z : Block X). is_unserved (view z.service c)) n new s.block (sym (ap is_unserved seen))),
+    )
 
     lets : (i : ℕ) → is_let_by c i (rest' channel.C) (s'.lets c i) s' ≡ is_let_by c i (rest channel.C) (s.lets c i) s
-    lets i =
-        ap (λ (r : List (Beat w)). is_let_by c i r (s.lets c i) s') (rests channel.C)
-        ∙ let_by-same c i (rest channel.C) (s.lets c i) s s' (set-part (λ (z : Block X). (z.pair c).letting) n new
-        s.block refl)
+    lets i = cc (
+      rests channel.C,
+      let_by-same c i (rest channel.C) (s.lets c i) s s'
+          (set-part (λ (z : Block X). (z.pair c).letting) n new s.block refl),
+    )
 
     answered_other : (m : ℕ) → is_answered ((s'.block m).pair c).probing ≡ true
         → is_answered ((s.block m).pair c).probing ≡ true
@@ -107,9 +108,11 @@ flowed-grant_ack {w} {X} c n toks y asked asked' rest rest' s t first last rests
 
     probed : (m : ℕ) → is_answered ((s'.block m).pair c).probing ≡ true
         → probe_of m t ≡ Some (probe_beat m (cap_waited (s'.block m).service))
-    probed m e = before.probed m (answered_other m e) ∙ sym
-        (ap (λ k. Some (probe_beat m k)) (set-part (λ (z : Block X). cap_waited z.service) n new s.block
-        (no_cap b.service seen) m))
+    probed m e = cc (
+      before.probed m (answered_other m e),
+      set-part (λ (z : Block X). cap_waited z.service) n new
+          s.block (no_cap b.service seen) m,
+    )
       where
         no_cap : (q : Service) → view q c ≡ Acknowledging → cap_waited Free ≡ cap_waited q
         no_cap (Waits q own source k) f = absurd (waits (own && (c == q)) k f)
@@ -198,12 +201,16 @@ flowed-grant_ack {w} {X} c n toks y asked asked' rest rest' s t first last rests
 
         go : (i ≡ b.tracker) ⊎ (i ≡ b.tracker → ⊥) → is_sunk c i (rest channel.D) (s'.tracked i) s' ≡ step true true
             false (y.sink == i) (is_sunk c i (rest channel.D) (s.tracked i) s)
-        go (inl same) = ap (λ (o : Option ℕ). is_sunk c i (rest channel.D) o s')
-            (ap (set b.tracker None s.tracked) same ∙ set-same b.tracker None s.tracked)
-            ∙ sym (closes_it (is_sunk c i (rest channel.D) (s.tracked i) s) (y.sink == i)
-            (rw (sink, same) (same_number b.tracker)))
-        go (inr other) =
-            ap (λ (o : Option ℕ). is_sunk c i (rest channel.D) o s') (set-other b.tracker i None s.tracked other)
-            ∙ others (s.tracked i) (named.trackers i n ∙ rw (busy, ne_eqb i b.tracker other) refl)
-            ∙ sym (leaves_it (is_sunk c i (rest channel.D) (s.tracked i) s) (y.sink == i)
-            (λ e. rw sink (ne_eqb b.tracker i (λ f. other (sym f)))))
+        go (inl same) = cc (
+          same,
+          set-same b.tracker None s.tracked,
+          closes_it
+              (is_sunk c i (rest channel.D) (s.tracked i) s) (y.sink == i) (rw (sink, same) (same_number b.tracker)),
+        )
+        go (inr other) = cc (
+          set-other b.tracker i None s.tracked other,
+          others (s.tracked i) (named.trackers i n
+              ∙ rw (busy, ne_eqb i b.tracker other) refl),
+          leaves_it (is_sunk c i (rest channel.D) (s.tracked i) s)
+              (y.sink == i) (λ e. rw sink (ne_eqb b.tracker i (λ f. other (sym f)))),
+        )

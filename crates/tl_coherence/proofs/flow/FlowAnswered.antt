@@ -5,7 +5,7 @@ use Rattle.tl_coherence.proofs.flow.Imports.{asks_for, request_of, release_of, p
 use Rattle.tl_coherence.proofs.flow.Imports.{is_requested, is_release_pending, is_let_by}
 use Rattle.tl_coherence.proofs.flow.Imports.{is_sunk, is_of, comes_granting, NoRelease}
 use Rattle.tl_coherence.proofs.flow.Imports.{ReleaseAcked, AcquirePhase, Service, Block, State, SourceState, SourceFree}
-use Rattle.tl_coherence.proofs.flow.Imports.{view, is_granting, is_acknowledging, is_answered, is_wanting, is_unserved}
+use Rattle.tl_coherence.proofs.flow.Imports.{view, is_acknowledging, is_answered, is_wanting, is_unserved}
 use Rattle.tl_coherence.proofs.flow.Imports.{probe_beat, cap_waited}
 use Rattle.std.proofs.Common.{◌≡◌, ℕ, Bool, true, false, not, ◌&&◌, ◌||◌, ◌∷◌, Option, Some, None, refl, sym, ◌∙◌, ap}
 use Rattle.std.proofs.Common.{List}
@@ -133,8 +133,7 @@ flowed-answer {w} {X} c y first last asked asked' rest rest' s s' t first_is las
 
     use_at : (i : ℕ) → is_requested c i (rest' channel.A) (s'.uses c i) s' ≡ is_requested c i (rest channel.A)
         (if last && (y.source == i) then SourceFree else s.uses c i) s'
-    use_at i = ap (λ (l : List (Beat w)). is_requested c i l (s'.uses c i) s') (rests channel.A) ∙ ap
-        (λ (u : SourceState). is_requested c i (rest channel.A) u s') (is.uses i)
+    use_at i = cc (rests channel.A, is.uses i)
 
     asked_still : (i : ℕ) → is_requested c i (rest' channel.A) (s'.uses c i) s' ≡ true → (z : Bool)
         → (last && (y.source == i)) ≡ z → request_of i (beat.D y ∷ t) ≡ asked' i
@@ -143,30 +142,29 @@ flowed-answer {w} {X} c y first last asked asked' rest rest' s s' t first_is las
         sym (use_at i ∙ ap (λ (z : Bool). is_requested c i (rest channel.A) (if z then SourceFree else s.uses c i) s')
         f) ∙ e in cc)
     asked_still i e false f =
-        request_of-d i y t
-        ∙ before.asked_is i (before.requests i ∙ sym (same_requested i (s.uses c i))
-        ∙ sym (use_at i ∙ ap (λ (z : Bool). is_requested c i (rest channel.A) (if z then SourceFree else s.uses c i) s')
-        f) ∙ e)
-        ∙ sym (is.asked_is i f)
+        cc (
+          request_of-d i y t,
+          before.asked_is i (before.requests i ∙ sym (same_requested i (s.uses c i))
+              ∙ sym (use_at i ∙ ap (λ (z : Bool). is_requested c i (rest channel.A) (if z then SourceFree else s.uses c i) s')
+              f) ∙ e),
+          is.asked_is i f,
+        )
 
     lets : (i : ℕ) → is_let_by c i (rest' channel.C) (s'.lets c i) s' ≡ is_let_by c i (rest channel.C) (s.lets c i) s
-    lets i =
-        ap (λ (l : List (Beat w)). is_let_by c i l (s'.lets c i) s') (rests channel.C) ∙ ap
-        (λ (o : Option ℕ). is_let_by c i (rest channel.C) o s') (is.lets i)
-        ∙ let_by-same c i (rest channel.C) (s.lets c i) s s'
-        (λ m. ap (λ (z : Block X). (z.pair c).letting) (is.blocks m))
+    lets i = cc (
+      rests channel.C,
+      is.lets i,
+      let_by-same c i (rest channel.C) (s.lets c i) s s'
+          (λ m. ap (λ (z : Block X). (z.pair c).letting) (is.blocks m)),
+    )
 
     sinks : (i : ℕ) (o : Option ℕ) → is_sunk c i (rest' channel.D) o s' ≡ is_sunk c i (rest channel.D) o s
     sinks i None = refl
-    sinks i (Some m) = ap (λ (z : Bool). is_acknowledging (view (s'.block m).service c)
-        || (is_granting (view (s'.block m).service c) && z)) (is.comes i)
-        ∙ ap (λ (z : Block X). is_acknowledging (view z.service c) || (is_granting (view z.service c) && comes_in_grant
-        i (rest channel.D))) (is.blocks m)
+    sinks i (Some m) = cc (is.comes i, is.blocks m)
 
     grants : (m : ℕ) → granted_by c m asked' (rest' channel.D) (s'.block m) ≡ granted_by c m asked (rest channel.D)
         (s.block m)
-    grants m = ap (λ (z : Bool). is_acknowledging (view (s'.block m).service c) || z) (is.grants m) ∙ ap
-        (granted_by c m asked (rest channel.D)) (is.blocks m)
+    grants m = cc (is.grants m, is.blocks m)
 
 -- ---- a ReleaseAck
 
@@ -250,8 +248,7 @@ flowed-let_go {w} {X} c n y asked asked' rest rest' s s' t first_is last_is rest
         (named y.source n ∙ rw (is.letting, is.source) (same_number (b.release_source c)))
 
     was_let : pending (ReleaseSource y.source) t ≡ true
-    was_let = before.release_sources y.source ∙ ap (λ (o : Option ℕ). is_let_by c y.source (rest channel.C) o s)
-        of_block ∙ ap (is_release_pending y.source (rest channel.C)) is.letting
+    was_let = cc (before.release_sources y.source, of_block, is.letting)
 
     names : (m : ℕ) → releases m (release_of y.source t) ≡ (n == m)
     names m = of_releases n m (release_of y.source t) (before.released y.source n of_block was_let)
@@ -269,12 +266,13 @@ flowed-let_go {w} {X} c n y asked asked' rest rest' s s' t first_is last_is rest
 
     requests : (i : ℕ) → is_requested c i (rest' channel.A) (s'.uses c i) s' ≡ is_requested c i (rest channel.A)
         (s.uses c i) s
-    requests i =
-        ap (λ (l : List (Beat w)). is_requested c i l (s'.uses c i) s') (rests channel.A) ∙ ap
-        (λ (u : SourceState). is_requested c i (rest channel.A) u s') (is.uses i)
-        ∙ requested-blocks c i (rest channel.A) (s.uses c i) s s'
-        (part-block (λ (z : Block X). is_unserved (view z.service c)) n s s' is.elsewhere
-        (ap (λ (q : Service). is_unserved (view q c)) is.service))
+    requests i = cc (
+      rests channel.A,
+      is.uses i,
+      requested-blocks c i (rest channel.A) (s.uses c i) s s'
+          (part-block (λ (z : Block X). is_unserved (view z.service c)) n s s' is.elsewhere
+          (ap (λ (q : Service). is_unserved (view q c)) is.service)),
+    )
 
     acquires : (m : ℕ) → acquired_by c (s'.block m) ≡ acquired_by c (s.block m)
     acquires = part-block (acquired_by c) n s s' is.elsewhere
@@ -287,17 +285,15 @@ flowed-let_go {w} {X} c n y asked asked' rest rest' s s' t first_is last_is rest
 
     sinks : (i : ℕ) (o : Option ℕ) → is_sunk c i (rest' channel.D) o s' ≡ is_sunk c i (rest channel.D) o s
     sinks i None = refl
-    sinks i (Some m) = ap (λ (z : Bool). is_acknowledging (view (s'.block m).service c)
-        || (is_granting (view (s'.block m).service c) && z)) (is.comes i)
-        ∙ ap (λ (q : Service). is_acknowledging (view q c) || (is_granting (view q c) && comes_in_grant i
-        (rest channel.D))) (part-block (λ (z : Block X). z.service) n s s' is.elsewhere is.service m)
+    sinks i (Some m) = cc (is.comes i, part-block (λ (z : Block X). z.service) n s s' is.elsewhere is.service m)
 
     grants : (m : ℕ) → granted_by c m asked' (rest' channel.D) (s'.block m) ≡ granted_by c m asked (rest channel.D)
         (s.block m)
-    grants m =
-        ap (λ (z : Bool). is_acknowledging (view (s'.block m).service c) || z) (is.grants m)
-        ∙ part-block (granted_by c m asked (rest channel.D)) n s s' is.elsewhere
-        (ap (λ (q : Service). is_acknowledging (view q c) || comes_granting m asked (rest channel.D)) is.service) m
+    grants m = cc (
+      is.grants m,
+      part-block (granted_by c m asked (rest channel.D)) n s s' is.elsewhere
+          (ap (λ (q : Service). is_acknowledging (view q c) || comes_granting m asked (rest channel.D)) is.service) m,
+    )
 
     -- an open Release with another source is of another block
     other_source : (i m : ℕ) → s.lets c i ≡ Some m → (y.source == i) ≡ false → m ≡ n → ⊥
@@ -312,24 +308,24 @@ flowed-let_go {w} {X} c n y asked asked' rest rest' s s' t first_is last_is rest
     rest_same : (i : ℕ) (o : Option ℕ) → s.lets c i ≡ o → (y.source == i) ≡ false
         → is_let_by c i (rest' channel.C) o s' ≡ is_let_by c i (rest channel.C) o s
     rest_same i None e f = refl
-    rest_same i (Some m) e f = ap (λ (l : List (Beat w)). is_release_pending i l ((s'.block m).pair c).letting)
-        (rests channel.C)
-        ∙ ap (λ (z : Block X). is_release_pending i (rest channel.C) (z.pair c).letting)
-        (is.elsewhere m (other_source i m e f))
+    rest_same i (Some m) e f = cc (rests channel.C, is.elsewhere m (other_source i m e f))
 
     lets : (i : ℕ) (z : Bool) → (y.source == i) ≡ z → is_let_by c i (rest' channel.C) (s'.lets c i) s' ≡ step true true
         false
         (is_release_ack y.opcode && (y.source == i)) (is_let_by c i (rest channel.C) (s.lets c i) s)
-    lets i true e =
-        ap (λ (o : Option ℕ). is_let_by c i (rest' channel.C) o s')
-        (is.lets i ∙ ap (λ (z : Bool). if z then None else s.lets c i) e)
-        ∙ sym (closed (is_release_ack y.opcode) (y.source == i) (is_let_by c i (rest channel.C) (s.lets c i) s) is.ack
-        e)
-    lets i false e =
-        ap (λ (o : Option ℕ). is_let_by c i (rest' channel.C) o s')
-        (is.lets i ∙ ap (λ (z : Bool). if z then None else s.lets c i) e)
-        ∙ rest_same i (s.lets c i) refl e ∙ sym (unclosed_by (is_release_ack y.opcode) (y.source == i)
-        (is_let_by c i (rest channel.C) (s.lets c i) s) e)
+    lets i true e = cc (
+      is.lets i,
+      e,
+      closed (is_release_ack y.opcode) (y.source == i)
+          (is_let_by c i (rest channel.C) (s.lets c i) s) is.ack e,
+    )
+    lets i false e = cc (
+      is.lets i,
+      e,
+      rest_same i (s.lets c i) refl e,
+      unclosed_by (is_release_ack y.opcode)
+          (y.source == i) (is_let_by c i (rest channel.C) (s.lets c i) s) e,
+    )
 
     is_another : (i m : ℕ) → s'.lets c i ≡ Some m → (z : Bool) → (y.source == i) ≡ z → ((y.source == i) ≡ false)
         × (s.lets c i ≡ Some m)

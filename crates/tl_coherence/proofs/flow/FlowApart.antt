@@ -1,7 +1,7 @@
 -- What an event leaves of what is delivered on a link: each value is as before, where the event isn't of the link, or
 -- comes of a beat of it that is accounted for.
 use Rattle.tl_coherence.proofs.flow.Imports.{Beat, BeatA, Channel, Cap, Grow, Prune, Report, comes_in_grant, is_sunk}
-use Rattle.tl_coherence.proofs.flow.Imports.{View, Own, Other, Granting, GrantedOther, is_unprobed, after_report}
+use Rattle.tl_coherence.proofs.flow.Imports.{Own, Other, Granting, GrantedOther, is_unprobed, after_report}
 use Rattle.tl_coherence.proofs.flow.Imports.{Service, Free, Waits, GrantSent, GrantTaken, Block, State, SourceState}
 use Rattle.tl_coherence.proofs.flow.Imports.{InService, Replied, Acquires, view, is_granting, is_acknowledging}
 use Rattle.tl_coherence.proofs.flow.Imports.{is_answered, acquiring_block, acquire_asked, access_asked, releasing_block}
@@ -79,23 +79,21 @@ module _ {w : ℕ} {X : Type 0} (d : ℕ) (asked asked' : ℕ → Option (BeatA 
 
   sinks-same : (n : ℕ) (b : Block X) (s' : State X) → IsChanged n b s' → b.service ≡ (s.block n).service
       → ((i : ℕ) → s'.tracked i ≡ s.tracked i) → AreSameSinks s'
-  sinks-same n b s' changed same tracked i =
-      ap (λ (o : Option ℕ). is_sunk d i (rest channel.D) o s') (tracked i)
-      ∙ sunk-as d i (rest channel.D) (s.tracked i) s s' (λ m. ap (sunk_in d i (rest channel.D)) (changed m)
-      ∙ set-part (sunk_in d i (rest channel.D)) n b s.block
-      (ap (λ (q : Service). is_acknowledging (view q d) || (is_granting (view q d) && comes_in_grant i
-      (rest channel.D))) same) m)
+  sinks-same n b s' changed same tracked i = cc (
+    tracked i,
+    sunk-as d i (rest channel.D) (s.tracked i) s s' (λ m. ap
+        (sunk_in d i (rest channel.D)) (changed m) ∙ set-part (sunk_in d i (rest channel.D)) n b s.block (ap (λ (q :
+        Service). is_acknowledging (view q d) || (is_granting (view q d) && comes_in_grant i (rest channel.D))) same) m),
+  )
 
   sinks-outside : (n : ℕ) (b : Block X) (s' : State X) → IsChanged n b s'
       → is_outside (view (s.block n).service d) ≡ true → is_outside (view b.service d) ≡ true
       → ((i : ℕ) → (s'.tracked i ≡ s.tracked i) ⊎ (IsWithin n (s.tracked i) × IsWithin n (s'.tracked i)))
       → AreSameSinks s'
-  sinks-outside n b s' changed was now tracked i =
-      sunk-elsewhere d i n (rest channel.D) (s.tracked i) (s'.tracked i) s s'
-      (λ m ne. changed m ∙ set-other n m b s.block ne) (tracked i)
-      (λ e. outside-unsunk (view (s.block n).service d) (comes_in_grant i (rest channel.D)) was)
-      (λ e. ap (sunk_in d i (rest channel.D)) (changed n ∙ set-same n b s.block) ∙ outside-unsunk (view b.service d)
-      (comes_in_grant i (rest channel.D)) now)
+  sinks-outside n b s' changed was now tracked i = cc (sunk-elsewhere d i n (rest channel.D) (s.tracked i) (s'.tracked
+      i) s s' (λ m ne. changed m ∙ set-other n m b s.block ne) (tracked i) (λ e. outside-unsunk (view (s.block
+      n).service d) (comes_in_grant i (rest channel.D)) was) (λ e. ap (sunk_in d i (rest channel.D)) (changed n ∙
+      set-same n b s.block) ∙ outside-unsunk (view b.service d) (comes_in_grant i (rest channel.D)) now))
 
   free-outside : (n : ℕ) → (s.block n).service ≡ Free → is_outside (view (s.block n).service d) ≡ true
   free-outside n free = ap (λ (q : Service). is_outside (view q d)) free
@@ -347,8 +345,7 @@ module _ {w : ℕ} {X : Type 0} (d : ℕ) (asked asked' : ℕ → Option (BeatA 
             granted false = refl
 
         unsunk_then : (i : ℕ) → sunk_in d i (rest channel.D) (between.block n) ≡ false
-        unsunk_then i = ap (λ (z : View). is_acknowledging z || (is_granting z && comes_in_grant i (rest channel.D)))
-            (seen (Waits q true source j) waits) ∙ waiting (d == q)
+        unsunk_then i = cc (seen (Waits q true source j) waits, waiting (d == q))
           where
             waiting : (z : Bool) → (is_acknowledging (if true && z then Own else Other j)
                 || (is_granting (if true && z then Own else Other j) && comes_in_grant i (rest channel.D))) ≡ false
@@ -357,7 +354,6 @@ module _ {w : ℕ} {X : Type 0} (d : ℕ) (asked asked' : ℕ → Option (BeatA 
 
         sinks : (i : ℕ) → is_sunk d i (rest channel.D) (s.tracked i) (report_grants c q n r x k toks s) ≡ is_sunk d i
             (rest channel.D) (s.tracked i) between
-        sinks i = sunk-elsewhere d i n (rest channel.D) (s.tracked i) (s.tracked i) between
-            (report_grants c q n r x k toks s)
-            (λ m ne. changed m ∙ set-other n m new between.block ne) (inl refl) (λ e. unsunk_then i)
-            (λ e. ap (sunk_in d i (rest channel.D)) (set-same n new s.block) ∙ unsunk_now i e)
+        sinks i = cc (sunk-elsewhere d i n (rest channel.D) (s.tracked i) (s.tracked i) between
+            (report_grants c q n r x k toks s) (λ m ne. changed m ∙ set-other n m new between.block ne) (inl refl)
+            (λ e. unsunk_then i) (λ e. ap (sunk_in d i (rest channel.D)) (set-same n new s.block) ∙ unsunk_now i e))

@@ -1,5 +1,5 @@
 -- What is delivered on a link, as an event leaves it alone: each value of it is as before.
-use Rattle.tl_coherence.proofs.flow.Imports.{Beat, BeatA, Channel, History, is_grant, asks_for, MonitorRelation}
+use Rattle.tl_coherence.proofs.flow.Imports.{Beat, BeatA, Channel, History, MonitorRelation}
 use Rattle.tl_coherence.proofs.flow.Imports.{is_requested, is_release_pending, is_let_by}
 use Rattle.tl_coherence.proofs.flow.Imports.{is_sunk, comes_granting, ReleasePhase}
 use Rattle.tl_coherence.proofs.flow.Imports.{Block, State, SourceState, InService, Replied, Acquires}
@@ -69,8 +69,7 @@ requested-same : {w : ℕ} {X : Type 0} (c i : ℕ) (rest : List (Beat w)) (s s'
     → ((n : ℕ) → is_unserved (view (s'.block n).service c) ≡ is_unserved (view (s.block n).service c))
     → IsSameUse (s.uses c i) (s'.uses c i)
     → is_requested c i rest (s'.uses c i) s' ≡ is_requested c i rest (s.uses c i) s
-requested-same c i rest s s' h (inl same) = ap (λ (u : SourceState). is_requested c i rest u s') same ∙ requested-blocks
-    c i rest (s.uses c i) s s' h
+requested-same c i rest s s' h (inl same) = cc (same, requested-blocks c i rest (s.uses c i) s s' h)
 requested-same c i rest s s' h (inr both) = heard_requested c i rest (s'.uses c i) s' both.1 ∙ sym
     (heard_requested c i rest (s.uses c i) s both.0)
 
@@ -86,8 +85,7 @@ IsComing asked rest c s = (n : ℕ) → comes_granting n asked rest ≡ true →
 
 pub comes-same : {w : ℕ} (n : ℕ) (asked asked' : ℕ → Option (BeatA w)) (rest : List (Beat w))
     → ((i : ℕ) → asked' i ≡ asked i) → comes_granting n asked' rest ≡ comes_granting n asked rest
-comes-same n asked asked' (beat.D x ∷ rest) h = ap (λ (o : Option (BeatA _)). is_grant x.opcode && asks_for n o)
-    (h x.source)
+comes-same n asked asked' (beat.D x ∷ rest) h = cc (h x.source)
 comes-same n asked asked' rest h = refl
 
 -- ---- all values

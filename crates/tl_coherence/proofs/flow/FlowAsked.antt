@@ -93,8 +93,7 @@ untouched-acquire_asked {w} {X} c n source whole g bytes asked asked' rest s clo
       letting_same);
   sinks = λ i. sunk-as c i (rest channel.D) (s.tracked i) s s' (set-part (sunk_in c i (rest channel.D)) n new s.block
       refl);
-  grants = λ m. ap (λ (z : Bool). is_acknowledging (view (s'.block m).service c) || z) (grants m) ∙ set-part
-      (granted_by c m asked (rest channel.D)) n new s.block refl m;
+  grants = λ m. cc (grants m, set-part (granted_by c m asked (rest channel.D)) n new s.block refl m);
   probes = set-part (λ (z : Block X). is_answered (z.pair c).probing) n new s.block
       (ap (λ (p : ClientBlock). is_answered p.probing) pair);
   caps = λ m e. set-part (λ (z : Block X). cap_waited z.service) n new s.block refl m;
@@ -149,9 +148,11 @@ untouched-release_asked {w} {X} c n source r asked asked' rest s free none kept 
       ∙ sym (ap (is_release_pending (b.release_source c) (rest channel.C)) kept));
   sinks = λ i. sunk-as c i (rest channel.D) (s.tracked i) s s' (set-part (sunk_in c i (rest channel.D)) n new s.block
       refl);
-  grants = λ m. ap (λ (z : Bool). is_acknowledging (view (s'.block m).service c) || z)
-      (comes-same m asked asked' (rest channel.D) asks)
-      ∙ set-part (granted_by c m asked (rest channel.D)) n new s.block refl m;
+  grants = λ m. cc (
+    comes-same m asked asked' (rest channel.D) asks,
+    set-part (granted_by c m asked (rest channel.D)) n
+        new s.block refl m,
+  );
   probes = set-part (λ (z : Block X). is_answered (z.pair c).probing) n new s.block
       (ap (λ (p : ClientBlock). is_answered p.probing) pair);
   caps = λ m e. set-part (λ (z : Block X). cap_waited z.service) n new s.block refl m;

@@ -120,8 +120,7 @@ requested-apart c i n rest rest' Asked s s' same comes e = comes
 requested-apart c i n rest rest' (InService m) s s' same comes e = refl
 requested-apart c i n rest rest' Replied s s' same comes e = refl
 requested-apart {w} {X} c i n rest rest' (Acquires m) s s' same comes e =
-    ap (λ (z : Block X). not (is_unserved (view z.service c))) (same m (λ f. let g : (n == n) ≡ false = rw f at e in
-    let h : true ≡ false = sym (same_number n) ∙ g in cc))
+    cc (same m (λ f. let g : (n == n) ≡ false = rw f at e in let h : true ≡ false = sym (same_number n) ∙ g in cc))
 
 now_requested : (last d : Bool) (k : Cap) (v : View) → v ≡ seen_after last d k → last ≡ false
     → not (is_unserved v) ≡ true
@@ -208,32 +207,34 @@ flowed-grant {w} {X} c n d k y first last asked asked' rest rest' s s' t first_i
     grants_at m = is_grant y.opcode && asks_for m (request_of y.source t)
 
     was_requested : (i : ℕ) → (y.source == i) ≡ true → is_requested c i (rest channel.A) (s.uses c i) s ≡ true
-    was_requested i e = ap (λ (u : SourceState). is_requested c i (rest channel.A) u s) (is.use_is i e) ∙ ap
-        (λ (v : View). not (is_unserved v)) is.seen
+    was_requested i e = cc (is.use_is i e, is.seen)
 
     names : (m : ℕ) → (is_grant y.opcode && asks_for m (request_of y.source t)) ≡ (n == m)
-    names m = ap (λ (z : Bool). z && asks_for m (request_of y.source t)) is.grant
-        ∙ ap (asks_for m) (before.asked_is y.source (before.requests y.source ∙ was_requested y.source
-        (same_number y.source))) ∙ is.asks m
+    names m = cc (
+      is.grant,
+      before.asked_is y.source (before.requests y.source
+          ∙ was_requested y.source (same_number y.source)),
+      is.asks m,
+    )
 
     apart : (m : ℕ) → (m ≡ n → ⊥) → (is_grant y.opcode && asks_for m (request_of y.source t)) ≡ false
     apart m ne = names m ∙ ne_eqb n m (λ e. ne (sym e))
 
     granted_then : granted_by c n asked (rest channel.D) b ≡ not first
-    granted_then = ap (λ (v : View). is_acknowledging v || comes_granting n asked (rest channel.D)) is.seen ∙ is.granted
-        n ∙ with_true (not first) (n == n) (same_number n)
+    granted_then = cc (is.seen, is.granted n, with_true (not first) (n == n) (same_number n))
 
     grants_other : (m : ℕ) → (m ≡ n → ⊥) → granted_by c m asked' (rest' channel.D) (s.block m) ≡ granted_by c m asked
         (rest channel.D) (s.block m)
-    grants_other m ne =
-        ap (λ (z : Bool). is_acknowledging (view (s.block m).service c) || z)
-        (is.grants m ∙ and_right (not last) (n == m) (ne_eqb n m (λ e. ne (sym e))) ∙ sym
-        (is.granted m ∙ and_right (not first) (n == m) (ne_eqb n m (λ e. ne (sym e)))))
+    grants_other m ne = cc (
+      is.grants m,
+      and_right (not last) (n == m) (ne_eqb n m (λ e. ne (sym e))),
+      is.granted m,
+      and_right (not first) (n == m) (ne_eqb n m (λ e. ne (sym e))),
+    )
 
     use_at : (i : ℕ) → is_requested c i (rest' channel.A) (s'.uses c i) s' ≡ is_requested c i (rest channel.A)
         (if last && (y.source == i) then SourceFree else s.uses c i) s'
-    use_at i = ap (λ (l : List (Beat w)). is_requested c i l (s'.uses c i) s') (rests channel.A) ∙ ap
-        (λ (u : SourceState). is_requested c i (rest channel.A) u s') (is.uses i)
+    use_at i = cc (rests channel.A, is.uses i)
 
     requests : (i : ℕ) (z here : Bool) → last ≡ z → (y.source == i) ≡ here
         → is_requested c i (rest channel.A) (if z && here then SourceFree else s.uses c i) s' ≡ step first last false
@@ -242,10 +243,14 @@ flowed-grant {w} {X} c n d k y first last asked asked' rest rest' s s' t first_i
         ap not (sym e) ∙ sym (closed first last (is_release_ack y.opcode) (y.source == i)
         (is_requested c i (rest channel.A) (s.uses c i) s) is.ack f (was_requested i f))
     requests i false true e f =
-        ap (λ (u : SourceState). is_requested c i (rest channel.A) u s') (is.use_is i f) ∙ now_requested last d k
-        (view new.service c) is.seen_is e ∙ ap not (sym e)
-        ∙ sym (closed first last (is_release_ack y.opcode) (y.source == i)
-        (is_requested c i (rest channel.A) (s.uses c i) s) is.ack f (was_requested i f))
+        cc (
+          is.use_is i f,
+          now_requested last d k (view new.service c) is.seen_is e,
+          e,
+          closed first last
+              (is_release_ack y.opcode) (y.source == i) (is_requested c i (rest channel.A) (s.uses c i) s) is.ack f
+              (was_requested i f),
+        )
     requests i true false e f = requested-apart c i n (rest channel.A) (rest channel.A) (s.uses c i) s s' is.elsewhere
         refl (is.no_use i f)
         ∙ sym (unclosed_by first last (not (is_release_ack y.opcode)) (y.source == i)
@@ -268,19 +273,21 @@ flowed-grant {w} {X} c n d k y first last asked asked' rest rest' s s' t first_i
         absurd (let g : false ≡ true =
         sym (use_at i ∙ ap (λ (z : Bool). is_requested c i (rest channel.A) (if z then SourceFree else s.uses c i) s')
         f) ∙ e in cc)
-    asked_still i e false f =
-        request_of-d i y t
-        ∙ before.asked_is i (was_pending i
-        (sym (use_at i ∙ ap (λ (z : Bool). is_requested c i (rest channel.A) (if z then SourceFree else s.uses c i)
-        s') f) ∙ e) (y.source == i) refl)
-        ∙ sym (is.asked_is i f)
+    asked_still i e false f = cc (
+      request_of-d i y t,
+      before.asked_is i (was_pending i (sym (use_at i ∙ ap (λ (z :
+          Bool). is_requested c i (rest channel.A) (if z then SourceFree else s.uses c i) s') f) ∙ e) (y.source == i)
+          refl),
+      is.asked_is i f,
+    )
 
     lets : (i : ℕ) → is_let_by c i (rest' channel.C) (s'.lets c i) s' ≡ is_let_by c i (rest channel.C) (s.lets c i) s
-    lets i =
-        ap (λ (l : List (Beat w)). is_let_by c i l (s'.lets c i) s') (rests channel.C) ∙ ap
-        (λ (o : Option ℕ). is_let_by c i (rest channel.C) o s') (is.lets i)
-        ∙ let_by-same c i (rest channel.C) (s.lets c i) s s' (part-block (λ (z : Block X). (z.pair c).letting) n s s'
-        is.elsewhere is.letting_is)
+    lets i = cc (
+      rests channel.C,
+      is.lets i,
+      let_by-same c i (rest channel.C) (s.lets c i) s s'
+          (part-block (λ (z : Block X). (z.pair c).letting) n s s' is.elsewhere is.letting_is),
+    )
 
     let_same : (m : ℕ) → let_of c (rest channel.C) (s'.block m) ≡ let_of c (rest channel.C) (s.block m)
     let_same = part-block (let_of c (rest channel.C)) n s s' is.elsewhere (rw (is.release_source, is.letting_is) refl)
@@ -288,34 +295,34 @@ flowed-grant {w} {X} c n d k y first last asked asked' rest rest' s s' t first_i
     sinks : (i : ℕ) (z : Bool) (o : Option ℕ) → (y.sink == i) ≡ z → s.tracked i ≡ o
         → is_sunk c i (rest' channel.D) o s' ≡ step first last (is_grant y.opcode && (y.sink == i)) false
         (is_sunk c i (rest channel.D) o s)
-    sinks i true o e f =
-        ap (λ (p : Option ℕ). is_sunk c i (rest' channel.D) p s') at_n
-        ∙ now_sunk last d k (view new.service c) (comes_in_grant i (rest' channel.D)) is.seen_is
-        (is.comes i ∙ with_true (not last) (y.sink == i) e)
-        ∙ sym (opened first last (is_grant y.opcode) (y.sink == i) (is_sunk c i (rest channel.D) o s) is.grant e
-        then_sunk)
+    sinks i true o e f = cc (
+      at_n,
+      now_sunk last d k (view new.service c) (comes_in_grant i (rest' channel.D))
+          is.seen_is (is.comes i ∙ with_true (not last) (y.sink == i) e),
+      opened first last (is_grant y.opcode)
+          (y.sink == i) (is_sunk c i (rest channel.D) o s) is.grant e then_sunk,
+    )
       where
         at_n : o ≡ Some n
         at_n = sym f ∙ is.tracks i e
 
         then_sunk : is_sunk c i (rest channel.D) o s ≡ not first
-        then_sunk = ap (λ (p : Option ℕ). is_sunk c i (rest channel.D) p s) at_n
-            ∙ ap (λ (v : View). is_acknowledging v || (is_granting v && comes_in_grant i (rest channel.D)))
-            is.seen ∙ is.came i
-            ∙ with_true (not first) (y.sink == i) e
+        then_sunk = cc (at_n, is.seen, is.came i, with_true (not first) (y.sink == i) e)
     sinks i false None e f =
         sym (unbegun first last (is_grant y.opcode && (y.sink == i)) false
         (and_right (is_grant y.opcode) (y.sink == i) e))
     sinks i false (Some m) e f =
-        ap (λ (z : Block X). is_acknowledging (view z.service c) || (is_granting (view z.service c) && comes_in_grant i
-        (rest' channel.D)))
-        (is.elsewhere m (λ g. let h : (n == n) ≡ false = sym (rw (f, g) refl) ∙ is.tracks_not i e in
-        let j : true ≡ false = sym (same_number n) ∙ h in cc))
-        ∙ ap (λ (z : Bool). is_acknowledging (view (s.block m).service c)
-        || (is_granting (view (s.block m).service c) && z))
-        (is.comes i ∙ and_right (not last) (y.sink == i) e ∙ sym (is.came i ∙ and_right (not first) (y.sink == i) e))
-        ∙ sym (unbegun first last (is_grant y.opcode && (y.sink == i)) (is_sunk c i (rest channel.D) (Some m) s)
-        (and_right (is_grant y.opcode) (y.sink == i) e))
+        cc (
+          is.elsewhere m (λ g. let h : (n == n) ≡ false = sym (rw (f, g) refl) ∙ is.tracks_not i e in
+              let j : true ≡ false = sym (same_number n) ∙ h in cc),
+          is.comes i,
+          and_right (not last) (y.sink == i) e,
+          is.came
+              i,
+          and_right (not first) (y.sink == i) e,
+          unbegun first last (is_grant y.opcode && (y.sink == i))
+              (is_sunk c i (rest channel.D) (Some m) s) (and_right (is_grant y.opcode) (y.sink == i) e),
+        )
 
     answered : (m : ℕ) → is_answered ((s'.block m).pair c).probing ≡ is_answered ((s.block m).pair c).probing
     answered = part-block (λ (z : Block X). is_answered (z.pair c).probing) n s s' is.elsewhere is.answered

@@ -146,8 +146,7 @@ module _ {w : ℕ} (config : Config) (log : Log w) (h : AbstractState w) (sys : 
         -- no Grant that was delivered in part is of a block that waits
         none_comes : (q source : ℕ) (k : Cap) → (s.block n).service ≡ Waits q true source k → (i : ℕ)
             → s.tracked i ≡ Some n → comes_in_grant i (rest channel.D) ≡ false
-        none_comes q source k waits i tracks =
-            ap (comes_in_grant i) same_d ∙ go (comes_in_grant i (unfinished_at sys d channel.D)) refl
+        none_comes q source k waits i tracks = cc (same_d, go (comes_in_grant i (unfinished_at sys d channel.D)) refl)
           where
             go : (b : Bool) → comes_in_grant i (unfinished_at sys d channel.D) ≡ b → b ≡ false
             go false f = refl

@@ -12,7 +12,7 @@ use Rattle.tl_coherence.proofs.flow.Imports.{message_of_kind, block_message, pru
 use Rattle.tl_coherence.proofs.flow.Imports.{System, Kind, Probe, ProbeAck, Release}
 use Rattle.tl_coherence.proofs.flow.Imports.{Packet, SimulationRelation, MonitorRelations}
 use Rattle.tl_coherence.proofs.flow.Imports.{is_caching, asked_by}
-use Rattle.std.proofs.Common.{◌≡◌, ℕ, true, false, List, [], ◌∷◌, Option, Some, None, refl, sym, ◌∙◌, ap, subst}
+use Rattle.std.proofs.Common.{◌≡◌, ℕ, true, false, List, [], ◌∷◌, Some, None, refl, sym, ◌∙◌, ap, subst}
 use Rattle.std.specs.Prelude.{map}
 use Rattle.tl_beat.specs.declared.channel.Channel.TheVariants as channel
 use Rattle.tl_burst.specs.declared.message.Message.TheVariants as message
@@ -20,7 +20,6 @@ use Rattle.tl_burst.specs.statement.Burst.{c_beat_of}
 use Rattle.tl_burst.specs.statement.Messages.{channel_in}
 use Rattle.tl_params.specs.declared.perm.Perm.TheVariants as perm
 use Rattle.tl_params.specs.statement.Param.{report_at}
-use Rattle.tl_manager.specs.code.Kept.{illegal_at}
 use Rattle.tl_coherence.specs.protocol.Phase.{ProbePhase, same_report}
 use Rattle.tl_coherence.specs.protocol.Tokens.{is_sent}
 use Rattle.tl_coherence.proofs.queues.Carried.{IsNext}
@@ -44,17 +43,18 @@ pub next-flows : {w : ℕ} (l : Level) (p : Profile) (m : Message w) (x : Beat w
     (t : History w) → illegal l (channel_of x) x ≡ None → IsNext x rest m ms queue → unfinished (channel_in m) t ≡ rest
     → (rest ≡ [] → broken_in_order p (beat_of m 0) t ≡ None) → broken_after l p x t ≡ None
 next-flows {w} l p m x rest ms queue t lawful next is first =
-    ap (λ (y : Beat w). broken_after l p y t) next.beat_is
-    ∙ beat-flows l p m next.k t (sym (ap (λ (y : Beat w). illegal l (channel_of y) y) next.beat_is) ∙ lawful)
-    (is ∙ next.rest_is) (λ e. first (sym is ∙ e))
+    cc (
+      next.beat_is,
+      beat-flows l p m next.k t (sym (ap (λ (y : Beat w). illegal l (channel_of y) y) next.beat_is)
+          ∙ lawful) (is ∙ next.rest_is) (λ e. first (sym is ∙ e)),
+    )
 
 pub lawful-beat : {w : ℕ} (config : Config) (log : Log w) (mail : AccessMessages w) (request : ℕ → MessageA w)
     (s : State (List ℕ)) (sys : System w) (c : ℕ)
     (ch : Channel) (l : Level) (x : Beat w) (queue : List (Beat w)) → SimulationRelation config log mail request s sys
     → sys.channels c ch ≡ x ∷ queue → level_of config c ≡ Some l → illegal l (channel_of x) x ≡ None
 lawful-beat {w} config log mail request s sys c ch l x queue is beats level =
-    sym (ap (λ (o : Option Level). illegal_at o x) level)
-    ∙ (sound-beat config log mail request s sys c ch x queue is beats).lawful
+    cc (level, (sound-beat config log mail request s sys c ch x queue is beats).lawful)
 
 -- ---- channel C
 
@@ -104,10 +104,9 @@ report-lawful {w} config log mail request s sys c n toks l x ms queue width is f
         (λ i. shown ProbeAck c (s.block i)) tokens refl (is.invariant.transfers c ProbeAck refl))
 
     told : r ≡ report_at (cap_waited b.service) (b.pair c).recorded
-    told =
-        same_report-is r (report_at (cap_waited b.service) (b.pair c).recorded)
+    told = cc (same_report-is r (report_at (cap_waited b.service) (b.pair c).recorded)
         (seen_cap (λ k. same_report r (report_at k (b.pair c).recorded)) b.service c
-        (report_fits r (b.pair c) (view b.service c) ok_is answered))
+        (report_fits r (b.pair c) (view b.service c) ok_is answered)))
 
     unacked : (y : ReleasePhase) → (b.pair c).letting ≡ y → is_acked y ≡ false
     unacked ReleaseAcked f = absurd (let first = report_first r (b.pair c) (view b.service c) ok_is answered in
@@ -181,12 +180,11 @@ pub flows-c : {w : ℕ} (config : Config) (log : Log w) (mail : AccessMessages w
     → sys.channels c channel.C ≡ x ∷ queue → level_of config c ≡ Some l
     → broken_after l config.profile x (flow c log) ≡ None
 flows-c {w} config log mail request s sys c l x queue width is flowed beats level =
-    by-first_c (λ i. broken_after l config.profile x (flow c log) ≡ None) c mail s sys x queue
+    cc (by-first_c (λ i. broken_after l config.profile x (flow c log) ≡ None) c mail s sys x queue
     (first-token (is_caching config) channel.C c mail s sys x queue width is.invariant is.carried beats)
     (λ n rest tokens next. report-lawful config log mail request s sys c n rest l x (map (message_of mail s c) rest)
-    queue width is flowed lawful tokens next)
-    (λ n rest tokens next. release-lawful config log mail request s sys c n rest l x (map (message_of mail s c) rest)
-    queue width is flowed lawful tokens next)
+    queue width is flowed lawful tokens next) (λ n rest tokens next. release-lawful config log mail request s sys c n
+    rest l x (map (message_of mail s c) rest) queue width is flowed lawful tokens next))
   where
     lawful : illegal l (channel_of x) x ≡ None
     lawful = lawful-beat config log mail request s sys c channel.C l x queue is beats level
@@ -254,10 +252,8 @@ flows-b {w} config log mail request s sys c l x queue width is flowed beats leve
         (map (message_of mail s c) first.rest) queue
         → broken_after l config.profile x (flow c log) ≡ None
     go Probe i tokens own next =
-        probe-lawful config log mail request s sys c i first.rest l x (map (message_of mail s c) first.rest) queue is
-        flowed
-        (lawful-beat config log mail request s sys c channel.B l x queue is beats level) tokens
+        cc (probe-lawful config log mail request s sys c i first.rest l x (map (message_of mail s c) first.rest) queue
+        is flowed (lawful-beat config log mail request s sys c channel.B l x queue is beats level) tokens
         (unacknowledged i (holds-first Probe (s.link c).b first.rest (packet Probe i) (λ j. shown Probe c (s.block j))
-        tokens refl
-        (is.invariant.transfers c Probe refl)) (view (s.block i).service c) refl) next
+        tokens refl (is.invariant.transfers c Probe refl)) (view (s.block i).service c) refl) next)
     go k i tokens own next = absurd cc

@@ -13,7 +13,6 @@ use Rattle.tl_coherence.proofs.flow.Imports.{is_unserved, probe_beat, cap_waited
 use Rattle.std.proofs.Common.{◌≡◌, ℕ, zero, suc, Bool, true, false, not, ◌&&◌, ◌||◌, [], Option, Some, None, refl, ◌∙◌}
 use Rattle.std.proofs.Common.{ap, List}
 use Rattle.std.proofs.Math.Bool.{and-false}
-use Rattle.std.specs.Prelude.{if◌then◌else◌}
 use Rattle.tl_beat.specs.declared.beat.Beat.TheVariants as beat
 use Rattle.tl_beat.specs.declared.beat.BeatB.{BeatB}
 use Rattle.tl_beat.specs.declared.channel.Channel.TheVariants as channel
@@ -33,8 +32,7 @@ held_as : {w : ℕ} {X : Type 0} (c n : ℕ) (asked : ℕ → Option (BeatA w)) 
     (t : History w)
     → MonitorRelation asked rest c s t → is_granting (view (s.block n).service c) ≡ false
     → held n t ≡ ((s.block n).pair c).recorded
-held_as c n asked rest s t flowed none =
-    flowed.held_is n ∙ ap (λ (g : Bool). if g then ((s.block n).pair c).held else ((s.block n).pair c).recorded) none
+held_as c n asked rest s t flowed none = cc (flowed.held_is n, none)
 
 -- ---- channel A
 
@@ -58,14 +56,12 @@ pub acquire-flows : {w : ℕ} {X : Type 0} (p : Profile) (c n : ℕ) (x : BeatA 
     → s.uses c x.source ≡ Acquires n → view (s.block n).service c ≡ Idle → ((s.block n).pair c).letting ≡ NoRelease
     → grows_from x.param ((s.block n).pair c).recorded ≡ true
     → broken_in_order p (beat.A x) t ≡ None
-acquire-flows {w} p c n x asked rest s t flowed whole acquires block used idle kept grows =
-    acquire-legal p n ((s.block n).pair c).recorded x t acquires block (flowed.rest_is channel.A ∙ whole)
-    (flowed.requests x.source ∙ ap (λ (u : SourceState). is_requested c x.source (rest channel.A) u s) used ∙ ap
-    (λ (v : View). not (is_unserved v)) idle)
-    (flowed.acquires n ∙ ap (λ (v : View). is_wanting ((s.block n).pair c).acquiring && not (is_unserved v))
-    idle ∙ and-false (is_wanting ((s.block n).pair c).acquiring))
-    (flowed.releases n ∙ ap (is_release_pending ((s.block n).release_source c) (rest channel.C)) kept)
-    (held_as c n asked rest s t flowed (ap is_granting idle)) grows
+acquire-flows {w} p c n x asked rest s t flowed whole acquires block used idle kept grows = cc (acquire-legal p n
+    ((s.block n).pair c).recorded x t acquires block (flowed.rest_is channel.A ∙ whole) (flowed.requests x.source ∙ ap
+    (λ (u : SourceState). is_requested c x.source (rest channel.A) u s) used ∙ ap (λ (v : View). not (is_unserved v))
+    idle) (flowed.acquires n ∙ ap (λ (v : View). is_wanting ((s.block n).pair c).acquiring && not (is_unserved v)) idle
+    ∙ and-false (is_wanting ((s.block n).pair c).acquiring)) (flowed.releases n ∙ ap (is_release_pending ((s.block
+    n).release_source c) (rest channel.C)) kept) (held_as c n asked rest s t flowed (ap is_granting idle)) grows)
 
 -- ---- channel B
 

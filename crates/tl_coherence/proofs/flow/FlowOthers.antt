@@ -32,8 +32,7 @@ others-same : {X : Type 0} (d : ℕ) (b b' : Block X) → b'.pair d ≡ b.pair d
     → IsSameView (view b.service d) (view b'.service d)
     → (is_answered (b.pair d).probing ≡ true → cap_waited b'.service ≡ cap_waited b.service) → IsSameBlock d b b'
 others-same {X} d b b' pair source tracker sees cap = record {
-  held = ap (λ (p : ClientBlock). if is_granting (view b'.service d) then p.held else p.recorded) pair ∙ ap
-      (λ (g : Bool). if g then (b.pair d).held else (b.pair d).recorded) sees.granting;
+  held = cc (pair, sees.granting);
   wanting = ap (λ (p : ClientBlock). is_wanting p.acquiring) pair;
   unserved = sees.unserved;
   letting = ap (λ (p : ClientBlock). p.letting) pair;
@@ -106,8 +105,7 @@ pub same-served : {X : Type 0} (d r source tracker : ℕ) (own : Bool) (k : Cap)
     → b.service ≡ Free
     → is_unprobed (b.pair d).probing ≡ true → IsSameBlock d b (served_block r own source tracker k b)
 same-served {X} d r source tracker own k b other free quiet = record {
-  held = ap (λ (p : ClientBlock). if is_granting (view (Waits r own source k) d) then p.held else p.recorded) pair ∙ ap
-      (λ (g : Bool). if g then (b.pair d).held else (b.pair d).recorded) sees.granting;
+  held = cc (pair, sees.granting);
   wanting = ap (λ (p : ClientBlock). is_wanting p.acquiring) pair;
   unserved = sees.unserved;
   letting = ap (λ (p : ClientBlock). p.letting) pair;
@@ -182,18 +180,14 @@ pub same-given : {X : Type 0} (c q source : ℕ) (r : Report) (j k : Cap) (x : B
     → (b.pair q).held ≡ (b.pair q).recorded → is_answered (b.pair q).probing ≡ false
     → IsSameBlock q (reported_block c r b) (granted_block c q r x k b)
 same-given {X} c q source r j k x b other waits even quiet = record {
-  held = ap (λ (v : View). if is_granting v then (new.pair q).held else (new.pair q).recorded) now ∙ ap
-      (λ (p : ClientBlock). p.held) pair ∙ even
-      ∙ sym (ap (λ (v : View). if is_granting v then (old.pair q).held else (old.pair q).recorded) then_ ∙ ap
-      (λ (p : ClientBlock). p.recorded) same);
+  held = cc (now, pair, even, then_, same);
   wanting = ap (λ (p : ClientBlock). is_wanting p.acquiring) pair ∙ sym
       (ap (λ (p : ClientBlock). is_wanting p.acquiring) same);
   unserved = ap is_unserved now ∙ sym (ap is_unserved then_);
   letting = ap (λ (p : ClientBlock). p.letting) pair ∙ sym (ap (λ (p : ClientBlock). p.letting) same);
   source = refl;
   acknowledging = ap is_acknowledging now ∙ sym (ap is_acknowledging then_);
-  answered = ap (λ (p : ClientBlock). is_answered p.probing) pair ∙ sym
-      (ap (λ (p : ClientBlock). is_answered p.probing) same);
+  answered = cc (pair, same);
   cap = λ e. absurd (let f : false ≡ true = sym quiet ∙ sym (ap (λ (p : ClientBlock). is_answered p.probing) pair) ∙ e
       in cc);
   tracker = inl refl;

@@ -1,7 +1,7 @@
 -- What is delivered on a link, as a beat of it is: each value of it is that of the protocol afterwards.
 use Rattle.tl_coherence.specs.protocol.Phase.{is_whole}
 use Rattle.tl_coherence.proofs.flow.Imports.{IsWidth, Beat, Channel, Message, MessageA, MessageC, beat_of, History, on}
-use Rattle.tl_coherence.proofs.flow.Imports.{grown, completes, Config, Cap, block_at, MonitorRelation, AbstractState}
+use Rattle.tl_coherence.proofs.flow.Imports.{completes, Config, Cap, block_at, MonitorRelation, AbstractState}
 use Rattle.tl_coherence.proofs.flow.Imports.{kind_taken, Log, ClientBlock, AcquirePhase, AcquireOpen, after_probe}
 use Rattle.tl_coherence.proofs.flow.Imports.{after_release_ack, Service, Block, State, packet, is_on, probed_block}
 use Rattle.tl_coherence.proofs.flow.Imports.{probe_taken, let_go_block, release_ack_taken, release_taken}
@@ -9,7 +9,7 @@ use Rattle.tl_coherence.proofs.flow.Imports.{acquire_served, acquire_granted, ca
 use Rattle.tl_coherence.proofs.flow.Imports.{message_of_kind, System, Kind, Request, Acquire, Probe, ProbeAck, Release}
 use Rattle.tl_coherence.proofs.flow.Imports.{Answer, Grant, ReleaseAck, GrantAck, Packet, SimulationRelation}
 use Rattle.tl_coherence.proofs.flow.Imports.{is_caching, asked_by}
-use Rattle.std.proofs.Common.{◌≡◌, subst, ℕ, Bool, true, false, List, [], ◌∷◌, length, refl, sym, ◌∙◌, ap, inl}
+use Rattle.std.proofs.Common.{◌≡◌, subst, ℕ, Bool, true, false, List, ◌∷◌, length, refl, sym, ◌∙◌, ap, inl}
 use Rattle.std.specs.Prelude.{if◌then◌else◌}
 use Rattle.tl_beat.specs.declared.channel.Channel.TheVariants as channel
 use Rattle.tl_burst.specs.declared.message.Message.TheVariants as message
@@ -67,10 +67,7 @@ module _ {w : ℕ} (config : Config) (log : Log w) (h : AbstractState w) (sys : 
     -- what of channel D's first message was delivered stays
     d_same : (m : Message w) (k : ℕ) → x ≡ beat_of m k → on channel.D (beat_of m k) ≡ false
         → rest' channel.D ≡ unfinished_at sys c channel.D
-    d_same m k e off = rests channel.D ∙ ap
-        (λ (z : Beat w). if on channel.D z then grown x (unfinished_at sys c channel.D) else unfinished_at sys c
-        channel.D)
-        e ∙ ap (λ (b : Bool). if b then grown x (unfinished_at sys c channel.D) else unfinished_at sys c channel.D) off
+    d_same m k e off = cc (rests channel.D, e, off)
 
     -- ---- channel A
 
@@ -171,18 +168,16 @@ module _ {w : ℕ} (config : Config) (log : Log w) (h : AbstractState w) (sys : 
         k = cap_sent ((s.block i).pair c).probing
 
         one : completes x (unfinished_at sys c channel.B) ≡ true
-        one = ap (completes x) (is.kept c).b_whole ∙ ap (λ (z : Beat w). completes z [])
-            (probe-beat c i s x (unfinished_at sys c channel.B) ms queue next)
+        one = cc ((is.kept c).b_whole, probe-beat c i s x (unfinished_at sys c channel.B) ms queue next)
 
         new : Block (List ℕ)
         new = probed_block c k (s.block i)
 
         asks : (j : ℕ) → asked_by h.mail (probe_taken c i k toks s) c j ≡ asked_by h.mail s c j
-        asks j = asks-same c j h.mail h.mail s (probe_taken c i k toks s) refl (inl refl)
+        asks j = cc (asks-same c j h.mail h.mail s (probe_taken c i k toks s) refl (inl refl)
             (λ n used. set-part (λ (z : Block (List ℕ)). (z.pair c).acquiring) i new s.block
-            (ap (λ (p : ClientBlock). p.acquiring)
-            (set-same c (after_probe k ((s.block i).pair c)) (s.block i).pair)) n)
-            (λ n used. set-part (λ (z : Block (List ℕ)). z.source c) i new s.block refl n)
+            (ap (λ (p : ClientBlock). p.acquiring) (set-same c (after_probe k ((s.block i).pair c)) (s.block i).pair))
+            n) (λ n used. set-part (λ (z : Block (List ℕ)). z.source c) i new s.block refl n))
 
         go : (z : Bool) → completes x (unfinished_at sys c channel.B) ≡ z
             → FlowsWith x (if z then kind_taken config tracker c Probe i toks h else h)
@@ -261,11 +256,10 @@ module _ {w : ℕ} (config : Config) (log : Log w) (h : AbstractState w) (sys : 
         new = let_go_block c (s.block i)
 
         asks : (j : ℕ) → asked_by h.mail (release_ack_taken c i toks s) c j ≡ asked_by h.mail s c j
-        asks j = asks-same c j h.mail h.mail s (release_ack_taken c i toks s) refl (inl refl)
+        asks j = cc (asks-same c j h.mail h.mail s (release_ack_taken c i toks s) refl (inl refl)
             (λ n used. set-part (λ (z : Block (List ℕ)). (z.pair c).acquiring) i new s.block
             (ap (λ (p : ClientBlock). p.acquiring) (set-same c (after_release_ack ((s.block i).pair c))
-            (s.block i).pair)) n)
-            (λ n used. set-part (λ (z : Block (List ℕ)). z.source c) i new s.block refl n)
+            (s.block i).pair)) n) (λ n used. set-part (λ (z : Block (List ℕ)). z.source c) i new s.block refl n))
 
         go : (z : Bool) → completes x (unfinished_at sys c channel.D) ≡ z
             → FlowsWith x (if z then kind_taken config tracker c ReleaseAck i toks h else h)

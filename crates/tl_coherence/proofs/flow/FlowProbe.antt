@@ -1,12 +1,12 @@
 -- What is delivered on a link, as a Probe is.
-use Rattle.tl_coherence.proofs.flow.Imports.{Beat, BeatA, Channel, History, Cap, comes_in_grant, begins, ends, block_at}
+use Rattle.tl_coherence.proofs.flow.Imports.{Beat, BeatA, Channel, History, Cap, begins, ends, block_at}
 use Rattle.tl_coherence.proofs.flow.Imports.{release_of, probe_of, grant_sink, MonitorRelation}
 use Rattle.tl_coherence.proofs.flow.Imports.{is_requested, is_release_pending}
 use Rattle.tl_coherence.proofs.flow.Imports.{is_let_by, is_sunk, comes_granting, View, Other, ClientBlock, after_probe}
-use Rattle.tl_coherence.proofs.flow.Imports.{Service, Block, State, view, is_granting, is_acknowledging, is_answered}
+use Rattle.tl_coherence.proofs.flow.Imports.{Block, State, view, is_granting, is_answered}
 use Rattle.tl_coherence.proofs.flow.Imports.{is_wanting, is_unserved, probe_taken, probed_block, probe_beat, cap_waited}
 use Rattle.tl_coherence.proofs.flow.Imports.{Packet, set}
-use Rattle.std.proofs.Common.{◌≡◌, ℕ, ◌*◌, Bool, true, false, not, ◌&&◌, ◌||◌, ◌∷◌, Option, Some, None, refl, sym, ◌∙◌}
+use Rattle.std.proofs.Common.{◌≡◌, ℕ, ◌*◌, Bool, true, false, not, ◌&&◌, ◌∷◌, Option, Some, None, refl, sym, ◌∙◌}
 use Rattle.std.proofs.Common.{ap, List}
 use Rattle.std.specs.Prelude.{◌==◌, if◌then◌else◌, option_map}
 use Rattle.std.proofs.lemmas.Bool.{ne_eqb}
@@ -104,29 +104,26 @@ flowed-probe {w} {X} c n k toks asked asked' rest rest' s t first last rests ask
 
     requests : (i : ℕ) → is_requested c i (rest' channel.A) (s'.uses c i) s' ≡ is_requested c i (rest channel.A)
         (s.uses c i) s
-    requests i =
-        ap (λ (r : List (Beat w)). is_requested c i r (s.uses c i) s') (rests channel.A)
-        ∙ requested-blocks c i (rest channel.A) (s.uses c i) s s'
-        (set-part (λ (z : Block X). is_unserved (view z.service c)) n new s.block refl)
+    requests i = cc (
+      rests channel.A,
+      requested-blocks c i (rest channel.A) (s.uses c i) s s'
+          (set-part (λ (z : Block X). is_unserved (view z.service c)) n new s.block refl),
+    )
 
     lets : (i : ℕ) → is_let_by c i (rest' channel.C) (s'.lets c i) s' ≡ is_let_by c i (rest channel.C) (s.lets c i) s
-    lets i =
-        ap (λ (r : List (Beat w)). is_let_by c i r (s.lets c i) s') (rests channel.C)
-        ∙ let_by-same c i (rest channel.C) (s.lets c i) s s' (set-part (λ (z : Block X). (z.pair c).letting) n new
-        s.block letting_same)
+    lets i = cc (
+      rests channel.C,
+      let_by-same c i (rest channel.C) (s.lets c i) s s'
+          (set-part (λ (z : Block X). (z.pair c).letting) n new s.block letting_same),
+    )
 
     sunk_same : (i : ℕ) (o : Option ℕ) → is_sunk c i (rest channel.D) o s' ≡ is_sunk c i (rest channel.D) o s
     sunk_same i None = refl
-    sunk_same i (Some m) = ap
-        (λ (q : Service). is_acknowledging (view q c) || (is_granting (view q c) && comes_in_grant i (rest channel.D)))
-        (set-part (λ (z : Block X). z.service) n new s.block refl m)
+    sunk_same i (Some m) = cc (set-part (λ (z : Block X). z.service) n new s.block refl m)
 
     grants : (m : ℕ) → granted_by c m asked' (rest' channel.D) (s'.block m) ≡ granted_by c m asked (rest channel.D)
         (s.block m)
-    grants m =
-        ap (λ (r : List (Beat w)). granted_by c m asked' r (s'.block m)) (rests channel.D) ∙ ap
-        (λ (z : Bool). is_acknowledging (view (s'.block m).service c) || z) (comes m)
-        ∙ set-part (granted_by c m asked (rest channel.D)) n new s.block refl m
+    grants m = cc (rests channel.D, comes m, set-part (granted_by c m asked (rest channel.D)) n new s.block refl m)
 
     probed : (m : ℕ) → is_answered ((s'.block m).pair c).probing ≡ true
         → (if true && (block_at (64 * n) == m) then Some y else probe_of m t) ≡ Some

@@ -1,14 +1,13 @@
 -- What the receivers have after a delivery.
-use Rattle.tl_coherence.proofs.flow.Imports.{IsWidth, Beat, Channel, grown, unfinished, completes, Config}
-use Rattle.tl_coherence.proofs.flow.Imports.{on_link, flow}
+use Rattle.tl_coherence.proofs.flow.Imports.{IsWidth, Beat, Channel, grown, completes, Config}
+use Rattle.tl_coherence.proofs.flow.Imports.{flow}
 use Rattle.tl_coherence.proofs.flow.Imports.{AbstractState, kind_taken, Log, receiver, System}
-use Rattle.tl_coherence.proofs.flow.Imports.{Packet, SimulationRelation, is_caching}
+use Rattle.tl_coherence.proofs.flow.Imports.{SimulationRelation, is_caching}
 use Rattle.std.proofs.Common.{◌≡◌, subst, ℕ, Bool, true, false, ◌&&◌, List, [], ◌∷◌, Some, None, refl, sym, ◌∙◌}
 use Rattle.std.proofs.Common.{ap}
 use Rattle.std.specs.Prelude.{◌==◌, if◌then◌else◌}
 use Rattle.tl_beat.specs.declared.beat.Link.{Link}
 use Rattle.tl_beat.specs.declared.channel.Channel.TheVariants as channel
-use Rattle.tl_client.specs.statement.Endpoint as client
 use Rattle.tl_client.specs.statement.Endpoint.{EndConfig}
 use Rattle.tl_client.specs.statement.Offer as offer
 use Rattle.tl_manager.specs.statement.Handing.{Handed}
@@ -18,7 +17,7 @@ use Rattle.tl_manager.specs.statement.Reaction.{reaction}
 use Rattle.tl_coherence.specs.declared.event.Event.TheVariants.{Deliver}
 use Rattle.tl_coherence.specs.declared.event.Outcome.TheVariants as outcome
 use Rattle.tl_coherence.specs.statement.Draining.{is_moving}
-use Rattle.tl_coherence.specs.refinement.AbstractStep.{abstract_step, packet_taken}
+use Rattle.tl_coherence.specs.refinement.AbstractStep.{abstract_step}
 use Rattle.tl_coherence.specs.statement.Log.{system_after}
 use Rattle.tl_coherence.specs.statement.Step.{Step, stepped, outcome_of, is_to_client}
 use Rattle.tl_coherence.specs.statement.System.{terms_at, same_channel, with_manager, with_channel, with_messages}
@@ -38,12 +37,9 @@ use Rattle.tl_coherence.proofs.simulation.Popped.{unfinished_at}
 -- messages that are handed out change no receiver
 receiver_handed : {w : ℕ} (handed : Handed w) (sys : System w) (d : ℕ) (at : Channel)
     → receiver at d (with_messages handed sys) ≡ receiver at d sys
-receiver_handed handed sys d channel.B =
-    ap (λ (f : ℕ → client.Endpoint _). (f d).past) (clients-with_messages handed sys)
-receiver_handed handed sys d channel.D =
-    ap (λ (f : ℕ → client.Endpoint _). (f d).past) (clients-with_messages handed sys)
-receiver_handed handed sys d at =
-    ap (λ (m : manager_end.End _). on_link d m.trace) (manager-with_messages handed sys)
+receiver_handed handed sys d channel.B = cc (clients-with_messages handed sys)
+receiver_handed handed sys d channel.D = cc (clients-with_messages handed sys)
+receiver_handed handed sys d at = cc (manager-with_messages handed sys)
 
 -- what is left of a beat that is moved on channel ch of client c's link: what was delivered, what receivers have, and
 -- what the protocol is
@@ -73,12 +69,13 @@ unfolding with_messages
 moved-to_manager {w} config log link ch h terms x queue width is known down beats moving = record {
   first = at.first;
   on_ch = at.on_it;
-  delivered = λ d. ap (λ (y : Step w). flow d ((Deliver link ch, y.outcome) ∷ log)) at.step_is ∙ flow_moved link ch
-      (outcome.Moved x) x log d refl;
-  rests = λ d i. ap (λ (y : Step w). unfinished_at y.after d i) at.step_is ∙ ap (unfinished i)
-      (receiver_handed handed base d i)
-      ∙ (landed-manager link.0 ch x queue (λ k j. None) [] e sys down at.beats at.on_it at.heard (λ k j. refl)).rests d
-      i;
+  delivered = λ d. cc (at.step_is, flow_moved link ch (outcome.Moved x) x log d refl);
+  rests = λ d i. cc (
+    at.step_is,
+    receiver_handed handed base d i,
+    (landed-manager link.0 ch x queue (λ k j. None) [] e
+        sys down at.beats at.on_it at.heard (λ k j. refl)).rests d i,
+  );
   follows = at.follows;
 }
   where
@@ -114,9 +111,7 @@ moved-to_client {w} config log link ch h terms x queue width is known up beats m
       ∙ (landed-client link.0 ch x queue t.message (offer.taken x (sys.clients link.0)).after sys up beats on_ch
       (client-heard terms link.0 ch x queue sys (stepped config (Deliver link ch) sys) width (is.kept link.0) t)).rests
       d i;
-  follows = followed-moving config link ch sys h x queue moving beats
-      ∙ ap (λ (l : List Packet). if completes x (unfinished_at sys link.0 ch) then packet_taken config
-      (next_tracker sys) link.0 l h else h) first.tokens;
+  follows = cc (followed-moving config link ch sys h x queue moving beats, first.tokens);
 }
   where
     sys : System w

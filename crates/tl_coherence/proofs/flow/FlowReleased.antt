@@ -1,11 +1,11 @@
 -- What is delivered on a link, as the beats of a Release are.
 use Rattle.tl_coherence.proofs.flow.Imports.{Beat, BeatA, BeatC, Channel, History, ReleaseSource, Prune, Perm}
-use Rattle.tl_coherence.proofs.flow.Imports.{comes_in_release, comes_in_grant, begins, ends, block_at, pending}
+use Rattle.tl_coherence.proofs.flow.Imports.{comes_in_release, begins, ends, block_at, pending}
 use Rattle.tl_coherence.proofs.flow.Imports.{is_probe_ack, is_release, release_of, reported, MonitorRelation}
 use Rattle.tl_coherence.proofs.flow.Imports.{is_requested, is_release_pending}
 use Rattle.tl_coherence.proofs.flow.Imports.{is_let_by, is_sunk, comes_granting, is_of}
 use Rattle.tl_coherence.proofs.flow.Imports.{ReleasePhase, ReleaseSent, ReleaseAcked, AcquirePhase}
-use Rattle.tl_coherence.proofs.flow.Imports.{is_unreleased, Service, Block, State, view, is_granting, is_acknowledging}
+use Rattle.tl_coherence.proofs.flow.Imports.{is_unreleased, Service, Block, State, view, is_acknowledging}
 use Rattle.tl_coherence.proofs.flow.Imports.{is_answered, is_wanting, is_unserved, probe_beat, cap_waited, grant_sink-c}
 use Rattle.tl_coherence.proofs.flow.Imports.{probe_of-c, request_of-c}
 use Rattle.std.proofs.Common.{◌≡◌, ℕ, Bool, true, false, not, ◌&&◌, ◌||◌, ◌∷◌, Option, Some, None, refl, sym, ◌∙◌, ap}
@@ -225,12 +225,13 @@ flowed-release {w} {X} c n r y first last asked rest rest' s s' t first_is last_
 
     requests : (i : ℕ) → is_requested c i (rest' channel.A) (s'.uses c i) s' ≡ is_requested c i (rest channel.A)
         (s.uses c i) s
-    requests i =
-        ap (λ (l : List (Beat w)). is_requested c i l (s'.uses c i) s') (rests channel.A) ∙ ap
-        (λ u. is_requested c i (rest channel.A) u s') (is.uses i)
-        ∙ requested-blocks c i (rest channel.A) (s.uses c i) s s'
-        (part-block (λ (z : Block X). is_unserved (view z.service c)) n s s' is.elsewhere
-        (ap (λ (q : Service). is_unserved (view q c)) is.service))
+    requests i = cc (
+      rests channel.A,
+      is.uses i,
+      requested-blocks c i (rest channel.A) (s.uses c i) s s'
+          (part-block (λ (z : Block X). is_unserved (view z.service c)) n s s' is.elsewhere
+          (ap (λ (q : Service). is_unserved (view q c)) is.service)),
+    )
 
     acquires : (m : ℕ) → acquired_by c (s'.block m) ≡ acquired_by c (s.block m)
     acquires = part-block (acquired_by c) n s s' is.elsewhere
@@ -246,49 +247,55 @@ flowed-release {w} {X} c n r y first last asked rest rest' s s' t first_is last_
     not_closed m = rw is.ack (step_quiet first last (is_answered ((s.block m).pair c).probing))
 
     sinks : (i : ℕ) → is_sunk c i (rest' channel.D) (s'.tracked i) s' ≡ is_sunk c i (rest channel.D) (s.tracked i) s
-    sinks i = ap (λ (l : List (Beat w)). is_sunk c i l (s'.tracked i) s') (rests channel.D) ∙ ap
-        (λ o. is_sunk c i (rest channel.D) o s') (is.tracked i) ∙ same (s.tracked i)
+    sinks i = cc (rests channel.D, is.tracked i, same (s.tracked i))
       where
         same : (o : Option ℕ) → is_sunk c i (rest channel.D) o s' ≡ is_sunk c i (rest channel.D) o s
         same None = refl
-        same (Some m) = ap (λ (q : Service). is_acknowledging (view q c) || (is_granting (view q c) && comes_in_grant i
-            (rest channel.D)))
-            (part-block (λ (z : Block X). z.service) n s s' is.elsewhere is.service m)
+        same (Some m) = cc (part-block (λ (z : Block X). z.service) n s s' is.elsewhere is.service m)
 
     grants : (m : ℕ) → granted_by c m asked (rest' channel.D) (s'.block m) ≡ granted_by c m asked (rest channel.D)
         (s.block m)
-    grants m = ap (λ (l : List (Beat w)). granted_by c m asked l (s'.block m)) (rests channel.D)
-        ∙ part-block (granted_by c m asked (rest channel.D)) n s s' is.elsewhere
-        (ap (λ (q : Service). is_acknowledging (view q c) || comes_granting m asked (rest channel.D)) is.service) m
+    grants m = cc (
+      rests channel.D,
+      part-block (granted_by c m asked (rest channel.D)) n s s' is.elsewhere
+          (ap (λ (q : Service). is_acknowledging (view q c) || comes_granting m asked (rest channel.D)) is.service) m,
+    )
 
     then_by : (i : ℕ) (o : Option ℕ) → s.lets c i ≡ o → i ≡ y.source → is_let_by c i (rest channel.C) o s ≡ not first
-    then_by i o e same =
-        ap (λ p. is_let_by c i (rest channel.C) p s) (sym e ∙ of_block i same)
-        ∙ let_then i first r (rest channel.C) (b.pair c).letting is.letting
-        (is.came i ∙ with_true (not first) (y.source == i) (rw same (same_number y.source)))
+    then_by i o e same = cc (
+      e,
+      of_block i same,
+      let_then i first r (rest channel.C) (b.pair c).letting is.letting
+          (is.came i ∙ with_true (not first) (y.source == i) (rw same (same_number y.source))),
+    )
 
     lets_with : (i : ℕ) (o : Option ℕ) → s.lets c i ≡ o → (i ≡ y.source) ⊎ (i ≡ y.source → ⊥)
         → is_let_by c i (rest' channel.C) o s' ≡ step first last (is_release y.opcode && (y.source == i)) false
         (is_let_by c i (rest channel.C) o s)
     lets_with i o e (inl same) =
-        ap (λ p. is_let_by c i (rest' channel.C) p s') (sym e ∙ of_block i same)
-        ∙ let_now i last r (rest' channel.C) (new.pair c).letting is.letting_is
-        (is.comes i ∙ with_true (not last) (y.source == i) (rw same (same_number y.source)))
-        ∙ sym (opened first last (is_release y.opcode) (y.source == i) (is_let_by c i (rest channel.C) o s) is.release
-        (rw same (same_number y.source)) (then_by i o e same))
+        cc (
+          e,
+          of_block i same,
+          let_now i last r (rest' channel.C) (new.pair c).letting is.letting_is (is.comes i
+              ∙ with_true (not last) (y.source == i) (rw same (same_number y.source))),
+          opened first last
+              (is_release y.opcode) (y.source == i) (is_let_by c i (rest channel.C) o s) is.release
+              (rw same (same_number y.source)) (then_by i o e same),
+        )
     lets_with i None e (inr ne) = sym (unopened first last (is_release y.opcode) (y.source == i) false (another i ne))
     lets_with i (Some m) e (inr ne) =
-        ap (λ (z : Block X). is_release_pending i (rest' channel.C) (z.pair c).letting)
-        (is.elsewhere m (λ f. let g : (n == n) ≡ false = sym (rw (e, f) refl) ∙ of_no_block i ne in
-        let h : true ≡ false = sym (same_number n) ∙ g in cc))
-        ∙ let_other i (rest channel.C) (rest' channel.C) ((s.block m).pair c).letting (λ begun. comes_other i ne)
-        ∙ sym (unopened first last (is_release y.opcode) (y.source == i)
-        (is_release_pending i (rest channel.C) ((s.block m).pair c).letting) (another i ne))
+        cc (
+          is.elsewhere m (λ f. let g : (n == n) ≡ false = sym (rw (e, f) refl) ∙ of_no_block i ne in
+              let h : true ≡ false = sym (same_number n) ∙ g in cc),
+          let_other i (rest channel.C) (rest' channel.C)
+              ((s.block m).pair c).letting (λ begun. comes_other i ne),
+          unopened first last (is_release y.opcode)
+              (y.source == i) (is_release_pending i (rest channel.C) ((s.block m).pair c).letting) (another i ne),
+        )
 
     lets : (i : ℕ) → is_let_by c i (rest' channel.C) (s'.lets c i) s' ≡ step first last
         (is_release y.opcode && (y.source == i)) false (is_let_by c i (rest channel.C) (s.lets c i) s)
-    lets i = ap (λ o. is_let_by c i (rest' channel.C) o s') (is.lets i) ∙ lets_with i (s.lets c i) refl
-        (cases_eq i y.source)
+    lets i = cc (is.lets i, lets_with i (s.lets c i) refl (cases_eq i y.source))
 
     was_pending : (i : ℕ) → i ≡ y.source → first ≡ false → pending (ReleaseSource i) t ≡ true
     was_pending i same e = before.release_sources i ∙ then_by i (s.lets c i) refl same ∙ ap not e
@@ -304,13 +311,11 @@ flowed-release {w} {X} c n r y first last asked rest rest' s s' t first_is last_
     released i m e f (inl same) =
         of_source (λ z. block_at z.address) m i y t first first_is is.release (rw same (same_number y.source))
         (is.at ∙ both_some n m (s.lets c i) (of_block i same) e) (λ g. before.released i m e (was_pending i same g))
-    released i m e f (inr ne) = ap (option_map (λ z. block_at z.address)) (of_other i y t (another i ne))
-        ∙ before.released i m e (still_pending i ne f)
+    released i m e f (inr ne) = cc (of_other i y t (another i ne), before.released i m e (still_pending i ne f))
 
     sizes : (i m : ℕ) → s.lets c i ≡ Some m → is_let_by c i (rest' channel.C) (s'.lets c i) s' ≡ true
         → (i ≡ y.source) ⊎ (i ≡ y.source → ⊥)
         → option_map (λ z. z.size) (release_of i (beat.C y ∷ t)) ≡ Some 6
     sizes i m e f (inl same) = of_source (λ z. z.size) 6 i y t first first_is is.release
         (rw same (same_number y.source)) is.size (λ g. before.sizes i m e (was_pending i same g))
-    sizes i m e f (inr ne) = ap (option_map (λ z. z.size)) (of_other i y t (another i ne)) ∙ before.sizes i m e
-        (still_pending i ne f)
+    sizes i m e f (inr ne) = cc (of_other i y t (another i ne), before.sizes i m e (still_pending i ne f))

@@ -1,10 +1,10 @@
 -- What is delivered on a link, as the last beat of a ProbeAck is.
 use Rattle.tl_coherence.proofs.flow.Imports.{Beat, BeatA, BeatC, Channel, History, Report, Perm, comes_in_release}
-use Rattle.tl_coherence.proofs.flow.Imports.{comes_in_grant, begins, ends, block_at, is_probe_ack, is_release, probe_of}
+use Rattle.tl_coherence.proofs.flow.Imports.{begins, ends, block_at, is_probe_ack, is_release, probe_of}
 use Rattle.tl_coherence.proofs.flow.Imports.{reported, MonitorRelation, is_requested}
 use Rattle.tl_coherence.proofs.flow.Imports.{is_release_pending, is_let_by, is_sunk}
-use Rattle.tl_coherence.proofs.flow.Imports.{ClientBlock, after_report, Service, Block, State, view, is_granting}
-use Rattle.tl_coherence.proofs.flow.Imports.{is_acknowledging, is_answered, is_wanting, is_unserved, report_taken}
+use Rattle.tl_coherence.proofs.flow.Imports.{ClientBlock, after_report, Block, State, view, is_granting}
+use Rattle.tl_coherence.proofs.flow.Imports.{is_answered, is_wanting, is_unserved, report_taken}
 use Rattle.tl_coherence.proofs.flow.Imports.{reported_block, probe_beat, cap_waited, Packet, grant_sink-c, probe_of-c}
 use Rattle.tl_coherence.proofs.flow.Imports.{request_of-c}
 use Rattle.std.proofs.Common.{◌≡◌, ℕ, Bool, true, false, not, ◌&&◌, ◌||◌, ◌∷◌, Option, Some, None, refl, sym, ◌∙◌, ap}
@@ -114,10 +114,11 @@ flowed-report {w} {X} c n r toks y first asked rest rest' s t first_is last_is r
 
     requests : (i : ℕ) → is_requested c i (rest' channel.A) (s'.uses c i) s' ≡ is_requested c i (rest channel.A)
         (s.uses c i) s
-    requests i =
-        ap (λ (l : List (Beat w)). is_requested c i l (s.uses c i) s') (rests channel.A)
-        ∙ requested-blocks c i (rest channel.A) (s.uses c i) s s'
-        (set-part (λ (z : Block X). is_unserved (view z.service c)) n new s.block refl)
+    requests i = cc (
+      rests channel.A,
+      requested-blocks c i (rest channel.A) (s.uses c i) s s'
+          (set-part (λ (z : Block X). is_unserved (view z.service c)) n new s.block refl),
+    )
 
     acquires : (m : ℕ) → acquired_by c (s'.block m) ≡ acquired_by c (s.block m)
     acquires = set-part (acquired_by c) n new s.block (ap (λ (z : Bool). z && not (is_unserved (view b.service c)))
@@ -130,23 +131,20 @@ flowed-report {w} {X} c n r toks y first asked rest rest' s t first_is last_is r
         s.block letting_same)
 
     releases : (m : ℕ) → let_of c (rest' channel.C) (s'.block m) ≡ let_of c (rest channel.C) (s.block m)
-    releases m =
-        let_rest ((s'.block m).release_source c) (rest channel.C) (rest' channel.C) ((s'.block m).pair c).letting
-        (comes ((s'.block m).release_source c))
-        ∙ set-part (let_of c (rest channel.C)) n new s.block
-        (ap (is_release_pending (b.release_source c) (rest channel.C))
-        letting_same) m
+    releases m = cc (
+      let_rest ((s'.block m).release_source c) (rest channel.C) (rest' channel.C)
+          ((s'.block m).pair c).letting (comes ((s'.block m).release_source c)),
+      set-part (let_of c (rest channel.C)) n
+          new s.block (ap (is_release_pending (b.release_source c) (rest channel.C)) letting_same) m,
+    )
 
     sunk_same : (i : ℕ) (o : Option ℕ) → is_sunk c i (rest channel.D) o s' ≡ is_sunk c i (rest channel.D) o s
     sunk_same i None = refl
-    sunk_same i (Some m) = ap
-        (λ (q : Service). is_acknowledging (view q c) || (is_granting (view q c) && comes_in_grant i (rest channel.D)))
-        (set-part (λ (z : Block X). z.service) n new s.block refl m)
+    sunk_same i (Some m) = cc (set-part (λ (z : Block X). z.service) n new s.block refl m)
 
     grants : (m : ℕ) → granted_by c m asked (rest' channel.D) (s'.block m) ≡ granted_by c m asked (rest channel.D)
         (s.block m)
-    grants m = ap (λ (l : List (Beat w)). granted_by c m asked l (s'.block m)) (rests channel.D) ∙ set-part
-        (granted_by c m asked (rest channel.D)) n new s.block refl m
+    grants m = cc (rests channel.D, set-part (granted_by c m asked (rest channel.D)) n new s.block refl m)
 
     probed : (m : ℕ) → is_answered ((s'.block m).pair c).probing ≡ true
         → probe_of m t ≡ Some (probe_beat m (cap_waited (s'.block m).service))

@@ -2,7 +2,7 @@
 use Rattle.tl_coherence.proofs.flow.Imports.{IsWidth, Beat, BeatA, Message, MessageA, MessageC, MessageD, a_beat_of}
 use Rattle.tl_coherence.proofs.flow.Imports.{beat_of, begun, unfinished, History, channel_of, Config, Level, Profile}
 use Rattle.tl_coherence.proofs.flow.Imports.{illegal, level_of, RequestSource, ReleaseSource, Prune, Report, Perm}
-use Rattle.tl_coherence.proofs.flow.Imports.{prune_code, report_code, report_left, on_link, comes_in_request}
+use Rattle.tl_coherence.proofs.flow.Imports.{prune_code, report_code, report_left, on_link}
 use Rattle.tl_coherence.proofs.flow.Imports.{comes_in_release, broken_in_order, same_perm, broken_after}
 use Rattle.tl_coherence.proofs.flow.Imports.{is_release, held, pending, request_of, same_block, IsCarried, flow}
 use Rattle.tl_coherence.proofs.flow.Imports.{is_requested, is_sunk, is_release_pending}
@@ -68,9 +68,12 @@ flow-answer {w} config log mail request s sys c source h flowed due whole =
     in
     answer-legal config.profile (d_beat_of due.answer 0) (a_beat_of due.request 0) (flow c log) (record {
       whole = (flowed c).rest_is channel.D ∙ whole;
-      complete = ap (λ (b : List (Beat w)). comes_in_request due.answer.source b) ((flowed c).rest_is channel.A)
-          ∙ ap (λ (i : ℕ). comes_in_request i (unfinished channel.A (on_link c sys.manager.trace))) due.from
-          ∙ not-coming_a config log mail request s sys c source h (ap (λ (u : SourceState). waits_on_a c u s) due.used);
+      complete = cc (
+        (flowed c).rest_is channel.A,
+        due.from,
+        not-coming_a config log mail request s sys c source h
+            (ap (λ (u : SourceState). waits_on_a c u s) due.used),
+      );
       other = kind.1;
       live = ap (λ (i : ℕ). pending (RequestSource i) (flow c log)) due.from ∙ live;
       request = ap (λ (i : ℕ). request_of i (flow c log)) due.from ∙ (flowed c).asked_is source live ∙ asks;
@@ -126,9 +129,11 @@ flow-grant {w} config log mail request s sys c n h flowed due given whole =
     grant-legal config.profile n (d_beat_of (grant_message due.data_too due.k source sink (s.block n).truth) 0) r
     (flow c log) (record {
       whole = (flowed c).rest_is channel.D ∙ whole;
-      complete = ap (λ (b : List (Beat w)). comes_in_request source b) ((flowed c).rest_is channel.A)
-          ∙ not-coming_a config log mail request s sys c source h
-          (ap (λ (u : SourceState). waits_on_a c u s) due.used ∙ ap is_unserved mine);
+      complete = cc (
+        (flowed c).rest_is channel.A,
+        not-coming_a config log mail request s sys c source h
+            (ap (λ (u : SourceState). waits_on_a c u s) due.used ∙ ap is_unserved mine),
+      );
       other = no_ack_grant due.data_too;
       live = live;
       request = (flowed c).asked_is source live ∙ asks;
@@ -153,8 +158,7 @@ IsUnreleased {w} source m = (r : MessageC w) × (m ≡ message.C r)
 unreleased : {w : ℕ} (source : ℕ) (m : Message w) (k : ℕ) (rest : List (Beat w)) → rest ≡ begun m k
     → IsUnreleased source m → comes_in_release source rest ≡ false
 unfolding IsUnreleased
-unreleased {w} source m k rest e is =
-    ap (comes_in_release source) e ∙ ap (λ (y : Message w). comes_in_release source (begun y k)) is.1 ∙ go k
+unreleased {w} source m k rest e is = cc (e, is.1, go k)
   where
     go : (i : ℕ) → comes_in_release source (begun (message.C is.0) i) ≡ false
     go zero = refl

@@ -1,6 +1,6 @@
 -- What is delivered on a link, as an event leaves each value of it as it was, though the protocol's state is another.
 use Rattle.tl_coherence.proofs.flow.Imports.{Beat, BeatA, Channel, History, MonitorRelation, is_requested, is_let_by}
-use Rattle.tl_coherence.proofs.flow.Imports.{is_sunk, State, is_answered, probe_beat, cap_waited}
+use Rattle.tl_coherence.proofs.flow.Imports.{is_sunk, State, is_answered, cap_waited}
 use Rattle.std.proofs.Common.{◌≡◌, ℕ, true, Option, Some, sym, ◌∙◌, ap, List}
 use Rattle.tl_beat.specs.declared.channel.Channel.TheVariants as channel
 use Rattle.tl_coherence.proofs.flow.FlowStep.{held_by, acquired_by, let_of, granted_by}
@@ -43,8 +43,7 @@ flowed-untouched asked asked' rest c s s' t is before = record {
   sinks = λ i. before.sinks i ∙ sym (is.sinks i);
   grants = λ n. before.grants n ∙ sym (is.grants n);
   probes = λ n. before.probes n ∙ sym (is.probes n);
-  probed = λ n e. before.probed n (sym (is.probes n) ∙ e) ∙ sym
-      (ap (λ k. Some (probe_beat n k)) (is.caps n (sym (is.probes n) ∙ e)));
+  probed = λ n e. cc (before.probed n (sym (is.probes n) ∙ e), is.caps n (sym (is.probes n) ∙ e));
   sunk = λ n e. before.sunk n e ∙ ap Some (sym (is.trackers n (sym (before.grants n) ∙ e)));
 }
 
@@ -55,12 +54,10 @@ pub flowed-rests : {w : ℕ} {X : Type 0} (asked : ℕ → Option (BeatA w)) (re
 flowed-rests {w} asked rest rest' c s t same before = record {
   rest_is = λ ch. before.rest_is ch ∙ sym (same ch);
   held_is = before.held_is;
-  requests = λ i. before.requests i ∙ ap (λ (l : List (Beat w)). is_requested c i l (s.uses c i) s)
-      (sym (same channel.A));
+  requests = λ i. cc (before.requests i, same channel.A);
   asked_is = before.asked_is;
   acquires = before.acquires;
-  release_sources = λ i. before.release_sources i ∙ ap (λ (l : List (Beat w)). is_let_by c i l (s.lets c i) s)
-      (sym (same channel.C));
+  release_sources = λ i. cc (before.release_sources i, same channel.C);
   released = before.released;
   sizes = before.sizes;
   releases = λ n. before.releases n ∙ ap (λ (l : List (Beat w)). let_of c l (s.block n)) (sym (same channel.C));

@@ -151,8 +151,7 @@ pub flows-e : {w : ℕ} (config : Config) (log : Log w) (mail : AccessMessages w
     → sys.channels c channel.E ≡ x ∷ queue → level_of config c ≡ Some l
     → broken_after l config.profile x (flow c log) ≡ None
 flows-e {w} config log mail request s sys c l x queue width is flowed beats level =
-    by-first_e (λ i. broken_after l config.profile x (flow c log) ≡ None) c mail s sys x queue
+    cc (by-first_e (λ i. broken_after l config.profile x (flow c log) ≡ None) c mail s sys x queue
     (first-token (is_caching config) channel.E c mail s sys x queue width is.invariant is.carried beats)
     (λ n rest tokens next. ack-lawful config log mail request s sys c n rest l x (map (message_of mail s c) rest) queue
-    is flowed
-    (lawful-beat config log mail request s sys c channel.E l x queue is beats level) tokens next)
+    is flowed (lawful-beat config log mail request s sys c channel.E l x queue is beats level) tokens next))

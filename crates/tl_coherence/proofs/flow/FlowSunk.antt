@@ -37,8 +37,7 @@ pub sunk-elsewhere : {w : ℕ} {X : Type 0} (c i n : ℕ) (rest : List (Beat w))
     → is_sunk c i rest o' s' ≡ is_sunk c i rest o s
 sunk-elsewhere c i n rest o o' s s' same (inr both) before now =
     unsunk c i n rest o' s' both.1 now ∙ sym (unsunk c i n rest o s both.0 before)
-sunk-elsewhere {w} {X} c i n rest o o' s s' same (inl e) before now =
-    ap (λ (p : Option ℕ). is_sunk c i rest p s') e ∙ go o before (λ f. now (e ∙ f))
+sunk-elsewhere {w} {X} c i n rest o o' s s' same (inl e) before now = cc (e, go o before (λ f. now (e ∙ f)))
   where
     go : (p : Option ℕ) → (p ≡ Some n → sunk_in c i rest (s.block n) ≡ false)
         → (p ≡ Some n → sunk_in c i rest (s'.block n) ≡ false) → is_sunk c i rest p s' ≡ is_sunk c i rest p s

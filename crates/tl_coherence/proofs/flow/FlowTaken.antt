@@ -52,8 +52,7 @@ moved-first {w} config log h link ch o x width is o_is moves delivered = (
 
     both : (if link.0 == link.0 then x ∷ flow link.0 log else flow link.0 log)
         ≡ (if link.0 == link.0 then at.0 ∷ flow link.0 log else flow link.0 log)
-    both = sym (delivered link.0) ∙ ap (λ (i : Outcome w). flow link.0 ((Deliver link ch, i) ∷ log))
-        o_is ∙ moved.delivered link.0
+    both = cc (delivered link.0, o_is, moved.delivered link.0)
 
     head : (b : Bool) → b ≡ true
         → (if b then x ∷ flow link.0 log else flow link.0 log) ≡ (if b then at.0 ∷ flow link.0 log else flow link.0 log)

@@ -47,8 +47,7 @@ taken-flows n event o t = refl
 pub trace-flows : {w : ℕ} (n : ℕ) (log : Log w) → on_link n (trace_of log) ≡ flow n log
 unfolding on_link flow trace_of
 trace-flows n [] = refl
-trace-flows n (x ∷ log) = taken-flows n x.0 x.1 (trace_of log) ∙ ap (λ (t : History _). taken_on n x.0 x.1 ++ t)
-    (trace-flows n log)
+trace-flows n (x ∷ log) = cc (taken-flows n x.0 x.1 (trace_of log), trace-flows n log)
 
 -- what was taken on a link is first in its flow
 pub taken : {w : ℕ} (link : Link) (x : Beat w) (t : History w) → (if link.0 == link.0 then x ∷ [] else []) ++ t ≡ x ∷ t

@@ -1,9 +1,9 @@
 -- What is delivered on each link has the values of the protocol after every event, and so breaks no rule.
-use Rattle.tl_coherence.proofs.flow.Imports.{IsWidth, Beat, Channel, History, grown, completes, Config}
+use Rattle.tl_coherence.proofs.flow.Imports.{IsWidth, Beat, Channel, History, completes, Config}
 use Rattle.tl_coherence.proofs.flow.Imports.{Level, Profile, broken_after, level_of, flow, MonitorRelation}
 use Rattle.tl_coherence.proofs.flow.Imports.{AbstractState, kind_taken, Log, packet, message_of, System}
 use Rattle.tl_coherence.proofs.flow.Imports.{SimulationRelation, MonitorRelations, asked_by}
-use Rattle.std.proofs.Common.{◌≡◌, subst, ℕ, Bool, true, false, ◌&&◌, List, [], ◌∷◌, Option, Some, None, refl, sym, ◌∙◌}
+use Rattle.std.proofs.Common.{◌≡◌, subst, ℕ, Bool, true, false, List, [], ◌∷◌, Option, Some, None, refl, sym, ◌∙◌}
 use Rattle.std.proofs.Common.{ap, inl, inr}
 use Rattle.std.specs.Prelude.{◌==◌, if◌then◌else◌, map}
 use Rattle.std.proofs.lemmas.Bool.{cases_eq, ne_eqb, eqb-true}
@@ -25,7 +25,7 @@ use Rattle.tl_coherence.specs.statement.Log.{IsLog, system_after}
 use Rattle.tl_coherence.specs.statement.OneMemory.{one_memory_after}
 use Rattle.tl_coherence.specs.protocol.Protocol.{on}
 use Rattle.tl_coherence.specs.statement.Step.{Step, stepped, replied, is_to_client}
-use Rattle.tl_coherence.specs.statement.System.{terms_at, same_channel}
+use Rattle.tl_coherence.specs.statement.System.{terms_at}
 use Rattle.tl_coherence.proofs.deliveries.AskedWell.{IsAskedWell, asked-well}
 use Rattle.tl_coherence.proofs.client.ManagerStep.{on_same}
 use Rattle.tl_coherence.proofs.links.FifoOfChannels.{flow_still}
@@ -117,10 +117,7 @@ moved-flowed {w} config log link ch h x queue width is flowed beats moving at d 
         at.first.next last refl ready)
       where
         rests : AreRests x (unfinished_at sys c) (unfinished_at sys' c)
-        rests i =
-            at.rests c i ∙ ap (λ (b : Bool). if b && same_channel i ch then grown x (unfinished_at sys c i) else
-            unfinished_at sys c i) (same_number c)
-            ∙ ap (λ (b : Bool). if b then grown x (unfinished_at sys c i) else unfinished_at sys c i) (sym (at.on_ch i))
+        rests i = cc (at.rests c i, same_number c, at.on_ch i)
 
     others : (d ≡ c → ⊥) → MonitorRelation (asked_by h'.mail h'.state d) (unfinished_at sys' d) d h'.state
         (if c == d then x ∷ flow d log else flow d log)
@@ -131,8 +128,7 @@ moved-flowed {w} config log link ch h x queue width is flowed beats moving at d 
         rests (either last refl))
       where
         rests : (i : Channel) → unfinished_at sys' d i ≡ unfinished_at sys d i
-        rests i = at.rests d i ∙ ap (λ (b : Bool). if b && same_channel i ch then grown x (unfinished_at sys d i) else
-            unfinished_at sys d i) (ne_eqb d c ne)
+        rests i = cc (at.rests d i, ne_eqb d c ne)
 
         either : (b : Bool) → last ≡ b → FlowsAs config log h sys c is (next_tracker sys) d ne (flow d log)
             (if b then kind_taken config (next_tracker sys) c at.first.kind at.first.number at.first.rest h else h)
@@ -261,10 +257,8 @@ asked-still {w} config log c o = go (terms_at config c) refl
   where
     go : (i : Option EndConfig) → terms_at config c ≡ i
         → is_moving (stepped config (Ask c o) (system_after config log)).outcome ≡ false
-    go None none = ap (λ (x : Step w). is_moving x.outcome) (stepped-nobody config (Ask c o) (system_after config log)
-        none)
-    go (Some terms) known = ap (λ (x : Step w). is_moving x.outcome) (stepped-asked config c o (system_after config log)
-        terms known)
+    go None none = cc (stepped-nobody config (Ask c o) (system_after config log) none)
+    go (Some terms) known = cc (stepped-asked config c o (system_after config log) terms known)
 
 legal-event : {w : ℕ} (config : Config) (log : Log w) (h : AbstractState w) (event : Event w) (d : ℕ) (l : Level)
     → IsWidth w
@@ -300,8 +294,7 @@ legal-event {w} config log h (Deliver link ch) d l width is values level legal =
         subst (λ (i : ℕ). broken_after l config.profile at.0 (flow i log) ≡ None) here
         (unbroken config log h link ch l at.0 at.1 width is values moving at.3.0
         (ap (level_of config) here ∙ level)))
-    go false still = ap (is_legal l config.profile)
-        (flow_still (Deliver link ch) (stepped config (Deliver link ch) sys).outcome log d still) ∙ legal
+    go false still = cc (flow_still (Deliver link ch) (stepped config (Deliver link ch) sys).outcome log d still, legal)
 
 legal : {w : ℕ} (config : Config) (log : Log w) (d : ℕ) (l : Level) → IsWidth w → AreTyped log → IsLog config log
     → level_of config d ≡ Some l → is_legal l config.profile (flow d log) ≡ true

@@ -47,8 +47,7 @@ free-where (suc n) spared given block t each = rw (free-where n spared given blo
 -- who isn't granted the block in service sees another's
 other_view : (c other : ℕ) (d : Bool) (k : Cap) (service : Service) → service ≡ GrantSent c d k → (other ≡ c → ⊥)
     → is_granting (view service other) ≡ false
-other_view c other d k service e ne = ap (λ (x : Service). is_granting (view x other)) e ∙ here (other == c)
-    (ne_eqb other c ne)
+other_view c other d k service e ne = cc (e, here (other == c) (ne_eqb other c ne))
   where
     here : (x : Bool) → x ≡ false → is_granting (if x then Granting d k else GrantedOther) ≡ false
     here x f = rw f refl
@@ -162,11 +161,13 @@ given-moved config log given c (beat.E y) queue beats = tt
 
 one-writer : {w : ℕ} (config : Config) (log : Log w) → IsGiven config log → IsOneWriter (trace_of log)
 one-writer {w} config log given one other n ne trunk =
-    ap (held n) (trace-flows other log) ∙ values other ∙ none_above (held_by other b) (b.pair other).recorded
-    (most other)
-    ((at.invariant.blocks n).one_owner one other
-    (trunk_below (held_by one b) (b.pair one).recorded (most one)
-    (sym (values one) ∙ sym (ap (held n) (trace-flows one log)) ∙ trunk)) ne)
+    cc (
+      trace-flows other log,
+      values other,
+      none_above (held_by other b) (b.pair other).recorded (most other)
+          ((at.invariant.blocks n).one_owner one other (trunk_below (held_by one b) (b.pair one).recorded (most one)
+          (sym (values one) ∙ sym (ap (held n) (trace-flows one log)) ∙ trunk)) ne),
+    )
   where
     h : AbstractState w
     h = shadow config log

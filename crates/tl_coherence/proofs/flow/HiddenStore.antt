@@ -43,11 +43,13 @@ not_nobody r e = cc
 
 pub hidden_stores : {w : ℕ} → HiddenStores w
 hidden_stores {w} config log given c address size value stored =
-    ap (held (block_at address)) (trace-flows c log)
-    ∙ (flowed config log given.width given.typed given.is_log c).held_is (block_at address)
-    ∙ still_trunk (is_granting (view b.service c)) (b.pair c).held (b.pair c).recorded
-    (held_at_most (b.pair c) (view b.service c) ((is.invariant.blocks (block_at address)).phases c))
-    (go (terms_at config c) refl)
+    cc (
+      trace-flows c log,
+      (flowed config log given.width given.typed given.is_log c).held_is (block_at address),
+      still_trunk (is_granting (view b.service c)) (b.pair c).held (b.pair c).recorded
+          (held_at_most (b.pair c) (view b.service c) ((is.invariant.blocks (block_at address)).phases c))
+          (go (terms_at config c) refl),
+    )
   where
     h : AbstractState w
     h = shadow config log
@@ -65,9 +67,8 @@ hidden_stores {w} config log given c address size value stored =
     go None nobody = absurd (not_nobody {w = w} reply.Stored
         (sym (ap (λ (s : Step w). s.outcome) (stepped-nobody config (Ask c store) (system_after config log) nobody))
         ∙ stored))
-    go (Some terms) known = sym (same_perms (b.pair c).held perm.Trunk
-        (subst (λ (r : Reply). IsAskable (is_caching config) c store r h)
+    go (Some terms) known = cc
+        (same_perms (b.pair c).held perm.Trunk (subst (λ (r : Reply). IsAskable (is_caching config) c store r h)
         (same_reply {w = w} (ask.asked terms store ((system_after config log).clients c)).reply reply.Stored
         (sym (ap (λ (s : Step w). s.outcome) (stepped-asked config c store (system_after config log) terms known))
-        ∙ stored))
-        (askable config log h.mail h.request h.state (system_after config log) terms c store is known)))
+        ∙ stored)) (askable config log h.mail h.request h.state (system_after config log) terms c store is known)))

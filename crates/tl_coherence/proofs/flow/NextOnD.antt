@@ -74,10 +74,12 @@ module _ {w : ℕ} (config : Config) (log : Log w) (h : AbstractState w) (c : �
           let due = grant-due (is_caching config) c i first.rest s is.invariant tokens in
           grant i (record {
             due = due;
-            beat_is = same_beat y (d_beat_of (grant_sent c i s due) next.k)
-                (next.beat_is ∙ ap (λ (z : Message w). beat_of z next.k) (grant-rendered c i s due))
-                ∙ ap (d_beat_of (grant_sent c i s due)) (place (message_of_kind Grant h.mail s c i) next.k
-                next.rest_is);
+            beat_is = cc (
+              same_beat y (d_beat_of (grant_sent c i s due) next.k) (next.beat_is
+                  ∙ ap (λ (z : Message w). beat_of z next.k) (grant-rendered c i s due)),
+              place
+                  (message_of_kind Grant h.mail s c i) next.k next.rest_is,
+            );
           })
       go ReleaseAck i tokens own next =
           ack i next.k (same_beat y (d_beat_of (ack_message ((s.block i).release_source c)) next.k) next.beat_is)
@@ -105,13 +107,15 @@ module _ {w : ℕ} (config : Config) (log : Log w) (h : AbstractState w) (c : �
           ∙ ap (λ (v : View). not (is_unserved v)) (own_view c due.data_too due.k b.service due.service)
 
       asked : request_of y.source (flow c log) ≡ asked_by h.mail s c (b.source c)
-      asked = (flowed c).asked_is y.source ((flowed c).requests y.source ∙ requested)
-          ∙ ap (asked_by h.mail s c) from
+      asked = cc ((flowed c).asked_is y.source ((flowed c).requests y.source ∙ requested), from)
 
       asked_for : asks_for n (request_of y.source (flow c log)) ≡ (i == n)
-      asked_for = ap (asks_for n)
-          (asked ∙ asks-acquire c (b.source c) i (b.source c) due.whole due.g h.mail s due.used due.wants refl)
-          ∙ ap (λ (j : ℕ). j == n) (same_block i)
+      asked_for = cc (
+        asked,
+        asks-acquire c (b.source c) i (b.source c) due.whole due.g h.mail s due.used due.wants
+            refl,
+        same_block i,
+      )
 
   -- a beat that grants a block is one of that block's Grant
   pub grant-next : (n : ℕ) → grants n y (flow c log) ≡ true

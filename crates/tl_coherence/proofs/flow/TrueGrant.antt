@@ -6,7 +6,7 @@ use Rattle.std.specs.Prelude.{length}
 use Rattle.tl_beat.specs.declared.beat.Beat.TheVariants as beat
 use Rattle.tl_beat.specs.declared.channel.Channel.TheVariants as channel
 use Rattle.tl_beat.specs.declared.opcode.OpD.TheVariants as opd
-use Rattle.tl_burst.specs.statement.Burst.{d_beat_of, lanes_at}
+use Rattle.tl_burst.specs.statement.Burst.{lanes_at}
 use Rattle.tl_rules.specs.statement.Effect.{IsBlock}
 use Rattle.tl_rules.specs.statement.History.{grants}
 use Rattle.tl_manager.specs.statement.Handing.{grant_opcode}
@@ -21,7 +21,7 @@ use Rattle.tl_coherence.proofs.flow.FlowTraces.{trace-flows}
 use Rattle.tl_coherence.proofs.flow.Flows.{flowed}
 use Rattle.tl_coherence.proofs.flow.NextOnD.{IsGrantBeat, grant-next}
 use Rattle.tl_coherence.proofs.links.FromInvariant.{matched-given}
-use Rattle.tl_coherence.proofs.protocol.HeadOfD.{IsGrantDue, grant_message}
+use Rattle.tl_coherence.proofs.protocol.HeadOfD.{IsGrantDue}
 
 with_data_only : (x : Bool) → grant_opcode x ≡ opd.GrantData → x ≡ true
 with_data_only true e = refl
@@ -55,9 +55,7 @@ true-next {w} config log given c y queue beats n granted with_data =
     data_too = with_data_only due.data_too (sym (ap (λ (z : BeatD w). z.opcode) grant.beat_is) ∙ with_data)
 
     lanes : y.lanes ≡ lanes_at true w (h.state.block n).truth k
-    lanes = ap (λ (z : BeatD w). z.lanes) grant.beat_is
-        ∙ ap (λ (x : Bool). (d_beat_of (grant_message {w = w} x due.k ((h.state.block n).source c)
-        (h.state.block n).tracker (h.state.block n).truth) k).lanes) data_too
+    lanes = cc (grant.beat_is, data_too)
 
 true-moved : {w : ℕ} (config : Config) (log : Log w) → IsGiven config log → (c : ℕ) (x : Beat w) (queue : List (Beat w))
     → (system_after config log).channels c (channel_of x) ≡ x ∷ queue

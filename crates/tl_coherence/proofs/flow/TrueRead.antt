@@ -12,7 +12,6 @@ use Rattle.tl_beat.specs.declared.opcode.OpA.{OpA}
 use Rattle.tl_beat.specs.declared.opcode.OpA.TheVariants as a
 use Rattle.tl_beat.specs.declared.opcode.OpD.{OpD}
 use Rattle.tl_beat.specs.declared.opcode.OpD.TheVariants as d
-use Rattle.tl_beat.specs.statement.Opcode.{d_carries_data}
 use Rattle.tl_burst.specs.declared.message.Message.TheVariants as message
 use Rattle.tl_burst.specs.statement.Burst.{d_beat_of, lanes_at}
 use Rattle.tl_rules.specs.code.Open.{open_request}
@@ -126,8 +125,7 @@ lanes_answered {w} m f z k is with_data = go m.opcode is
 
     lanes : (payload : List ℕ) (i : MessageD w) → z ≡ i → i.opcode ≡ d.AccessAckData → i.payload ≡ payload
         → (d_beat_of z k).lanes ≡ lanes_at true w payload k
-    lanes payload i e o p = ap (λ (u : MessageD w). (d_beat_of u k).lanes) e
-        ∙ ap (λ (c : OpD). lanes_at (d_carries_data c) w i.payload k) o ∙ ap (λ (b : List ℕ). lanes_at true w b k) p
+    lanes payload i e o p = cc (e, o, p)
 
     never : (i : MessageD w) → z ≡ i → (i.opcode ≡ d.AccessAckData → ⊥)
         → (d_beat_of z k).lanes ≡ lanes_found (a_beat_of m 0) f k

@@ -84,10 +84,7 @@ true-next {w} config log given c y queue beats with_data =
         data_too = sym (ap (λ (z : BeatC w). c_carries_data z.opcode) same) ∙ with_data
 
         lanes : y.lanes ≡ lanes_at true w (h.state.block n).truth (length (unfinished channel.C (flow c log)))
-        lanes = ap (λ (z : BeatC w). z.lanes) same
-            ∙ ap (λ (d : Bool). lanes_at d w m.payload k) data_too
-            ∙ ap (λ (p : List ℕ). lanes_at true w p k) (says.payload_is (sym says.carries_is ∙ data_too))
-            ∙ ap (lanes_at true w (h.state.block n).truth) at
+        lanes = cc (same, data_too, says.payload_is (sym says.carries_is ∙ data_too), at)
 
 true-moved : {w : ℕ} (config : Config) (log : Log w) → IsGiven config log → (c : ℕ) (x : Beat w) (queue : List (Beat w))
     → (system_after config log).channels c (channel_of x) ≡ x ∷ queue

@@ -43,9 +43,7 @@ use Rattle.tl_coherence.specs.statement.Step.{Step, stepped}
 use Rattle.tl_coherence.specs.statement.System.{System, terms_at}
 use Rattle.tl_coherence.specs.statement.AnsweredInTime.{IsAnsweredInTime, AnsweredInTime}
 use Rattle.tl_coherence.specs.statement.Permissions.{perm_le}
-use Rattle.tl_coherence.specs.refinement.MonitorRelation.{is_requested}
 use Rattle.tl_coherence.specs.refinement.AbstractStep.{AbstractState, abstract_step, abstract_step_by}
-use Rattle.tl_coherence.specs.statement.Delivery.{receiver}
 use Rattle.tl_coherence.specs.refinement.PacketMessages.{block_message}
 use Rattle.tl_coherence.specs.refinement.SimulationRelation.{SimulationRelation, MonitorRelations}
 use Rattle.tl_coherence.specs.refinement.SimulationRelation.{asked_for, block_used, first_of}
@@ -102,15 +100,16 @@ module _ {w : ℕ} (config : Config) (log : Log w) (h : AbstractState w) (sys : 
     (values : MonitorRelations log h.mail h.state sys) (c source : ℕ) (m : MessageA w)
     (used : h.state.uses c source ≡ Replied) (request : h.mail.request c source ≡ message.A m) where
   pending_flow : pending (RequestSource source) (flow c log) ≡ true
-  pending_flow = (values c).requests source ∙ ap
-      (λ (u : SourceState). is_requested c source (unfinished channel.A (receiver channel.A c sys)) u h.state) used
+  pending_flow = cc ((values c).requests source, used)
 
   pub asked_flow : request_of source (flow c log) ≡ Some (a_beat_of m 0)
-  asked_flow = (values c).asked_is source pending_flow
-      ∙ asked_replied (h.state.uses c source) (h.mail.request c source)
-      (block_message Acquire c (block_used (h.state.uses c source))
-      (h.state.block (block_used (h.state.uses c source)))) used
-      ∙ ap first_of request
+  asked_flow = cc (
+    (values c).asked_is source pending_flow,
+    asked_replied (h.state.uses c source)
+        (h.mail.request c source) (block_message Acquire c (block_used (h.state.uses c source))
+        (h.state.block (block_used (h.state.uses c source)))) used,
+    request,
+  )
 
   -- its request is pending and complete
   pub opened-now : is_some (open_request source (on_link c (trace_of log))) ≡ true
@@ -118,18 +117,19 @@ module _ {w : ℕ} (config : Config) (log : Log w) (h : AbstractState w) (sys : 
       ∙ rw (pending_flow, whole, asked_flow) refl
     where
       whole : comes_in_request source (unfinished channel.A (flow c log)) ≡ false
-      whole = ap (comes_in_request source) ((values c).rest_is channel.A)
-          ∙ not-coming_a config log h.mail h.request h.state sys c source is
-          (ap (λ (u : SourceState). waits_on_a c u h.state) used)
+      whole = cc (
+        (values c).rest_is channel.A,
+        not-coming_a config log h.mail h.request h.state sys c source is
+            (ap (λ (u : SourceState). waits_on_a c u h.state) used),
+      )
 
   pub free-now : IsSettledFor m h.state → (n : ℕ)
       → is_free n None (needs m.opcode) (block_at m.address) (trace_of log) ≡ true
-  free-now settled n = free-where n None (needs m.opcode) k (trace_of log) (λ other.
-      ap (λ (t : History w). leaves (needs m.opcode) (held k t)) (trace-flows other log)
-      ∙ ap (leaves (needs m.opcode)) ((values other).held_is k)
-      ∙ leaves_below m.opcode (held_by other b) (b.pair other).recorded
-      (held_by_most other b (view b.service other)
-      (held_at_most (b.pair other) (view b.service other) ((is.invariant.blocks k).phases other))) (settled other))
+  free-now settled n = cc (free-where n None (needs m.opcode) k (trace_of log)
+      (λ other. ap (λ (t : History w). leaves (needs m.opcode) (held k t)) (trace-flows other log)
+      ∙ ap (leaves (needs m.opcode)) ((values other).held_is k) ∙ leaves_below m.opcode (held_by other b)
+      (b.pair other).recorded (held_by_most other b (view b.service other)
+      (held_at_most (b.pair other) (view b.service other) ((is.invariant.blocks k).phases other))) (settled other)))
     where
       k : ℕ
       k = block_at m.address
@@ -257,11 +257,10 @@ answered-next : {w : ℕ} (config : Config) (log : Log w) → IsGiven config log
     → (n : ℕ) (x : BeatA w) → is_access_answer y.opcode ≡ true → request_of y.source (on_link c (trace_of log)) ≡ Some x
     → has_window n c y.source (needs x.opcode) (block_at x.address) (trace_of log) ≡ true
 answered-next {w} config log given c y queue beats n x answers asks =
-    next-on_d config log h c y queue given.width is values beats (Windowed x)
+    cc (next-on_d config log h c y queue given.width is values beats (Windowed x)
     (λ i due e. answer i due.request (ap (λ (z : BeatD w). z.source) e ∙ due.from) due.used due.request_is)
     (λ i grant. no_answer (ap (λ (z : BeatD w). is_access_answer z.opcode) grant.beat_is
-    ∙ grants_no_access grant.due.data_too))
-    (λ i k e. no_answer (ap (λ (z : BeatD w). is_access_answer z.opcode) e))
+    ∙ grants_no_access grant.due.data_too)) (λ i k e. no_answer (ap (λ (z : BeatD w). is_access_answer z.opcode) e)))
   where
     h : AbstractState w
     h = shadow config log

@@ -26,18 +26,21 @@ push_order : {w : ℕ} (b : Bool) (m : Message w) (sent queue own taken : List (
     → IsInOrder sent queue taken
     → IsInOrder (if b then burst_of m ++ sent else sent) (if b then own ++ beats_from m 0 (beats_of m) else queue) taken
 push_order true m sent queue own taken same is =
-    ap (λ xs. burst_of m ++ xs) is ∙ sym (append_assoc (burst_of m) (reverse queue) taken)
-    ∙ ap (λ xs. xs ++ taken) (ap (λ xs. xs ++ reverse queue) (sym (reverse-beats_from m (beats_of m)))
-    ∙ sym (reverse-append queue (beats_from m 0 (beats_of m))) ∙ ap (λ xs. reverse (xs ++ beats_from m 0 (beats_of m)))
-    (sym (same refl)))
+    cc (
+      is,
+      append_assoc (burst_of m) (reverse queue) taken,
+      reverse-beats_from m (beats_of m),
+      reverse-append queue
+          (beats_from m 0 (beats_of m)),
+      same refl,
+    )
 push_order false m sent queue own taken same is = is
 
 pop_order : {w : ℕ} (b : Bool) (x : Beat w) (rest sent queue taken : List (Beat w)) → (b ≡ true → queue ≡ x ∷ rest)
     → IsInOrder sent queue taken
     → IsInOrder sent (if b then rest else queue) (if b then x ∷ taken else taken)
 pop_order true x rest sent queue taken first is =
-    is ∙ ap (λ xs. reverse xs ++ taken) (first refl) ∙ ap (λ xs. xs ++ taken) (reverse-append (x ∷ []) rest)
-    ∙ append_assoc (reverse rest) (x ∷ []) taken
+    cc (is, first refl, reverse-append (x ∷ []) rest, append_assoc (reverse rest) (x ∷ []) taken)
 pop_order false x rest sent queue taken first is = is
 
 -- ---- the beats of a channel
@@ -139,8 +142,7 @@ unsaid_history : {w : ℕ} (l : ℕ) (m : Message w) (p : ℕ → History w) (d 
 unsaid_history {w} l m p d at differs = go (l == d)
   where
     go : (b : Bool) → carried_on at (if b then burst_of m ++ p d else p d) ≡ carried_on at (p d)
-    go true = carried-begun m (beats_of m) at (p d) ∙ ap (λ b. if b then burst_of m ++ carried_on at (p d) else
-        carried_on at (p d)) differs
+    go true = cc (carried-begun m (beats_of m) at (p d), differs)
     go false = refl
 
 unsaid_queue : {w : ℕ} (l : ℕ) (m : Message w) (q : ℕ → Channel → List (Beat w)) (d : ℕ) (at : Channel)
@@ -201,8 +203,7 @@ heard_here {w} c ch x queue p q f d at sent on first is = (order, same)
     ]
 
     same : carried_on at (heard_at c x p d) ≡ carried_on at (heard_at c x f d)
-    same = heard_history c ch x p d at on ∙ ap (λ xs. if (c == d) && same_channel at ch then x ∷ xs else xs) is.1 ∙ sym
-        (heard_history c ch x f d at on)
+    same = cc (heard_history c ch x p d at on, is.1, heard_history c ch x f d at on)
 
 unheard : {w : ℕ} (c : ℕ) (ch : Channel) (x : Beat w) (p : ℕ → History w) (d : ℕ) (at : Channel) → IsOn ch x
     → same_channel at ch ≡ false → carried_on at (heard_at c x p d) ≡ carried_on at (p d)

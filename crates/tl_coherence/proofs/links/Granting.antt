@@ -75,9 +75,7 @@ answer_at {w} y e p is f = answer_grants w y.opcode y.param y.size (address_aske
     (payload_of (beat.D y ∷ unfinished channel.D e.past)) p is f
 
 pub released-at : {w : ℕ} (y : BeatD w) (e : Endpoint w) → y.opcode ≡ opd.ReleaseAck → finish_at y e ≡ finish.Released
-released-at {w} y e opcode =
-    ap (λ o. finish_of w o y.param y.size (address_asked (request_of y.source e.past))
-    (payload_of (beat.D y ∷ unfinished channel.D e.past))) opcode
+released-at {w} y e opcode = cc opcode
 
 same_grant : (p q : Perm) → finish.Granted p ≡ finish.Granted q → p ≡ q
 same_grant p q e = cc

@@ -49,17 +49,13 @@ on_c : {w : ℕ} (config : Config) (log : Log w) (h : AbstractState w) (sys : Sy
     → SimulationRelation config log h.mail h.request h.state sys → sys.channels c channel.C ≡ x ∷ queue
     → channel_of x ≡ channel.C
 unfolding block_message
-on_c {w} config log h sys c x queue width is beats =
-    by-first_c (λ i. channel_of x ≡ channel.C) c h.mail h.state sys x queue
-    (first-token (is_caching config) channel.C c h.mail h.state sys x queue width is.invariant is.carried beats)
-    (λ n rest tokens next.
-    let m = report-about (report_told ((h.state.block n).pair c).probing) n (h.state.block n).truth width
-    (is.sized n).truth in
-    ap (λ (y : Beat w). channel_of y) (next.beat_is ∙ ap (λ (i : Message w). beat_of i next.k) m.1))
-    (λ n rest tokens next.
-    let m = release-about (prune_told ((h.state.block n).pair c).letting) ((h.state.block n).release_source c) n
-    (h.state.block n).truth width (is.sized n).truth in
-    ap (λ (y : Beat w). channel_of y) (next.beat_is ∙ ap (λ (i : Message w). beat_of i next.k) m.1))
+on_c {w} config log h sys c x queue width is beats = cc (by-first_c (λ i. channel_of x ≡ channel.C) c h.mail h.state sys
+    x queue (first-token (is_caching config) channel.C c h.mail h.state sys x queue width is.invariant is.carried beats)
+    (λ n rest tokens next. let m = report-about (report_told ((h.state.block n).pair c).probing) n (h.state.block
+    n).truth width (is.sized n).truth in ap (λ (y : Beat w). channel_of y) (next.beat_is ∙ ap (λ (i : Message w).
+    beat_of i next.k) m.1)) (λ n rest tokens next. let m = release-about (prune_told ((h.state.block n).pair c).letting)
+    ((h.state.block n).release_source c) n (h.state.block n).truth width (is.sized n).truth in ap (λ (y : Beat w).
+    channel_of y) (next.beat_is ∙ ap (λ (i : Message w). beat_of i next.k) m.1)))
 
 on_e : {w : ℕ} (config : Config) (log : Log w) (h : AbstractState w) (sys : System w) (c : ℕ) (x : Beat w)
     (queue : List (Beat w)) → IsWidth w

@@ -5,7 +5,7 @@ use Rattle.tl_coherence.proofs.manager.Imports.{is_last, IsKept, services, least
 use Rattle.tl_coherence.proofs.manager.Imports.{judged}
 use Rattle.std.proofs.Common.{◌≡◌, subst, ℕ, zero, suc, ◌+◌, ◌-◌, ◌*◌, ◌<◌, ◌≤◌, ◌==◌, Bool, true, false, ◌&&◌, List}
 use Rattle.std.proofs.Common.{[], ◌∷◌, Option, Some, None, length, refl, sym, ◌∙◌, ap, arith}
-use Rattle.std.specs.Prelude.{if◌then◌else◌, replicate, drop, option_map, slice_range, min, ⊤, IfSome}
+use Rattle.std.specs.Prelude.{if◌then◌else◌, replicate, drop, slice_range, min, ⊤, IfSome}
 use Rattle.std.proofs.lemmas.List.{length-take, length-drop, length-replicate}
 use Rattle.tl_beat.specs.statement.Opcode.{a_carries_data}
 use Rattle.tl_beat.specs.declared.beat.Beat.TheVariants as beat
@@ -16,7 +16,6 @@ use Rattle.tl_rules.specs.statement.History.{begins}
 use Rattle.tl_manager.specs.code.Kept.{IsTyped}
 use Rattle.tl_rules.proofs.Checks.{beats_room}
 use Rattle.tl_burst.proofs.Begun.{length-begun}
-use Rattle.tl_manager.specs.statement.Request.{request_carried}
 use Rattle.tl_manager.specs.statement.Service.{Service}
 use Rattle.tl_manager.proofs.messages.Assembled.{request-again}
 use Rattle.tl_manager.proofs.judging.Judged.{passed}
@@ -175,9 +174,11 @@ pub served-last : {w : ℕ} (config : Config) (c k : ℕ) (m : MessageA w) (e : 
     → IsServed (link_of c) (a_beat_of m k) (service_for c m e.trace) e.trace
 served-last {w} config c k m e is last = record {
   last = ends-coming config c k m e is ∙ rw last (is_last k (suc k) (omega arith));
-  made = ap (option_map with_tracker) (ap (λ (b : List (Beat w)). request_carried (beat.A (a_beat_of m k) ∷ b)) is.burst
-      ∙ request-again m (begun (A m) (suc k)) is.width (request-filled m k is.width last is.typed is.blank)
-      (ap (begun (A m)) (sym last), is.blank));
+  made = cc (
+    is.burst,
+    request-again m (begun (A m) (suc k)) is.width
+        (request-filled m k is.width last is.typed is.blank) (ap (begun (A m)) (sym last), is.blank),
+  );
 }
   where
     with_tracker : MessageA w → Service w

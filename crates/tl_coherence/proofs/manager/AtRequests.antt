@@ -1,6 +1,6 @@
 -- The manager's end after a beat of a request: one that isn't the last, and the last one, where others are probed, the
 -- access is answered, or the Acquire is granted.
-use Rattle.tl_coherence.proofs.manager.Imports.{A, MessageA, a_beat_of, beats_of, Config, Cap, on_link, Memory}
+use Rattle.tl_coherence.proofs.manager.Imports.{A, MessageA, a_beat_of, beats_of, Config, Cap, on_link}
 use Rattle.tl_coherence.proofs.manager.Imports.{bytes_from, effect, ends, block_at, Reaction, with_handed, probes}
 use Rattle.tl_coherence.proofs.manager.Imports.{performed, is_nobody, probed, cap_probed, IsKept, illegal_message_at}
 use Rattle.tl_coherence.proofs.manager.Imports.{services, least_untaken, trackers_of, reaction, End, level_of, taken}
@@ -49,12 +49,10 @@ kept-coming {w} config c k m e is =
 pub memory-coming : {w : ℕ} (config : Config) (c k i : ℕ) (m : MessageA w) (e : End w) → IsComing config c k m e
     → (i ≡ block_at m.address → ⊥)
     → bytes_from (end_after config c k m e).memory (64 * i) 64 ≡ bytes_from e.memory (64 * i) 64
-memory-coming {w} config c k i m e is other =
-    block-same (end_after config c k m e).memory e.memory i (λ x f.
-    sym (ap (λ (p : Reception w × End w). p.1.memory x)
-    (offered-taken config (link_of c) channel.A (beat.A (a_beat_of m k)) e is.passes))
-    ∙ memory-elsewhere config (link_of c) channel.A (beat.A (a_beat_of m k)) e x is.width is.typed is.kept
-    (ne_eqb (block_at m.address) (block_at x) (λ g. other (sym (g ∙ f)))))
+memory-coming {w} config c k i m e is other = cc (block-same (end_after config c k m e).memory e.memory i (λ x f. sym
+    (ap (λ (p : Reception w × End w). p.1.memory x) (offered-taken config (link_of c) channel.A (beat.A (a_beat_of m k))
+    e is.passes)) ∙ memory-elsewhere config (link_of c) channel.A (beat.A (a_beat_of m k)) e x is.width is.typed is.kept
+    (ne_eqb (block_at m.address) (block_at x) (λ g. other (sym (g ∙ f))))))
 
 -- ---- a beat that isn't the last
 
@@ -160,19 +158,18 @@ at_manager-answered {w} caching config mail request c k n m s u e inv blocks is 
         n new s.block refl i) (known.served_with i)
 
     memory_is : answering.memory ≡ (effect (A m) e.memory).0
-    memory_is = ap (λ (d : Reaction w). d.memory) (performed-access config (service_for c m e.trace)
-        (with_beat c m k e.trace) e.memory is.access)
+    memory_is = cc (performed-access config (service_for c m e.trace) (with_beat c m k e.trace) e.memory is.access)
 
     memory_here : bytes_from answering.memory (64 * n) 64 ≡ performs m (s.block n).memory
-    memory_here =
-        ap (λ (f : Memory). bytes_from f (64 * n) 64) memory_is ∙ ap (λ i. bytes_from (effect (A m) e.memory).0 (64 * i)
-        64) (sym is.block)
-        ∙ performed-block (level_of config c) m e.memory is.comes.width lawful ∙ ap
-        (λ i. performs m (bytes_from e.memory (64 * i) 64)) is.block ∙ ap (performs m) (known.memory n)
+    memory_here = cc (
+      memory_is,
+      is.block,
+      performed-block (level_of config c) m e.memory is.comes.width lawful,
+      known.memory n,
+    )
 
     memory_else : (i : ℕ) → (i ≡ n → ⊥) → bytes_from answering.memory (64 * i) 64 ≡ bytes_from e.memory (64 * i) 64
-    memory_else i other = ap (λ (d : Reaction w). bytes_from d.memory (64 * i) 64) (sym done) ∙ memory-coming config c k
-        i m e is.comes (λ f. other (f ∙ is.block))
+    memory_else i other = cc (done, memory-coming config c k i m e is.comes (λ f. other (f ∙ is.block)))
 
     memory_now : (i : ℕ) → bytes_from answering.memory (64 * i) 64 ≡ (u.block i).memory
     memory_now i = elim (cases_eq i n) [
@@ -212,8 +209,10 @@ at_manager-granted {w} caching config mail request c k n b j m s u e inv blocks 
     ]
 
     memory_now : (i : ℕ) → bytes_from granting.memory (64 * i) 64 ≡ (u.block i).memory
-    memory_now i =
-        ap (λ (d : Reaction w). bytes_from d.memory (64 * i) 64) (performed-acquire config (service_for c m e.trace)
-        (with_beat c m k e.trace) e.memory is.acquires) ∙ known.memory i
-        ∙ sym (ap (λ (y : Block (List ℕ)). y.memory) (blocks i) ∙ set-part (λ (y : Block (List ℕ)). y.memory) n new
-        s.block refl i)
+    memory_now i = cc (
+      performed-acquire config (service_for c m e.trace) (with_beat c m k e.trace) e.memory
+          is.acquires,
+      known.memory i,
+      blocks i,
+      set-part (λ (y : Block (List ℕ)). y.memory) n new s.block refl i,
+    )

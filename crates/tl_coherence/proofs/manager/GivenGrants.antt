@@ -42,8 +42,7 @@ given-acquires {w} q n tracker m u is d i = pending-reply (key.AcquireOf i) (rec
         → (if b then after_whole false (is_grant m.opcode && asks_for i (request_of m.source (on_link d u)))
         (pending (key.AcquireOf i) (on_link d u)) else pending (key.AcquireOf i) (on_link d u))
         ≡ (if b && (n == i) then false else pending (key.AcquireOf i) (on_link d u))
-    go true e = ap (λ z. after_whole false z (pending (key.AcquireOf i) (on_link d u)))
-        (grants_it q n tracker m u is d i e)
+    go true e = cc (grants_it q n tracker m u is d i e)
     go false e = refl
 
 pub given-acks : {w : ℕ} (q n tracker : ℕ) (m : MessageD w) (u : Trace w) → IsGiven q n tracker m u → (d i : ℕ)
@@ -56,8 +55,7 @@ given-acks {w} q n tracker m u is d i = pending-reply (key.GrantAckOf i) (record
         → (if b then after_whole (is_grant m.opcode && asks_for i (request_of m.source (on_link d u))) false
         (pending (key.GrantAckOf i) (on_link d u)) else pending (key.GrantAckOf i) (on_link d u))
         ≡ (if b && (n == i) then true else pending (key.GrantAckOf i) (on_link d u))
-    go true e = ap (λ z. after_whole z false (pending (key.GrantAckOf i) (on_link d u)))
-        (grants_it q n tracker m u is d i e)
+    go true e = cc (grants_it q n tracker m u is d i e)
     go false e = refl
 
 pub given-sinks : {w : ℕ} (q n tracker : ℕ) (m : MessageD w) (u : Trace w) → IsGiven q n tracker m u → (d i : ℕ)
@@ -86,13 +84,14 @@ given-records {w} q n tracker m u is d i = go (q == d) refl
     go : (b : Bool) → (q == d) ≡ b
         → recorded d i (after_sent (record { 0 = q }) (D m) u) ≡ (if b && (n == i) then capped m.param else recorded d i
         u)
-    go true e =
-        ap (held i) (own_link d (record { 0 = q }) (D m) u e)
-        ∙ held-sent_d i m (on_link d u) (subst (λ (j : ℕ). unfinished channel.D (on_link j u) ≡ []) (eqb-true q d e)
-        is.whole)
-        (beats-positive (D m) is.width)
-        ∙ ap (λ z. unwrap_or (if z then Some (capped m.param) else None) (recorded d i u))
-        (grants_it q n tracker m u is d i e) ∙ said (n == i)
+    go true e = cc (
+      own_link d (record { 0 = q }) (D m) u e,
+      held-sent_d i m (on_link d u)
+          (subst (λ (j : ℕ). unfinished channel.D (on_link j u) ≡ []) (eqb-true q d e) is.whole)
+          (beats-positive (D m) is.width),
+      grants_it q n tracker m u is d i e,
+      said (n == i),
+    )
     go false e = ap (held i) (other_link d (record { 0 = q }) (D m) u e)
 
 -- ---- one client of one block has another pair than it had in the block's place

@@ -6,7 +6,7 @@ use Rattle.tl_coherence.proofs.manager.Imports.{beat-keeps, AreNamed, is_busy, M
 use Rattle.tl_coherence.proofs.manager.Imports.{service_with, Acknowledging, GrantedOther, is_unprobed, Service, Free}
 use Rattle.tl_coherence.proofs.manager.Imports.{Waits, GrantTaken, Block, State, SourceState}
 use Rattle.tl_coherence.proofs.manager.Imports.{Acquires, view, is_granting}
-use Rattle.tl_coherence.proofs.manager.Imports.{is_acknowledging, probe_beat, ServedSourceRelation, is_served}
+use Rattle.tl_coherence.proofs.manager.Imports.{is_acknowledging, ServedSourceRelation, is_served}
 use Rattle.tl_coherence.proofs.manager.Imports.{is_granted, cap_waited, Packet, set}
 use Rattle.std.proofs.Common.{◌≡◌, ℕ, ◌==◌, Bool, true, false, not, ◌&&◌, ◌||◌, List, ◌∷◌, Option, Some, None, refl}
 use Rattle.std.proofs.Common.{sym, ◌∙◌, ap, inl, inr}
@@ -95,11 +95,10 @@ serving-acked {w} c n x request s t is known i = passed ∙ elim (cases_eq i n) 
 
     -- no two blocks have one tracker
     differ : (r : ℕ) → (i ≡ n → ⊥) → client_in (s.block i).service ≡ Some r → ((s.block i).tracker == x.sink) ≡ false
-    differ r other e = ne_eqb (s.block i).tracker x.sink (λ same.
-        let first = tracker-of i s is.named (client_busy (s.block i).service r e) in
-        let second = tracker-of n s is.named (rw is.taken refl) in
-        let both : Some i ≡ Some n = sym first ∙ ap s.tracked (same ∙ is.sink_is) ∙ second in
-        other (same_Some i n both))
+    differ r other e = cc (ne_eqb (s.block i).tracker x.sink (λ same. let first =
+        tracker-of i s is.named (client_busy (s.block i).service r e) in let second =
+        tracker-of n s is.named (rw is.taken refl) in let both : Some i ≡ Some n =
+        sym first ∙ ap s.tracked (same ∙ is.sink_is) ∙ second in other (same_Some i n both)))
 
     never : (a b : Bool) → (a && (b && false)) ≡ false
     never true true = refl
@@ -156,8 +155,7 @@ managed-acked {w} {X} request c n rest x s t is known = record {
         → service_of_block i (services u) ≡ o → is_granted_to d u o ≡ is_granted_to d t o
     as_before d i other None e f = refl
     as_before d i other (Some v) e f =
-        ap (λ b. (v.link.0 == d) && b)
-        (granted-left (record { 0 = c }) x t v (stays (is_ended_by (record { 0 = c }, beat.E x) v) refl passes))
+        cc (granted-left (record { 0 = c }) x t v (stays (is_ended_by (record { 0 = c }, beat.E x) v) refl passes))
       where
         passes : if_passes (λ r. not (is_ended_by (record { 0 = c }, beat.E x) r)) (Some v) ≡ Some v
         passes = ap (if_passes (λ (r : manager.Service w). not (is_ended_by (record { 0 = c }, beat.E x) r))) (sym e)
@@ -198,11 +196,13 @@ are_served-acked {w} {X} request c n rest x s t is known = record {
   ];
   asked = λ i p from own low e. beat-keeps (request_of from) p (record { 0 = c }) (beat.E x) t (request_of-e from x)
       ∙ asked_now i p from own low e;
-  probes = λ d i e.
-      beat-keeps (probe_of i) d (record { 0 = c }) (beat.E x) t (probe_of-e i x) ∙ known.probes d i
-      (sym (set-part (λ (b : Block X). is_unprobed (b.pair d).probing) n new s.block refl i) ∙ e)
-      ∙ sym (ap (λ k. Some (probe_beat i k)) (set-part (λ (b : Block X). cap_waited b.service) n new s.block
-      (rw is.taken refl) i));
+  probes = λ d i e. cc (
+    beat-keeps (probe_of i) d (record { 0 = c }) (beat.E x) t (probe_of-e i x),
+    known.probes d i
+        (sym (set-part (λ (b : Block X). is_unprobed (b.pair d).probing) n new s.block refl i) ∙ e),
+    set-part
+        (λ (b : Block X). cap_waited b.service) n new s.block (rw is.taken refl) i,
+  );
 }
   where
     new : Block X

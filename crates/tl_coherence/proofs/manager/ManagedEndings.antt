@@ -187,8 +187,7 @@ are_served-ended {w} {X} request c q n source k r f rest x m s t is known = reco
 
     source_now : (d i : ℕ) → pending (key.RequestSource i) (on_link d v) ≡ (if (q == d) && (source == i) then false else
         pending (key.RequestSource i) (on_link d u))
-    source_now d i = source-reply n d i (service_for q n request s) m u is.reply ∙ ap
-        (λ j. if (q == d) && (j == i) then false else pending (key.RequestSource i) (on_link d u)) is.source_is
+    source_now d i = cc (source-reply n d i (service_for q n request s) m u is.reply, is.source_is)
 
     sources_now : (d i : ℕ) (b : Bool) → ((q == d) && (source == i)) ≡ b
         → pending (key.RequestSource i) (on_link d v) ≡ (is_served d (set_at q source Replied s.uses d i)

@@ -17,7 +17,6 @@ use Rattle.std.specs.Prelude.{if◌then◌else◌}
 use Rattle.std.proofs.lemmas.Bool.{cases_eq, eqb-true, ne_eqb, and_parts}
 use Rattle.tl_beat.specs.declared.channel.Channel.TheVariants as channel
 use Rattle.tl_params.specs.declared.key.Key.TheVariants as key
-use Rattle.tl_rules.specs.statement.History.{asks_for}
 use Rattle.tl_manager.proofs.pending.Granted.{IsGrant, services-grant, accounted-grant}
 use Rattle.tl_manager.proofs.pending.Replied.{source-reply}
 use Rattle.tl_coherence.proofs.manager.QuiescentManager.{quiet-c, IsLastOf}
@@ -55,10 +54,13 @@ conceded-given c q n source k gift r x m request s t is = record {
   whole = is.grant.reply.whole;
   grants = is.grant.grants;
   sink = is.grant.sink;
-  asks = λ i.
-      ap (λ j. asks_for i (request_of j (on_link q (taken c x t)))) (is.grant.reply.source ∙ is.source_is) ∙ ap
-      (asks_for i) ((quiet-c (record { 0 = c }) x t).requests q source ∙ is.asked)
-      ∙ ap (λ j. j == i) is.block_is;
+  asks = λ i. cc (
+    is.grant.reply.source,
+    is.source_is,
+    (quiet-c (record { 0 = c }) x t).requests q source,
+    is.asked,
+    is.block_is,
+  );
 }
 
 -- nobody sees its own Acquire served then, and who is granted sees that
@@ -281,8 +283,7 @@ are_served-conceded {w} {X} request c q n source k gift r dt rest x m s t is kno
 
     source_now : (d i : ℕ) → pending (key.RequestSource i) (on_link d v) ≡ (if (q == d) && (source == i) then false else
         pending (key.RequestSource i) (on_link d u))
-    source_now d i = source-reply n d i (service_for q n request s) m u is.grant.reply ∙ ap
-        (λ j. if (q == d) && (j == i) then false else pending (key.RequestSource i) (on_link d u)) is.source_is
+    source_now d i = cc (source-reply n d i (service_for q n request s) m u is.grant.reply, is.source_is)
 
     answered : is_served q (s.uses q source) z ≡ false
     answered = rw (is.used, set-same n new s.block) (never_own (q == q) dt gift)

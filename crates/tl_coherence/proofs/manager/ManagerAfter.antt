@@ -25,7 +25,6 @@ use Rattle.tl_rules.proofs.Payload.{payload-c}
 use Rattle.tl_burst.proofs.Begun.{length-begun}
 use Rattle.tl_manager.specs.statement.Handing.{nothing, release_ack}
 use Rattle.tl_manager.specs.statement.Holders.{is_settled, is_missing}
-use Rattle.tl_manager.specs.statement.Offer as manager_offer
 use Rattle.tl_manager.proofs.calls.Events.{reaction-part, reaction-release, reaction-report, reaction-ack, memory_with}
 use Rattle.tl_manager.proofs.calls.Keeping.{kept-offered}
 use Rattle.tl_coherence.specs.refinement.AbstractStep.{with_state}
@@ -55,8 +54,7 @@ left c x d e = taken (record { 0 = c }) x d e
 pub left-is : {w : ℕ} (config : Config) (c : ℕ) (ch : Channel) (x : Beat w) (d : Reaction w) (e : End w)
     → IsTakenUp config c ch x e
     → reaction config (record { 0 = c }) x e ≡ d → (offered config (record { 0 = c }) ch x e).1 ≡ left c x d e
-left-is {w} config c ch x d e up is = ap (λ (p : manager_offer.Reception w × End w). p.1) up.answer ∙ ap
-    (λ (i : Reaction w). left c x i e) is
+left-is {w} config c ch x d e up is = cc (up.answer, is)
 
 pub kept-left : {w : ℕ} (config : Config) (c : ℕ) (x : BeatC w) (d : Reaction w) (e : End w) → IsWidth w
     → IsTakenUp config c channel.C (beat.C x) e
@@ -112,9 +110,11 @@ pub payload-end : {w : ℕ} (b : Bool) (c n param : ℕ) (carries : Bool) (truth
     (e : End w) → IsEnd b c n param carries truth k m e → carries ≡ true
     → payload_of (beat.C (c_beat_of m k) ∷ unfinished channel.C (on_link c e.trace)) ≡ truth
 payload-end {w} b c n param carries truth k m e is some =
-    ap (λ (beats : List (Beat w)). payload_of (beat.C (c_beat_of m k) ∷ beats)) is.rest
-    ∙ payload-c m (begun (message.C m) (suc k)) is.width is.about.long (whole, is.about.blank) ∙ is.about.payload_is
-    some
+    cc (
+      is.rest,
+      payload-c m (begun (message.C m) (suc k)) is.width is.about.long (whole, is.about.blank),
+      is.about.payload_is some,
+    )
   where
     whole : begun (message.C m) (suc k) ≡ burst_of (message.C m)
     whole = let all : suc k ≡ beats_of (message.C m) = omega (arith, is.last) in
@@ -183,11 +183,10 @@ released-left {w} config c n k r rest m h e up end is =
           (are_served-released h.request c n r rest x answer.0 h.state e.trace released is.served);
       served_with = λ i. still i;
       manager_kept = kept-left config c x does e end.width up done is.manager_kept;
-      memory = λ i.
-          blocks-now e.memory does.memory n (let_block c r (h.state.block n)) h.state
+      memory = λ i. cc (blocks-now e.memory does.memory n (let_block c r (h.state.block n)) h.state
           (memory-end false c n (prune_code r) carries truth k m e end ∙ ap (λ z. if carries then truth else z)
-          (is.memory n))
-          (others-left config c n x does e end.width up done is.manager_kept end.about.block) is.memory i;
+          (is.memory n)) (others-left config c n x does e end.width up done is.manager_kept end.about.block) is.memory
+          i);
       all_live = is.all_live;
     })
   where
@@ -294,11 +293,10 @@ reported-left {w} config c n k r rest m h e up end others is =
       served = are_served-reported h.request c n r rest x h.state e.trace is.served;
       served_with = λ i. still i;
       manager_kept = kept-left config c x does e end.width up done is.manager_kept;
-      memory = λ i.
-          blocks-now e.memory does.memory n (reported_block c r (h.state.block n)) h.state
+      memory = λ i. cc (blocks-now e.memory does.memory n (reported_block c r (h.state.block n)) h.state
           (memory-end true c n (report_code r) carries truth k m e end ∙ ap (λ z. if carries then truth else z)
-          (is.memory n))
-          (others-left config c n x does e end.width up done is.manager_kept end.about.block) is.memory i;
+          (is.memory n)) (others-left config c n x does e end.width up done is.manager_kept end.about.block) is.memory
+          i);
       all_live = is.all_live;
     })
   where

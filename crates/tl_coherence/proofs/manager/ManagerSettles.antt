@@ -100,13 +100,11 @@ ended-left {w} config c q n source k low r rest m h e at =
           at.is.served);
       served_with = λ i. still i;
       manager_kept = kept-left config c x does e at.end.width at.up done at.is.manager_kept;
-      memory = λ i.
-          blocks-now e.memory does.memory n new h.state
-          (block-performed (level_of config q) (h.request n) (memory_with (record { 0 = c }) x e) n at.end.width
-          (settling-lawful config c q n source k false low r m h e at).lawful for.2
-          ∙ ap (performs (h.request n)) (settling-memory config c q n source k false low r m h e at))
+      memory = λ i. cc (blocks-now e.memory does.memory n new h.state (block-performed (level_of config q) (h.request n)
+          (memory_with (record { 0 = c }) x e) n at.end.width (settling-lawful config c q n source k false low r m h e
+          at).lawful for.2 ∙ ap (performs (h.request n)) (settling-memory config c q n source k false low r m h e at))
           (others-left config c n x does e at.end.width at.up done at.is.manager_kept at.end.about.block) at.is.memory
-          i;
+          i);
       all_live = at.is.all_live;
     })
   where
@@ -232,13 +230,15 @@ pub reaction-conceded : {w : ℕ} (config : Config) (c q n source k : ℕ) (low 
           memory_with (record { 0 = c }) (c_beat_of m k) e;
     }
 reaction-conceded {w} config c q n source k low r whole g m h e at wanted =
-    settling-reaction config c q n source k true low r m h e at ∙ performed-acquire config
-    (service_for q n h.request h.state) u memory for.0
-    ∙ ap (λ (i : Message w). record { handed = (record { 0 = q }, i) ∷ []; memory = memory })
-    (grant-made config q n (h.state.block n).tracker (h.request n) u memory whole g unheld
-    ((h.state.block n).pair q).recorded wanted.opcode_is wanted.param_is for.2 none
-    (settling-records config c q n source k true low r m h e at q ∙ mine)
-    ∙ sent)
+    cc (
+      settling-reaction config c q n source k true low r m h e at,
+      performed-acquire config
+          (service_for q n h.request h.state) u memory for.0,
+      grant-made config q n (h.state.block n).tracker (h.request n) u
+          memory whole g unheld ((h.state.block n).pair q).recorded wanted.opcode_is wanted.param_is for.2 none
+          (settling-records config c q n source k true low r m h e at q ∙ mine),
+      sent,
+    )
   where
     u : Trace w
     u = trace_with c k m e
@@ -253,11 +253,10 @@ reaction-conceded {w} config c q n source k low r whole g m h e at wanted =
     for = settling-for config c q n source k true low r m h e at
 
     none : holders.is_unheld config n u ≡ unheld
-    none =
-        nobody-same config (λ d. has_copy (recorded d n u))
+    none = cc (nobody-same config (λ d. has_copy (recorded d n u))
         (λ d. not (same_perm (pairs_after c r (h.state.block n).pair d).recorded perm.None))
-        (λ d. ap has_copy (settling-records config c q n source k true low r m h e at d) ∙ has_copy-is
-        (pairs_after c r (h.state.block n).pair d).recorded)
+        (λ d. ap has_copy (settling-records config c q n source k true low r m h e at d)
+        ∙ has_copy-is (pairs_after c r (h.state.block n).pair d).recorded))
 
     mine : (pairs_after c r (h.state.block n).pair q).recorded ≡ ((h.state.block n).pair q).recorded
     mine = ap (λ (p : ClientBlock). p.recorded) (set-other c q (after_report r ((h.state.block n).pair c))

@@ -178,10 +178,9 @@ report-order {w} config caching request c n k r truth carries m s e inv managed 
     b = s.block n
 
     told : r ≡ report_at (cap_waited b.service) (b.pair c).recorded
-    told =
-        same_report-is r (report_at (cap_waited b.service) (b.pair c).recorded)
+    told = cc (same_report-is r (report_at (cap_waited b.service) (b.pair c).recorded)
         (seen_cap (λ k. same_report r (report_at k (b.pair c).recorded)) b.service c
-        (report_fits r (b.pair c) (view b.service c) ((inv.blocks n).phases c) answered))
+        (report_fits r (b.pair c) (view b.service c) ((inv.blocks n).phases c) answered)))
 
     first : unfinished channel.C t ≡ [] → NextOrder config.profile m 0 t
     first none =

@@ -127,13 +127,15 @@ traced-answered {w} {X} config request c k n f m s u memory e blocks is known =
         reply.2 ∙ recorded-beat c k m e.trace d i
 
     missing_same : (d i : ℕ) → pending (ProbeOf i) (on_link d after) ≡ pending (ProbeOf i) (on_link d e.trace)
-    missing_same d i = ap (λ (v : Trace w). pending (ProbeOf i) (on_link d v)) after_is
-        ∙ reply-quiet (ProbeOf i) (link_of c) reply.0 t d is.comes.width (whole c) (λ g. (refl, refl)) ∙ missing-beat c
-        k m e.trace d i
+    missing_same d i = cc (
+      after_is,
+      reply-quiet (ProbeOf i) (link_of c) reply.0 t d is.comes.width (whole c)
+          (λ g. (refl, refl)),
+      missing-beat c k m e.trace d i,
+    )
 
     asked_same : (r src : ℕ) → request_of src (on_link r after) ≡ request_of src (on_link r t)
-    asked_same r src = ap (λ (v : Trace w). request_of src (on_link r v)) after_is ∙ request-reply (link_of c) reply.0 t
-        r src
+    asked_same r src = cc (after_is, request-reply (link_of c) reply.0 t r src)
 
     served : (i : ℕ) → service_of_block i (services after) ≡ (if not (is_acquire m.opcode) && (block_at m.address == i)
         then None else service_of_block i (services t))
@@ -257,9 +259,12 @@ traced-granted {w} {X} config request c k n b j m s u memory e blocks is known =
         ]
 
     missing_same : (d i : ℕ) → pending (ProbeOf i) (on_link d after) ≡ pending (ProbeOf i) (on_link d e.trace)
-    missing_same d i = ap (λ (v : Trace w). pending (ProbeOf i) (on_link d v)) after_is
-        ∙ reply-quiet (ProbeOf i) (link_of c) reply.0 t d is.comes.width (whole c) (λ g. (refl, refl)) ∙ missing-beat c
-        k m e.trace d i
+    missing_same d i = cc (
+      after_is,
+      reply-quiet (ProbeOf i) (link_of c) reply.0 t d is.comes.width (whole c)
+          (λ g. (refl, refl)),
+      missing-beat c k m e.trace d i,
+    )
 
     quiet_same : (d : ℕ) → is_unprobed (set c (after_grant_sent j ((s.block n).pair c)) (s.block n).pair d).probing
         ≡ is_unprobed ((s.block n).pair d).probing
@@ -267,8 +272,7 @@ traced-granted {w} {X} config request c k n b j m s u memory e blocks is known =
         (s.block n).pair refl d
 
     asked_same : (r src : ℕ) → request_of src (on_link r after) ≡ request_of src (on_link r t)
-    asked_same r src = ap (λ (v : Trace w). request_of src (on_link r v)) after_is ∙ request-reply (link_of c) reply.0 t
-        r src
+    asked_same r src = cc (after_is, request-reply (link_of c) reply.0 t r src)
 
     served : (i : ℕ) → service_of_block i (services after) ≡ service_of_block i (services t)
     served i = performed-serving config (block_at m.address) i (service_for c m e.trace) t memory

@@ -8,7 +8,7 @@ use Rattle.tl_coherence.proofs.manager.Imports.{service_of_block, after_sent, ow
 use Rattle.tl_coherence.proofs.manager.Imports.{other_beat, beat-keeps, reply-quiet, burst-reply, request-reply}
 use Rattle.tl_coherence.proofs.manager.Imports.{probe-reply, ManagerRelation, is_own, ClientBlock, is_unprobed, Service}
 use Rattle.tl_coherence.proofs.manager.Imports.{Block, State, SourceState}
-use Rattle.tl_coherence.proofs.manager.Imports.{Acquires, view, is_granting, is_acknowledging, ServedSourceRelation}
+use Rattle.tl_coherence.proofs.manager.Imports.{Acquires, view, ServedSourceRelation}
 use Rattle.tl_coherence.proofs.manager.Imports.{is_served, is_granted, set}
 use Rattle.std.proofs.Common.{◌≡◌, ℕ, ◌==◌, Bool, true, false, not, ◌&&◌, ◌||◌, [], ◌∷◌, Option, Some, None, refl, sym}
 use Rattle.std.proofs.Common.{◌∙◌, ap, subst, inl, inr}
@@ -198,10 +198,8 @@ pub managed-still : {w : ℕ} {X : Type 0} (request : ℕ → MessageA w) (s z :
 managed-still request s z t u quiet still records missing known = record {
   recorded_is = records;
   probes = missing;
-  acquires = λ c n. quiet.acquires c n ∙ known.acquires c n ∙ ap (λ (v : Service). is_own (view v c))
-      (sym (still.services n));
-  grant_acks = λ c n. quiet.grants c n ∙ known.grant_acks c n ∙ ap
-      (λ (v : Service). is_granting (view v c) || is_acknowledging (view v c)) (sym (still.services n));
+  acquires = λ c n. cc (quiet.acquires c n, known.acquires c n, still.services n);
+  grant_acks = λ c n. cc (quiet.grants c n, known.grant_acks c n, still.services n);
   serving_is = λ n. ap (service_of_block n) quiet.serves ∙ known.serving_is n ∙ rw (still.services n, still.trackers n)
       refl;
 }
@@ -214,8 +212,7 @@ served-still s z still c u = refl
 granted-still : {X : Type 0} (s z : State X) → AreStill s z → (c : ℕ) (o : Option ℕ)
     → is_granted c o z ≡ is_granted c o s
 granted-still s z still c None = refl
-granted-still s z still c (Some n) = ap (λ (v : Service). is_granting (view v c) || is_acknowledging (view v c))
-    (still.services n)
+granted-still s z still c (Some n) = cc (still.services n)
 
 pub are_served-still : {w : ℕ} {X : Type 0} (request : ℕ → MessageA w) (s z : State X) (t u : Trace w) → AreQuiet t u
     → AreStill s z

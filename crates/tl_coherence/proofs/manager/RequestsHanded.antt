@@ -17,7 +17,7 @@ use Rattle.tl_burst.specs.declared.message.Message.TheVariants as message
 use Rattle.tl_params.specs.declared.perm.Perm.TheVariants as perm
 use Rattle.tl_rules.specs.statement.Effect as memory
 use Rattle.tl_manager.specs.statement.Handing as handing
-use Rattle.tl_manager.specs.statement.Handing.{Handed, probe_of_block, grant_with, grant_payload}
+use Rattle.tl_manager.specs.statement.Handing.{grant_with, grant_payload}
 use Rattle.tl_manager.specs.statement.Holders as holders
 use Rattle.tl_manager.specs.statement.Service as manager
 use Rattle.tl_coherence.specs.refinement.AbstractStep.{probes_some}
@@ -152,11 +152,13 @@ handed-granted {w} config log mail request s sys caching c n k is asked comes la
     recorded_now = ap (λ (p : ClientBlock). p.recorded) (set-same c (after_grant_sent gift_is (b.pair c)) b.pair)
 
     given : cap_granted config.profile m.opcode m.param (holders.is_unheld config (block_at m.address) u) ≡ gift_is
-    given = ap (λ i. cap_granted config.profile m.opcode m.param (holders.is_unheld config i u)) (same_block n)
-        ∙ ap (cap_granted config.profile m.opcode m.param) (unheld-same config log mail request s sys c k n m is)
+    given = cc (same_block n, unheld-same config log mail request s sys c k n m is)
 
     carried : handing.is_granted_data m.opcode m.param (recorded c (block_at m.address) u) ≡ data_too
-    carried =
-        ap (λ i. handing.is_granted_data m.opcode m.param (recorded c i u)) (same_block n)
-        ∙ ap (handing.is_granted_data m.opcode m.param) (recorded-beat c k m e.trace c n ∙ is.managed.recorded_is c n)
-        ∙ data-same asked.whole asked.grow (b.pair c).recorded
+    carried = cc (
+      same_block n,
+      recorded-beat c k m e.trace c n,
+      is.managed.recorded_is c n,
+      data-same asked.whole
+          asked.grow (b.pair c).recorded,
+    )

@@ -91,14 +91,12 @@ pub settling-reaction : {w : ℕ} (config : Config) (c q n source k : ℕ) (own 
     → reaction config (record { 0 = c }) (beat.C (c_beat_of m k)) e ≡ performed config
     (service_for q n h.request h.state) (trace_with c k m e) (memory_with (record { 0 = c }) (c_beat_of m k) e)
 settling-reaction {w} config c q n source k own low r m h e at =
-    reaction-settled config (record { 0 = c }) (c_beat_of m k) (service_for q n h.request h.state) e
+    cc (reaction-settled config (record { 0 = c }) (c_beat_of m k) (service_for q n h.request h.state) e
     (ends-it true c n (report_code r) (same_perm (report_left r) perm.Trunk) (h.state.block n).truth k m e at.end)
-    at.end.about.releases
-    at.end.about.reports
-    (ap (λ (i : ℕ). is_settled config i (trace_with c k m e)) at.end.about.block ∙ settling-all config c q n source k
-    own low r m h e at)
-    (ap (λ (i : ℕ). service_of_block i (services (trace_with c k m e))) at.end.about.block ∙ settling-found config c q n
-    source k own low r m h e at)
+    at.end.about.releases at.end.about.reports (ap (λ (i : ℕ). is_settled config i (trace_with c k m e))
+    at.end.about.block ∙ settling-all config c q n source k own low r m h e at)
+    (ap (λ (i : ℕ). service_of_block i (services (trace_with c k m e))) at.end.about.block
+    ∙ settling-found config c q n source k own low r m h e at))
 
 -- nobody else's Probe is under way
 pub settling-quiet : {w : ℕ} (config : Config) (c q n source k : ℕ) (own : Bool) (low : Cap) (r : Report)

@@ -98,10 +98,8 @@ same-pair : {X : Type 0} (c : ℕ) (p : ClientBlock) (b : Block X) → p.recorde
     → (new : Block X) → new.pair ≡ set c p b.pair → new.tracker ≡ b.tracker
     → SameService b.service new.service → new.memory ≡ b.memory → IsSameBlock b new
 same-pair c p b recorded quiet new pairs tracker service memory = record {
-  recorded_same = λ d. ap (λ (f : ℕ → ClientBlock). (f d).recorded) pairs ∙ set-part (λ (q : ClientBlock). q.recorded) c
-      p b.pair recorded d;
-  quiet_same = λ d. ap (λ (f : ℕ → ClientBlock). is_unprobed (f d).probing) pairs ∙ set-part
-      (λ (q : ClientBlock). is_unprobed q.probing) c p b.pair quiet d;
+  recorded_same = λ d. cc (pairs, set-part (λ (q : ClientBlock). q.recorded) c p b.pair recorded d);
+  quiet_same = λ d. cc (pairs, set-part (λ (q : ClientBlock). is_unprobed q.probing) c p b.pair quiet d);
   tracker_same = tracker;
   service_same = service;
   memory_same = memory;

@@ -275,8 +275,7 @@ beside_ended {w} caching config c q n source r k rest h m inv waits answered set
 
     reply_same : (effect (message.A x) (bytes_at (block_at x.address) (h.state.block (block_at x.address)).truth)).1
         ≡ (effect (message.A x) (bytes_at (block_at x.address) (written r b.truth b.memory))).1
-    reply_same = ap (λ (bytes : List ℕ). (effect (message.A x) (bytes_at (block_at x.address) bytes)).1)
-        (ap (λ (j : ℕ). (h.state.block j).truth) at ∙ sym told)
+    reply_same = cc (at, told)
 
 beside_last : {w : ℕ} (caching : ℕ → Bool) (config : Config) (clients : ℕ) (p : Profile) (c n : ℕ) (r : Report)
     (v : Service) (rest : List Packet) (h : AbstractState w)

@@ -232,10 +232,12 @@ beside-performed {w} config c source a bytes mail s s' m is same_reply others ch
         (blocks.1 i other))
 
     reply_is : (effect (message.A is.opened.0) m.memory).1 ≡ (effect (message.A a) (bytes_at n bytes)).1
-    reply_is =
-        ap (λ (y : Memory × memory.AccessResult). y.1) effect_is
-        ∙ reply-performed (level_of config c) a m.memory (s.block n).truth is.width is.sent.1 (h.memory n)
-        is.long ∙ same_reply m.memory (h.memory n)
+    reply_is = cc (
+      effect_is,
+      reply-performed (level_of config c) a m.memory (s.block n).truth is.width is.sent.1
+          (h.memory n) is.long,
+      same_reply m.memory (h.memory n),
+    )
 
     reaches : IsReach a (effect (message.A is.opened.0) m.memory).1
     reaches = subst (λ (y : Memory × memory.AccessResult). IsReach a y.1) (sym effect_is) (reply_reach a m.memory)

@@ -141,10 +141,13 @@ pub opened-started : {w : ℕ} (config : Config) (log : Log w) (c : ℕ) (pool :
 unfolding one_memory_after started
 opened-started config [] c pool source = refl
 opened-started {w} config (x ∷ log) c pool source =
-    performing_opened (accesses_answered (stepped config x.0 (system_after config log)).handed)
-    (moved x.0 x.1 (one_memory_after config log)) c pool source
-    ∙ moved_opened x.0 x.1 (one_memory_after config log) c pool source
-    ∙ ap (started_at x.0 x.1 c pool source) (opened-started config log c pool source)
+    cc (
+      performing_opened (accesses_answered (stepped config x.0 (system_after config log)).handed)
+          (moved x.0 x.1 (one_memory_after config log)) c pool source,
+      moved_opened x.0 x.1 (one_memory_after config log) c
+          pool source,
+      opened-started config log c pool source,
+    )
 
 -- ---- coherent copies
 

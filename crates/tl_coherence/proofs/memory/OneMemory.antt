@@ -64,8 +64,7 @@ pub reply-performed : {w : ℕ} (o : Option Level) (m : MessageA w) (f : Memory)
     → IsBlock f (block_at m.address) bytes → length bytes ≡ 64
     → (effect (A m) f).1 ≡ (effect (A m) (bytes_at (block_at m.address) bytes)).1
 reply-performed o m f bytes width lawful is long =
-    performed-reply o m f width lawful ∙ ap (λ (b : List ℕ). (effect (A m) (bytes_at (block_at m.address) b)).1)
-    (bytes-of-block f (block_at m.address) bytes is long)
+    cc (performed-reply o m f width lawful, bytes-of-block f (block_at m.address) bytes is long)
 
 -- the source makes no difference
 pub effect-sourced : {w : ℕ} (source : ℕ) (m : MessageA w) (f : Memory)

@@ -2,7 +2,7 @@
 use Rattle.tl_coherence.proofs.outstanding.Imports.{IsWidth, Config, Outcome, AbstractState, abstract_step}
 use Rattle.tl_coherence.proofs.outstanding.Imports.{starts_request, starts_release, outstanding, Log, system_after}
 use Rattle.tl_coherence.proofs.outstanding.Imports.{open_requests, open_releases, State, one_if, SimulationRelation}
-use Rattle.std.proofs.Common.{◌≡◌, ℕ, ◌+◌, Bool, true, false, [], ◌∷◌, length, refl, ◌∙◌, ap, arith}
+use Rattle.std.proofs.Common.{◌≡◌, ℕ, ◌+◌, Bool, true, false, [], ◌∷◌, length, refl, arith}
 use Rattle.std.specs.Prelude.{◌*◌, ◌/◌, if◌then◌else◌, filter}
 use Rattle.tl_coherence.specs.declared.event.Event.{Event}
 use Rattle.tl_coherence.specs.refinement.AbstractStep.{first_state}
@@ -90,6 +90,4 @@ outstanding-open config log s is = omega (arith, requests-open config log s is, 
 -- and the load is that of what is open
 pub load-open : {w : ℕ} {X : Type 0} (config : Config) (log : Log w) (s : State X) → AreCounted config log s
     → load log ≡ (64 / w + 33) * open_requests config s + (64 / w + 1) * open_releases config s
-load-open {w} config log s is = ap (λ (n : ℕ). (64 / w + 33) * n + (64 / w + 1) * releases log)
-    (requests-open config log s is)
-    ∙ ap (λ (n : ℕ). (64 / w + 33) * open_requests config s + (64 / w + 1) * n) (releases-open config log s is)
+load-open {w} config log s is = cc (requests-open config log s is, releases-open config log s is)

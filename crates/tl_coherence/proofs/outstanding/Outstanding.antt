@@ -27,7 +27,7 @@ use Rattle.tl_coherence.specs.declared.event.Event.{Event}
 use Rattle.tl_coherence.specs.declared.event.Event.TheVariants.{Ask, Deliver}
 use Rattle.tl_coherence.specs.declared.event.Outcome.TheVariants as outcome
 use Rattle.tl_coherence.specs.statement.Draining.{is_moving}
-use Rattle.tl_coherence.specs.refinement.AbstractStep.{abstract_step_by, kind_taken, packet_taken}
+use Rattle.tl_coherence.specs.refinement.AbstractStep.{abstract_step_by, kind_taken}
 use Rattle.tl_coherence.specs.statement.Load.{ends_request, ends_release}
 use Rattle.tl_coherence.specs.statement.Delivery.{receiver}
 use Rattle.tl_coherence.specs.protocol.Protocol.{is_on, on}
@@ -169,10 +169,7 @@ module _ {w : ℕ} (config : Config) (log : Log w) (h : AbstractState w) (width 
       follows : abstract_step config (Deliver link ch) (system_after config log)
           h ≡ (if done then kind_taken config (next_tracker (system_after config log)) link.0 first.kind first.number
           first.rest h else h)
-      follows =
-          followed-moving config link ch (system_after config log) h x queue moving beats
-          ∙ ap (λ (l : List Packet). if done then packet_taken config (next_tracker (system_after config log)) link.0 l
-          h else h) first.tokens
+      follows = cc (followed-moving config link ch (system_after config log) h x queue moving beats, first.tokens)
 
   counted-b : (link : Link) (terms : EndConfig) (x : Beat w) (queue : List (Beat w))
       → terms_at config link.0 ≡ Some terms → (system_after config log).channels link.0 channel.B ≡ x ∷ queue

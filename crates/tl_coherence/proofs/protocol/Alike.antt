@@ -160,8 +160,7 @@ alike-granted c q source r own d k gift b waits apart i = go (cases_eq i c)
 
     probing : (i ≡ c) ⊎ (i ≡ c → ⊥) → (is_sent (new.pair i).probing ≡ true) ⊎ (is_answered (new.pair i).probing ≡ true)
         → (new.pair i).probing ≡ (b.pair i).probing
-    probing (inr ne) shows_it = probing_part ∙ ap (λ (p : ClientBlock). p.probing)
-        (set-other c i (after_report r (b.pair c)) b.pair ne)
+    probing (inr ne) shows_it = cc (probing_part, set-other c i (after_report r (b.pair c)) b.pair ne)
     probing (inl same) (inl e) =
         absurd (never _ true (ap is_sent probing_part ∙ ap (λ (p : ClientBlock). is_sent p.probing)
         (ap reported same ∙ here)) e)

@@ -6,7 +6,7 @@ use Rattle.tl_coherence.proofs.protocol.Imports.{is_unacquired, is_unreleased, S
 use Rattle.tl_coherence.proofs.protocol.Imports.{GrantTaken, State, Replied, Acquires, view, packet, shown, is_wanting}
 use Rattle.tl_coherence.proofs.protocol.Imports.{is_granting, is_acked, AccessMessages, block_message, Answer, Grant}
 use Rattle.tl_coherence.proofs.protocol.Imports.{ReleaseAck, Packet}
-use Rattle.std.proofs.Common.{◌≡◌, ℕ, Bool, true, false, not, ◌&&◌, List, ◌∷◌, Some, refl, sym, ◌∙◌, ap, lit≤}
+use Rattle.std.proofs.Common.{◌≡◌, ℕ, Bool, true, false, not, ◌&&◌, List, ◌∷◌, Some, refl, ◌∙◌, ap, lit≤}
 use Rattle.std.specs.Prelude.{◌==◌, if◌then◌else◌}
 use Rattle.std.proofs.lemmas.Bool.{eqb-true, and_from}
 use Rattle.tl_beat.specs.declared.opcode.OpD.TheVariants as opd
@@ -131,8 +131,7 @@ grant-due caching c n rest s inv first =
       g = wants.1;
       service = sent.2;
       wants = wants.2;
-      fits = sym (ap (λ (x : AcquirePhase). grant_fits (b.pair c).recorded (b.pair c).held sent.0 sent.1 x) wants.2)
-          ∙ fits;
+      fits = cc (wants.2, fits);
       used = acquire-used caching c n s inv (ap is_wanting wants.2);
     }
 

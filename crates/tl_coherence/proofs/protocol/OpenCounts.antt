@@ -52,10 +52,9 @@ pub marked-same : {B : Type 0} (test : B → Bool) (clients : ℕ) (sources : �
     → ((c i : ℕ) → test (f c i) ≡ test (g c i))
     → marked test clients sources f ≡ marked test clients sources g
 marked-same test clients sources f g same =
-    total-same clients (λ c. total (sources c) (λ i. one_if (test (f c i))))
-    (λ c. total (sources c) (λ i. one_if (test (g c i))))
-    (λ c few. total-same (sources c) (λ i. one_if (test (f c i))) (λ i. one_if (test (g c i)))
-    (λ i lt. ap one_if (same c i)))
+    cc (total-same clients (λ c. total (sources c) (λ i. one_if (test (f c i))))
+    (λ c. total (sources c) (λ i. one_if (test (g c i)))) (λ c few. total-same (sources c) (λ i. one_if (test (f c i)))
+    (λ i. one_if (test (g c i))) (λ i lt. ap one_if (same c i))))
 
 pub set_at-part : {A B : Type 0} (part : B → A) (c k : ℕ) (x : B) (f : ℕ → ℕ → B) → part x ≡ part (f c k) → (d i : ℕ)
     → part (set_at c k x f d i) ≡ part (f d i)

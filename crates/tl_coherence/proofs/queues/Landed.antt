@@ -201,8 +201,7 @@ handed-client {w} c m e sys same = record {
 
     theirs : (d : ℕ) (at : Channel) → unfinished at (on_link d after.manager.trace) ≡ unfinished at
         (on_link d sys.manager.trace)
-    theirs d at = ap (λ (b : manager_end.End w). unfinished at (on_link d b.trace))
-        (manager-with_messages (handed_by c m) base)
+    theirs d at = cc (manager-with_messages (handed_by c m) base)
 
     rests : (d : ℕ) (at : Channel) → unfinished at (receiver at d after) ≡ unfinished at (receiver at d sys)
     rests d channel.A = theirs d channel.A
@@ -250,12 +249,7 @@ rests-manager {w} c ch x queue handed e sys to_manager is heard = rests
         ∙ grown_history ch at x (on_link c sys.manager.trace) is
         ∙ sym (ap (λ (b : Bool). if b && same_channel at ch then grown x (unfinished at (on_link c sys.manager.trace))
         else unfinished at (on_link c sys.manager.trace)) (same_number c)))
-    theirs d at up (inr other) =
-        ap (λ (b : manager_end.End w). unfinished at (on_link d b.trace)) manager_is ∙ heard d at up
-        ∙ ap (λ (b : Bool). unfinished at (if b then x ∷ on_link d sys.manager.trace else on_link d sys.manager.trace))
-        (swapped d other)
-        ∙ sym (ap (λ (b : Bool). if b && same_channel at ch then grown x (unfinished at (on_link d sys.manager.trace))
-        else unfinished at (on_link d sys.manager.trace)) (ne_eqb d c other))
+    theirs d at up (inr other) = cc (manager_is, heard d at up, swapped d other, ne_eqb d c other)
 
     not_here : (ch at : Channel) → is_to_client ch ≡ false → is_to_client at ≡ true → same_channel at ch ≡ false
     not_here channel.A channel.B a b = refl

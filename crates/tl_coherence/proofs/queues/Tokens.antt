@@ -1,6 +1,6 @@
 -- Tokens that are pushed and popped.
 use Rattle.tl_coherence.proofs.queues.Imports.{Kind, ProbeAck, Release, Packet, same_kind, is, one_if, count, set}
-use Rattle.std.proofs.Common.{◌≡◌, refl, ◌∙◌, inl, inr, arith, ap}
+use Rattle.std.proofs.Common.{◌≡◌, refl, ◌∙◌, inl, inr, arith}
 use Rattle.std.specs.Prelude.{ℕ, Bool, true, false, List, [], ◌∷◌, ◌++◌, ◌==◌, ◌+◌}
 use Rattle.std.proofs.lemmas.Bool.{cases_eq, ne_eqb}
 use Rattle.tl_coherence.specs.protocol.Packet.{Holds, IsOrdered, set_at}
@@ -161,5 +161,4 @@ unfolding IsOrdered
 ordered-first b xs rest x e first h = let all : IsOrdered b (x ∷ rest) = rw e at h in all.0 first
 
 pub set_at-same : {X : Type 0} (c source : ℕ) (x : X) (f : ℕ → ℕ → X) → set_at c source x f c source ≡ x
-set_at-same {X} c source x f = ap (λ (g : ℕ → X). g source) (set-same c (set source x (f c)) f) ∙ set-same source x
-    (f c)
+set_at-same {X} c source x f = cc (set-same c (set source x (f c)) f, set-same source x (f c))

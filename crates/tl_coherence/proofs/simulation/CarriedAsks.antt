@@ -87,8 +87,7 @@ access_asked-carried {w} caching c source m mail s sys sys' width inv inv' close
 
     fits : (at : Channel) → Fits false (only_on channel.A m at) (access_moves source at)
         (λ k i. message_of mail' s' c (packet k i))
-    fits channel.A = ap (λ (f : ℕ → Message w). f source) (set-same c (set source m (mail.request c)) mail.request)
-        ∙ set-same source m (mail.request c)
+    fits channel.A = cc (set-same c (set source m (mail.request c)) mail.request, set-same source m (mail.request c))
     fits at = tt
 
 pub acquire_asked-carried : {w : ℕ} (caching : ℕ → Bool) (c n source : ℕ) (whole : Bool) (g : Grow) (bytes : List ℕ)

@@ -5,7 +5,7 @@ use Rattle.tl_coherence.proofs.simulation.Imports.{ReleaseAck, Packet, set, set_
 use Rattle.tl_coherence.proofs.simulation.Imports.{Block, State, Asked, packet}
 use Rattle.tl_coherence.proofs.simulation.Imports.{IsInvariant, Stays, AccessMessages}
 use Rattle.tl_coherence.proofs.simulation.Imports.{block_message, message_of, same_channel, channel_of_message}
-use Rattle.std.proofs.Common.{◌≡◌, ℕ, Bool, true, false, ◌&&◌, List, ◌∷◌, Some, None, refl, ◌∙◌, ap, ◌⊎◌, inl}
+use Rattle.std.proofs.Common.{◌≡◌, ℕ, Bool, true, false, ◌&&◌, List, ◌∷◌, Some, None, refl, ◌⊎◌, inl}
 use Rattle.std.proofs.Common.{inr}
 use Rattle.std.specs.Prelude.{◌==◌, if◌then◌else◌}
 use Rattle.std.proofs.lemmas.Bool.{cases_eq, ne_eqb}
@@ -77,8 +77,7 @@ access_answered-shown {w} caching c n source f rest m mail s inv inv' first used
 
     fits : (at : Channel) → Fits (same_channel at channel.A) (only_on channel.D m at) (answer_moves source at)
         (λ k i. message_of mail' s' c (packet k i))
-    fits channel.D = ap (λ (g : ℕ → Message w). g source) (set-same c (set source m (mail.answer c)) mail.answer)
-        ∙ set-same source m (mail.answer c)
+    fits channel.D = cc (set-same c (set source m (mail.answer c)) mail.answer, set-same source m (mail.answer c))
     fits at = tt
 
 pub acquire_granted-shown : {w : ℕ} (caching : ℕ → Bool) (r n tracker : ℕ) (d : Bool) (k : Cap) (rest : List Packet)

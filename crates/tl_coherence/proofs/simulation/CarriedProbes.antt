@@ -7,7 +7,7 @@ use Rattle.tl_coherence.proofs.simulation.Imports.{IsInvariant, Move, Stays, Acc
 use Rattle.tl_coherence.proofs.simulation.Imports.{block_message, message_of, System, same_channel}
 use Rattle.tl_coherence.proofs.simulation.Imports.{with_messages}
 use Rattle.std.proofs.Common.{◌≡◌, ℕ, zero, suc, ◌+◌, ◌<◌, ◌≤◌, Bool, true, false, not, ◌&&◌, List, [], ◌∷◌, ◌++◌}
-use Rattle.std.proofs.Common.{Option, Some, None, refl, sym, ◌∙◌, ap, ◌⊎◌, inl, inr, arith}
+use Rattle.std.proofs.Common.{Option, Some, None, refl, sym, ◌∙◌, ◌⊎◌, inl, inr, arith}
 use Rattle.std.specs.Prelude.{◌==◌, if◌then◌else◌}
 use Rattle.std.proofs.lemmas.Bool.{cases_eq, cases_lt, ne_eqb}
 use Rattle.tl_beat.specs.declared.channel.Channel.TheVariants as channel
@@ -117,8 +117,7 @@ probes-among {w} n k first (suc count) test d s le lt =
         → (with_messages (probes n k (if b then first ∷ clients_from (first + 1) count test else clients_from
         (first + 1) count test)) s).channels d channel.B
         ≡ behind (if test d then Some (probe_of_block n k) else None) (s.channels d channel.B)
-    later ne rest true = rest (with_message first (probe_of_block n k) s) ∙ ap
-        (behind (if test d then Some (probe_of_block n k) else None)) (other_probe n k first d channel.B s ne)
+    later ne rest true = cc (rest (with_message first (probe_of_block n k) s), other_probe n k first d channel.B s ne)
     later ne rest false = rest s
 
     go : (d ≡ first) ⊎ (d ≡ first → ⊥) → ((d ≡ first → ⊥) → Rest)
@@ -252,8 +251,7 @@ served-shown {w} caching r n own source tracker k rest mail s s' inv inv' first 
         (s.link d) rest (first_at d))
 
     render_is : (d : ℕ) → test d ≡ true → block_message {w = w} Probe d n (s'.block n) ≡ probe_of_block n k
-    render_is d e = ap (block_message Probe d n) (blocks n ∙ set-same n new s.block) ∙ sent_rendered r own source
-        tracker n k d (s.block n) e
+    render_is d e = cc (blocks n, set-same n new s.block, sent_rendered r own source tracker n k d (s.block n) e)
 
     fits : (d : ℕ) (at : Channel) → Fits ((d == r) && same_channel at channel.A) (probe_pushes n k test d at)
         (moves d at) (λ j l. message_of mail s' d (packet j l))

@@ -2,7 +2,7 @@
 use Rattle.tl_coherence.proofs.simulation.Imports.{IsWidth, Beat, Link, Channel, MessageA, unfinished, Config, Op}
 use Rattle.tl_coherence.proofs.simulation.Imports.{EndConfig, Offered, Deliver, is_moving, asked, IsInvariant, Log}
 use Rattle.tl_coherence.proofs.simulation.Imports.{receiver, State, packet, is_on, packets_on, AccessMessages}
-use Rattle.tl_coherence.proofs.simulation.Imports.{message_of, stepped, stepped_at, client_took, is_to_client, System}
+use Rattle.tl_coherence.proofs.simulation.Imports.{message_of, stepped, client_took, is_to_client, System}
 use Rattle.tl_coherence.proofs.simulation.Imports.{terms_at, Kind, Probe, Answer}
 use Rattle.tl_coherence.proofs.simulation.Imports.{Grant, ReleaseAck, Packet, SimulationRelation, is_caching}
 use Rattle.std.proofs.Common.{◌≡◌, ℕ, Bool, true, false, not, List, ◌∷◌, Option, Some, None, refl, sym, ◌∙◌, ap}
@@ -34,8 +34,7 @@ invariant-asked config log mail request s sys terms c o h at =
 pub nobody_moves : {w : ℕ} (config : Config) (sys : System w) (link : Link) (ch : Channel)
     → terms_at config link.0 ≡ None → is_moving (stepped config (Deliver link ch) sys).outcome ≡ false
 unfolding stepped
-nobody_moves config sys link ch none =
-    ap (λ (o : Option EndConfig). is_moving (stepped_at config o (Deliver link ch) sys).outcome) none
+nobody_moves config sys link ch none = cc none
 
 -- a Probe that is moved doesn't wait for a Release
 probe_ready : {w : ℕ} (config : Config) (log : Log w) (mail : AccessMessages w) (request : ℕ → MessageA w)

@@ -31,7 +31,7 @@ use Rattle.tl_coherence.specs.refinement.PacketMessages.{messages_on}
 use Rattle.tl_coherence.specs.statement.Step.{Step, handing, handed_by, outcome_of, judged, manager_took}
 use Rattle.tl_coherence.specs.statement.System.{with_client, with_manager}
 use Rattle.tl_coherence.proofs.queues.Carried.{IsNext, carried-next}
-use Rattle.tl_coherence.proofs.queues.Channels.{behind, same_channel-is}
+use Rattle.tl_coherence.proofs.queues.Channels.{same_channel-is}
 use Rattle.tl_coherence.proofs.queues.Landed.{IsLanded, HasHeard, HasTaken}
 use Rattle.tl_coherence.proofs.queues.Steps.{stepped-to-client, stepped-to-manager}
 use Rattle.tl_coherence.proofs.queues.Tokens.{same_number}
@@ -101,9 +101,7 @@ client_moves {w} terms c ch x queue sys moving = go (offer.offered terms ch x (s
           takes = takes;
           answer = ap (λ (p : Offered w). p.answer) (sym takes) ∙ e;
           heard = ap (λ a. after.heard a x (sys.clients c).past) e ∙ heard;
-          step_is = ap (λ a. judged a c ch x queue o.after sys) e ∙ is ∙ ap
-              (λ (p : Offered w). handing (outcome_of x v) (handed_by c m)
-              (with_client c p.after (with_channel c ch queue sys))) takes;
+          step_is = cc (e, is, takes);
         }
 
     go : (a : Result (Verdict × Option (Message w)) Rule) → o.answer ≡ a
@@ -133,8 +131,7 @@ pub client-heard : {w : ℕ} (terms : client.EndConfig) (c : ℕ) (ch : Channel)
     (sys : System w) (step : Step w) → IsWidth w → client_kept.IsEndpointInvariant (sys.clients c)
     → IsTakenByClient terms c ch x queue sys step → HasHeard x (sys.clients c) (offer.taken x (sys.clients c)).after
 client-heard {w} terms c ch x queue sys step width kept is at =
-    ap (λ (p : Offered w). unfinished at p.after.past) (sym is.takes) ∙ unfinished-offered terms ch x (sys.clients c) at
-    width kept ∙ ap (unfinished at) is.heard
+    cc (is.takes, unfinished-offered terms ch x (sys.clients c) at width kept, is.heard)
 
 -- ---- to the manager
 
@@ -249,8 +246,7 @@ carried-part {w} mail s c ch x queue pushes sys sys' width is none part h d at =
     moved r q e f i = rw (e, f) i
 
     channel_is : sys'.channels d at ≡ (if (d == c) && same_channel at ch then queue else sys.channels d at)
-    channel_is = is.channels d at ∙ ap
-        (λ o. behind o (if (d == c) && same_channel at ch then queue else sys.channels d at)) (none d at)
+    channel_is = cc (is.channels d at, none d at)
 
     first : (ms : List (Message w)) → IsCarried (rest c ch) ms (x ∷ queue) → IsCarried (grown x (rest c ch)) ms queue
     first [] i = absurd (let e : x ∷ queue ≡ [] = i.1 in cc)

@@ -87,9 +87,8 @@ sized_granted_block c q r d k b h = sized_same b (granted_block c q r d k b) h.t
         ap (λ (p : ClientBlock). p.acquiring) (set-same q (after_grant_sent k (b.pair q)) reported) in
         ap (λ (j : ℕ). is_whole (b.pair j).acquiring) same ∙ sym (ap is_whole f) ∙ ap
         (λ (j : ℕ). is_whole (set q (after_grant_sent k (b.pair q)) reported j).acquiring) (sym same) ∙ e
-    storing i (inr other) e = still_acquires c (after_report r (b.pair c)) b.pair refl i
-        (sym (ap (λ (p : ClientBlock). is_whole p.acquiring) (set-other q i (after_grant_sent k (b.pair q)) reported
-        other)) ∙ e)
+    storing i (inr other) e = cc (still_acquires c (after_report r (b.pair c)) b.pair refl i (sym (ap (λ (p :
+        ClientBlock). is_whole p.acquiring) (set-other q i (after_grant_sent k (b.pair q)) reported other)) ∙ e))
 
 sized_taken_block : (c : ℕ) (d : Bool) (k : Cap) (b : Block (List ℕ)) → AreSized b
     → AreSized (taken_block c (is_whole (b.pair c).acquiring) d k b)
@@ -106,9 +105,7 @@ sized_taken_block c d k b h = sized_same b (taken_block c (is_whole (b.pair c).a
     storing i (inl same) e = absurd (let f : is_whole (set c (after_grant k (b.pair c)) b.pair c).acquiring ≡ true =
         rw same at e in let g : false ≡ true =
         sym (ap (λ (p : ClientBlock). is_whole p.acquiring) (set-same c (after_grant k (b.pair c)) b.pair)) ∙ f in cc)
-    storing i (inr other) e =
-        sym (ap (λ (p : ClientBlock). is_whole p.acquiring) (set-other c i (after_grant k (b.pair c)) b.pair other))
-        ∙ e
+    storing i (inr other) e = cc (set-other c i (after_grant k (b.pair c)) b.pair other, e)
 
 -- ---- messages that are taken
 

@@ -45,8 +45,7 @@ pub copy-long : {w : ℕ} (config : Config) (log : Log w) (mail : AccessMessages
 copy-long {w} config log mail request s sys h c n = go ((s.block n).pair c).held refl
   where
     there : same_perm ((s.block n).pair c).held perm.None ≡ false → length (copy_at (sys.clients c) n) ≡ 64
-    there e = ap (λ (o : Option (List ℕ)). length (unwrap_or o zeros)) (h.copies c n e) ∙ ap length
-        ((h.invariant.blocks n).copies c e) ∙ (h.sized n).truth
+    there e = cc (h.copies c n e, (h.invariant.blocks n).copies c e, (h.sized n).truth)
 
     go : (p : Perm) → ((s.block n).pair c).held ≡ p → length (copy_at (sys.clients c) n) ≡ 64
     go perm.None e = copy_of ((sys.clients c).copies n)

@@ -28,7 +28,7 @@ use Rattle.tl_rules.proofs.Bursts.{control_of_legal, control_aligned}
 use Rattle.tl_rules.proofs.Payload.{payload-d}
 use Rattle.tl_client.specs.declared.operation.Op.TheVariants.{Access}
 use Rattle.tl_client.specs.declared.verdict.Finish.TheVariants as finish
-use Rattle.tl_client.specs.statement.Offer.{address_asked, finish_of, padded}
+use Rattle.tl_client.specs.statement.Offer.{finish_of, padded}
 use Rattle.tl_client.specs.statement.Requests.{open_beat}
 use Rattle.tl_client.specs.statement.Send.{sourced}
 use Rattle.tl_manager.specs.statement.Handing.{access_answer, no_payload}
@@ -71,10 +71,7 @@ bytes_come : {w : ℕ} (o : Option Level) (m : MessageA w) (bytes : List ℕ) (b
     → illegal_message_at o (message.A m) ≡ None → length bytes ≡ 2 ^ m.size
     → beats ≡ burst_of (message.D (answer_message opd.AccessAckData (as_payload (m.address % w) bytes) m))
     → take (2 ^ m.size) (drop (m.address % w) (payload_of beats)) ≡ bytes
-bytes_come {w} o m bytes beats width lawful long burst =
-    ap (λ (p : List ℕ). take (2 ^ m.size) (drop (m.address % w) p)) whole
-    ∙ ap (λ (n : ℕ). take n (drop (m.address % w) (as_payload (m.address % w) bytes))) (sym long) ∙ bytes_again
-    (m.address % w) bytes
+bytes_come {w} o m bytes beats width lawful long burst = cc (whole, long, bytes_again (m.address % w) bytes)
   where
     d : MessageD w
     d = answer_message opd.AccessAckData (as_payload (m.address % w) bytes) m
@@ -103,11 +100,9 @@ ends_answered : {w : ℕ} (o : Option Level) (m : MessageA w) (d : MessageD w) (
     → message.D d ≡ access_answer m (answer_of (message.A m) r) → IsReach m r → beats ≡ burst_of (message.D d)
     → finish_of w d.opcode d.param d.size m.address (payload_of beats) ≡ finish_with (message.A m) r
 ends_answered {w} o m d memory.Done beats width lawful answer reach burst =
-    ap (λ (i : MessageD w). finish_of w i.opcode i.param i.size m.address (payload_of beats))
-    (same-response d (answer_message opd.AccessAck no_payload m) answer)
+    cc (same-response d (answer_message opd.AccessAck no_payload m) answer)
 ends_answered {w} o m d memory.Hinted beats width lawful answer reach burst =
-    ap (λ (i : MessageD w). finish_of w i.opcode i.param i.size m.address (payload_of beats))
-    (same-response d (answer_message opd.HintAck no_payload m) answer)
+    cc (same-response d (answer_message opd.HintAck no_payload m) answer)
 ends_answered {w} o m d (memory.Bytes bytes) beats width lawful answer reach burst =
     let same = same-response d (answer_message opd.AccessAckData (as_payload (m.address % w) bytes) m) answer in
     ap (λ (i : MessageD w). finish_of w i.opcode i.param i.size m.address (payload_of beats)) same
@@ -194,9 +189,12 @@ whole_response : {w : ℕ} (config : Config) (log : Log w) (link : Link) (ch : C
     → beat.D (d_beat_of end.response end.first.next.k) ∷ unfinished channel.D
     ((system_after config log).clients link.0).past ≡ burst_of (message.D end.response)
 whole_response {w} config log link ch h x source f end =
-    ap (λ (y : Beat w). y ∷ unfinished channel.D ((system_after config log).clients link.0).past) (sym end.beat_is)
-    ∙ (end.first.next.last (eqb-true (end.first.next.k + 1) _ (sym end.first.next.completes_is ∙ end.last))).1
-    ∙ ap burst_of end.response_is
+    cc (
+      end.beat_is,
+      (end.first.next.last (eqb-true (end.first.next.k + 1) _ (sym end.first.next.completes_is
+          ∙ end.last))).1,
+      end.response_is,
+    )
 
 -- an answer ends its access as the machine allows
 pub ends-answer : {w : ℕ} (config : Config) (log : Log w) (link : Link) (ch : Channel) (h : AbstractState w)
@@ -233,8 +231,7 @@ ends-answer {w} config log link ch h x source f width is end e =
     response_is = sym end.response_is ∙ ap (λ (i : Kind). message_of_kind i h.mail h.state c n) e
 
     from : source ≡ n
-    from = end.source_is ∙ ap (λ (i : MessageD w). i.source)
-        (same-response end.response due.answer (response_is ∙ due.answer_is)) ∙ due.from
+    from = cc (end.source_is, same-response end.response due.answer (response_is ∙ due.answer_is), due.from)
 
     asked_is : request_of end.response.source (sys.clients c).past ≡ Some (a_beat_of (sourced n it.asked) 0)
     asked_is = ap (λ (i : ℕ). request_of i (sys.clients c).past) (sym end.source_is ∙ from) ∙ it.pending_is
@@ -243,10 +240,10 @@ ends-answer {w} config log link ch h x source f width is end e =
     payload = payload_of (beat.D (d_beat_of end.response end.first.next.k) ∷ unfinished channel.D (sys.clients c).past)
 
     fin : f ≡ finish_with (message.A it.asked) it.reply
-    fin =
-        end.finish_is
-        ∙ ap (λ (i : Option (BeatA w)). finish_of w end.response.opcode end.response.param end.response.size
-        (address_asked i) payload) asked_is
-        ∙ ends_answered (level_of config c) (sourced n it.asked) end.response it.reply _ width it.lawful
-        (response_is ∙ it.answer) it.reach (whole_response config log link ch h x source f end)
-        ∙ finish_sourced n it.asked it.reply
+    fin = cc (
+      end.finish_is,
+      asked_is,
+      ends_answered (level_of config c) (sourced n it.asked) end.response it.reply _
+          width it.lawful (response_is ∙ it.answer) it.reach (whole_response config log link ch h x source f end),
+      finish_sourced n it.asked it.reply,
+    )

@@ -18,7 +18,7 @@ use Rattle.tl_coherence.specs.statement.Flow.{trace_of}
 use Rattle.tl_coherence.specs.statement.Headline.{IsGiven}
 use Rattle.tl_coherence.specs.statement.Log.{IsLog, system_after}
 use Rattle.tl_coherence.specs.statement.Machine.{Machine, Open, Requests, moved, with_memory}
-use Rattle.tl_coherence.specs.statement.OneMemory.{accesses_answered, one_memory_after, performing}
+use Rattle.tl_coherence.specs.statement.OneMemory.{accesses_answered, one_memory_after}
 use Rattle.tl_coherence.specs.statement.PerformedFree.{PerformedFree}
 use Rattle.tl_coherence.specs.statement.Step.{stepped}
 use Rattle.tl_coherence.proofs.bound.Settling.{given-before}
@@ -98,10 +98,13 @@ module _ {w : ℕ} (config : Config) (log : Log w) (link : Link) (ch : Channel) 
       → one_memory_after config after ≡ done_at q source (message.A access.0) (one_memory_after config log)
   unfolding one_memory_after IsLog
   machine_after q source one access still =
-      ap (λ (r : Outcome w). performing accesses (moved event r (one_memory_after config log))) given.is_log.0
-      ∙ ap (λ (m : Machine w). performing accesses m) still
-      ∙ ap (λ (l : List (ℕ × ℕ)). performing l (one_memory_after config log)) one
-      ∙ performing-one q source (message.A access.0) (one_memory_after config log) access.2
+      cc (
+        given.is_log.0,
+        still,
+        one,
+        performing-one q source (message.A access.0) (one_memory_after config log)
+            access.2,
+      )
 
   free-after : (q source : ℕ) → accesses ≡ (q, source) ∷ []
       → (access : IsAccess source (h.mail.request q source) None
